@@ -1,1 +1,5 @@
 #![tactic(auto)]
+
+mod decoding;
+mod prediction;
+mod step;

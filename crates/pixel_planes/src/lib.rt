@@ -1,1 +1,4 @@
 #![tactic(auto)]
+mod picture;
+pub use picture::Picture;
+pub use std::alloc::AllocError as NoMemory;

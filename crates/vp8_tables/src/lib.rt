@@ -1,1 +1,5 @@
 #![tactic(auto)]
+#[derive(Drop)]
+pub struct Tables {
+    pub x: u8,
+}

@@ -1,0 +1,3 @@
+pub mod Unfiltered
+pub mod Steps
+pub mod Decoding

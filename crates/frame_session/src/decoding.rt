@@ -1,0 +1,122 @@
+ghost use Rattle.std.specs.Prelude.{◌≡◌, ◌≤◌, ◌<◌, map, length, take, slice_get, Ok, None, Some, IfOk, Option};
+ghost use Rattle.frame_session.specs.Decoding.{Outcome, OutcomeAnswers, outcome, outcomes, shown_places, standing_after};
+
+use crate::step::{Decoded, State, StepFault, step};
+use frame_header::{Cause, has_key_tag, is_shown};
+use std::alloc::{AllocError, Global};
+use stream_files::Packet;
+use vp8_tables::Tables;
+
+/// Where a stream is broken: at the packet at `place`, counted from 0, by its `cause`.
+#[derive(Clone, Copy, Debug, PartialEq, Eq)]
+pub struct Broken {
+    pub place: usize,
+    pub cause: Cause,
+}
+
+/// Why there is no picture at a place.
+#[derive(Clone, Copy)]
+pub enum DecodeFault {
+    Refused(Broken),
+    NoMemory,
+}
+
+/// The outcome of one packet behind what stands before it. `steps` counts the steps made.
+fn outcome(
+    alloc: Global,
+    tables: &Tables,
+    place: usize,
+    standing: &Result<Option<State>, Broken>,
+    packet: &[u8],
+    steps: &mut u64,
+) -> Result<Decoded, DecodeFault>
+    ensures answers { OutcomeAnswers (outcome tables.now place standing.now packet.now) result }
+    ensures counted { steps.old ≤ steps.new }
+{
+    let state = if has_key_tag(packet) {
+        None
+    } else {
+        match standing {
+            Ok(state) => state.as_ref(),
+            Err(broken) => return Err(DecodeFault::Refused(*broken)),
+        }
+    };
+    *steps = steps.saturating_add(1);
+    match step(alloc, tables, state, packet) {
+        Ok(decoded) => Ok(decoded),
+        Err(StepFault::Refused(cause)) => Err(DecodeFault::Refused(Broken { place, cause })),
+        Err(StepFault::NoMemory) => Err(DecodeFault::NoMemory),
+    }
+}
+
+/// What stands behind packets from the stream's start.
+fn standing_behind(
+    alloc: Global,
+    tables: &Tables,
+    packets: &[Packet],
+    steps: &mut u64,
+) -> Result<Result<Option<State>, Broken>, AllocError>
+    ensures stands { IfOk result (λ standing. standing ≡ standing_after tables.now 0 (Ok None) (map (λ p. p.bytes) packets.now)) }
+    ensures counted { steps.old ≤ steps.new }
+{
+    let mut standing = Ok(None);
+    for (place, packet) in packets.iter().enumerate() {
+        standing = match outcome(
+            alloc,
+            tables,
+            place,
+            &standing,
+            packet.bytes.as_slice(),
+            steps,
+        ) {
+            Ok(decoded) => Ok(Some(decoded.state)),
+            Err(DecodeFault::Refused(broken)) => Err(broken),
+            Err(DecodeFault::NoMemory) => return Err(AllocError),
+        };
+    }
+    Ok(standing)
+}
+
+/// Decodes the packets from the stream's start up to the one at `place`, and gives its outcome.
+/// `steps` counts the steps made.
+pub fn decode(
+    alloc: Global,
+    tables: &Tables,
+    packets: &[Packet],
+    place: usize,
+    steps: &mut u64,
+) -> Result<Decoded, DecodeFault>
+    requires { place < length packets.now }
+    ensures answers { (want : Outcome) → slice_get (outcomes tables.now (map (λ p. p.bytes) packets.now)) place ≡ Some want → OutcomeAnswers want result }
+    ensures counted { steps.old ≤ steps.new }
+{
+    let standing = match standing_behind(alloc, tables, &packets[..place], steps) {
+        Ok(standing) => standing,
+        Err(_) => return Err(DecodeFault::NoMemory),
+    };
+    outcome(
+        alloc,
+        tables,
+        place,
+        &standing,
+        packets[place].bytes.as_slice(),
+        steps,
+    )
+}
+
+/// The place of shown packet `n`, counted from 0, or `None` where fewer are shown. A packet is shown
+/// where its tag has the show bit, or where it is under 3 bytes.
+pub fn shown_place(packets: &[Packet], n: u64) -> Option<usize>
+    ensures { result ≡ slice_get (shown_places (map (λ p. p.bytes) packets.now)) n }
+{
+    let mut before = 0u64;
+    for (place, packet) in packets.iter().enumerate() {
+        if is_shown(packet.bytes.as_slice()) {
+            if before == n {
+                return Some(place);
+            }
+            before += 1;
+        }
+    }
+    None
+}
