@@ -1,7 +1,7 @@
 -- The outcomes of a stream, a packet at a time.
 use Rattle.std.proofs.Common.{◌≡◌, ℕ, suc, zero, ◌+◌, ◌<◌, ◌≤◌, ◌-◌, List, [], ◌∷◌, ◌++◌, Bool, true, false, Option, Some, None, Result, Ok, Err, length, map, take, drop, get_or, slice_get, refl, sym, ap, ◌∙◌, arith, add-zero, zero-add, add-one, min}
 use Rattle.std.proofs.Math.Seq.{drop-cons}
-use Rattle.std.proofs.lemmas.List.{take_more, drop-map, take-map, map-append, length-map, length-take}
+use Rattle.std.proofs.lemmas.List.{get_or_default, take_more, drop-map, take-map, map-append, length-map, length-take}
 use Rattle.std.specs.Option.{option_map}
 use Rattle.std.proofs.lemmas.Option.{slice_get-map, slice_get_read}
 use Rattle.vp8_tables.specs.declared.Tables.{Tables}
@@ -63,20 +63,27 @@ stands_more tables ps i p standing bytes o within is before same here =
     let before_it : List (List ℕ) = take i (map (λ (q : Packet). q.bytes) ps) in
     let more : standing_after tables 0 (Ok None) (before_it ++ p.bytes ∷ []) ≡ left_by (outcome tables (0 + length before_it) (standing_after tables 0 (Ok None) before_it) p.bytes) = standing_after-more tables 0 (Ok None) before_it p.bytes in
     let placed : left_by (outcome tables (0 + length before_it) (standing_after tables 0 (Ok None) before_it) p.bytes) ≡ left_by (outcome tables i standing p.bytes) =
-        ap (λ (k : ℕ). left_by (outcome tables k (standing_after tables 0 (Ok None) before_it) p.bytes)) (places_before ps i within) ∙ ap (λ (s : Standing). left_by (outcome tables i s p.bytes)) (sym before) in
+    ap (λ (k : ℕ). left_by (outcome tables k (standing_after tables 0 (Ok None) before_it) p.bytes)) (places_before ps i within) ∙ ap (λ (s : Standing). left_by (outcome tables i s p.bytes)) (sym before) in
     sym (ap (λ (bs : List (List ℕ)). standing_after tables 0 (Ok None) bs) (bytes_up_to ps i p within is) ∙ more ∙ placed ∙ ap left_by (rw same at here))
 
 -- the outcome at a place is that of its packet behind what stands before it
-pub outcome_at : (tables : Tables) (ps : List Packet) (i : ℕ) (p : Packet) (standing : Standing) (want : Outcome) → i < length ps → p ≡ get_or ps i p → standing ≡ standing_after tables 0 (Ok None) (map (λ q. q.bytes) (take i ps)) → slice_get (outcomes tables (map (λ q. q.bytes) ps)) i ≡ Some want → outcome tables i standing p.bytes ≡ want
-outcome_at tables ps i p standing want within is before asked =
+pub outcome_at : (tables : Tables) (ps : List Packet) (i : ℕ) (p : Packet) (standing : Standing) → i < length ps → p ≡ get_or ps i p → standing ≡ standing_after tables 0 (Ok None) (map (λ q. q.bytes) (take i ps)) → slice_get (outcomes tables (map (λ q. q.bytes) ps)) i ≡ Some (outcome tables i standing p.bytes)
+outcome_at tables ps i p standing within is before =
     let found : slice_get (map (λ (q : Packet). q.bytes) ps) i ≡ Some p.bytes = slice_get-map (λ (q : Packet). q.bytes) ps i ∙ ap (λ (o : Option Packet). option_map (λ q. q.bytes) o) (slice_get_read ps (length ps) i p refl within is) in
     let told = outcomes_from-at tables 0 (Ok None) (map (λ (q : Packet). q.bytes) ps) i p.bytes found in
     let placed : outcome tables (0 + i) (standing_after tables 0 (Ok None) (take i (map (λ (q : Packet). q.bytes) ps))) p.bytes ≡ outcome tables i standing p.bytes =
-        ap (λ (k : ℕ). outcome tables k (standing_after tables 0 (Ok None) (take i (map (λ (q : Packet). q.bytes) ps))) p.bytes) (zero-add i)
-        ∙ ap (λ (s : Standing). outcome tables i s p.bytes) (ap (λ (bs : List (List ℕ)). standing_after tables 0 (Ok None) bs) (take-map (λ (q : Packet). q.bytes) i ps) ∙ sym before) in
-    let both : Some (outcome tables (0 + i) (standing_after tables 0 (Ok None) (take i (map (λ (q : Packet). q.bytes) ps))) p.bytes) ≡ Some want = sym told ∙ asked in
-    let one : outcome tables (0 + i) (standing_after tables 0 (Ok None) (take i (map (λ (q : Packet). q.bytes) ps))) p.bytes ≡ want = cc in
-    sym placed ∙ one
+    ap (λ (k : ℕ). outcome tables k (standing_after tables 0 (Ok None) (take i (map (λ (q : Packet). q.bytes) ps))) p.bytes) (zero-add i)
+    ∙ ap (λ (s : Standing). outcome tables i s p.bytes) (ap (λ (bs : List (List ℕ)). standing_after tables 0 (Ok None) bs) (take-map (λ (q : Packet). q.bytes) i ps) ∙ sym before) in
+    told ∙ ap (λ (o : Outcome). Some o) placed
+
+-- each packet has an outcome
+pub outcome_present : (tables : Tables) (ps : List Packet) (i : ℕ) → i < length ps → (want : Outcome) × (slice_get (outcomes tables (map (λ q. q.bytes) ps)) i ≡ Some want)
+outcome_present tables ps i within =
+    let none : Packet = record { stamp = 0; bytes = [] } in
+    let p : Packet = get_or ps i none in
+    let is : p ≡ get_or ps i p = get_or_default ps i none p within in
+    let standing : Standing = standing_after tables 0 (Ok None) (map (λ q. q.bytes) (take i ps)) in
+    (outcome tables i standing p.bytes, outcome_at tables ps i p standing within is refl)
 
 -- the search for shown packet n stands at packet i, and before were shown in front of it
 module _ (ps : List Packet) (n i before : ℕ) (p : Packet) (bytes : List ℕ) (within : i < length ps) (is : p ≡ get_or ps i p) (same : bytes ≡ p.bytes) (so_far : slice_get (shown_from i (drop i (map (λ q. q.bytes) ps))) (n - before) ≡ slice_get (shown_places (map (λ q. q.bytes) ps)) n) where

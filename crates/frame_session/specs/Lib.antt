@@ -1,3 +1,4 @@
 pub mod Unfiltered
 pub mod Steps
 pub mod Decoding
+pub mod Sessions

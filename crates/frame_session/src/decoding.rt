@@ -1,4 +1,4 @@
-ghost use Rattle.std.specs.Prelude.{◌≡◌, ◌≤◌, ◌<◌, map, length, take, slice_get, Ok, None, Some, IfOk, Option};
+ghost use Rattle.std.specs.Prelude.{◌≡◌, ◌≤◌, ◌<◌, map, length, take, slice_get, Ok, None, Some, IfOk, IfSome, Option};
 ghost use Rattle.frame_session.specs.Decoding.{Outcome, OutcomeAnswers, outcome, outcomes, shown_places, standing_after};
 
 use crate::step::{Decoded, State, StepFault, step};
@@ -87,7 +87,7 @@ pub fn decode(
     steps: &mut u64,
 ) -> Result<Decoded, DecodeFault>
     requires { place < length packets.now }
-    ensures answers { (want : Outcome) → slice_get (outcomes tables.now (map (λ p. p.bytes) packets.now)) place ≡ Some want → OutcomeAnswers want result }
+    ensures answers { (want : Outcome) × (slice_get (outcomes tables.now (map (λ p. p.bytes) packets.now)) place ≡ Some want) × OutcomeAnswers want result }
     ensures counted { steps.old ≤ steps.new }
 {
     let standing = match standing_behind(alloc, tables, &packets[..place], steps) {
@@ -107,7 +107,8 @@ pub fn decode(
 /// The place of shown packet `n`, counted from 0, or `None` where fewer are shown. A packet is shown
 /// where its tag has the show bit, or where it is under 3 bytes.
 pub fn shown_place(packets: &[Packet], n: u64) -> Option<usize>
-    ensures { result ≡ slice_get (shown_places (map (λ p. p.bytes) packets.now)) n }
+    ensures within { IfSome result (λ place. place < length packets.now) }
+    ensures place { result ≡ slice_get (shown_places (map (λ p. p.bytes) packets.now)) n }
 {
     let mut before = 0u64;
     for (place, packet) in packets.iter().enumerate() {

@@ -1,0 +1,16 @@
+use frame_header::Cause;
+
+/// Why a request is refused.
+#[derive(Clone, Copy, Debug, PartialEq, Eq)]
+pub enum Refusal {
+    /// The line is no request.
+    Line,
+    /// Fewer frames are shown.
+    NoSuchFrame,
+    /// The stream is broken at the packet at `place`, counted from 0.
+    Packet { place: usize, cause: Cause },
+    /// The frame has not the size of the first frame that was served.
+    SizeDiffers,
+    /// Memory was refused.
+    NoMemory,
+}
