@@ -1,1 +1,4 @@
 pub mod Outcomes
+pub mod Splits
+pub mod Numbers
+pub mod Served

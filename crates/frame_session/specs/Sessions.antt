@@ -1,5 +1,5 @@
 -- What a session is to its requests, and what a request for a frame gives.
-use Rattle.std.specs.Prelude.{◌≡◌, ℕ, ◌≤◌, ◌==◌, ◌&&◌, Bool, if◌then◌else◌, List, map, Option, Some, None, Result, Ok, Err, option_and_then, slice_get}
+use Rattle.std.specs.Prelude.{◌≡◌, ℕ, ◌≤◌, ◌==◌, ◌&&◌, Bool, if◌then◌else◌, List, map, Option, Some, None, Result, Ok, Err, is_none, option_and_then, slice_get}
 use Rattle.vp8_tables.specs.declared.Tables.{Tables}
 use Rattle.pixel_planes.specs.Pictures.{PictureSamples}
 use Rattle.stream_files.specs.declared.packets.Packet.{Packet}
@@ -23,6 +23,10 @@ pub record Now : Type 0 where
 -- a session as it begins
 abbrev pub start : Tables → Ivf → Now
 start tables file = record { tables = tables; head = file.head; packets = file.packets; spare = file.spare; size = None; decoded = 0 }
+
+-- the head, while no frame was served: the line that opens the frames is still to be written with it
+abbrev pub head_due : Now → Option Head
+head_due now = if is_none now.size then Some now.head else None
 
 -- the packets' bytes
 abbrev pub stream_of : Now → List (List ℕ)

@@ -1,3 +1,5 @@
+ghost use Rattle.std.specs.Prelude.{◌≡◌};
+
 use frame_header::Cause;
 
 /// Why a request is refused.
@@ -13,4 +15,21 @@ pub enum Refusal {
     SizeDiffers,
     /// Memory was refused.
     NoMemory,
+}
+
+impl Refusal {
+    ghost use Rattle.frame_session.specs.Replies.{refusal_word};
+
+    /// The refusal's name.
+    pub fn word(&self) -> &'static str
+        ensures { result.now ≡ refusal_word self.now }
+    {
+        match self {
+            Refusal::Line => "Line",
+            Refusal::NoSuchFrame => "NoSuchFrame",
+            Refusal::Packet { .. } => "packet",
+            Refusal::SizeDiffers => "SizeDiffers",
+            Refusal::NoMemory => "NoMemory",
+        }
+    }
 }

@@ -31,7 +31,7 @@ impl Model for Session {
 }
 
 impl Session {
-    ghost use Rattle.frame_session.specs.Sessions.{Gives, IsAfterFrame, frame_of, start};
+    ghost use Rattle.frame_session.specs.Sessions.{Gives, IsAfterFrame, frame_of, head_due, start};
 
     /// A session over a file's packets, which are at most 1,048,576. `capacity`, 1 to 4,096, is how
     /// many decoded states may be kept; none is kept yet.
@@ -91,6 +91,16 @@ impl Session {
         }
         self.size = Some(size);
         Ok(picture)
+    }
+
+    /// The file's head, while no frame was served and the line that opens the frames is not written.
+    pub(crate) fn head_due(&self) -> Option<Head>
+        ensures { result ≡ head_due self.now }
+    {
+        match self.size {
+            None => Some(self.head),
+            Some(_) => None,
+        }
     }
 
     /// How many bytes stood behind the last whole record of the file.

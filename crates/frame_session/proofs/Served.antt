@@ -1,0 +1,78 @@
+-- What the functions that answer lines give is the meaning of the lines.
+use Rattle.std.proofs.Common.{◌≡◌, ℕ, List, [], ◌∷◌, ◌++◌, map, Option, Some, None, Result, Ok, Err, refl, sym, ap, ◌∙◌, subst, append_assoc, append-nil}
+use Rattle.std.specs.List.{flat_map}
+use Rattle.std.specs.Io.KnownBytes.{Appends}
+use Rattle.std.proofs.KnownBytes.{Appends-nil, Appends-trans}
+use Rattle.pixel_planes.specs.Pictures.{PictureSamples}
+use Rattle.frame_session.specs.declared.lines.Line.{Line}
+use Rattle.frame_session.specs.declared.lines.Line.TheVariants.{Silent, Unknown, Frame}
+use Rattle.frame_session.specs.declared.refusal.Refusal.{Refusal}
+use Rattle.frame_session.specs.declared.refusal.Refusal.TheVariants as refusals
+use Rattle.frame_session.specs.Requests.{asked_by}
+use Rattle.frame_session.specs.Replies.{refused_line}
+use Rattle.frame_session.specs.Sessions.{Gives, IsAfterFrame, Now, frame_of}
+use Rattle.frame_session.specs.Answers.{Answer, Answers, Run, Runs, Serves, answer_to_frame, frames_of, replies_of, told}
+
+module _ (old : Now) (f f' r r' : Option (List ℕ)) where
+  pub serves_silent : Serves old Silent f f r r old
+  serves_silent = record { answer = told []; means = (refl, refl); shown = Appends-nil f; said = Appends-nil r }
+
+  pub serves_unknown : Appends r r' (refused_line refusals.Line) → Serves old Unknown f f r r' old
+  serves_unknown said = record { answer = told (refused_line refusals.Line); means = (refl, refl); shown = Appends-nil f; said = said }
+
+  pub serves_refused : (n : ℕ) (refusal : Refusal) (new : Now) → Gives (frame_of old n) (Err refusal) → IsAfterFrame old (Err refusal) new → Appends r r' (refused_line refusal) → Serves old (Frame n) f f r r' new
+  serves_refused n refusal new gives after said = record {
+    answer = told (refused_line refusal);
+    means = (Err refusal, gives, refl, after);
+    shown = Appends-nil f;
+    said = said;
+  }
+
+  pub serves_frame : (n : ℕ) (picture : PictureSamples) (new : Now) → Gives (frame_of old n) (Ok picture) → IsAfterFrame old (Ok picture) new → Appends f f' (answer_to_frame old n (Ok picture)).frames → Appends r r' (answer_to_frame old n (Ok picture)).reply → Serves old (Frame n) f f' r r' new
+  serves_frame n picture new gives after shown said = record {
+    answer = answer_to_frame old n (Ok picture);
+    means = (Ok picture, gives, refl, after);
+    shown = shown;
+    said = said;
+  }
+
+-- one line more
+run_more : (old mid new : Now) (lines : List Line) (answers : List Answer) (line : Line) (answer : Answer) → Run old lines answers mid → Answers mid line answer new → Run old (lines ++ line ∷ []) (answers ++ answer ∷ []) new
+run_more old mid new [] [] line answer same step = let P : Now → Type 0 = λ s. Answers s line answer new in (new, subst P same step, refl)
+run_more old mid new [] (x ∷ answers) line answer ran step = absurd ran
+run_more old mid new (l ∷ lines) [] line answer ran step = absurd ran
+run_more old mid new (l ∷ lines) (x ∷ answers) line answer ran step = (ran.0, ran.1, run_more ran.0 mid new lines answers line answer ran.2 step)
+
+flat_map-push : (f : Answer → List ℕ) (xs : List Answer) (x : Answer) → flat_map f (xs ++ x ∷ []) ≡ flat_map f xs ++ f x
+flat_map-push f [] x = append-nil (f x)
+flat_map-push f (y ∷ xs) x = ap (λ (zs : List ℕ). f y ++ zs) (flat_map-push f xs x) ∙ sym (append_assoc (f y) (flat_map f xs) (f x))
+
+-- nothing asked, nothing answered
+pub runs_none : (old : Now) (f r : Option (List ℕ)) → Runs old [] f f r r old
+runs_none old f r = record { answers = []; means = refl; shown = Appends-nil f; said = Appends-nil r }
+
+pub runs_more : (old mid new : Now) (lines : List Line) (line : Line) (f f' f'' r r' r'' : Option (List ℕ)) → Runs old lines f f' r r' mid → Serves mid line f' f'' r' r'' new → Runs old (lines ++ line ∷ []) f f'' r r'' new
+runs_more old mid new lines line f f' f'' r r' r'' ran served =
+    let P : List ℕ → Type 0 = λ zs. Appends f f'' zs in
+    let Q : List ℕ → Type 0 = λ zs. Appends r r'' zs in
+    record {
+      answers = ran.answers ++ served.answer ∷ [];
+      means = run_more old mid new lines ran.answers line served.answer ran.means served.means;
+      shown = subst P (sym (flat_map-push (λ x. x.frames) ran.answers served.answer)) (Appends-trans f f' f'' (frames_of ran.answers) served.answer.frames ran.shown served.shown);
+      said = subst Q (sym (flat_map-push (λ x. x.reply) ran.answers served.answer)) (Appends-trans r r' r'' (replies_of ran.answers) served.answer.reply ran.said served.said);
+    }
+
+-- the requests done and those left are all, with one line more
+pub all_more : (done : List Line) (asked : Line) (line : List ℕ) (left behind : List (List ℕ)) (all : List Line) → asked ≡ asked_by line → left ≡ line ∷ behind → done ++ map asked_by left ≡ all → (done ++ asked ∷ []) ++ map asked_by behind ≡ all
+all_more done asked line left behind all is next whole =
+    append_assoc done (asked ∷ []) (map asked_by behind)
+    ∙ ap (λ (l : Line). done ++ l ∷ map asked_by behind) is
+    ∙ ap (λ (ls : List (List ℕ)). done ++ map asked_by ls) (sym next)
+    ∙ whole
+
+-- where no line is left, all are done
+pub runs_all : (old new : Now) (done : List Line) (left : List (List ℕ)) (all : List Line) (f f' r r' : Option (List ℕ)) → left ≡ [] → done ++ map asked_by left ≡ all → Runs old done f f' r r' new → Runs old all f f' r r' new
+runs_all old new done left all f f' r r' none whole ran =
+    let same : done ≡ all = sym (append-nil done) ∙ ap (λ (ls : List (List ℕ)). done ++ map asked_by ls) (sym none) ∙ whole in
+    let P : List Line → Type 0 = λ ls. Runs old ls f f' r r' new in
+    subst P same ran

@@ -1,0 +1,14 @@
+use Rattle.std.proofs.Common.{◌≡◌, List, ◌++◌, length}
+use Rattle.frame_session.specs.declared.lines.Line.{Line}
+use Rattle.frame_session.specs.Answers.{Runs, requests_of}
+use Rattle.frame_session.proofs.serving.serve_all.Given as goal
+
+abbrev pub invariant-lines : goal.invariant-lines
+invariant-lines g l = record {
+  done : List Line;
+  whole : done ++ requests_of l.rest ≡ requests_of l.fn.requests;
+  ran : Runs l.fn.session done (g.F.Write.contents l.fn.frames) (g.F.Write.contents l.frames) (g.R.Write.contents l.fn.replies) (g.R.Write.contents l.replies) l.session;
+}
+
+abbrev pub decreases-lines : goal.decreases-lines
+decreases-lines g l = length l.rest

@@ -1,0 +1,96 @@
+-- The meaning of a request list: which replies and frames may answer its lines, and what stands behind them.
+use Rattle.std.specs.Prelude.{◌≡◌, ℕ, List, [], ◌∷◌, ◌++◌, map, Option, Some, None, Result, Ok, Err}
+use Rattle.std.specs.List.{flat_map}
+use Rattle.std.specs.Io.KnownBytes.{Appends, Keeps}
+use Rattle.std.specs.Str.Lines.{lines}
+use Rattle.vp8_tables.specs.declared.Tables.{Tables}
+use Rattle.pixel_planes.specs.Pictures.{PictureSamples}
+use Rattle.stream_files.specs.declared.ivf.Head.{Head}
+use Rattle.stream_files.specs.declared.ivf.Ivf.{Ivf}
+use Rattle.stream_files.specs.Ivf.{IsIvf, IvfRefuses}
+use Rattle.stream_files.specs.Y4M.{frame_text, y4m_line}
+use Rattle.frame_session.specs.declared.lines.Line.{Line}
+use Rattle.frame_session.specs.declared.lines.Line.TheVariants.{Silent, Unknown, Frame}
+use Rattle.frame_session.specs.declared.refusal.Refusal.{Refusal}
+use Rattle.frame_session.specs.declared.refusal.Refusal.TheVariants as refusals
+use Rattle.frame_session.specs.declared.serving.RunFault.{RunFault}
+use Rattle.frame_session.specs.declared.serving.RunFault.TheVariants as faults
+use Rattle.frame_session.specs.Requests.{asked_by}
+use Rattle.frame_session.specs.Replies.{refused_line, served_line}
+use Rattle.frame_session.specs.Sessions.{Gives, IsAfterFrame, Now, frame_of, head_due, start}
+
+-- what the lines of a text ask for, one after another
+abbrev pub requests_of : List ℕ → List Line
+requests_of text = map asked_by (lines text)
+
+-- a line's reply, and what it writes of frames
+pub record Answer : Type 0 where
+  pub reply : List ℕ
+  pub frames : List ℕ
+
+-- a reply alone
+abbrev pub told : List ℕ → Answer
+told reply = record { reply = reply; frames = [] }
+
+-- the line that opens the frames, where it is still to be written with a head
+abbrev pub opening : Option Head → PictureSamples → List ℕ
+opening None picture = []
+opening (Some head) picture = y4m_line picture.width picture.height head.rate head.scale
+
+-- the answer to a request for frame n
+abbrev pub answer_to_frame : Now → ℕ → Result PictureSamples Refusal → Answer
+answer_to_frame now n (Ok picture) = record { reply = served_line n; frames = opening (head_due now) picture ++ frame_text picture }
+answer_to_frame now n (Err refusal) = told (refused_line refusal)
+
+-- what may be answered to a line, and what stands behind it
+abbrev pub Answers : Now → Line → Answer → Now → Type 0
+Answers old Silent answer new = (answer ≡ told []) × (new ≡ old)
+Answers old Unknown answer new = (answer ≡ told (refused_line refusals.Line)) × (new ≡ old)
+Answers old (Frame n) answer new =
+    (frame : Result PictureSamples Refusal) × Gives (frame_of old n) frame × (answer ≡ answer_to_frame old n frame) × IsAfterFrame old frame new
+
+-- what may be answered to lines, one after another
+abbrev pub Run : Now → List Line → List Answer → Now → Type 0
+Run old [] [] new = new ≡ old
+Run old (line ∷ lines) (answer ∷ answers) new = (mid : Now) × Answers old line answer mid × Run mid lines answers new
+Run old [] (answer ∷ answers) new = ⊥
+Run old (line ∷ lines) [] new = ⊥
+
+-- all replies, and all that is written of frames
+abbrev pub replies_of : List Answer → List ℕ
+replies_of answers = flat_map (λ answer. answer.reply) answers
+
+abbrev pub frames_of : List Answer → List ℕ
+frames_of answers = flat_map (λ answer. answer.frames) answers
+
+-- between two moments a line was answered, and the answer is what the two writers gained
+pub record Serves (old : Now) (line : Line) (frames frames' replies replies' : Option (List ℕ)) (new : Now) : Type 0 where
+  pub answer : Answer
+  pub means : Answers old line answer new
+  pub shown : Appends frames frames' answer.frames
+  pub said : Appends replies replies' answer.reply
+
+-- between two moments these lines were answered, and the answers are what the two writers gained
+pub record Runs (old : Now) (lines : List Line) (frames frames' replies replies' : Option (List ℕ)) (new : Now) : Type 0 where
+  pub answers : List Answer
+  pub means : Run old lines answers new
+  pub shown : Appends frames frames' (frames_of answers)
+  pub said : Appends replies replies' (replies_of answers)
+
+-- the requests of this text were answered over the file that these bytes are
+pub record Means (tables : Tables) (bytes requests : List ℕ) (frames frames' replies replies' : Option (List ℕ)) (end : Now) : Type 0 where
+  pub file : Ivf
+  pub is : IsIvf bytes file
+  pub runs : Runs (start tables file) (requests_of requests) frames frames' replies replies' end
+
+-- when a run gives no session: a fault of the file comes exactly where reading the file answers it
+abbrev pub RunRefuses : List ℕ → RunFault → Type 0
+RunRefuses bytes (faults.Ivf fault) = IvfRefuses bytes fault
+RunRefuses bytes faults.Write = (file : Ivf) × IsIvf bytes file
+RunRefuses bytes faults.NoMemory = (file : Ivf) × IsIvf bytes file
+
+-- a run that ends before its first line writes nothing
+abbrev pub Leaves : RunFault → Option (List ℕ) → Option (List ℕ) → Type 0
+Leaves (faults.Ivf fault) old new = Keeps old new
+Leaves faults.Write old new = Unit {0}
+Leaves faults.NoMemory old new = Keeps old new

@@ -1,0 +1,34 @@
+-- The texts of replies.
+use Rattle.std.specs.Prelude.{ℕ, List, [], ◌∷◌, ◌++◌, codes}
+use Rattle.std.specs.Fmt.{decimal}
+use Rattle.frame_header.specs.declared.cause.Cause.{Cause}
+use Rattle.frame_header.specs.declared.cause.Cause.TheVariants as causes
+use Rattle.frame_header.specs.Causes.{cause_word}
+use Rattle.frame_session.specs.declared.refusal.Refusal.{Refusal}
+use Rattle.frame_session.specs.declared.refusal.Refusal.TheVariants as refusals
+
+-- the name of a refusal
+abbrev pub refusal_word : Refusal → List ℕ
+refusal_word refusals.Line = codes "Line"
+refusal_word refusals.NoSuchFrame = codes "NoSuchFrame"
+refusal_word (refusals.Packet place cause) = codes "packet"
+refusal_word refusals.SizeDiffers = codes "SizeDiffers"
+refusal_word refusals.NoMemory = codes "NoMemory"
+
+-- a cause as a reply tells it: its name, and the partition's number where it has one
+abbrev pub cause_text : Cause → List ℕ
+cause_text (causes.TokenPartition k) = codes "TokenPartition " ++ decimal k
+cause_text cause = cause_word cause
+
+-- what a refusal says behind the word `refused`
+abbrev pub refusal_text : Refusal → List ℕ
+refusal_text (refusals.Packet place cause) = codes "packet " ++ decimal place ++ codes " " ++ cause_text cause
+refusal_text refusal = refusal_word refusal
+
+-- the reply to a line that is refused
+abbrev pub refused_line : Refusal → List ℕ
+refused_line refusal = codes "refused " ++ refusal_text refusal ++ 10 ∷ []
+
+-- the reply to a frame that was served
+abbrev pub served_line : ℕ → List ℕ
+served_line n = codes "served " ++ decimal n ++ 10 ∷ []

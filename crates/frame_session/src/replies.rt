@@ -1,0 +1,62 @@
+ghost use Rattle.std.specs.Prelude.{◌≡◌, ◌++◌, OnOk, IsOk, ◌↔◌, codes};
+ghost use Rattle.std.specs.Fmt.{decimal};
+ghost use Rattle.std.specs.Io.KnownBytes.{Appends};
+ghost use Rattle.frame_session.specs.Replies.{cause_text, refusal_text, refused_line, served_line};
+
+use crate::refusal::Refusal;
+use frame_header::Cause;
+use std::io;
+use std::io::Write;
+use stream_files::WriteFault;
+
+/// Writes the reply to a frame that was served.
+pub fn write_served<W: Write>(w: &mut W, n: u64) -> Result<(), WriteFault>
+    ensures { OnOk result (Appends (W.contents w.old) (W.contents w.new) (served_line n)) }
+{
+    told(writeln!(w, "served {n}"))
+}
+
+/// Writes the reply to a line that is refused.
+pub fn write_refused<W: Write>(w: &mut W, refusal: Refusal) -> Result<(), WriteFault>
+    ensures { OnOk result (Appends (W.contents w.old) (W.contents w.new) (refused_line refusal)) }
+{
+    write_text(w, "refused ")?;
+    write_refusal(w, refusal)?;
+    write_text(w, "\n")
+}
+
+fn write_refusal<W: Write>(w: &mut W, refusal: Refusal) -> Result<(), WriteFault>
+    ensures { OnOk result (Appends (W.contents w.old) (W.contents w.new) (refusal_text refusal)) }
+{
+    match refusal {
+        Refusal::Packet { place, cause } => {
+            told(write!(w, "packet {place} "))?;
+            write_cause(w, cause)
+        }
+        _ => write_text(w, refusal.word()),
+    }
+}
+
+fn write_cause<W: Write>(w: &mut W, cause: Cause) -> Result<(), WriteFault>
+    ensures { OnOk result (Appends (W.contents w.old) (W.contents w.new) (cause_text cause)) }
+{
+    match cause {
+        Cause::TokenPartition(k) => told(write!(w, "TokenPartition {k}")),
+        _ => write_text(w, cause.word()),
+    }
+}
+
+fn write_text<W: Write>(w: &mut W, text: &str) -> Result<(), WriteFault>
+    ensures { OnOk result (Appends (W.contents w.old) (W.contents w.new) text.now) }
+{
+    told(w.write_all(text.as_bytes()))
+}
+
+fn told(answer: io::Result<()>) -> Result<(), WriteFault>
+    ensures { IsOk result ↔ IsOk answer }
+{
+    match answer {
+        Ok(()) => Ok(()),
+        Err(_) => Err(WriteFault::Write),
+    }
+}

@@ -1,0 +1,138 @@
+ghost use Rattle.std.specs.Prelude.{◌≡◌, ◌≤◌, ◌++◌, IfOk, OnOk, IfErr};
+ghost use Rattle.std.specs.Io.KnownBytes.{Appends};
+ghost use Rattle.stream_files.specs.Y4M.{frame_text};
+ghost use Rattle.frame_session.specs.Answers.{Leaves, Means, RunRefuses, Runs, Serves, opening, requests_of};
+
+use crate::lines::{Line, next_line, read_line};
+use crate::refusal::Refusal;
+use crate::replies::{write_refused, write_served};
+use crate::session::Session;
+use pixel_planes::Picture;
+use std::alloc::Global;
+use std::io::Write;
+use stream_files::{Head, IvfFault, WriteFault, ivf_read, y4m_frame, y4m_header};
+use vp8_tables::Tables;
+
+/// Why a run gives no session.
+#[derive(Clone, Copy, Debug, PartialEq, Eq)]
+pub enum RunFault {
+    /// The bytes of the stream are no IVF file.
+    Ivf(IvfFault),
+    /// A writer refused. Nothing is told of how much went out.
+    Write,
+    /// Memory was refused at the start.
+    NoMemory,
+}
+
+/// Writes a frame, behind the line that opens the frames where its head is due.
+fn write_frame<F: Write>(
+    frames: &mut F,
+    head_due: Option<Head>,
+    picture: &Picture,
+) -> Result<(), WriteFault>
+    ensures { OnOk result (Appends (F.contents frames.old) (F.contents frames.new) (opening head_due picture.now ++ frame_text picture.now)) }
+{
+    if let Some(head) = head_due {
+        y4m_header(
+            frames,
+            picture.width(),
+            picture.height(),
+            head.rate,
+            head.scale,
+        )?;
+    }
+    y4m_frame(frames, picture)
+}
+
+/// Serves frame `n`, or says why it is refused.
+fn serve_frame<F: Write, R: Write>(
+    session: &mut Session,
+    n: u64,
+    frames: &mut F,
+    replies: &mut R,
+) -> Result<(), WriteFault>
+    ensures { OnOk result (Serves session.old (Line.Frame n) (F.contents frames.old) (F.contents frames.new) (R.contents replies.old) (R.contents replies.new) session.new) }
+{
+    let head_due = session.head_due();
+    match session.frame(n) {
+        Ok(picture) => {
+            write_frame(frames, head_due, &picture)?;
+            write_served(replies, n)
+        }
+        Err(refusal) => write_refused(replies, refusal),
+    }
+}
+
+/// Answers one line.
+fn serve<F: Write, R: Write>(
+    session: &mut Session,
+    line: Line,
+    frames: &mut F,
+    replies: &mut R,
+) -> Result<(), WriteFault>
+    ensures { OnOk result (Serves session.old line (F.contents frames.old) (F.contents frames.new) (R.contents replies.old) (R.contents replies.new) session.new) }
+{
+    match line {
+        Line::Silent => Ok(()),
+        Line::Unknown => write_refused(replies, Refusal::Line),
+        Line::Frame(n) => serve_frame(session, n, frames, replies),
+    }
+}
+
+/// Answers all lines of a text.
+fn serve_all<F: Write, R: Write>(
+    session: &mut Session,
+    requests: &[u8],
+    frames: &mut F,
+    replies: &mut R,
+) -> Result<(), WriteFault>
+    ensures { OnOk result (Runs session.old (requests_of requests.now) (F.contents frames.old) (F.contents frames.new) (R.contents replies.old) (R.contents replies.new) session.new) }
+{
+    let mut rest = requests;
+    'lines: loop {
+        let Some((line, behind)) = next_line(rest) else {
+            return Ok(());
+        };
+        serve(session, read_line(line), frames, replies)?;
+        rest = behind;
+    }
+}
+
+/// Runs a request list over an IVF file.
+///
+/// `capacity`, 1 to 4,096, is how many decoded states may be kept. The frames that are served go to
+/// `frames` as a YUV4MPEG2 text, whose first line comes with the first frame; a reply for each line
+/// that is neither empty nor a comment goes to `replies`. The session that is given stands where the
+/// list ends.
+///
+/// `RunFault::Ivf` where the bytes are no IVF file, or memory for its packets was refused, and
+/// `RunFault::NoMemory` where memory for the session was refused: nothing is written then.
+/// `RunFault::Write` where a writer refused; the run ends there.
+pub fn run<F: Write, R: Write>(
+    alloc: Global,
+    tables: Tables,
+    capacity: u16,
+    ivf: &[u8],
+    requests: &[u8],
+    frames: &mut F,
+    replies: &mut R,
+) -> Result<Session, RunFault>
+    requires { (1 ≤ capacity) × (capacity ≤ 4096) }
+    ensures means { IfOk result (Means tables ivf.now requests.now (F.contents frames.old) (F.contents frames.new) (R.contents replies.old) (R.contents replies.new)) }
+    ensures refused { IfErr result (RunRefuses ivf.now) }
+    ensures frames { IfErr result (λ fault. Leaves fault (F.contents frames.old) (F.contents frames.new)) }
+    ensures replies { IfErr result (λ fault. Leaves fault (R.contents replies.old) (R.contents replies.new)) }
+{
+    let file = match ivf_read(alloc, ivf) {
+        Ok(file) => file,
+        Err(fault) => return Err(RunFault::Ivf(fault)),
+    };
+    let mut session = match Session::new(alloc, tables, capacity, file) {
+        Ok(session) => session,
+        Err(_) => return Err(RunFault::NoMemory),
+    };
+    match serve_all(&mut session, requests, frames, replies) {
+        Ok(()) => Ok(session),
+        Err(_) => Err(RunFault::Write),
+    }
+}
