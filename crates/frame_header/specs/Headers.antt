@@ -1,5 +1,5 @@
 use Rattle.std.specs.Prelude.{ℕ, List, Option, Result, Err}
-use Rattle.vp8_tables.specs.declared.Tables.{Tables}
+use Rattle.vp8_tables.specs.declared.tables.Tables.{Tables}
 use Rattle.frame_header.specs.declared.header.Context.{Context}
 use Rattle.frame_header.specs.declared.header.Header.{Header}
 use Rattle.frame_header.specs.declared.cause.Cause.{Cause}

@@ -2,3 +2,4 @@ pub mod Outcomes
 pub mod Splits
 pub mod Numbers
 pub mod Served
+pub mod Blocks

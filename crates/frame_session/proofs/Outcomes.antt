@@ -4,7 +4,7 @@ use Rattle.std.proofs.Math.Seq.{drop-cons}
 use Rattle.std.proofs.lemmas.List.{get_or_default, take_more, drop-map, take-map, map-append, length-map, length-take}
 use Rattle.std.specs.Option.{option_map}
 use Rattle.std.proofs.lemmas.Option.{slice_get-map, slice_get_read}
-use Rattle.vp8_tables.specs.declared.Tables.{Tables}
+use Rattle.vp8_tables.specs.declared.tables.Tables.{Tables}
 use Rattle.stream_files.specs.declared.packets.Packet.{Packet}
 use Rattle.frame_header.specs.Tags.{is_shown}
 use Rattle.frame_session.specs.Decoding.{Outcome, Standing, outcome, outcomes, outcomes_from, standing_after, left_by, shown_from, shown_places}

@@ -3,12 +3,12 @@ use Rattle.std.specs.Prelude.{◌≡◌, ℕ, List, [], ◌∷◌, ◌++◌, map
 use Rattle.std.specs.List.{flat_map}
 use Rattle.std.specs.Io.KnownBytes.{Appends, Keeps}
 use Rattle.std.specs.Str.Lines.{lines}
-use Rattle.vp8_tables.specs.declared.Tables.{Tables}
+use Rattle.vp8_tables.specs.declared.tables.Tables.{Tables}
 use Rattle.pixel_planes.specs.Pictures.{PictureSamples}
 use Rattle.stream_files.specs.declared.ivf.Head.{Head}
 use Rattle.stream_files.specs.declared.ivf.Ivf.{Ivf}
 use Rattle.stream_files.specs.Ivf.{IsIvf, IvfRefuses}
-use Rattle.stream_files.specs.Y4M.{frame_text, y4m_line}
+use Rattle.stream_files.specs.Y4m.{frame_text, y4m_line}
 use Rattle.frame_session.specs.declared.lines.Line.{Line}
 use Rattle.frame_session.specs.declared.lines.Line.TheVariants.{Silent, Unknown, Frame}
 use Rattle.frame_session.specs.declared.refusal.Refusal.{Refusal}

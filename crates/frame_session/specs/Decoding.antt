@@ -1,6 +1,6 @@
 -- Decoding of a stream: the steps over its packets in order, from no state.
 use Rattle.std.specs.Prelude.{ℕ, ◌+◌, List, [], ◌∷◌, Option, Some, None, Result, Ok, Err, if◌then◌else◌, ◌≡◌}
-use Rattle.vp8_tables.specs.declared.Tables.{Tables}
+use Rattle.vp8_tables.specs.declared.tables.Tables.{Tables}
 use Rattle.frame_header.specs.declared.cause.Cause.{Cause}
 use Rattle.frame_header.specs.Tags.{has_key_tag, is_shown}
 use Rattle.frame_session.specs.declared.step.State.{State}

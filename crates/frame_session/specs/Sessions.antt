@@ -1,6 +1,6 @@
 -- What a session is to its requests, and what a request for a frame gives.
 use Rattle.std.specs.Prelude.{◌≡◌, ℕ, ◌≤◌, ◌==◌, ◌&&◌, Bool, if◌then◌else◌, List, map, Option, Some, None, Result, Ok, Err, is_none, option_and_then, slice_get}
-use Rattle.vp8_tables.specs.declared.Tables.{Tables}
+use Rattle.vp8_tables.specs.declared.tables.Tables.{Tables}
 use Rattle.pixel_planes.specs.Pictures.{PictureSamples}
 use Rattle.stream_files.specs.declared.packets.Packet.{Packet}
 use Rattle.stream_files.specs.declared.ivf.Head.{Head}

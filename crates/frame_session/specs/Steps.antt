@@ -2,7 +2,7 @@
 -- (RFC 6386, section 9).
 use Rattle.std.specs.Prelude.{ℕ, List, Option, Result, Ok, Err, ◌≡◌}
 use Rattle.std.specs.Option.{option_map}
-use Rattle.vp8_tables.specs.declared.Tables.{Tables}
+use Rattle.vp8_tables.specs.declared.tables.Tables.{Tables}
 use Rattle.frame_header.specs.declared.cause.Cause.{Cause}
 use Rattle.frame_header.specs.declared.header.Header.{Header}
 use Rattle.frame_header.specs.Headers.{header_of}

@@ -1,6 +1,6 @@
 ghost use Rattle.std.specs.Prelude.{◌≡◌, ◌≤◌, ◌++◌, IfOk, OnOk, IfErr};
 ghost use Rattle.std.specs.Io.KnownBytes.{Appends};
-ghost use Rattle.stream_files.specs.Y4M.{frame_text};
+ghost use Rattle.stream_files.specs.Y4m.{frame_text};
 ghost use Rattle.frame_session.specs.Answers.{Leaves, Means, RunRefuses, Runs, Serves, opening, requests_of};
 
 use crate::lines::{Line, next_line, read_line};
@@ -24,6 +24,26 @@ pub enum RunFault {
     NoMemory,
 }
 
+/// Writes the line that opens the frames, where its head is due.
+fn write_opening<F: Write>(
+    frames: &mut F,
+    head_due: Option<Head>,
+    picture: &Picture,
+) -> Result<(), WriteFault>
+    ensures { OnOk result (Appends (F.contents frames.old) (F.contents frames.new) (opening head_due picture.now)) }
+{
+    match head_due {
+        Some(head) => y4m_header(
+            frames,
+            picture.width(),
+            picture.height(),
+            head.rate,
+            head.scale,
+        ),
+        None => Ok(()),
+    }
+}
+
 /// Writes a frame, behind the line that opens the frames where its head is due.
 fn write_frame<F: Write>(
     frames: &mut F,
@@ -32,15 +52,7 @@ fn write_frame<F: Write>(
 ) -> Result<(), WriteFault>
     ensures { OnOk result (Appends (F.contents frames.old) (F.contents frames.new) (opening head_due picture.now ++ frame_text picture.now)) }
 {
-    if let Some(head) = head_due {
-        y4m_header(
-            frames,
-            picture.width(),
-            picture.height(),
-            head.rate,
-            head.scale,
-        )?;
-    }
+    write_opening(frames, head_due, picture)?;
     y4m_frame(frames, picture)
 }
 

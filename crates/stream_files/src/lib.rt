@@ -1,9 +1,18 @@
+//! The files that streams come from and go to: IVF read, Y4M written, and a reader's bytes up to a
+//! limit.
 #![tactic(auto)]
 
 mod ivf;
+pub mod laws;
 mod packets;
+mod reading;
+mod records;
 mod y4m;
 
-pub use ivf::{Head, Ivf, IvfFault, ivf_read};
-pub use packets::{Bytes, Packet, Packets};
+pub use ivf::{EMPTY, Head, Ivf, IvfFault, ivf_read};
+pub use packets::{Bytes, MAX_PACKETS, Packet, Packets};
+pub use reading::{ReadFault, read_all};
 pub use y4m::{WriteFault, y4m_frame, y4m_header};
+
+#[cfg(test)]
+mod tests;

@@ -2,7 +2,7 @@ use Rattle.std.proofs.Common.{Ok, Err, ◌++◌, Option, subst}
 use Rattle.std.specs.Io.KnownBytes.{Appends}
 use Rattle.std.proofs.lemmas.Result.{on_ok_weaker}
 use Rattle.stream_files.specs.declared.ivf.Head.{Head}
-use Rattle.stream_files.specs.Y4M.{frame_text}
+use Rattle.stream_files.specs.Y4m.{frame_text}
 use Rattle.frame_session.specs.declared.lines.Line.TheVariants.{Frame}
 use Rattle.frame_session.specs.Replies.{refused_line, served_line}
 use Rattle.frame_session.specs.Sessions.{head_due}

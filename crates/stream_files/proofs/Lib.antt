@@ -1,0 +1,5 @@
+pub mod Takes
+pub mod Walks
+pub mod Files
+pub mod OneAnswer
+pub mod Lines
