@@ -3,3 +3,5 @@ pub mod Splits
 pub mod Numbers
 pub mod Served
 pub mod Blocks
+pub mod Breaks
+pub mod Determined

@@ -5,3 +5,4 @@ pub mod Sessions
 pub mod Replies
 pub mod Requests
 pub mod Answers
+pub mod Laws
