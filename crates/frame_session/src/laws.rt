@@ -1,5 +1,6 @@
 //! Laws over the definitions of this crate: each is the contract of a function that does nothing.
 
+ghost use Rattle.frame_session.specs.UnfilteredLaws.{AreFlat, WritesOneBlock};
 ghost use Rattle.frame_session.specs.Laws.{AnswersAreOne, BreaksAreNamed, EachHasOutcome, KeysBeginAnew};
 
 /// Each packet of a stream has one outcome.
@@ -20,4 +21,15 @@ pub fn keys_begin_anew()
 /// Where memory is never refused, a request list has one meaning, but for the number of steps.
 pub fn answers_are_one()
     ensures { AnswersAreOne }
+{}
+
+/// A block that is written has its value throughout, and every other sample is as it was.
+pub fn block_write_is_local()
+    ensures { WritesOneBlock }
+{}
+
+/// In the planes of a blank picture luma is 128 in the first four rows and 129 below them,
+/// and chroma is 128.
+pub fn blank_planes_are_flat()
+    ensures { AreFlat }
 {}
