@@ -1,1 +1,5 @@
 #![tactic(auto)]
+
+mod prediction;
+
+pub use prediction::blank_picture;

@@ -1,0 +1,11 @@
+use Rattle.std.proofs.Common.{rules, refl, add-one}
+use Rattle.frame_session.specs.Unfiltered.{predicted_sub_blocks}
+use Rattle.frame_session.proofs.prediction.predict_luma.Goals as goal
+
+pub loop-block-init : goal.loop-block-init
+unfolding predicted_sub_blocks
+loop-block-init c = (refl, search rules)
+
+pub loop-block-preserved : goal.loop-block-preserved
+unfolding predicted_sub_blocks
+loop-block-preserved c = (rw (add-one, ← c.loop-block.invariant.0, c.fill_block.ensures.value, c.sub_block_mean-value.ensures) refl, search rules)
