@@ -1,1 +1,2 @@
 pub mod Unfiltered
+pub mod UnfilteredLaws

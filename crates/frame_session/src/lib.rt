@@ -2,4 +2,4 @@
 
 mod prediction;
 
-pub use prediction::blank_picture;
+pub use prediction::{blank_picture, blank_planes_are_flat, block_write_is_local};

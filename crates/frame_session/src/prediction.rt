@@ -1,6 +1,7 @@
 ghost use Rattle.std.specs.Prelude.{◌≡◌, ◌*◌, ◌+◌, ◌<◌, ◌≤◌, IfOk};
 ghost use Rattle.frame_session.specs.Unfiltered.{HoldsSquare, HoldsMacroblock, HaveMacroblocks, SameSides, SameShape, above, left, above_sum, left_sum, sub_block_dc, chroma_dc, with_block, predicted_sub_block, predicted_sub_blocks, predicted_chroma, predicted_macroblock, predicted_row, predicted_rows, blank_picture as blank_picture_of, empty_planes as empty_planes_of};
 ghost use Rattle.pixel_planes.specs.Pictures.{macroblocks as macroblocks_of};
+ghost use Rattle.frame_session.specs.UnfilteredLaws.{WritesOneBlock, AreFlat};
 
 use pixel_planes::{NoMemory, Picture, Plane, Planes};
 use std::alloc::Global;
@@ -178,3 +179,14 @@ pub fn blank_picture(alloc: Global, width: u16, height: u16) -> Result<Picture, 
     predict_rows(&mut planes, columns, rows);
     Picture::share(alloc, planes, width, height)
 }
+
+/// A law: a block that is written has its value throughout, and every other sample is as it was.
+pub fn block_write_is_local()
+    ensures { WritesOneBlock }
+{}
+
+/// A law: in the planes of a blank picture luma is 128 in the first four rows and 129 below them,
+/// and chroma is 128.
+pub fn blank_planes_are_flat()
+    ensures { AreFlat }
+{}
