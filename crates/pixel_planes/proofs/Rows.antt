@@ -6,7 +6,7 @@ use Rattle.std.proofs.Math.Nat.{mul-le-mul_left}
 use Rattle.std.proofs.Math.Seq.{take-append_seam}
 use Rattle.std.proofs.lemmas.Bool.{cases_lt, cases_eq, ne_eqb, cond-true, cond-false}
 use Rattle.std.proofs.lemmas.Simd.{get_or-put_chunk_below, get_or-put_chunk_at, get_or-put_chunk_above}
-use Rattle.pixel_planes.specs.Samples.{Samples, IsWhole, sample_at, with_row, WritesOneRow}
+use Rattle.pixel_planes.specs.Samples.{Samples, sample_at, with_row, WritesOneRow}
 
 -- what a `Vec` keeps of the list that is left behind a lent range of it
 pub lent_range_is_put : (i : ℕ) (xs ws : List ℕ) → take (length xs) ((take i xs ++ (ws ++ drop (length ws) (drop i xs))) ++ drop (length (take i xs ++ (ws ++ drop (length ws) (drop i xs)))) xs) ≡ put_chunk i xs ws
