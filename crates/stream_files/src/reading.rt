@@ -1,0 +1,91 @@
+// The bytes of a reader, up to a limit.
+ghost use Rattle.std.specs.Prelude.{◌≡◌, ℕ, ◌+◌, ◌-◌, ◌<◌, ◌≤◌, List, ◌++◌, length, take, IfOk, OnOk, OnErr, IfErr, IfSome, vec_len};
+ghost use Rattle.std.specs.Io.KnownBytes.{Consumes, IsAtEnd};
+ghost use Rattle.stream_files.specs.Reading.{read_fault_word, TakesAtMost, FaultMeans};
+
+use std::alloc::Global;
+use std::io::Read;
+use thiserror::Error;
+
+/// Why a reader's bytes were not read to their end.
+#[derive(Clone, Copy, Debug, PartialEq, Eq, Error)]
+pub enum ReadFault {
+    /// The reader gave an error.
+    #[error("the reader gave an error")]
+    Read,
+    /// More bytes came than were allowed.
+    #[error("there are more bytes than are allowed")]
+    TooLong,
+    /// There was no memory for the bytes.
+    #[error("no memory for the bytes")]
+    NoMemory,
+}
+
+impl ReadFault {
+    /// The fault's name.
+    pub const fn word(self) -> &'static str
+        ensures { result.now ≡ read_fault_word self }
+    {
+        match self {
+            ReadFault::Read => "Read",
+            ReadFault::TooLong => "TooLong",
+            ReadFault::NoMemory => "NoMemory",
+        }
+    }
+}
+
+/// How many bytes are asked of a reader at once.
+const PIECE: usize = 4096;
+
+/// Reads once into `piece`, and puts what came behind `all`: how many bytes came, 0 only at the
+/// reader's end. No more is asked than one byte past `limit`.
+fn read_piece<R: Read>(
+    r: &mut R,
+    piece: &mut [u8],
+    all: &mut Vec<u8>,
+    limit: usize,
+) -> Result<usize, ReadFault>
+    requires within { vec_len all.old ≤ limit }
+    requires room { 0 < length piece.old }
+
+    ensures within { IfOk result (λ count. vec_len all.new ≤ limit) }
+    ensures grows { IfOk result (λ count. vec_len all.new ≡ vec_len all.old + count) }
+    ensures taken { IfOk result (λ count. (bytes : List ℕ) × Consumes (R.remaining r.old) (R.remaining r.new) bytes × (all.new.items ≡ all.old.items ++ bytes)) }
+    ensures end { IfOk result (λ count. count ≡ 0 → IsAtEnd (R.remaining r.new)) }
+    ensures err { OnErr result (TakesAtMost (limit - vec_len all.old + 1) (R.remaining r.old) (R.remaining r.new)) }
+    ensures fault { IfErr result (FaultMeans (limit - vec_len all.old) (R.remaining r.old)) }
+{
+    let left = limit - all.len();
+    let wanted = piece.len().min(left.saturating_add(1));
+    let Ok(count) = r.read(&mut piece[..wanted]) else {
+        return Err(ReadFault::Read);
+    };
+    if count > left {
+        return Err(ReadFault::TooLong);
+    }
+    let Ok(()) = all.extend_from_slice(&piece[..count]) else {
+        return Err(ReadFault::NoMemory);
+    };
+    Ok(count)
+}
+
+/// The bytes that a reader gives up to its end, where they are no more than `limit`.
+///
+/// `Read` where the reader gives an error of any kind, `TooLong` where more than `limit` bytes
+/// come, `NoMemory` where there is no room for them; whichever is met first. It takes no more than
+/// `limit + 1` bytes of the reader.
+pub fn read_all<R: Read>(alloc: Global, r: &mut R, limit: usize) -> Result<Vec<u8>, ReadFault>
+    ensures within { IfOk result (λ all. vec_len all ≤ limit) }
+    ensures whole { IfOk result (λ all. IfSome (R.remaining r.old) (λ left. all.items ≡ left)) }
+    ensures end { OnOk result (IsAtEnd (R.remaining r.new)) }
+    ensures taken { TakesAtMost (limit + 1) (R.remaining r.old) (R.remaining r.new) }
+    ensures fault { IfErr result (FaultMeans limit (R.remaining r.old)) }
+{
+    let mut all = Vec::new(alloc);
+    let mut piece = [0; PIECE];
+    'pieces: loop {
+        if read_piece(r, &mut piece, &mut all, limit)? == 0 {
+            return Ok(all);
+        }
+    }
+}
