@@ -1,1 +1,3 @@
 pub mod Takes
+pub mod Walks
+pub mod Files

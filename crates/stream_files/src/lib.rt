@@ -2,6 +2,11 @@
 //! limit.
 #![tactic(auto)]
 
+mod ivf;
+mod packets;
 mod reading;
+mod records;
 
+pub use ivf::{EMPTY, Head, Ivf, IvfFault, ivf_read};
+pub use packets::{Bytes, MAX_PACKETS, Packet, Packets};
 pub use reading::{ReadFault, read_all};
