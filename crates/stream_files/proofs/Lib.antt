@@ -1,3 +1,4 @@
 pub mod Takes
 pub mod Walks
 pub mod Files
+pub mod OneAnswer

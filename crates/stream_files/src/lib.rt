@@ -3,6 +3,7 @@
 #![tactic(auto)]
 
 mod ivf;
+pub mod laws;
 mod packets;
 mod reading;
 mod records;

@@ -1,0 +1,17 @@
+//! What holds of every IVF text. A law is a function that does nothing: its contract is the law.
+ghost use Rattle.std.specs.Prelude.{◌≡◌, ℕ, List};
+ghost use Rattle.stream_files.specs.Ivf.{IsIvf, IvfRefuses};
+ghost use Rattle.stream_files.specs.declared.ivf.Ivf.{Ivf};
+ghost use Rattle.stream_files.specs.declared.ivf.IvfFault.{IvfFault};
+
+/// Bytes are the text of one file at most.
+pub fn ivf_has_one_file()
+    ensures { (bytes : List ℕ) (file other : Ivf) → IsIvf bytes file → IsIvf bytes other → file ≡ other }
+{
+}
+
+/// Bytes are refused by one fault at most: so the text of a file is refused by want of memory alone.
+pub fn ivf_has_one_fault()
+    ensures { (bytes : List ℕ) (fault other : IvfFault) → IvfRefuses bytes fault → IvfRefuses bytes other → fault ≡ other }
+{
+}
