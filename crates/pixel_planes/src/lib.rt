@@ -1,1 +1,10 @@
 #![tactic(auto)]
+
+//! Planes of samples and the pictures made of them.
+
+mod pictures;
+mod planes;
+
+pub use pictures::{Component, Picture, Planes};
+pub use planes::{Plane, row_write_is_local};
+pub use std::alloc::AllocError as NoMemory;

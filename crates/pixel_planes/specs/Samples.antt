@@ -1,0 +1,33 @@
+-- What is seen of a plane: its sides and its samples.
+use Rattle.std.specs.Prelude.{◌≡◌, ℕ, ◌+◌, ◌*◌, ◌<◌, ◌≤◌, ◌==◌, if◌then◌else◌, List, length, replicate, slice_index, slice_range}
+use Rattle.std.specs.Simd.Lanes.{put_chunk}
+
+-- a plane of `height` rows of `width` samples, one row after another
+pub record Samples : Type 0 where
+  pub width : ℕ
+  pub height : ℕ
+  pub samples : List ℕ
+
+-- both sides are 1 to 16,384, and there is a sample for each place
+abbrev pub IsWhole : Samples → Type 0
+IsWhole p = (0 < p.width) × (p.width ≤ 16384) × (0 < p.height) × (p.height ≤ 16384) × (length p.samples ≡ p.width * p.height)
+
+-- the plane of these sides whose samples are all `value`
+abbrev pub uniform : ℕ → ℕ → ℕ → Samples
+uniform width height value = record { width = width; height = height; samples = replicate (width * height) value }
+
+-- the sample in column x of row y
+abbrev pub sample_at : Samples → ℕ → ℕ → ℕ
+sample_at p x y = slice_index p.samples (y * p.width + x)
+
+-- row y
+abbrev pub row_of : Samples → ℕ → List ℕ
+row_of p y = slice_range p.samples (y * p.width) (y * p.width + p.width)
+
+-- the plane with `row` written over row y
+abbrev pub with_row : Samples → ℕ → List ℕ → Samples
+with_row p y row = record p { samples = put_chunk (y * p.width) p.samples row }
+
+-- a row that is written holds what was written, and every other row is as it was
+abbrev pub WritesOneRow : Type 0
+WritesOneRow = (p : Samples) (y : ℕ) (row : List ℕ) (x other : ℕ) → IsWhole p → length row ≡ p.width → y < p.height → x < p.width → other < p.height → sample_at (with_row p y row) x other ≡ (if other == y then slice_index row x else sample_at p x other)

@@ -1,0 +1,134 @@
+ghost use Rattle.std.specs.Prelude.{◌≡◌, ◌<◌, ◌≤◌, length, IfOk};
+ghost use Rattle.pixel_planes.specs.Pictures.{IsWholePicture, AreCoded, shown_height, shown_width, shown_row_of};
+
+use crate::NoMemory;
+use crate::planes::Plane;
+use std::alloc::Global;
+use std::marker::Model;
+use std::rc::Rc;
+
+/// One of the three parts of a picture.
+#[derive(Clone, Copy, Debug, PartialEq, Eq)]
+pub enum Component {
+    Luma,
+    Cb,
+    Cr,
+}
+
+/// The three planes of a picture that is being made.
+#[derive(Debug, Drop)]
+pub struct Planes {
+    pub luma: Plane,
+    pub cb: Plane,
+    pub cr: Plane,
+}
+
+/// A finished picture, whose planes may be shared with other pictures.
+///
+/// The shown size is 1 to 16,383 each way. The planes have the coded size: luma is as many whole
+/// macroblocks of 16 by 16 samples as cover the shown size, and chroma has half its sides.
+#[derive(Debug, Drop)]
+pub struct Picture {
+    width: u16,
+    height: u16,
+    luma: Rc<Plane>,
+    cb: Rc<Plane>,
+    cr: Rc<Plane>,
+}
+
+impl Model for Picture {
+    ghost use Rattle.pixel_planes.specs.Pictures.{PictureSamples, IsWholePicture};
+
+    ghost Value = { PictureSamples };
+
+    ghost view = { λ p. record { width = p.width; height = p.height; luma = p.luma.value; cb = p.cb.value; cr = p.cr.value } };
+
+    ghost invariant = { λ p. IsWholePicture (record { width = p.width; height = p.height; luma = p.luma.value; cb = p.cb.value; cr = p.cr.value }) };
+}
+
+impl Picture {
+    /// Makes a picture of these planes, to be shown at `width` by `height`, 1 to 16,383 each.
+    ///
+    /// The planes have the coded size of that picture. `NoMemory` where a plane's shared block is
+    /// refused; the planes are dropped then.
+    pub fn share(
+        alloc: Global,
+        planes: Planes,
+        width: u16,
+        height: u16,
+    ) -> Result<Picture, NoMemory>
+        requires wide { (0 < width) × (width ≤ 16383) }
+        requires high { (0 < height) × (height ≤ 16383) }
+        requires coded { AreCoded width height planes.luma planes.cb planes.cr }
+        ensures { IfOk result (λ p. p ≡ record { width = width; height = height; luma = planes.luma; cb = planes.cb; cr = planes.cr }) }
+    {
+        let Planes { luma, cb, cr } = planes;
+        let _sides = (luma.width(), cb.width(), cr.width());
+        Ok(Picture {
+            width,
+            height,
+            luma: Rc::new(alloc, luma)?,
+            cb: Rc::new(alloc, cb)?,
+            cr: Rc::new(alloc, cr)?,
+        })
+    }
+
+    /// The shown width in luma samples, 1 to 16,383.
+    pub fn width(&self) -> u16
+        ensures value { result ≡ self.now.width }
+        ensures whole { IsWholePicture self.now }
+    {
+        self.width
+    }
+
+    /// The shown height in luma samples, 1 to 16,383.
+    pub fn height(&self) -> u16
+        ensures value { result ≡ self.now.height }
+        ensures whole { IsWholePicture self.now }
+    {
+        self.height
+    }
+
+    /// Shown row `y` of a component, counted from the top.
+    ///
+    /// It has the shown width in luma, and half of that, rounded up, in chroma. `y` is below the
+    /// component's shown height, which goes by the same rule.
+    pub fn shown_row(&self, component: Component, y: usize) -> &[u8]
+        requires { y < shown_height self.now component }
+        ensures value { result.now ≡ shown_row_of self.now component y }
+        ensures len { length result.now ≡ shown_width self.now component }
+    {
+        let width = usize::from(self.width);
+        match component {
+            Component::Luma => &self.luma.row(y)[..width],
+            Component::Cb => &self.cb.row(y)[..width.div_ceil(2)],
+            Component::Cr => &self.cr.row(y)[..width.div_ceil(2)],
+        }
+    }
+}
+
+#[cfg(test)]
+mod tests {
+    use super::*;
+    use std::test::Fail;
+
+    #[test]
+    fn one_sample_of_a_macroblock_is_shown(rt: HostRuntime) -> Result<(), Fail> {
+        let alloc = rt.alloc();
+        let mut luma = Plane::make(alloc, 16, 16, 128)?;
+        luma.row_mut(0).fill(7);
+        assert_eq!(rt; luma.row(0), [7; 16].as_slice());
+        assert_eq!(rt; luma.row(1), [128; 16].as_slice());
+        let planes = Planes {
+            luma,
+            cb: Plane::make(alloc, 8, 8, 9)?,
+            cr: Plane::make(alloc, 8, 8, 11)?,
+        };
+        let picture = Picture::share(alloc, planes, 1, 1)?;
+        assert_eq!(rt; (picture.width(), picture.height()), (1, 1));
+        assert_eq!(rt; picture.shown_row(Component::Luma, 0), [7].as_slice());
+        assert_eq!(rt; picture.shown_row(Component::Cb, 0), [9].as_slice());
+        assert_eq!(rt; picture.shown_row(Component::Cr, 0), [11].as_slice());
+        Ok(())
+    }
+}
