@@ -1,2 +1,3 @@
 pub mod Reading
 pub mod Ivf
+pub mod Y4m

@@ -7,11 +7,9 @@ ghost use Rattle.stream_files.specs.declared.ivf.IvfFault.{IvfFault};
 /// Bytes are the text of one file at most.
 pub fn ivf_has_one_file()
     ensures { (bytes : List ℕ) (file other : Ivf) → IsIvf bytes file → IsIvf bytes other → file ≡ other }
-{
-}
+{}
 
 /// Bytes are refused by one fault at most: so the text of a file is refused by want of memory alone.
 pub fn ivf_has_one_fault()
     ensures { (bytes : List ℕ) (fault other : IvfFault) → IvfRefuses bytes fault → IvfRefuses bytes other → fault ≡ other }
-{
-}
+{}

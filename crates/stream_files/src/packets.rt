@@ -2,7 +2,8 @@
 ghost use Rattle.std.specs.Prelude.{◌≡◌, IfOk, length, slice_get};
 ghost use Rattle.std.specs.Option.{option_copied};
 
-use std::alloc::{AllocError as NoMemory, Global};
+use pixel_planes::NoMemory;
+use std::alloc::Global;
 use std::marker::Model;
 
 /// How many packets a file may have.

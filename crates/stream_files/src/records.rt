@@ -5,7 +5,8 @@ ghost use Rattle.stream_files.specs.declared.packets.Packet.{Packet};
 
 use super::packets::{Bytes, MAX_PACKETS, Packet, Packets};
 use byteorder::{ByteOrder, LittleEndian};
-use std::alloc::{AllocError as NoMemory, Global};
+use pixel_planes::NoMemory;
+use std::alloc::Global;
 
 /// How many bytes stand in front of a record's packet: its size and its stamp.
 const RECORD_HEAD: usize = 12;

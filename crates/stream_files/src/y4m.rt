@@ -1,0 +1,108 @@
+// YUV4MPEG2, written.
+ghost use Rattle.std.specs.Prelude.{◌≡◌, ◌++◌, OnOk, codes, [], ◌∷◌};
+ghost use Rattle.std.specs.Fmt.{decimal};
+ghost use Rattle.std.specs.Io.KnownBytes.{Appends};
+ghost use Rattle.pixel_planes.specs.Pictures.{shown_height, shown_plane};
+ghost use Rattle.stream_files.specs.Y4m.{frame_text, write_fault_word, y4m_line};
+
+use pixel_planes::{Component, Picture};
+use std::io::Write;
+use thiserror::Error;
+
+/// Why a text was not written.
+#[derive(Clone, Copy, Debug, PartialEq, Eq, Error)]
+pub enum WriteFault {
+    /// The writer gave an error.
+    #[error("the writer gave an error")]
+    Write,
+}
+
+impl WriteFault {
+    /// The fault's name.
+    pub const fn word(self) -> &'static str
+        ensures { result.now ≡ write_fault_word self }
+    {
+        match self {
+            WriteFault::Write => "Write",
+        }
+    }
+}
+
+/// Writes the first line, of a rate that is a fraction.
+fn write_line<W: Write>(
+    w: &mut W,
+    width: u16,
+    height: u16,
+    rate: u32,
+    scale: u32,
+) -> Result<(), WriteFault>
+    ensures { OnOk result (Appends (W.contents w.old) (W.contents w.new)
+        (codes "YUV4MPEG2 W" ++ decimal width ++ codes " H" ++ decimal height ++ codes " F" ++ (decimal rate ++ codes ":" ++ decimal scale) ++ codes " Ip C420jpeg" ++ 10 ∷ [])) }
+{
+    match writeln!(
+        w,
+        "YUV4MPEG2 W{width} H{height} F{rate}:{scale} Ip C420jpeg"
+    ) {
+        Ok(()) => Ok(()),
+        Err(_) => Err(WriteFault::Write),
+    }
+}
+
+/// Writes the line that a stream of frames of `width` by `height` shown luma samples begins with,
+/// `rate / scale` frames a second: 30 where either of them is 0.
+///
+/// `Write` where the writer gives an error; nothing is told then of how much went out.
+pub fn y4m_header<W: Write>(
+    w: &mut W,
+    width: u16,
+    height: u16,
+    rate: u32,
+    scale: u32,
+) -> Result<(), WriteFault>
+    ensures { OnOk result (Appends (W.contents w.old) (W.contents w.new) (y4m_line width height rate scale)) }
+{
+    if rate == 0 || scale == 0 {
+        write_line(w, width, height, 30, 1)
+    } else {
+        write_line(w, width, height, rate, scale)
+    }
+}
+
+/// How many rows of a component are shown.
+fn row_count(picture: &Picture, component: Component) -> usize
+    ensures { result ≡ shown_height picture.now component }
+{
+    let height = usize::from(picture.height());
+    match component {
+        Component::Luma => height,
+        Component::Cb | Component::Cr => height.div_ceil(2),
+    }
+}
+
+/// Writes the shown rows of a component, one after another.
+fn write_plane<W: Write>(
+    w: &mut W,
+    picture: &Picture,
+    component: Component,
+) -> Result<(), WriteFault>
+    ensures { OnOk result (Appends (W.contents w.old) (W.contents w.new) (shown_plane picture.now component)) }
+{
+    for y in 0..row_count(picture, component) {
+        w.write_all(picture.shown_row(component, y))
+            .map_err(|_| WriteFault::Write)?;
+    }
+    Ok(())
+}
+
+/// Writes a frame: `FRAME`, a newline, and the shown Y, Cb and Cr samples by rows. The chroma
+/// planes have half the shown sides, rounded up.
+///
+/// `Write` where the writer gives an error; nothing is told then of how much went out.
+pub fn y4m_frame<W: Write>(w: &mut W, picture: &Picture) -> Result<(), WriteFault>
+    ensures { OnOk result (Appends (W.contents w.old) (W.contents w.new) (frame_text picture.now)) }
+{
+    w.write_all(b"FRAME\n").map_err(|_| WriteFault::Write)?;
+    write_plane(w, picture, Component::Luma)?;
+    write_plane(w, picture, Component::Cb)?;
+    write_plane(w, picture, Component::Cr)
+}
