@@ -1,0 +1,148 @@
+use super::*;
+use pixel_planes::{Picture, Plane, Planes};
+use std::alloc::{AllocError, Global};
+use std::io::{self, ErrorKind, Read};
+use std::test::Fail;
+
+/// A reader that gives one byte, and then an error.
+#[derive(Drop)]
+struct Breaking {
+    gave: bool,
+}
+
+impl Read for Breaking {
+    fn read(&mut self, buf: &mut [u8]) -> io::Result<usize> {
+        if self.gave || buf.is_empty() {
+            return Err(ErrorKind::Interrupted.into());
+        }
+        self.gave = true;
+        buf[0] = 7;
+        Ok(1)
+    }
+}
+
+#[test]
+fn reads_up_to_a_limit(rt: HostRuntime) -> Result<(), Fail> {
+    let bytes = [1, 2, 3, 4, 5].as_slice();
+    for limit in [5, 6, usize::MAX] {
+        let mut reader = bytes;
+        assert_eq!(rt; read_all(rt.alloc(), &mut reader, limit)?.as_slice(), bytes);
+        assert_eq!(rt; reader.len(), 0);
+    }
+    let mut reader = bytes;
+    assert!(rt;
+        matches!(
+            read_all(rt.alloc(), &mut reader, 4),
+            Err(ReadFault::TooLong)
+        )
+    );
+    let mut breaking = Breaking { gave: false };
+    assert!(rt; matches!(read_all(rt.alloc(), &mut breaking, 5), Err(ReadFault::Read)));
+    Ok(())
+}
+
+/// A header of 34 bytes, two packets and three bytes of a third record.
+const FILE: [u8; 67] = [
+    b'D', b'K', b'I', b'F', 9, 9, 34, 0, b'V', b'P', b'8', b'0', 64, 1, 240, 0, 25, 0, 0, 0, 2, 0,
+    0, 0, 1, 0, 0, 0, 0, 0, 0, 0, 9, 9, //
+    3, 0, 0, 0, 1, 0, 0, 0, 1, 0, 0, 0, 10, 11, 12, //
+    0, 0, 0, 0, 5, 0, 0, 0, 0, 0, 0, 0, //
+    1, 0, 0, 0, 7, 7,
+];
+
+#[test]
+fn reads_two_packets_and_tells_the_rest(rt: HostRuntime) -> Result<(), Fail> {
+    let file = ivf_read(rt.alloc(), &FILE)?;
+    let head = Head {
+        width: 320,
+        height: 240,
+        rate: 25,
+        scale: 2,
+    };
+    assert_eq!(rt; file.head, head);
+    assert_eq!(rt; file.spare, 6);
+    assert_eq!(rt; file.packets.len(), 2);
+    for packet in file.packets.get(0) {
+        assert_eq!(rt; packet.stamp, 4_294_967_297);
+        assert_eq!(rt; packet.bytes.as_slice(), [10, 11, 12].as_slice());
+    }
+    for packet in file.packets.as_slice().last() {
+        assert_eq!(rt; packet.stamp, 5);
+        assert_eq!(rt; packet.bytes.as_slice().len(), 0);
+    }
+    let empty = ivf_read(rt.alloc(), &EMPTY)?;
+    assert_eq!(rt;
+        (
+            empty.head.rate,
+            empty.head.scale,
+            empty.packets.len(),
+            empty.spare
+        ),
+        (30, 1, 0, 0)
+    );
+    Ok(())
+}
+
+#[test]
+fn refuses_what_is_no_file(rt: HostRuntime) {
+    let mut codec = EMPTY;
+    codec[8] = b'v';
+    let mut short = EMPTY;
+    short[6] = 31;
+    let mut long = EMPTY;
+    long[6] = 33;
+    let wrong = [
+        (&EMPTY[..31], "Header"),
+        (&[0; 32], "Magic"),
+        (&codec, "FourCc"),
+        (&short, "HeaderLength"),
+        (&long, "HeaderLength"),
+    ];
+    for (bytes, word) in wrong {
+        let told = ivf_read(rt.alloc(), bytes).err().map(|fault| fault.word());
+        assert_eq!(rt; told, Some(word));
+    }
+}
+
+/// A picture of 3 by 1 samples, whose coded planes are larger.
+fn picture(alloc: Global) -> Result<Picture, AllocError> {
+    let mut luma = Plane::make(alloc, 16, 16, 99)?;
+    luma.row_mut(0)[..3].copy_from_slice(b"abc");
+    let mut cb = Plane::make(alloc, 8, 8, 99)?;
+    cb.row_mut(0)[..2].copy_from_slice(b"de");
+    let mut cr = Plane::make(alloc, 8, 8, 99)?;
+    cr.row_mut(0)[..2].copy_from_slice(b"fg");
+    Picture::share(alloc, Planes { luma, cb, cr }, 3, 1)
+}
+
+#[test]
+fn writes_a_stream(rt: HostRuntime) -> Result<(), Fail> {
+    let picture = picture(rt.alloc())?;
+    let mut text = Vec::new(rt.alloc());
+    y4m_header(&mut text, 3, 1, 25, 2)?;
+    y4m_frame(&mut text, &picture)?;
+    let want = b"YUV4MPEG2 W3 H1 F25:2 Ip C420jpeg\nFRAME\nabcdefg";
+    assert_eq!(rt; text.as_slice(), want.as_slice());
+    for (rate, scale) in [(0, 1), (30, 0)] {
+        let mut line = Vec::new(rt.alloc());
+        y4m_header(&mut line, 16, 16, rate, scale)?;
+        let want = b"YUV4MPEG2 W16 H16 F30:1 Ip C420jpeg\n";
+        assert_eq!(rt; line.as_slice(), want.as_slice());
+    }
+    Ok(())
+}
+
+#[test]
+fn a_writer_without_room_refuses(rt: HostRuntime) -> Result<(), Fail> {
+    let picture = picture(rt.alloc())?;
+    let mut room = [0; 12];
+    assert_eq!(rt;
+        y4m_header(&mut room.as_mut_slice(), 3, 1, 25, 2),
+        Err(WriteFault::Write)
+    );
+    assert_eq!(rt;
+        y4m_frame(&mut room.as_mut_slice(), &picture),
+        Err(WriteFault::Write)
+    );
+    Ok(())
+}
