@@ -1,8 +1,10 @@
 //! What holds of every IVF text. A law is a function that does nothing: its contract is the law.
-ghost use Rattle.std.specs.Prelude.{◌≡◌, ℕ, List};
+ghost use Rattle.std.specs.Prelude.{◌≡◌, ℕ, List, []};
 ghost use Rattle.stream_files.specs.Ivf.{IsIvf, IvfRefuses};
 ghost use Rattle.stream_files.specs.declared.ivf.Ivf.{Ivf};
 ghost use Rattle.stream_files.specs.declared.ivf.IvfFault.{IvfFault};
+
+use super::EMPTY;
 
 /// Bytes are the text of one file at most.
 pub fn ivf_has_one_file()
@@ -12,4 +14,9 @@ pub fn ivf_has_one_file()
 /// Bytes are refused by one fault at most: so the text of a file is refused by want of memory alone.
 pub fn ivf_has_one_fault()
     ensures { (bytes : List ℕ) (fault other : IvfFault) → IvfRefuses bytes fault → IvfRefuses bytes other → fault ≡ other }
+{}
+
+/// The bytes of [`EMPTY`] are the text of a file of 30 frames a second with no packets.
+pub fn ivf_empty_is_a_file()
+    ensures { IsIvf EMPTY (record { head = record { width = 0; height = 0; rate = 30; scale = 1 }; packets = []; spare = 0 }) }
 {}
