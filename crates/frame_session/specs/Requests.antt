@@ -1,8 +1,9 @@
 -- What the lines of a request list ask for. The lines of a text are std's `lines`.
 use Rattle.std.specs.Prelude.{ℕ, ◌^◌, Bool, List, [], ◌∷◌, Option, None, Some, ◌&&◌, ◌==◌, not, nat_lt, nat_le, nat_eq, if◌then◌else◌, filter, length, codes}
-use Rattle.std.specs.List.{slice_split, starts_with}
+use Rattle.std.specs.Char.{is_ascii_digit}
+use Rattle.std.specs.List.{list_all, slice_split, starts_with}
 use Rattle.std.specs.Option.{option_map_or}
-use Rattle.std.specs.Str.{all_ascii_digits, bytes_eq}
+use Rattle.std.specs.Str.{bytes_eq}
 use Rattle.std.specs.Str.Parse.{digits_value}
 use Rattle.frame_session.specs.declared.lines.Line.{Line}
 use Rattle.frame_session.specs.declared.lines.Line.TheVariants.{Silent, Unknown, Frame}
@@ -13,7 +14,7 @@ words_of line = filter (λ word. not (length word == 0)) (slice_split (λ b. b =
 
 -- 1 to 20 decimal digits, and nothing else
 abbrev pub is_numeral : List ℕ → Bool
-is_numeral word = nat_lt 0 (length word) && nat_le (length word) 20 && all_ascii_digits word
+is_numeral word = nat_lt 0 (length word) && nat_le (length word) 20 && list_all is_ascii_digit word
 
 -- the number that a word writes: a numeral of at most 18,446,744,073,709,551,615
 abbrev pub number_of : List ℕ → Option ℕ

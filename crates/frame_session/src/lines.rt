@@ -1,6 +1,8 @@
 //! Reads the lines of a request list: lines, words, numbers, and what a line asks for.
 
-ghost use Rattle.std.specs.Prelude.{◌≡◌, ◌<◌, [], ◌∷◌, length, MatchOption, IfSome};
+ghost use Rattle.std.specs.Prelude.{◌≡◌, ◌<◌, ◌≤◌, ◌==◌, [], ◌∷◌, length, MatchOption, IfSome};
+ghost use Rattle.std.specs.Char.{is_ascii_digit};
+ghost use Rattle.std.specs.List.{list_all, position_or_len, prefix_len};
 ghost use Rattle.std.specs.Str.Lines.{lines, strip_carriage_return};
 ghost use Rattle.frame_session.specs.Requests.{words_of, number_of, frame_by, asked_by};
 
@@ -31,10 +33,20 @@ pub fn next_line(text: &[u8]) -> Option<(&[u8], &[u8])>
     if text.is_empty() {
         return None;
     }
-    match text.iter().position(|byte| *byte == b'\n') {
-        Some(end) => Some((without_carriage_return(&text[..end]), &text[end + 1..])),
-        None => Some(text.split_at(text.len())),
+    let end = length_before(b'\n', text);
+    let (line, behind) = text.split_at(end);
+    match behind {
+        [_, rest @ ..] => Some((without_carriage_return(line), rest)),
+        [] => Some((line, behind)),
     }
+}
+
+// How many bytes stand before the first of this value, or before the end.
+fn length_before(byte: u8, text: &[u8]) -> usize
+    ensures value { result ≡ position_or_len (λ b. b == byte) text.now }
+    ensures within { result ≤ length text.now }
+{
+    text.iter().take_while(|b| **b != byte).count()
 }
 
 fn without_carriage_return(line: &[u8]) -> &[u8]
@@ -51,10 +63,18 @@ pub fn next_word(line: &[u8]) -> Option<(&[u8], &[u8])>
     ensures next { MatchOption result (words_of line.now ≡ []) (λ found. words_of line.now ≡ found.0.now ∷ words_of found.1.now) }
     ensures shorter { IfSome result (λ found. length found.1.now < length line.now) }
 {
-    let start = line.iter().position(|byte| *byte != b' ')?;
-    let words = &line[start..];
-    let end = words.iter().position(|byte| *byte == b' ');
-    Some(words.split_at(end.unwrap_or(words.len())))
+    let (_, words) = line.split_at(leading_spaces(line));
+    if words.is_empty() {
+        return None;
+    }
+    Some(words.split_at(length_before(b' ', words)))
+}
+
+fn leading_spaces(line: &[u8]) -> usize
+    ensures value { result ≡ prefix_len (λ b. b == 32) line.now }
+    ensures within { result ≤ length line.now }
+{
+    line.iter().take_while(|byte| **byte == b' ').count()
 }
 
 /// The number that a word writes: 1 to 20 decimal digits, of a value that fits 64 bits.
@@ -64,10 +84,16 @@ pub fn number(word: &[u8]) -> Option<u64>
     if word.len() > MOST_DIGITS {
         return None;
     }
-    if !word.iter().all(|byte| byte.is_ascii_digit()) {
+    if !has_digits_alone(word) {
         return None;
     }
     str::from_utf8(word).ok()?.parse().ok()
+}
+
+fn has_digits_alone(word: &[u8]) -> bool
+    ensures { result ≡ list_all is_ascii_digit word.now }
+{
+    word.iter().all(|byte| byte.is_ascii_digit())
 }
 
 /// What a line asks for.
