@@ -1,5 +1,5 @@
 -- The first line of a text, and the first word of a line.
-use Rattle.std.proofs.Common.{◌≡◌, ℕ, ◌+◌, ◌<◌, ◌≤◌, ◌-◌, suc, Bool, true, false, cond, not, ◌==◌, List, [], ◌∷◌, length, take, drop, refl, sym, ap, ◌∙◌, subst, arith, length-drop, get_or}
+use Rattle.std.proofs.Common.{◌≡◌, ℕ, ◌+◌, ◌<◌, ◌≤◌, ◌-◌, suc, Bool, true, false, cond, not, ◌==◌, List, [], ◌∷◌, length, take, drop, refl, sym, ap, ◌∙◌, arith, length-drop, get_or}
 use Rattle.std.proofs.lemmas.Bool.Decides.{nat_tests}
 use Rattle.std.proofs.lemmas.List.{take_all, drop_all, drop-drop}
 use Rattle.std.proofs.lemmas.List.Sums.{prefix_len_stops, prefix_len-drop_no}
@@ -32,6 +32,7 @@ parts_first part p (x ∷ xs) = by_first (p x) refl
     by_parts : (parts : List (List ℕ)) → lines_of_parts (part ∷ onto_first x parts) ≡ strip_carriage_return part ∷ lines_of_parts (onto_first x parts)
     by_parts [] = refl
     by_parts (y ∷ ys) = refl
+
     by_first : (b : Bool) → p x ≡ b → lines_of_parts (part ∷ slice_split p (x ∷ xs)) ≡ strip_carriage_return part ∷ lines_of_parts (slice_split p (x ∷ xs))
     by_first true e = rw e refl
     by_first false e = rw e (by_parts (slice_split p xs))

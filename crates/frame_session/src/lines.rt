@@ -87,7 +87,10 @@ pub fn number(word: &[u8]) -> Option<u64>
     if !has_digits_alone(word) {
         return None;
     }
-    str::from_utf8(word).ok()?.parse().ok()
+    match str::from_utf8(word) {
+        Ok(digits) => digits.parse().ok(),
+        Err(_) => None,
+    }
 }
 
 fn has_digits_alone(word: &[u8]) -> bool
@@ -134,6 +137,26 @@ fn frame_line(arguments: &[u8]) -> Line
 mod tests {
     use super::*;
     use std::test::Fail;
+
+    type Cut = Option<(&'static [u8], &'static [u8])>;
+
+    const TEXTS: [(&[u8], Cut); 8] = [
+        (b"", None),
+        (b"\n", Some((b"", b""))),
+        (b"frame 3\r\n\nframe 4", Some((b"frame 3", b"\nframe 4"))),
+        (b"\nframe 4", Some((b"", b"frame 4"))),
+        (b"frame 4", Some((b"frame 4", b""))),
+        (b"frame 4\r", Some((b"frame 4\r", b""))),
+        (b"frame 4\r\r\n", Some((b"frame 4\r", b""))),
+        (b"a\rb\n", Some((b"a\rb", b""))),
+    ];
+
+    #[test]
+    fn cuts_off_the_first_line(rt: HostRuntime) {
+        for (text, want) in TEXTS {
+            assert_eq!(rt; next_line(text), want, "at {text:?}");
+        }
+    }
 
     const ROWS: [(&[u8], Line); 18] = [
         (b"", Line::Silent),

@@ -1,4 +1,4 @@
-use Rattle.std.proofs.Common.{arith, eqb-true, ◌∙◌, sym}
+use Rattle.std.proofs.Common.{arith}
 use Rattle.frame_session.proofs.Splits.{cut_none, cut_word}
 use Rattle.frame_session.proofs.lines.next_word.Goals as goal
 
