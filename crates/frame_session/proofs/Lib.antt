@@ -1,2 +1,3 @@
-pub mod Splits
 pub mod Numbers
+pub mod Splits
+pub mod Texts

@@ -1,3 +1,4 @@
 #![tactic(auto)]
 
 mod lines;
+mod replies;
