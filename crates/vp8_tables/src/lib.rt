@@ -1,1 +1,41 @@
+//! The long probability tables of VP8 (RFC 6386, sections 11.5, 13.4 and 13.5), as a value that
+//! is handed to the decoder.
 #![tactic(auto)]
+
+mod fault;
+mod tables;
+
+pub use fault::TableFault;
+pub use tables::Tables;
+
+#[cfg(test)]
+mod tests {
+    use super::*;
+
+    // Byte i of the text is 37 i + i div 256, modulo 256, so that each stride shows.
+    #[test]
+    fn entries_stand_in_index_order(rt: HostRuntime) {
+        let mut text = [0u8; 3013];
+        for (i, byte) in text.iter_mut().enumerate() {
+            *byte = ((i % 256 * 37 + i / 256) % 256) as u8;
+        }
+        for length in [0, 3011, 3013] {
+            let read = Tables::read(&text[..length]);
+            assert_eq!(rt; read.err(), Some(TableFault::Length), "at {length}");
+        }
+        let tables = Tables::read(&text[..3012]).expect(&rt, "a text of 3012 bytes");
+        assert_eq!(rt; tables.coefficient(0, 0, 0, 10), 114);
+        assert_eq!(rt; tables.coefficient(0, 0, 2, 0), 46);
+        assert_eq!(rt; tables.coefficient(0, 1, 0, 0), 197);
+        assert_eq!(rt; tables.coefficient(1, 0, 0, 0), 41);
+        assert_eq!(rt; tables.coefficient(3, 7, 2, 10), 127);
+        assert_eq!(rt; tables.update(0, 0, 0, 0), 164);
+        assert_eq!(rt; tables.update(3, 7, 2, 10), 35);
+        assert_eq!(rt; tables.key_sub(0, 0, 8), 112);
+        assert_eq!(rt; tables.key_sub(0, 1, 0), 149);
+        assert_eq!(rt; tables.key_sub(1, 0, 0), 74);
+        assert_eq!(rt; tables.key_sub(9, 9, 8), 58);
+        assert_eq!(rt; Tables::flat().update(2, 5, 1, 4), 128);
+        assert_eq!(rt; TableFault::Length.word(), "Length");
+    }
+}
