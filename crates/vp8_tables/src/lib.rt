@@ -12,18 +12,22 @@ pub use tables::Tables;
 mod tests {
     use super::*;
 
-    // Byte i of the text is 37 i + i div 256, modulo 256, so that each stride shows.
-    #[test]
-    fn entries_stand_in_index_order(rt: HostRuntime) {
-        let mut text = [0u8; 3013];
+    // Byte i is 37 i + i div 256, modulo 256, so that each stride shows.
+    fn counted_text<const N: usize>() -> [u8; N] {
+        let mut text = [0u8; N];
         for (i, byte) in text.iter_mut().enumerate() {
             *byte = ((i % 256 * 37 + i / 256) % 256) as u8;
         }
-        for length in [0, 3011, 3013] {
-            let read = Tables::read(&text[..length]);
-            assert_eq!(rt; read.err(), Some(TableFault::Length), "at {length}");
-        }
-        let tables = Tables::read(&text[..3012]).expect(&rt, "a text of 3012 bytes");
+        text
+    }
+
+    #[test]
+    fn entries_stand_in_index_order(rt: HostRuntime) {
+        let shorter = Tables::read(&counted_text::<3011>());
+        assert_eq!(rt; shorter.err(), Some(TableFault::Length));
+        let longer = Tables::read(&counted_text::<3013>());
+        assert_eq!(rt; longer.err(), Some(TableFault::Length));
+        let tables = Tables::read(&counted_text::<3012>()).expect(&rt, "3012 bytes");
         assert_eq!(rt; tables.coefficient(0, 0, 0, 10), 114);
         assert_eq!(rt; tables.coefficient(0, 0, 2, 0), 46);
         assert_eq!(rt; tables.coefficient(0, 1, 0, 0), 197);
