@@ -1,2 +1,4 @@
+pub mod Cause
 pub mod Reader
 pub mod Reading
+pub mod Tags

@@ -3,5 +3,11 @@
 #![tactic(auto)]
 
 mod bits;
+mod cause;
+mod tag_fields;
+mod tags;
 
 pub use bits::BitReader;
+pub use cause::Cause;
+pub use tag_fields::Tag;
+pub use tags::{has_key_tag, is_shown, key_size, tag};
