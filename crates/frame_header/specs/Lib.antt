@@ -1,4 +1,5 @@
 pub mod Cause
+pub mod Fields
 pub mod Reader
 pub mod Reading
 pub mod Tags

@@ -4,10 +4,14 @@
 
 mod bits;
 mod cause;
+mod context;
+mod fields;
 mod tag_fields;
 mod tags;
 
 pub use bits::BitReader;
 pub use cause::Cause;
+pub use context::{Context, FilterDeltas, Segments};
+pub use fields::{Colors, Filter, Segmentation};
 pub use tag_fields::Tag;
 pub use tags::{has_key_tag, is_shown, key_size, tag};
