@@ -6,6 +6,7 @@ mod bits;
 mod cause;
 mod context;
 mod fields;
+mod places;
 mod tag_fields;
 mod tags;
 
@@ -13,5 +14,6 @@ pub use bits::BitReader;
 pub use cause::Cause;
 pub use context::{Context, FilterDeltas, Segments};
 pub use fields::{Colors, Filter, Segmentation};
+pub use places::Place;
 pub use tag_fields::Tag;
 pub use tags::{has_key_tag, is_shown, key_size, tag};
