@@ -3,4 +3,5 @@ pub mod Fields
 pub mod Places
 pub mod Reader
 pub mod Reading
+pub mod Start
 pub mod Tags
