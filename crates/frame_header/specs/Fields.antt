@@ -1,4 +1,4 @@
-use Rattle.std.specs.Prelude.{ℕ, Bool, true, false, ℤ, pos, List, [], ◌∷◌, slice_index_or, if◌then◌else◌}
+use Rattle.std.specs.Prelude.{ℕ, ◌^◌, Bool, true, false, ℤ, pos, List, [], ◌∷◌, slice_index_or, if◌then◌else◌}
 use Rattle.frame_header.specs.Reading.{Reading, ◌>>=◌, give, flag, literal, signed_or}
 use Rattle.frame_header.specs.declared.context.Segments.{Segments}
 use Rattle.frame_header.specs.declared.context.FilterDeltas.{FilterDeltas}
@@ -89,13 +89,18 @@ adjustment before = do
     after ← deltas before
     give (true, after)) else give (false, before)
 
--- the fields of the first partition, in order, up to the binary logarithm of the number of token
--- partitions (RFC 6386, section 19.2)
+-- the number of token partitions, of which the binary logarithm is read (RFC 6386, section 9.5)
+unfoldable pub partition_count : Reading ℕ
+partition_count = do
+  log2 ← literal 2
+  give (2 ^ log2)
+
+-- the fields of the first partition, in order, up to the number of token partitions (RFC 6386, section 19.2)
 unfoldable pub fields : Bool → Context → Reading Fields
 fields is_key before = do
   color ← (if is_key then colors else give (record { color_space = false; clamping_type = false }))
   segments ← segmentation before.segments
   loop ← filter
   adjusted ← adjustment before.deltas
-  log2 ← literal 2
-  give (record { colors = color; segmentation = segments.0; filter = loop; adjusts_level = adjusted.0; partitions_log2 = log2; context = record { segments = segments.1; deltas = adjusted.1 } })
+  count ← partition_count
+  give (record { colors = color; segmentation = segments.0; filter = loop; adjusts_level = adjusted.0; partition_count = count; context = record { segments = segments.1; deltas = adjusted.1 } })

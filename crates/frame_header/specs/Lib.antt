@@ -1,5 +1,6 @@
 pub mod Cause
 pub mod Fields
+pub mod Header
 pub mod Places
 pub mod Reader
 pub mod Reading

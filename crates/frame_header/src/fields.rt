@@ -1,8 +1,8 @@
 //! The fields of the first partition up to the number of token partitions
 //! (RFC 6386, sections 9.2 to 9.6 and 19.2).
 
-ghost use Rattle.std.specs.Prelude.{◌≡◌, ◌<◌, ◌≤◌};
-ghost use Rattle.frame_header.specs.Fields.{four_signed, colors, segment_data, map_probability, map_probabilities, segment_updates, segmentation, filter, deltas, adjustment, fields};
+ghost use Rattle.std.specs.Prelude.{◌≡◌, ◌<◌, ◌≤◌, ◌^◌};
+ghost use Rattle.frame_header.specs.Fields.{four_signed, colors, segment_data, map_probability, map_probabilities, segment_updates, segmentation, filter, deltas, adjustment, partition_count, fields};
 
 use crate::bits::BitReader;
 use crate::context::{Context, FilterDeltas, Segments};
@@ -47,7 +47,7 @@ pub(crate) struct Fields {
     pub(crate) segmentation: Segmentation,
     pub(crate) filter: Filter,
     pub(crate) adjusts_level: bool,
-    pub(crate) partitions_log2: u8,
+    pub(crate) partition_count: usize,
     pub(crate) context: Context,
 }
 
@@ -188,12 +188,37 @@ fn read_adjustment(reader: &mut BitReader, before: FilterDeltas) -> (bool, Filte
     }
 }
 
+#[tactic(auto, unfolding(crate::specs::Fields::partition_count))]
+fn read_partition_count(reader: &mut BitReader) -> usize
+    ensures read { partition_count reader.old ≡ (result, reader.new) }
+    ensures some { 0 < result }
+    ensures few { result ≤ 8 }
+{
+    let log2 = reader.literal(2);
+    power_of_two(log2)
+}
+
+fn power_of_two(exponent: u16) -> usize
+    requires { exponent < 4 }
+    ensures value { result ≡ 2 ^ exponent }
+    ensures some { 0 < result }
+    ensures few { result ≤ 8 }
+{
+    match exponent {
+        0 => 1,
+        1 => 2,
+        2 => 4,
+        _ => 8,
+    }
+}
+
 /// The fields of the first partition up to the number of token partitions, for a key frame or
 /// another, where `before` is the context that the frame takes over.
 #[tactic(auto, unfolding(crate::specs::Fields::fields))]
 pub(crate) fn read_fields(reader: &mut BitReader, is_key: bool, before: Context) -> Fields
     ensures read { fields is_key before reader.old ≡ (result, reader.new) }
-    ensures small { result.partitions_log2 < 4 }
+    ensures some { 0 < result.partition_count }
+    ensures few { result.partition_count ≤ 8 }
 {
     let colors = if is_key {
         read_colors(reader)
@@ -206,13 +231,13 @@ pub(crate) fn read_fields(reader: &mut BitReader, is_key: bool, before: Context)
     let (segmentation, segments) = read_segmentation(reader, before.segments);
     let filter = read_filter(reader);
     let (adjusts_level, deltas) = read_adjustment(reader, before.deltas);
-    let partitions_log2 = reader.literal(2) as u8;
+    let partition_count = read_partition_count(reader);
     Fields {
         colors,
         segmentation,
         filter,
         adjusts_level,
-        partitions_log2,
+        partition_count,
         context: Context { segments, deltas },
     }
 }
