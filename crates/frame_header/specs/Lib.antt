@@ -6,3 +6,4 @@ pub mod Reader
 pub mod Reading
 pub mod Start
 pub mod Tags
+pub mod Uncut

@@ -77,16 +77,17 @@ fn is_plain(packet: &[u8]) -> bool
 /// without a key tag, or with a byte behind place 9 that is not 0.
 #[tactic(auto, unfolding(crate::specs::Header::header_of))]
 pub fn read_header<'a>(
-    _tables: &Tables,
+    tables: &Tables,
     context: Option<&Context>,
     packet: &'a [u8],
 ) -> Result<Header<'a>, Cause>
-    ensures value { result ≡ header_of _tables.now (option_copied context.entry) packet.now }
+    ensures value { result ≡ header_of tables.now (option_copied context.entry) packet.now }
     ensures wide { IfOk result (λ header. IsTrue header.is_key → (1 ≤ header.width) × (header.width ≤ 16383)) }
     ensures high { IfOk result (λ header. IsTrue header.is_key → (1 ≤ header.height) × (header.height ≤ 16383)) }
     ensures inside { IfOk result (λ header. All (λ place. place.start + place.length ≤ length packet.now) header.partitions.items) }
-    ensures plain { IfOk result (λ _. IsTrue (is_plain packet.now)) }
+    ensures key { IfOk result (λ header. IsTrue header.is_key × IsTrue (has_key_tag packet.now)) }
     ensures whole { IfOk result (λ _. 10 ≤ length packet.now) }
+    ensures zero { IfOk result (λ _. IsTrue (is_zero_behind_size packet.now)) }
 {
     let start = start_of(context, packet)?;
     let end = first_end(&start, packet)?;

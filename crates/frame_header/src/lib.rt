@@ -7,6 +7,7 @@ mod cause;
 mod context;
 mod fields;
 mod header;
+pub mod laws;
 mod places;
 mod start;
 mod tag_fields;

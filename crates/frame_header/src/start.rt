@@ -1,6 +1,7 @@
 ghost use Rattle.std.specs.Prelude.{◌≡◌, ◌<◌, ◌≤◌, ◌+◌, length, IsTrue, IfOk};
 ghost use Rattle.std.specs.Option.{option_copied};
 ghost use Rattle.frame_header.specs.Start.{key_start, later_start, start_of};
+ghost use Rattle.frame_header.specs.Tags.{has_key_tag};
 
 use crate::cause::Cause;
 use crate::context::{Context, FilterDeltas, Segments};
@@ -32,6 +33,8 @@ const NO_CONTEXT: Context = Context {
 
 fn key_start(tag: Tag, packet: &[u8]) -> Result<Start, Cause>
     ensures value { result ≡ key_start tag packet.now }
+    ensures tag { IfOk result (λ start. start.tag ≡ tag) }
+    ensures whole { IfOk result (λ _. 10 ≤ length packet.now) }
     ensures behind { IfOk result (λ start. start.place ≤ length packet.now) }
     ensures wide { IfOk result (λ start. (1 ≤ start.width) × (start.width ≤ 16383)) }
     ensures high { IfOk result (λ start. (1 ≤ start.height) × (start.height ≤ 16383)) }
@@ -81,6 +84,8 @@ fn later_start(tag: Tag, context: Option<&Context>) -> Result<Start, Cause>
 pub(crate) fn start_of(context: Option<&Context>, packet: &[u8]) -> Result<Start, Cause>
     ensures value { result ≡ start_of (option_copied context.entry) packet.now }
     ensures behind { IfOk result (λ start. start.place ≤ length packet.now) }
+    ensures key { IfOk result (λ start. start.tag.key ≡ has_key_tag packet.now) }
+    ensures whole { IfOk result (λ start. IsTrue start.tag.key → 10 ≤ length packet.now) }
     ensures wide { IfOk result (λ start. IsTrue start.tag.key → (1 ≤ start.width) × (start.width ≤ 16383)) }
     ensures high { IfOk result (λ start. IsTrue start.tag.key → (1 ≤ start.height) × (start.height ≤ 16383)) }
 {
