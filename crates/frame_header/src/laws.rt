@@ -13,15 +13,13 @@ use vp8_tables::Tables;
 /// and all probabilities (RFC 6386, section 7).
 pub fn uncut_reads_alike(bytes: &[u8], probs: &[u8])
     ensures { bits_read read probs.now (started bytes.now) ≡ bits_read uncut_read probs.now (started bytes.now) }
-{
-}
+{}
 
 /// A packet of 16 by 16 samples with empty partitions is accepted.
 #[tactic(auto, unfolding(crate::specs::Header::header_of))]
 pub fn smallest_key_frame(tables: &Tables)
     ensures { IsOkAnd (header_of tables.now None (0x10 ∷ 0 ∷ 0 ∷ 0x9D ∷ 0x01 ∷ 0x2A ∷ 0x10 ∷ 0 ∷ 0x10 ∷ 0 ∷ [])) (λ header. (header.width ≡ 16) × (header.height ≡ 16) × (header.partitions.items ≡ record { start = 10; length = 0 } ∷ [])) }
-{
-}
+{}
 
 /// Each cause of a packet.
 #[tactic(auto, unfolding(crate::specs::Header::header_of))]
@@ -35,5 +33,4 @@ pub fn worked_causes(tables: &Tables, context: &Context)
     ensures first_partition { header_of tables.now None (0x30 ∷ 0 ∷ 0 ∷ 0x9D ∷ 0x01 ∷ 0x2A ∷ 0x10 ∷ 0 ∷ 0x10 ∷ 0 ∷ []) ≡ Err FirstPartition }
     ensures token_sizes { header_of tables.now None (0x50 ∷ 0 ∷ 0 ∷ 0x9D ∷ 0x01 ∷ 0x2A ∷ 0x10 ∷ 0 ∷ 0x10 ∷ 0 ∷ 0 ∷ 1 ∷ []) ≡ Err TokenSizes }
     ensures token_partition { header_of tables.now None (0x50 ∷ 0 ∷ 0 ∷ 0x9D ∷ 0x01 ∷ 0x2A ∷ 0x10 ∷ 0 ∷ 0x10 ∷ 0 ∷ 0 ∷ 1 ∷ 5 ∷ 0 ∷ 0 ∷ []) ≡ Err (TokenPartition 0) }
-{
-}
+{}
