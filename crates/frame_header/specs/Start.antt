@@ -1,4 +1,4 @@
-use Rattle.std.specs.Prelude.{ℕ, Bool, true, false, not, ◌||◌, ℤ, pos, List, [], ◌∷◌, length, nat_lt, ◌==◌, Option, Some, None, Result, Ok, Err, if◌then◌else◌}
+use Rattle.std.specs.Prelude.{ℕ, Bool, true, false, not, ◌&&◌, ◌||◌, ℤ, pos, List, [], ◌∷◌, length, nat_lt, ◌==◌, Option, Some, None, Result, Ok, Err, if◌then◌else◌}
 use Rattle.std.specs.Option.{option_map_or}
 use Rattle.frame_header.specs.Tags.{tag_of, has_start_code, width_of, height_of}
 use Rattle.frame_header.specs.Fields.{no_numbers}
@@ -15,21 +15,24 @@ no_context = record {
   deltas = record { reference = no_numbers; mode = no_numbers };
 }
 
--- a key frame's start, or the first cause against it (RFC 6386, section 9.1)
+-- a key frame's start, or the first cause against what stands behind its tag (RFC 6386, section 9.1)
 abbrev pub key_start : Tag → List ℕ → Result Start Cause
 key_start tag packet =
-    if nat_lt (length packet) 10 then Err ShortPacket else
-    if nat_lt 3 tag.version then Err Version else
     if not (has_start_code packet) then Err StartCode else
     if (width_of packet == 0) || (height_of packet == 0) then Err Size else
     Ok (record { tag = tag; place = 10; width = width_of packet; height = height_of packet; context = no_context })
 
--- the start of any other frame, which takes over the context before it, or the first cause against it
+-- the start of any other frame, which takes over the context before it
 abbrev pub later_start : Tag → Option Context → Result Start Cause
-later_start tag before =
+later_start tag before = option_map_or (λ context. Ok (record { tag = tag; place = 3; width = 0; height = 0; context = context })) before (Err NoKeyFrame)
+
+-- the start of a frame with this tag, or the first cause against it (RFC 6386, section 9.1)
+abbrev pub tagged_start : Tag → Option Context → List ℕ → Result Start Cause
+tagged_start tag before packet =
+    if tag.key && nat_lt (length packet) 10 then Err ShortPacket else
     if nat_lt 3 tag.version then Err Version else
-    option_map_or (λ context. Ok (record { tag = tag; place = 3; width = 0; height = 0; context = context })) before (Err NoKeyFrame)
+    if tag.key then key_start tag packet else later_start tag before
 
 -- the start of a frame: its tag, where its first partition begins, its size and the context that it takes over
 abbrev pub start_of : Option Context → List ℕ → Result Start Cause
-start_of before packet = option_map_or (λ tag. if tag.key then key_start tag packet else later_start tag before) (tag_of packet) (Err ShortPacket)
+start_of before packet = option_map_or (λ tag. tagged_start tag before packet) (tag_of packet) (Err ShortPacket)

@@ -1,6 +1,6 @@
 ghost use Rattle.std.specs.Prelude.{◌≡◌, ◌<◌, ◌≤◌, ◌+◌, length, IsTrue, IfOk};
 ghost use Rattle.std.specs.Option.{option_copied};
-ghost use Rattle.frame_header.specs.Start.{key_start, later_start, start_of};
+ghost use Rattle.frame_header.specs.Start.{key_start, later_start, tagged_start, start_of};
 ghost use Rattle.frame_header.specs.Tags.{has_key_tag};
 
 use crate::cause::Cause;
@@ -32,19 +32,13 @@ const NO_CONTEXT: Context = Context {
 };
 
 fn key_start(tag: Tag, packet: &[u8]) -> Result<Start, Cause>
+    requires { 10 ≤ length packet.now }
     ensures value { result ≡ key_start tag packet.now }
     ensures tag { IfOk result (λ start. start.tag ≡ tag) }
-    ensures whole { IfOk result (λ _. 10 ≤ length packet.now) }
-    ensures behind { IfOk result (λ start. start.place ≤ length packet.now) }
+    ensures place { IfOk result (λ start. start.place ≡ 10) }
     ensures wide { IfOk result (λ start. (1 ≤ start.width) × (start.width ≤ 16383)) }
     ensures high { IfOk result (λ start. (1 ≤ start.height) × (start.height ≤ 16383)) }
 {
-    if packet.len() < 10 {
-        return Err(Cause::ShortPacket);
-    }
-    if tag.version > 3 {
-        return Err(Cause::Version);
-    }
     if !has_start_code(packet) {
         return Err(Cause::StartCode);
     }
@@ -66,9 +60,6 @@ fn later_start(tag: Tag, context: Option<&Context>) -> Result<Start, Cause>
     ensures place { IfOk result (λ start. start.place ≡ 3) }
     ensures tag { IfOk result (λ start. start.tag ≡ tag) }
 {
-    if tag.version > 3 {
-        return Err(Cause::Version);
-    }
     let context = context.ok_or(Cause::NoKeyFrame)?;
     Ok(Start {
         tag,
@@ -90,6 +81,12 @@ pub(crate) fn start_of(context: Option<&Context>, packet: &[u8]) -> Result<Start
     ensures high { IfOk result (λ start. IsTrue start.tag.key → (1 ≤ start.height) × (start.height ≤ 16383)) }
 {
     let tag = tag(packet).ok_or(Cause::ShortPacket)?;
+    if tag.key && packet.len() < 10 {
+        return Err(Cause::ShortPacket);
+    }
+    if tag.version > 3 {
+        return Err(Cause::Version);
+    }
     if tag.key {
         key_start(tag, packet)
     } else {
