@@ -7,3 +7,4 @@ pub mod Reading
 pub mod Start
 pub mod Tags
 pub mod Uncut
+pub mod Worked

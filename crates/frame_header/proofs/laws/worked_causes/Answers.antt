@@ -17,3 +17,7 @@ returns-clause-token_sizes c = refl
 pub returns-clause-token_partition : goal.returns-clause-token_partition
 unfolding header_of fields partition_count adjustment filter segmentation colors literal more_bits read renewed token_places
 returns-clause-token_partition c = refl
+
+pub returns-clause-later_byte : goal.returns-clause-later_byte
+unfolding header_of fields partition_count adjustment filter segmentation colors literal more_bits read renewed token_places
+returns-clause-later_byte c = refl
