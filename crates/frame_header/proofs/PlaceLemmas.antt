@@ -1,11 +1,10 @@
-use Rattle.std.proofs.Common.{◌≡◌, ℕ, zero, suc, ◌+◌, ◌-◌, ◌*◌, ◌<◌, ◌≤◌, List, [], ◌∷◌, ◌++◌, length, Ok, Err, Result, Some, None, refl, sym, ap, ◌∙◌, arith, append_assoc, length-append, All}
+use Rattle.std.proofs.Common.{◌≡◌, ℕ, suc, ◌+◌, ◌-◌, ◌*◌, ◌<◌, ◌≤◌, List, [], ◌∷◌, ◌++◌, length, Ok, Err, Some, None, refl, sym, ap, ◌∙◌, arith, append_assoc, length-append, All}
 use Rattle.std.proofs.lemmas.Bool.{lt-ltb, le-ltb}
 use Rattle.std.proofs.lemmas.List.Elements.{All-push}
 use Rattle.std.specs.List.{position_from}
 use Rattle.frame_header.specs.Tags.{number_at}
-use Rattle.frame_header.specs.Places.{sizes_at, places_of, is_past, unless_past, token_places}
+use Rattle.frame_header.specs.Places.{sizes_at, places_of, is_past, token_places}
 use Rattle.frame_header.specs.declared.places.Place.{Place}
-use Rattle.frame_header.specs.declared.cause.Cause.{Cause}
 use Rattle.frame_header.specs.declared.cause.Cause.TheVariants.{TokenSizes, TokenPartition}
 
 -- the partitions from the k-th on, of which `last` have a size

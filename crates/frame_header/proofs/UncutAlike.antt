@@ -1,7 +1,7 @@
-use Rattle.std.proofs.Common.{◌≡◌, ℕ, zero, suc, ◌+◌, ◌-◌, ◌*◌, ◌<◌, ◌≤◌, min, Bool, true, false, List, [], ◌∷◌, get_or, refl, sym, ap, ◌∙◌, arith, inl, inr}
+use Rattle.std.proofs.Common.{◌≡◌, ℕ, zero, suc, ◌-◌, ◌*◌, ◌<◌, ◌≤◌, min, true, false, List, [], ◌∷◌, get_or, refl, ap, ◌∙◌, arith, inl, inr}
 use Rattle.std.proofs.Math.Nat.{mul-le-mul_left}
 use Rattle.std.proofs.lemmas.Bool.{lt-ltb, le-ltb, le-leb, lt-leb, cases_lt}
-use Rattle.frame_header.specs.Reader.{Reader, doubled, renewed, read, split_of, next_bit, started}
+use Rattle.frame_header.specs.Reader.{Reader, doubled, renewed, read, split_of, started}
 use Rattle.frame_header.specs.Uncut.{uncut_doubled, uncut_renewed, uncut_read, bits_read}
 
 -- a reader with its window held at the range

@@ -1,4 +1,4 @@
-use Rattle.std.specs.Prelude.{ℕ, ◌+◌, ◌*◌, zero, suc, Bool, ℤ, pos, neg_ℤ, List, if◌then◌else◌}
+use Rattle.std.specs.Prelude.{ℕ, ◌+◌, ◌*◌, zero, suc, Bool, ℤ, pos, neg_ℤ, if◌then◌else◌}
 use Rattle.std.specs.Int.{from_bool}
 use Rattle.frame_header.specs.Reader.{Reader, read}
 

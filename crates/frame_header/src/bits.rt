@@ -1,6 +1,6 @@
 //! The bit decoder of RFC 6386, section 7, bit by bit.
 
-ghost use Rattle.std.specs.Prelude.{◌≡◌, ◌<◌, ◌≤◌, ◌^◌, pos, neg_ℤ, ◌<ℤ◌, ◌≤ℤ◌};
+ghost use Rattle.std.specs.Prelude.{◌≡◌, ◌<◌, ◌≤◌, ◌^◌};
 ghost use Rattle.frame_header.specs.Reader.{next_bit, after_bit, started, read};
 ghost use Rattle.frame_header.specs.Reading.{flag, literal, magnitude_and_sign, signed_or};
 

@@ -1,7 +1,7 @@
 //! The fields of the first partition up to the number of token partitions
 //! (RFC 6386, sections 9.2 to 9.6 and 19.2).
 
-ghost use Rattle.std.specs.Prelude.{◌≡◌, ◌<◌, ◌≤◌, ◌^◌};
+ghost use Rattle.std.specs.Prelude.{◌≡◌, ◌<◌, ◌≤◌};
 ghost use Rattle.frame_header.specs.Fields.{four_signed, colors, segment_data, map_probability, map_probabilities, segment_updates, segmentation, filter, deltas, adjustment, partition_count, fields};
 
 use crate::bits::BitReader;
@@ -195,21 +195,7 @@ fn read_partition_count(reader: &mut BitReader) -> usize
     ensures few { result ≤ 8 }
 {
     let log2 = reader.literal(2);
-    power_of_two(log2)
-}
-
-fn power_of_two(exponent: u16) -> usize
-    requires { exponent < 4 }
-    ensures value { result ≡ 2 ^ exponent }
-    ensures some { 0 < result }
-    ensures few { result ≤ 8 }
-{
-    match exponent {
-        0 => 1,
-        1 => 2,
-        2 => 4,
-        _ => 8,
-    }
+    1 << log2
 }
 
 /// The fields of the first partition up to the number of token partitions, for a key frame or

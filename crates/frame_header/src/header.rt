@@ -1,5 +1,4 @@
-ghost use Rattle.std.specs.Prelude.{◌≡◌, ◌<◌, ◌≤◌, ◌+◌, ◌-◌, ◌==◌, length, drop, slice_range, IsTrue, IfOk, All};
-ghost use Rattle.std.specs.List.{list_all};
+ghost use Rattle.std.specs.Prelude.{◌≡◌, ◌≤◌, ◌+◌, length, IsTrue, IfOk, All};
 ghost use Rattle.std.specs.Option.{option_copied};
 ghost use Rattle.frame_header.specs.Header.{first_end, is_zero_behind_size, is_plain, header_of};
 ghost use Rattle.frame_header.specs.Tags.{has_key_tag};
@@ -74,7 +73,8 @@ fn is_plain(packet: &[u8]) -> bool
 
 /// The header of a packet behind a context, or none where no key frame came before. An `Err` is
 /// the first cause, in the order of `Cause`, whose condition holds; `NotYet` is that of a packet
-/// without a key tag, or with a byte behind place 9 that is not 0.
+/// without a key tag, or with a byte behind place 9 that is not 0. The fields that need the tables
+/// are not read yet.
 #[tactic(auto, unfolding(crate::specs::Header::header_of))]
 pub fn read_header<'a>(
     tables: &Tables,

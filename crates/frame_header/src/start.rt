@@ -1,6 +1,6 @@
-ghost use Rattle.std.specs.Prelude.{◌≡◌, ◌<◌, ◌≤◌, ◌+◌, length, IsTrue, IfOk};
+ghost use Rattle.std.specs.Prelude.{◌≡◌, ◌≤◌, length, IsTrue, IfOk};
 ghost use Rattle.std.specs.Option.{option_copied};
-ghost use Rattle.frame_header.specs.Start.{key_start, later_start, tagged_start, start_of};
+ghost use Rattle.frame_header.specs.Start.{key_start, later_start, start_of};
 ghost use Rattle.frame_header.specs.Tags.{has_key_tag};
 
 use crate::cause::Cause;

@@ -1,7 +1,7 @@
-use Rattle.std.proofs.Common.{◌≡◌, ℕ, ◌≤◌, get_or, ap, sym, ◌∙◌, arith}
+use Rattle.std.proofs.Common.{ℕ, ◌≤◌, get_or, ap, sym, ◌∙◌, arith}
 use Rattle.frame_header.specs.Reader.{started, read}
 use Rattle.frame_header.specs.Uncut.{bits_read}
-use Rattle.frame_header.proofs.UncutAlike.{held, bits_read-held, started-held, started-range}
+use Rattle.frame_header.proofs.UncutAlike.{bits_read-held, started-held, started-range}
 use Rattle.frame_header.proofs.laws.uncut_reads_alike.Goals as goal
 
 pub returns : goal.returns

@@ -1,4 +1,4 @@
-use Rattle.std.proofs.Common.{◌≡◌, ◌+◌, ◌-◌, ◌*◌, ◌<◌, ◌≤◌, length, sym, ap, ◌∙◌, arith}
+use Rattle.std.proofs.Common.{◌≡◌, ◌+◌, ◌-◌, ◌*◌, ◌<◌, ◌≤◌, length, sym, arith}
 use Rattle.frame_header.specs.Tags.{number_at}
 use Rattle.frame_header.proofs.PlaceLemmas.{token_places-short, token_places-past, token_places-all, ArePlaced-more}
 use Rattle.frame_header.proofs.places.token_places.Goals as goal

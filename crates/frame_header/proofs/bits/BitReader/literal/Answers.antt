@@ -1,4 +1,4 @@
-use Rattle.std.proofs.Common.{◌≡◌, ◌-◌, refl, sym, ◌∙◌, ap, ℕ, arith}
+use Rattle.std.proofs.Common.{◌≡◌, ◌-◌, sym, ◌∙◌, ap, ℕ, arith}
 use Rattle.frame_header.specs.Reading.{literal, more_bits}
 use Rattle.frame_header.proofs.Literals.{more_bits-step, more_bits-end, with_bit-small}
 use Rattle.frame_header.proofs.bits.BitReader.literal.Goals as goal
