@@ -1,4 +1,7 @@
 // The words of the command line.
+ghost use Rattle.std.specs.Prelude.{◌≡◌, IfSome, None, codes};
+ghost use Rattle.clap.specs.Matches.{first_value, found_of};
+
 use crate::fault::Fault;
 use clap::{Arg, ArgMatches, Command};
 use std::alloc::Global;
@@ -38,7 +41,10 @@ fn optional<'a>(alloc: Global, id: &'a str, help: &'a str) -> Arg<'a> {
 }
 
 /// The word at an argument.
-fn word_of<'a>(matches: &ArgMatches<'a>, id: &str) -> &'a str {
+fn word_of<'a>(matches: &ArgMatches<'a>, id: &str) -> &'a str
+    ensures given { IfSome (first_value (found_of matches.now) id.now) (λ word. result.now ≡ word) }
+    ensures missing { first_value (found_of matches.now) id.now ≡ None → result.now ≡ codes "-" }
+{
     match matches.get_str(id) {
         Some(word) => word,
         None => NO_FILE,
