@@ -1,3 +1,10 @@
-pub mod Causes
+pub mod Cause
+pub mod Fields
+pub mod Header
+pub mod Places
+pub mod Reader
+pub mod Reading
+pub mod Start
 pub mod Tags
-pub mod Headers
+pub mod Uncut
+pub mod Worked

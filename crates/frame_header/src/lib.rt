@@ -1,7 +1,23 @@
+//! The header of a VP8 frame: its tag, its fields and the places of its partitions
+//! (RFC 6386, sections 7, 9 and 19).
 #![tactic(auto)]
+
+mod bits;
 mod cause;
+mod context;
+mod fields;
 mod header;
+pub mod laws;
+mod places;
+mod start;
+mod tag_fields;
 mod tags;
+
+pub use bits::BitReader;
 pub use cause::Cause;
-pub use header::{Context, Header, read_header};
-pub use tags::{has_key_tag, is_shown};
+pub use context::{Context, FilterDeltas, Segments};
+pub use fields::{Colors, Filter, Segmentation};
+pub use header::{Header, read_header};
+pub use places::Place;
+pub use tag_fields::Tag;
+pub use tags::{has_key_tag, is_shown, key_size, tag};

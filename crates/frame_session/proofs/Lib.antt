@@ -1,5 +1,9 @@
+pub mod Blocks
+pub mod Flat
+pub mod FlatFrames
 pub mod Outcomes
+pub mod Breaks
 pub mod Splits
 pub mod Numbers
 pub mod Served
-pub mod Blocks
+pub mod Determined

@@ -1,7 +1,9 @@
 pub mod Unfiltered
+pub mod UnfilteredLaws
 pub mod Steps
 pub mod Decoding
-pub mod Sessions
-pub mod Replies
 pub mod Requests
+pub mod Replies
+pub mod Sessions
 pub mod Answers
+pub mod Laws

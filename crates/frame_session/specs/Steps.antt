@@ -5,7 +5,7 @@ use Rattle.std.specs.Option.{option_map}
 use Rattle.vp8_tables.specs.declared.tables.Tables.{Tables}
 use Rattle.frame_header.specs.declared.cause.Cause.{Cause}
 use Rattle.frame_header.specs.declared.header.Header.{Header}
-use Rattle.frame_header.specs.Headers.{header_of}
+use Rattle.frame_header.specs.Header.{header_of}
 use Rattle.frame_session.specs.Unfiltered.{blank_picture}
 use Rattle.frame_session.specs.declared.step.State.{State}
 use Rattle.frame_session.specs.declared.step.Decoded.{Decoded}
@@ -14,7 +14,7 @@ use Rattle.frame_session.specs.declared.step.StepFault.TheVariants.{Refused, NoM
 
 -- what a header that is accepted gives: every bit behind it reads 0
 abbrev pub decoded_by : Result Header Cause → Result Decoded Cause
-decoded_by (Ok header) = Ok (record { state = record { context = header.after }; picture = blank_picture header.width header.height })
+decoded_by (Ok header) = Ok (record { state = record { context = header.context_after }; picture = blank_picture header.width header.height })
 decoded_by (Err cause) = Err cause
 
 -- the step

@@ -23,12 +23,12 @@ HoldsMacroblock planes mx my =
     HoldsSquare planes.luma (16 * mx) (16 * my) 16 × HoldsSquare planes.cb (8 * mx) (8 * my) 8 × HoldsSquare planes.cr (8 * mx) (8 * my) 8
 
 -- the plane has this many blocks of this side each way, or more, and no side above 16,384
-abbrev pub HasBlocks : Samples → ℕ → ℕ → ℕ → Type 0
-HasBlocks p side columns rows = (side * columns ≤ p.width) × (side * rows ≤ p.height) × (p.width ≤ 16384) × (p.height ≤ 16384)
+abbrev pub HasRoomFor : Samples → ℕ → ℕ → ℕ → Type 0
+HasRoomFor p side columns rows = (side * columns ≤ p.width) × (side * rows ≤ p.height) × (p.width ≤ 16384) × (p.height ≤ 16384)
 
 -- the planes have this many macroblocks each way, or more
-abbrev pub HaveMacroblocks : Planes → ℕ → ℕ → Type 0
-HaveMacroblocks planes columns rows = HasBlocks planes.luma 16 columns rows × HasBlocks planes.cb 8 columns rows × HasBlocks planes.cr 8 columns rows
+abbrev pub HaveRoomFor : Planes → ℕ → ℕ → Type 0
+HaveRoomFor planes columns rows = HasRoomFor planes.luma 16 columns rows × HasRoomFor planes.cb 8 columns rows × HasRoomFor planes.cr 8 columns rows
 
 -- the sample above column x of row y, 127 above the frame (section 12.2)
 abbrev pub above : Samples → ℕ → ℕ → ℕ

@@ -1,6 +1,7 @@
 #![tactic(auto)]
 
 mod decoding;
+pub mod laws;
 mod lines;
 mod prediction;
 mod refusal;

@@ -1,5 +1,5 @@
 ghost use Rattle.std.specs.Prelude.{◌≡◌, ◌*◌, ◌+◌, ◌<◌, ◌≤◌, IfOk};
-ghost use Rattle.frame_session.specs.Unfiltered.{HoldsSquare, HoldsMacroblock, HaveMacroblocks, SameSides, SameShape, above, left, above_sum, left_sum, sub_block_dc, chroma_dc, with_block, predicted_sub_block, predicted_sub_blocks, predicted_chroma, predicted_macroblock, predicted_row, predicted_rows, blank_picture as blank_picture_of, empty_planes as empty_planes_of};
+ghost use Rattle.frame_session.specs.Unfiltered.{HoldsSquare, HoldsMacroblock, HaveRoomFor, SameSides, SameShape, above, left, above_sum, left_sum, sub_block_dc, chroma_dc, with_block, predicted_sub_block, predicted_sub_blocks, predicted_chroma, predicted_macroblock, predicted_row, predicted_rows, blank_picture as blank_picture_of, empty_planes as empty_planes_of};
 ghost use Rattle.pixel_planes.specs.Pictures.{macroblocks as macroblocks_of};
 
 use pixel_planes::{NoMemory, Picture, Plane, Planes};
@@ -120,7 +120,7 @@ fn predict_macroblock(planes: &mut Planes, mx: usize, my: usize)
 
 /// Predicts row `my` of macroblocks, from the left.
 fn predict_row(planes: &mut Planes, my: usize, columns: usize)
-    requires { HaveMacroblocks planes.old columns (my + 1) }
+    requires { HaveRoomFor planes.old columns (my + 1) }
     ensures value { planes.new ≡ predicted_row planes.old my columns }
     ensures sides { SameShape planes.old planes.new }
 {
@@ -131,7 +131,7 @@ fn predict_row(planes: &mut Planes, my: usize, columns: usize)
 
 /// Predicts all macroblocks in raster order.
 fn predict_rows(planes: &mut Planes, columns: usize, rows: usize)
-    requires { HaveMacroblocks planes.old columns rows }
+    requires { HaveRoomFor planes.old columns rows }
     ensures value { planes.new ≡ predicted_rows planes.old columns rows }
     ensures sides { SameShape planes.old planes.new }
 {

@@ -50,7 +50,7 @@ pub fn step(
         return Err(StepFault::NoMemory);
     };
     let state = State {
-        context: header.after,
+        context: header.context_after,
     };
     Ok(Decoded { state, picture })
 }

@@ -6,7 +6,7 @@ use Rattle.std.proofs.Math.Nat.{mul-le-mul_left}
 use Rattle.std.proofs.Math.Seq.{take-append_seam}
 use Rattle.std.proofs.lemmas.Bool.{cases_lt, cases_eq, ne_eqb, cond-true, cond-false}
 use Rattle.std.proofs.lemmas.Simd.{get_or-put_chunk_below, get_or-put_chunk_at, get_or-put_chunk_above}
-use Rattle.pixel_planes.specs.Samples.{Samples, IsWhole, sample_at, with_row, WritesOneRow}
+use Rattle.pixel_planes.specs.Samples.{Samples, sample_at, with_row, WritesOneRow}
 
 -- what a `Vec` keeps of the list that is left behind a lent range of it
 pub lent_range_is_put : (i : ℕ) (xs ws : List ℕ) → take (length xs) ((take i xs ++ (ws ++ drop (length ws) (drop i xs))) ++ drop (length (take i xs ++ (ws ++ drop (length ws) (drop i xs)))) xs) ≡ put_chunk i xs ws
@@ -24,7 +24,7 @@ before_row : (w x y other : ℕ) → x < w → other < y → other * w + x < y *
 before_row w x y other in_row above = grind (arith, mul-le-mul_left)
 
 -- row y stands within a plane of more than y rows
-row_fits : (w h y : ℕ) → y < h → y * w + w ≤ w * h
+pub row_fits : (w h y : ℕ) → y < h → y * w + w ≤ w * h
 row_fits w h y below = grind (arith, mul-le-mul_left)
 
 -- a place in a row below row y stands after row y
@@ -36,13 +36,13 @@ ne_lt : (other y : ℕ) → (other ≡ y → ⊥) → y ≤ other → y < other
 ne_lt other y apart le = omega arith
 
 -- the row that was written
-written_row : (p : Samples) (y : ℕ) (row : List ℕ) (x : ℕ) → IsWhole p → length row ≡ p.width → y < p.height → x < p.width → sample_at (with_row p y row) x y ≡ slice_index row x
+pub written_row : (p : Samples) (y : ℕ) (row : List ℕ) (x : ℕ) → length p.samples ≡ p.width * p.height → length row ≡ p.width → y < p.height → x < p.width → sample_at (with_row p y row) x y ≡ slice_index row x
 written_row p y row x whole len in_plane in_row =
     let fits : y * p.width + p.width ≤ p.width * p.height = row_fits p.width p.height y in_plane in
-    get_or-put_chunk_at (y * p.width) p.samples row x 0 (omega arith) (omega (arith, whole.4))
+    get_or-put_chunk_at (y * p.width) p.samples row x 0 (omega arith) (omega arith)
 
 -- every other row
-kept_row : (p : Samples) (y : ℕ) (row : List ℕ) (x other : ℕ) → length row ≡ p.width → x < p.width → (other ≡ y → ⊥) → sample_at (with_row p y row) x other ≡ sample_at p x other
+pub kept_row : (p : Samples) (y : ℕ) (row : List ℕ) (x other : ℕ) → length row ≡ p.width → x < p.width → (other ≡ y → ⊥) → sample_at (with_row p y row) x other ≡ sample_at p x other
 kept_row p y row x other len in_row apart =
     elim (cases_lt other y) [
       | inl above ↦ get_or-put_chunk_below (y * p.width) p.samples row (other * p.width + x) 0 (before_row p.width x y other in_row above)
@@ -54,6 +54,6 @@ kept_row p y row x other len in_row apart =
 pub row_write_local : WritesOneRow
 row_write_local p y row x other whole len in_plane in_row other_in_plane =
     elim (cases_eq other y) [
-      | inl same ↦ rw same (written_row p y row x whole len in_plane in_row ∙ sym (cond-true _ _ _ (eq-eqb y y refl)))
+      | inl same ↦ rw same (written_row p y row x whole.4 len in_plane in_row ∙ sym (cond-true _ _ _ (eq-eqb y y refl)))
       | inr apart ↦ kept_row p y row x other len in_row apart ∙ sym (cond-false _ _ _ (ne_eqb other y apart))
     ]

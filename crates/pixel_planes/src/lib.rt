@@ -7,4 +7,5 @@ mod planes;
 
 pub use pictures::{Component, Picture, Planes};
 pub use planes::{Plane, row_write_is_local};
+/// The refusal of a block of memory.
 pub use std::alloc::AllocError as NoMemory;

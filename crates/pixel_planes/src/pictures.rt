@@ -10,16 +10,23 @@ use std::rc::Rc;
 /// One of the three parts of a picture.
 #[derive(Clone, Copy, Debug, PartialEq, Eq)]
 pub enum Component {
+    /// Brightness, a sample for each place of the picture.
     Luma,
+    /// The blue difference, a sample for each two by two places.
     Cb,
+    /// The red difference, a sample for each two by two places.
     Cr,
 }
 
-/// The three planes of a picture that is being made.
+/// The three planes of a picture that is being made, whose chroma planes have half the sides of
+/// its luma plane.
 #[derive(Debug, Drop)]
 pub struct Planes {
+    /// The plane of `Component::Luma`.
     pub luma: Plane,
+    /// The plane of `Component::Cb`.
     pub cb: Plane,
+    /// The plane of `Component::Cr`.
     pub cr: Plane,
 }
 

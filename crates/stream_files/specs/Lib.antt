@@ -1,3 +1,4 @@
 pub mod Reading
 pub mod Ivf
 pub mod Y4m
+pub mod Texts

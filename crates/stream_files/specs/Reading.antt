@@ -1,5 +1,5 @@
 -- What is read of a reader up to a limit. `Option (List ℕ)` is what a reader has left, where that is known.
-use Rattle.std.specs.Prelude.{◌≡◌, ℕ, ◌+◌, ◌<◌, ◌≤◌, List, length, codes, Option, IfSome}
+use Rattle.std.specs.Prelude.{ℕ, ◌<◌, ◌≤◌, List, length, codes, Option, IfSome}
 use Rattle.std.specs.Io.KnownBytes.{Consumes}
 use Rattle.stream_files.specs.declared.reading.ReadFault.{ReadFault}
 use Rattle.stream_files.specs.declared.reading.ReadFault.TheVariants.{Read, TooLong, NoMemory}

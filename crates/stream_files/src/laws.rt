@@ -1,6 +1,7 @@
 //! What holds of every IVF text. A law is a function that does nothing: its contract is the law.
 ghost use Rattle.std.specs.Prelude.{◌≡◌, ℕ, List, []};
 ghost use Rattle.stream_files.specs.Ivf.{IsIvf, IvfRefuses};
+ghost use Rattle.stream_files.specs.Texts.{IsBytes, IsIvfText};
 ghost use Rattle.stream_files.specs.declared.ivf.Ivf.{Ivf};
 ghost use Rattle.stream_files.specs.declared.ivf.IvfFault.{IvfFault};
 
@@ -19,4 +20,15 @@ pub fn ivf_has_one_fault()
 /// The bytes of [`EMPTY`] are the text of a file of 30 frames a second with no packets.
 pub fn ivf_empty_is_a_file()
     ensures { IsIvf EMPTY (record { head = record { width = 0; height = 0; rate = 30; scale = 1 }; packets = []; spare = 0 }) }
+{}
+
+/// The text of a file is a header, unused bytes, the records of its packets, and a rest that begins
+/// with no whole record.
+pub fn ivf_is_its_text()
+    ensures { (bytes : List ℕ) (file : Ivf) → IsBytes bytes → IsIvf bytes file → IsIvfText bytes file }
+{}
+
+/// What is written so is the text of the file: reading it gives the file, or want of memory.
+pub fn ivf_text_is_read()
+    ensures { (bytes : List ℕ) (file : Ivf) → IsIvfText bytes file → IsIvf bytes file }
 {}

@@ -1,4 +1,4 @@
-use Rattle.std.specs.Prelude.{◌≡◌, ℕ, ◌+◌, ◌*◌, ◌==◌, List, length, take, drop, replicate, Result, Ok, Err, if◌then◌else◌}
+use Rattle.std.specs.Prelude.{ℕ, ◌+◌, ◌*◌, ◌==◌, List, length, take, drop, replicate, Result, Ok, Err, if◌then◌else◌}
 use Rattle.vp8_tables.specs.declared.fault.TableFault.{TableFault}
 use Rattle.vp8_tables.specs.declared.fault.TableFault.TheVariants.{Length}
 

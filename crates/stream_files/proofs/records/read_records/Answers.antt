@@ -1,5 +1,4 @@
-use Rattle.std.proofs.Common.{◌≡◌, sym, ◌∙◌}
-use Rattle.stream_files.specs.Ivf.{first_packet}
+use Rattle.std.proofs.Common.{◌≡◌}
 use Rattle.stream_files.proofs.Walks.{records_more}
 use Rattle.stream_files.proofs.records.read_records.Goals as goal
 

@@ -1,0 +1,4 @@
+pub mod Renewal
+pub mod Literals
+pub mod PlaceLemmas
+pub mod UncutAlike

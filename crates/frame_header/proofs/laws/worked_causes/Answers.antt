@@ -1,0 +1,23 @@
+use Rattle.std.proofs.Common.{refl}
+use Rattle.frame_header.specs.Header.{header_of}
+use Rattle.frame_header.specs.Fields.{fields, partition_count, adjustment, filter, segmentation, colors}
+use Rattle.frame_header.specs.Reading.{literal, more_bits}
+use Rattle.frame_header.specs.Reader.{read, renewed}
+use Rattle.frame_header.specs.Places.{token_places}
+use Rattle.frame_header.proofs.laws.worked_causes.Goals as goal
+
+pub returns-clause-not_yet : goal.returns-clause-not_yet
+unfolding header_of fields partition_count adjustment filter segmentation colors literal more_bits read renewed token_places
+returns-clause-not_yet c = refl
+
+pub returns-clause-token_sizes : goal.returns-clause-token_sizes
+unfolding header_of fields partition_count adjustment filter segmentation colors literal more_bits read renewed token_places
+returns-clause-token_sizes c = refl
+
+pub returns-clause-token_partition : goal.returns-clause-token_partition
+unfolding header_of fields partition_count adjustment filter segmentation colors literal more_bits read renewed token_places
+returns-clause-token_partition c = refl
+
+pub returns-clause-later_byte : goal.returns-clause-later_byte
+unfolding header_of fields partition_count adjustment filter segmentation colors literal more_bits read renewed token_places
+returns-clause-later_byte c = refl

@@ -1,0 +1,229 @@
+//! The fields of the first partition up to the number of token partitions
+//! (RFC 6386, sections 9.2 to 9.6 and 19.2).
+
+ghost use Rattle.std.specs.Prelude.{◌≡◌, ◌<◌, ◌≤◌};
+ghost use Rattle.frame_header.specs.Fields.{four_signed, colors, segment_data, map_probability, map_probabilities, segment_updates, segmentation, filter, deltas, adjustment, partition_count, fields};
+
+use crate::bits::BitReader;
+use crate::context::{Context, FilterDeltas, Segments};
+
+/// What a frame says of its segments (RFC 6386, section 9.3).
+#[derive(Clone, Copy, Debug, PartialEq, Eq)]
+pub struct Segmentation {
+    /// Segments are in use.
+    pub is_enabled: bool,
+    /// The frame has a new segment map.
+    pub updates_map: bool,
+    /// The frame has new segment data.
+    pub updates_data: bool,
+    /// The probabilities of the map's tree; 255 where absent.
+    pub map_probabilities: [u8; 3],
+}
+
+/// The kind and strength of the loop filter (RFC 6386, section 9.6).
+#[derive(Clone, Copy, Debug, PartialEq, Eq)]
+pub struct Filter {
+    /// The simple filter is used, not the normal one.
+    pub is_simple: bool,
+    /// The level of the frame, 0 to 63.
+    pub level: u8,
+    /// The sharpness, 0 to 7.
+    pub sharpness: u8,
+}
+
+/// The two flags that only key frames have (RFC 6386, section 9.2).
+#[derive(Clone, Copy, Debug, PartialEq, Eq)]
+pub struct Colors {
+    /// The color space bit.
+    pub color_space: bool,
+    /// The clamping type bit.
+    pub clamping_type: bool,
+}
+
+/// The fields that are read before the places of the token partitions are known.
+#[derive(Clone, Copy)]
+pub(crate) struct Fields {
+    pub(crate) colors: Colors,
+    pub(crate) segmentation: Segmentation,
+    pub(crate) filter: Filter,
+    pub(crate) adjusts_level: bool,
+    pub(crate) partition_count: usize,
+    pub(crate) context: Context,
+}
+
+#[tactic(auto, unfolding(crate::specs::Fields::four_signed))]
+fn four_signed(reader: &mut BitReader, count: u32, absent: [i8; 4]) -> [i8; 4]
+    requires { count ≤ 7 }
+    ensures { four_signed count absent reader.old ≡ (result, reader.new) }
+{
+    let first = reader.signed_or(count, absent[0]);
+    let second = reader.signed_or(count, absent[1]);
+    let third = reader.signed_or(count, absent[2]);
+    let fourth = reader.signed_or(count, absent[3]);
+    [first, second, third, fourth]
+}
+
+#[tactic(auto, unfolding(crate::specs::Fields::colors))]
+fn read_colors(reader: &mut BitReader) -> Colors
+    ensures { colors reader.old ≡ (result, reader.new) }
+{
+    let color_space = reader.flag();
+    let clamping_type = reader.flag();
+    Colors {
+        color_space,
+        clamping_type,
+    }
+}
+
+#[tactic(auto, unfolding(crate::specs::Fields::segment_data))]
+fn read_segment_data(reader: &mut BitReader) -> Segments
+    ensures { segment_data reader.old ≡ (result, reader.new) }
+{
+    let is_absolute = reader.flag();
+    let quantizers = four_signed(reader, 7, [0; 4]);
+    let levels = four_signed(reader, 6, [0; 4]);
+    Segments {
+        is_absolute,
+        quantizers,
+        levels,
+    }
+}
+
+#[tactic(auto, unfolding(crate::specs::Fields::map_probability))]
+fn read_map_probability(reader: &mut BitReader) -> u8
+    ensures { map_probability reader.old ≡ (result, reader.new) }
+{
+    if reader.flag() {
+        reader.literal(8) as u8
+    } else {
+        255
+    }
+}
+
+#[tactic(auto, unfolding(crate::specs::Fields::map_probabilities))]
+fn read_map_probabilities(reader: &mut BitReader) -> [u8; 3]
+    ensures { map_probabilities reader.old ≡ (result, reader.new) }
+{
+    let first = read_map_probability(reader);
+    let second = read_map_probability(reader);
+    let third = read_map_probability(reader);
+    [first, second, third]
+}
+
+#[tactic(auto, unfolding(crate::specs::Fields::segment_updates))]
+fn read_segment_updates(reader: &mut BitReader, before: Segments) -> (Segmentation, Segments)
+    ensures { segment_updates before reader.old ≡ (result, reader.new) }
+{
+    let updates_map = reader.flag();
+    let updates_data = reader.flag();
+    let segments = if updates_data {
+        read_segment_data(reader)
+    } else {
+        before
+    };
+    let map_probabilities = if updates_map {
+        read_map_probabilities(reader)
+    } else {
+        [255; 3]
+    };
+    let segmentation = Segmentation {
+        is_enabled: true,
+        updates_map,
+        updates_data,
+        map_probabilities,
+    };
+    (segmentation, segments)
+}
+
+#[tactic(auto, unfolding(crate::specs::Fields::segmentation))]
+fn read_segmentation(reader: &mut BitReader, before: Segments) -> (Segmentation, Segments)
+    ensures { segmentation before reader.old ≡ (result, reader.new) }
+{
+    if reader.flag() {
+        return read_segment_updates(reader, before);
+    }
+    let segmentation = Segmentation {
+        is_enabled: false,
+        updates_map: false,
+        updates_data: false,
+        map_probabilities: [255; 3],
+    };
+    (segmentation, before)
+}
+
+#[tactic(auto, unfolding(crate::specs::Fields::filter))]
+fn read_filter(reader: &mut BitReader) -> Filter
+    ensures { filter reader.old ≡ (result, reader.new) }
+{
+    let is_simple = reader.flag();
+    let level = reader.literal(6) as u8;
+    let sharpness = reader.literal(3) as u8;
+    Filter {
+        is_simple,
+        level,
+        sharpness,
+    }
+}
+
+#[tactic(auto, unfolding(crate::specs::Fields::deltas))]
+fn read_deltas(reader: &mut BitReader, before: FilterDeltas) -> FilterDeltas
+    ensures { deltas before reader.old ≡ (result, reader.new) }
+{
+    if !reader.flag() {
+        return before;
+    }
+    let reference = four_signed(reader, 6, before.reference);
+    let mode = four_signed(reader, 6, before.mode);
+    FilterDeltas { reference, mode }
+}
+
+#[tactic(auto, unfolding(crate::specs::Fields::adjustment))]
+fn read_adjustment(reader: &mut BitReader, before: FilterDeltas) -> (bool, FilterDeltas)
+    ensures { adjustment before reader.old ≡ (result, reader.new) }
+{
+    if reader.flag() {
+        (true, read_deltas(reader, before))
+    } else {
+        (false, before)
+    }
+}
+
+#[tactic(auto, unfolding(crate::specs::Fields::partition_count))]
+fn read_partition_count(reader: &mut BitReader) -> usize
+    ensures read { partition_count reader.old ≡ (result, reader.new) }
+    ensures some { 0 < result }
+    ensures few { result ≤ 8 }
+{
+    let log2 = reader.literal(2);
+    1 << log2
+}
+
+/// The fields of the first partition up to the number of token partitions, for a key frame or
+/// another, where `before` is the context that the frame takes over.
+#[tactic(auto, unfolding(crate::specs::Fields::fields))]
+pub(crate) fn read_fields(reader: &mut BitReader, is_key: bool, before: Context) -> Fields
+    ensures read { fields is_key before reader.old ≡ (result, reader.new) }
+    ensures some { 0 < result.partition_count }
+    ensures few { result.partition_count ≤ 8 }
+{
+    let colors = if is_key {
+        read_colors(reader)
+    } else {
+        Colors {
+            color_space: false,
+            clamping_type: false,
+        }
+    };
+    let (segmentation, segments) = read_segmentation(reader, before.segments);
+    let filter = read_filter(reader);
+    let (adjusts_level, deltas) = read_adjustment(reader, before.deltas);
+    let partition_count = read_partition_count(reader);
+    Fields {
+        colors,
+        segmentation,
+        filter,
+        adjusts_level,
+        partition_count,
+        context: Context { segments, deltas },
+    }
+}

@@ -1,0 +1,46 @@
+ghost use Rattle.std.specs.Prelude.{◌≡◌, ◌<◌, ◌≤◌, ◌+◌, length, IfOk, All};
+ghost use Rattle.frame_header.specs.Places.{token_places};
+
+use crate::cause::Cause;
+use crate::tags::number_at;
+use arrayvec::ArrayVec;
+
+/// Where a partition stands in its packet, in bytes.
+#[derive(Clone, Copy, Debug, Default, PartialEq, Eq)]
+pub struct Place {
+    /// The place of its first byte.
+    pub start: usize,
+    /// How many bytes it has.
+    pub length: usize,
+}
+
+/// The places of the `count` token partitions, 1 to 8, whose sizes stand from `at` on.
+pub(crate) fn token_places(
+    packet: &[u8],
+    at: usize,
+    count: usize,
+) -> Result<ArrayVec<Place, 8>, Cause>
+    requires some { 0 < count }
+    requires few { count ≤ 8 }
+    requires inside { at ≤ length packet.now }
+    ensures value { result ≡ token_places packet.now at count }
+    ensures inside { IfOk result (λ places. All (λ place. place.start + place.length ≤ length packet.now) places.items) }
+{
+    let sizes = 3 * (count - 1);
+    if packet.len() - at < sizes {
+        return Err(Cause::TokenSizes);
+    }
+    let mut places = ArrayVec::new();
+    let mut start = at + sizes;
+    for k in 0..count - 1 {
+        let length = number_at(packet, at + 3 * k) as usize;
+        if length > packet.len() - start {
+            return Err(Cause::TokenPartition(k as u8));
+        }
+        places.push(Place { start, length });
+        start += length;
+    }
+    let length = packet.len() - start;
+    places.push(Place { start, length });
+    Ok(places)
+}

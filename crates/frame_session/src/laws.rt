@@ -1,0 +1,35 @@
+//! Laws over the definitions of this crate: each is the contract of a function that does nothing.
+
+ghost use Rattle.frame_session.specs.UnfilteredLaws.{AreFlat, WritesOneBlock};
+ghost use Rattle.frame_session.specs.Laws.{AnswersAreOne, BreaksAreNamed, EachHasOutcome, KeysBeginAnew};
+
+/// Each packet of a stream has one outcome.
+pub fn each_has_outcome()
+    ensures { EachHasOutcome }
+{}
+
+/// A broken outcome names the packet that broke the stream.
+pub fn breaks_are_named()
+    ensures { BreaksAreNamed }
+{}
+
+/// The outcome of a packet with a key tag depends on nothing before it.
+pub fn keys_begin_anew()
+    ensures { KeysBeginAnew }
+{}
+
+/// Where memory is never refused, a request list has one meaning, but for the number of steps.
+pub fn answers_are_one()
+    ensures { AnswersAreOne }
+{}
+
+/// A block that is written has its value throughout, and every other sample is as it was.
+pub fn block_write_is_local()
+    ensures { WritesOneBlock }
+{}
+
+/// In the planes of a blank picture luma is 128 in the first four rows and 129 below them,
+/// and chroma is 128.
+pub fn blank_planes_are_flat()
+    ensures { AreFlat }
+{}

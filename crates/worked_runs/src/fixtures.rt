@@ -1,0 +1,86 @@
+use frame_session::{RunFault, run};
+use std::alloc::{AllocError, Global};
+use stream_files::{IvfFault, WriteFault};
+use vp8_tables::Tables;
+
+/// A key packet of 16 by 16 samples whose partitions are empty, so that every bit reads 0.
+pub const KEY: &[u8] = &[0x10, 0, 0, 0x9D, 1, 0x2A, 0x10, 0, 0x10, 0];
+
+/// The same of 32 by 16 samples.
+pub const WIDE_KEY: &[u8] = &[0x10, 0, 0, 0x9D, 1, 0x2A, 0x20, 0, 0x10, 0];
+
+/// A shown packet with no key tag, and nothing in its partitions.
+pub const INTER: &[u8] = &[0x11, 0, 0];
+
+/// The same, hidden.
+pub const HIDDEN: &[u8] = &[1, 0, 0];
+
+/// What a run gave: the bytes of the frames and of the replies, and how many bytes stood behind the
+/// file's records, or the run's fault.
+#[derive(Drop)]
+pub struct Ran {
+    pub frames: Vec<u8>,
+    pub replies: Vec<u8>,
+    pub spare: Result<u64, RunFault>,
+}
+
+/// An IVF file of rate 30 and scale 1 with these packets.
+pub fn ivf_of(alloc: Global, packets: &[&[u8]]) -> Result<Vec<u8>, AllocError> {
+    let mut file = Vec::new(alloc);
+    file.extend_from_slice(b"DKIF\0\0\x20\0VP80\x10\0\x10\0\x1E\0\0\0\x01\0\0\0")?;
+    file.extend_from_slice(&[packets.len().min(255) as u8, 0, 0, 0, 0, 0, 0, 0])?;
+    for packet in packets {
+        file.extend_from_slice(&[packet.len().min(255) as u8, 0, 0, 0])?;
+        file.extend_from_slice(&[0; 8])?;
+        file.extend_from_slice(packet)?;
+    }
+    Ok(file)
+}
+
+/// Runs requests over the bytes of a file.
+pub fn run_over(alloc: Global, file: &[u8], requests: &[u8]) -> Ran {
+    let mut frames = Vec::new(alloc);
+    let mut replies = Vec::new(alloc);
+    let spare = match run(
+        alloc,
+        Tables::flat(),
+        8,
+        file,
+        requests,
+        &mut frames,
+        &mut replies,
+    ) {
+        Ok(session) => Ok(session.spare()),
+        Err(fault) => Err(fault),
+    };
+    Ran {
+        frames,
+        replies,
+        spare,
+    }
+}
+
+/// Runs requests over a file of these packets.
+pub fn run_packets(alloc: Global, packets: &[&[u8]], requests: &[u8]) -> Result<Ran, AllocError> {
+    let file = ivf_of(alloc, packets)?;
+    Ok(run_over(alloc, file.as_slice(), requests))
+}
+
+/// A Y4M text: its line, and frames of one value a run of samples.
+pub fn y4m_of(
+    alloc: Global,
+    line: &[u8],
+    frames: &[&[(usize, u8)]],
+) -> Result<Vec<u8>, AllocError> {
+    let mut text = Vec::new(alloc);
+    text.extend_from_slice(line)?;
+    for runs in frames {
+        text.extend_from_slice(b"FRAME\n")?;
+        for (count, value) in *runs {
+            for _ in 0..*count {
+                text.push(*value)?;
+            }
+        }
+    }
+    Ok(text)
+}

@@ -1,0 +1,11 @@
+//! Worked request lists, each run whole and compared with the bytes that it must give.
+#![tactic(auto)]
+
+#[cfg(test)]
+mod files;
+#[cfg(test)]
+mod fixtures;
+#[cfg(test)]
+mod frames;
+#[cfg(test)]
+mod refusals;
