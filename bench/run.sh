@@ -1,0 +1,45 @@
+#!/bin/sh
+# Times the serving of a 1920x1080 key frame, and a plain fill of planes of its size beside it. README.md says more.
+set -eu
+here=$(cd "$(dirname "$0")" && pwd)
+program=$here/../crates/vp8serve/out/vp8serve
+frames=${1:-200}
+room=$(mktemp -d)
+trap 'rm -rf "$room"' EXIT
+
+(cd "$here/../crates/vp8serve" && rt run < /dev/null) > "$room/build.log" 2>&1 || { tail -n 20 "$room/build.log"; exit 1; }
+gcc -O2 -o "$room/fill" "$here/fill.c"
+
+python3 - "$room" "$frames" <<'END'
+import struct, sys
+room, frames = sys.argv[1], int(sys.argv[2])
+packet = bytes.fromhex("10 00 00 9D 01 2A 80 07 38 04")
+with open(f"{room}/in.ivf", "wb") as file:
+    file.write(struct.pack("<4sHH4sHHIIII", b"DKIF", 0, 32, b"VP80", 1920, 1080, 30, 1, 1, 0))
+    file.write(struct.pack("<IQ", len(packet), 0) + packet)
+with open(f"{room}/requests", "w") as file:
+    file.write("frame 0\n" * frames)
+END
+
+"$program" "$room/in.ivf" "$room/requests" /dev/null > "$room/replies"
+if [ "$(sort -u "$room/replies")" != 'served 0' ]; then
+    echo "the frame was not served:" "$(sort -u "$room/replies")"
+    exit 1
+fi
+
+python3 - "$frames" "$program" "$room/in.ivf" "$room/requests" /dev/null <<'END'
+import subprocess, sys, time
+def best_of_five(words):
+    times = []
+    for _ in range(5):
+        start = time.perf_counter()
+        subprocess.run(words, check=True, stdout=subprocess.DEVNULL)
+        times.append(time.perf_counter() - start)
+    return min(times)
+frames, words = int(sys.argv[1]), sys.argv[2:]
+served = best_of_five(words) * 1000 / frames
+filled = best_of_five([f"{words[1].rpartition('/')[0]}/fill", str(frames)]) * 1000 / frames
+print(f"vp8serve, 1920x1080 key frame: {served:.2f} ms a frame, {1000 / served:.0f} frames a second")
+print(f"plain fill and write:          {filled:.2f} ms a frame, {1000 / filled:.0f} frames a second")
+print(f"ratio: {served / filled:.1f}")
+END

@@ -1,0 +1,56 @@
+// What ends the program early.
+ghost use Rattle.std.specs.Prelude.{◌≡◌, ◌≤◌};
+ghost use Rattle.vp8serve.specs.Endings.{told_as};
+ghost use Rattle.vp8serve.specs.Statuses.{status_of};
+
+use frame_session::RunFault;
+use stream_files::IvfFault;
+use thiserror::Error;
+
+/// Why the program ends before all requests were answered. Its `Display` is the text that the user
+/// is shown behind the program's name. A path is the word that was given, `-` for standard input.
+#[derive(Clone, Copy, Debug, PartialEq, Eq, Error)]
+pub enum Fault<'a> {
+    /// The words of the command line are not the program's.
+    #[error("command line")]
+    CommandLine,
+    /// A file cannot be opened, or reading it gave an error.
+    #[error("cannot read {0}")]
+    CannotRead(&'a str),
+    /// A file has more bytes than are allowed.
+    #[error("{0} is too long")]
+    TooLong(&'a str),
+    /// The bytes of the stream are no IVF file, or there was no memory for its packets.
+    #[error("input {word}", word = .0.word())]
+    Input(IvfFault),
+    /// The file for the frames cannot be made, or a writer gave an error.
+    #[error("cannot write")]
+    CannotWrite,
+    /// There was no memory.
+    #[error("no memory")]
+    NoMemory,
+}
+
+impl Fault<'_> {
+    /// The status that the program ends with: 2 for the command line, 1 for all else.
+    pub fn status(self) -> u8
+        ensures { result ≡ status_of self.entry }
+    {
+        match self {
+            Fault::CommandLine => 2,
+            _ => 1,
+        }
+    }
+}
+
+impl From<RunFault> for Fault<'_> {
+    ghost from_gives = { λ run told. told ≡ told_as run };
+
+    fn from(fault: RunFault) -> Self {
+        match fault {
+            RunFault::Ivf(fault) => Fault::Input(fault),
+            RunFault::Write => Fault::CannotWrite,
+            RunFault::NoMemory => Fault::NoMemory,
+        }
+    }
+}

@@ -1,0 +1,70 @@
+// What the program reads.
+ghost use Rattle.std.specs.Prelude.{◌≡◌, IfOk, IfErr, IfSome, codes, None};
+ghost use Rattle.vp8serve.specs.Statuses.{status_of};
+ghost use Rattle.vp8serve.specs.Endings.{IsReadFault};
+
+use crate::fault::Fault;
+use crate::words::NO_FILE;
+use std::alloc::Global;
+use std::fs::File;
+use std::io::Read;
+use std::rt::Files;
+use stream_files::{EMPTY, ReadFault, read_all};
+
+/// The most bytes that a file may have.
+const LIMIT: usize = 1_073_741_824;
+
+/// The bytes of a reader that the command line names as `path`.
+fn read_whole<'a, I: Read>(
+    alloc: Global,
+    reader: &mut I,
+    path: &'a str,
+) -> Result<Vec<u8>, Fault<'a>>
+    ensures whole { IfOk result (λ all. IfSome (I.remaining reader.old) (λ left. all.items ≡ left)) }
+    ensures fault { IfErr result (IsReadFault path.now (I.remaining reader.old)) }
+{
+    match read_all(alloc, reader, LIMIT) {
+        Ok(all) => Ok(all),
+        Err(ReadFault::Read) => Err(Fault::CannotRead(path)),
+        Err(ReadFault::TooLong) => Err(Fault::TooLong(path)),
+        Err(ReadFault::NoMemory) => Err(Fault::NoMemory),
+    }
+}
+
+/// The bytes of a file.
+fn read_file<'a, R: Files + AllocGlobal>(rt: &R, path: &'a str) -> Result<Vec<u8>, Fault<'a>>
+    ensures fault { IfErr result (IsReadFault path.now None) }
+{
+    match File::open(rt, path) {
+        Ok(mut file) => read_whole(rt.alloc(), &mut file, path),
+        Err(_) => Err(Fault::CannotRead(path)),
+    }
+}
+
+/// The bytes of the stream: those of a file with no packets where no file is named.
+pub fn read_stream<'a, R: Files + AllocGlobal>(rt: &R, path: &'a str) -> Result<Vec<u8>, Fault<'a>>
+    ensures empty { path.now ≡ codes "-" → IfOk result (λ all. all.items ≡ EMPTY) }
+    ensures fault { IfErr result (IsReadFault path.now None) }
+{
+    if path == NO_FILE {
+        Vec::from_slice(rt.alloc(), &EMPTY).map_err(|_| Fault::NoMemory)
+    } else {
+        read_file(rt, path)
+    }
+}
+
+/// The request lines: those of `input` where no file is named.
+pub fn read_requests<'a, R: Files + AllocGlobal, I: Read>(
+    rt: &R,
+    path: &'a str,
+    input: &mut I,
+) -> Result<Vec<u8>, Fault<'a>>
+    ensures input { path.now ≡ codes "-" → IfOk result (λ all. IfSome (I.remaining input.old) (λ left. all.items ≡ left)) }
+    ensures fault { IfErr result (IsReadFault path.now None) }
+{
+    if path == NO_FILE {
+        read_whole(rt.alloc(), input, path)
+    } else {
+        read_file(rt, path)
+    }
+}

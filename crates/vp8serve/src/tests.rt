@@ -1,0 +1,242 @@
+use crate::fault::Fault;
+use crate::program::{run_to, serve, tell};
+use std::fs;
+use std::io::{self, BufWriter, ErrorKind, Read, Write};
+use std::test::Fail;
+use stream_files::{EMPTY, IvfFault};
+
+/// What a run of the program leaves.
+#[derive(Drop)]
+struct Ending {
+    status: u8,
+    output: Vec<u8>,
+    errors: Vec<u8>,
+}
+
+fn run_program(rt: &HostRuntime, words: &[&str], input: &str) -> Ending {
+    let mut output = Vec::new(rt.alloc());
+    let mut errors = Vec::new(rt.alloc());
+    let status = serve(rt, words, &mut input.as_bytes(), &mut output, &mut errors);
+    Ending {
+        status,
+        output,
+        errors,
+    }
+}
+
+/// A reader and a writer that give errors alone.
+#[derive(Drop)]
+struct Broken {}
+
+impl Read for Broken {
+    fn read(&mut self, _buf: &mut [u8]) -> io::Result<usize> {
+        Err(ErrorKind::Other.into())
+    }
+}
+
+impl Write for Broken {
+    fn write(&mut self, _buf: &[u8]) -> io::Result<usize> {
+        Err(ErrorKind::Other.into())
+    }
+
+    fn flush(&mut self) -> io::Result<()> {
+        Err(ErrorKind::Other.into())
+    }
+}
+
+/// A file of one 16x16 key frame whose bits are 0.
+const ONE: [u8; 54] = [
+    b'D', b'K', b'I', b'F', 0, 0, 32, 0, b'V', b'P', b'8', b'0', 16, 0, 16, 0, 30, 0, 0, 0, 1, 0,
+    0, 0, 1, 0, 0, 0, 0, 0, 0, 0, //
+    10, 0, 0, 0, 0, 0, 0, 0, 0, 0, 0, 0, //
+    0x10, 0, 0, 0x9D, 0x01, 0x2A, 16, 0, 16, 0,
+];
+
+const HELP: &str = "\
+Serves frames of a VP8 stream as YUV4MPEG2. Replies go to standard output.
+
+Usage: vp8serve [IN] [REQUESTS] [OUT]
+
+Arguments:
+  [IN]        IVF file; `-` is one with no packets [default: -]
+  [REQUESTS]  File of request lines; `-` is standard input [default: -]
+  [OUT]       File that the frames go to; `-` drops them [default: -]
+
+Options:
+  -h, --help  Print help
+";
+
+#[test]
+fn shows_help(rt: HostRuntime) {
+    for word in ["--help", "-h"] {
+        let help = run_program(&rt, &["vp8serve", word], "frame 0\n");
+        assert!(rt; help.output.as_slice() == HELP.as_bytes());
+        assert_eq!(rt; help.errors.len(), 0);
+        assert_eq!(rt; help.status, 0);
+    }
+}
+
+#[test]
+fn tells_each_fault(rt: HostRuntime) -> Result<(), Fail> {
+    let cases = [
+        (Fault::CommandLine, 2, "vp8serve: command line\n"),
+        (Fault::CannotRead("a b"), 1, "vp8serve: cannot read a b\n"),
+        (Fault::TooLong("-"), 1, "vp8serve: - is too long\n"),
+        (
+            Fault::Input(IvfFault::TooMany),
+            1,
+            "vp8serve: input TooMany\n",
+        ),
+        (Fault::CannotWrite, 1, "vp8serve: cannot write\n"),
+        (Fault::NoMemory, 1, "vp8serve: no memory\n"),
+    ];
+    for (fault, status, text) in cases {
+        let mut errors = Vec::new(rt.alloc());
+        assert_eq!(rt; tell(fault, &mut errors), status, "{text}");
+        assert!(rt; errors.as_slice() == text.as_bytes(), "{text}");
+        assert_eq!(rt; tell(fault, &mut Broken {}), status, "{text}");
+    }
+    Ok(())
+}
+
+/// Of two faults the first in order is told: the command line, the stream, the requests, the file
+/// for the frames, the run.
+#[test]
+fn finds_faults_in_order(rt: HostRuntime) -> Result<(), Fail> {
+    fs::write(&rt, "order.ivf", "DKIF")?;
+    let cases = [
+        (["a", "b", "c", "d"].as_slice(), 2, "command line"),
+        (&["--cache"], 2, "command line"),
+        (
+            &["none.ivf", "none.txt", "none/out"],
+            1,
+            "cannot read none.ivf",
+        ),
+        (
+            &["order.ivf", "none.txt", "none/out"],
+            1,
+            "cannot read none.txt",
+        ),
+        (&[".", "-"], 1, "cannot read ."),
+        (&["order.ivf", "-", "none/out"], 1, "cannot write"),
+        (&["order.ivf"], 1, "input Header"),
+    ];
+    for (named, status, text) in cases {
+        let mut words = vec![in rt.alloc(); "vp8serve"]?;
+        words.extend_from_slice(named)?;
+        let fault = run_program(&rt, words.as_slice(), "frame 0\n");
+        let want = format!(in rt.alloc(); "vp8serve: {text}\n")?;
+        assert!(rt; fault.errors.as_slice() == want.as_bytes(), "{text}");
+        assert_eq!(rt; fault.status, status, "{text}");
+        assert_eq!(rt; fault.output.len(), 0, "{text}");
+    }
+    fs::remove_file(&rt, "order.ivf")?;
+    Ok(())
+}
+
+#[test]
+fn tells_a_reader_and_writers_that_fail(rt: HostRuntime) -> Result<(), Fail> {
+    let mut errors = Vec::new(rt.alloc());
+    let status = serve(
+        &rt,
+        &["vp8serve"],
+        &mut Broken {},
+        &mut Broken {},
+        &mut errors,
+    );
+    assert!(rt; errors.as_slice() == b"vp8serve: cannot read -\n".as_slice());
+    assert_eq!(rt; status, 1);
+    for (word, input) in [("-", "frame 0\n"), ("--help", "")] {
+        let mut errors = Vec::new(rt.alloc());
+        let words = ["vp8serve", word];
+        let status = serve(
+            &rt,
+            &words,
+            &mut input.as_bytes(),
+            &mut Broken {},
+            &mut errors,
+        );
+        assert!(rt;
+            errors.as_slice() == b"vp8serve: cannot write\n".as_slice(),
+            "{word}"
+        );
+        assert_eq!(rt; status, 1, "{word}");
+    }
+    let mut frames = BufWriter::new(rt.alloc(), Broken {})?;
+    let mut replies = Vec::new(rt.alloc());
+    let refused = run_to(rt.alloc(), &ONE, b"frame 0\n", &mut frames, &mut replies);
+    assert_eq!(rt; refused, Err(Fault::CannotWrite));
+    Ok(())
+}
+
+#[test]
+fn serves_a_frame(rt: HostRuntime) -> Result<(), Fail> {
+    fs::write(&rt, "frame.ivf", &ONE)?;
+    fs::write(&rt, "frame.txt", "# the first\n\nframe 0\nframe 1\nplay")?;
+    let run = run_program(
+        &rt,
+        &["vp8serve", "frame.ivf", "frame.txt", "frame.y4m"],
+        "",
+    );
+    let replies = "served 0\nrefused NoSuchFrame\nrefused Line\n";
+    assert!(rt; run.output.as_slice() == replies.as_bytes());
+    assert_eq!(rt; run.errors.len(), 0);
+    assert_eq!(rt; run.status, 0);
+    let mut want = Vec::from_slice(rt.alloc(), b"YUV4MPEG2 W16 H16 F30:1 Ip C420jpeg\nFRAME\n")?;
+    for (count, sample) in [(64, 0x80), (192, 0x81), (128, 0x80)] {
+        for _ in 0..count {
+            want.push(sample)?;
+        }
+    }
+    assert!(rt; fs::read(&rt, "frame.y4m")?.as_slice() == want.as_slice());
+    for name in ["frame.ivf", "frame.txt", "frame.y4m"] {
+        fs::remove_file(&rt, name)?;
+    }
+    Ok(())
+}
+
+/// The file for the frames is made once all is read, and is empty where no frame was served.
+#[test]
+fn makes_the_file_for_the_frames_last(rt: HostRuntime) -> Result<(), Fail> {
+    fs::write(&rt, "last.y4m", "kept")?;
+    let cases = [("none.ivf", 1, "kept"), ("-", 0, "")];
+    for (stream, status, left) in cases {
+        let run = run_program(&rt, &["vp8serve", stream, "-", "last.y4m"], "frame 0\n");
+        assert_eq!(rt; run.status, status, "{stream}");
+        assert!(rt;
+            fs::read(&rt, "last.y4m")?.as_slice() == left.as_bytes(),
+            "{stream}"
+        );
+    }
+    fs::remove_file(&rt, "last.y4m")?;
+    Ok(())
+}
+
+#[test]
+fn tells_spare_bytes(rt: HostRuntime) -> Result<(), Fail> {
+    fs::write(&rt, "spare.ivf", &ONE[..51])?;
+    let words = ["vp8serve", "spare.ivf"];
+    let run = run_program(&rt, &words, "frame 0\n");
+    assert!(rt; run.output.as_slice() == b"refused NoSuchFrame\n".as_slice());
+    assert!(rt; run.errors.as_slice() == b"spare 19\n".as_slice());
+    assert_eq!(rt; run.status, 0);
+    let mut output = Vec::new(rt.alloc());
+    let status = serve(
+        &rt,
+        &words,
+        &mut b"".as_slice(),
+        &mut output,
+        &mut Broken {},
+    );
+    assert_eq!(rt; (output.len(), status), (0, 0));
+    fs::remove_file(&rt, "spare.ivf")?;
+    Ok(())
+}
+
+#[test]
+fn needs_no_words(rt: HostRuntime) {
+    let run = run_program(&rt, &["vp8serve"], "frame 0\n");
+    assert!(rt; run.output.as_slice() == b"refused NoSuchFrame\n".as_slice());
+    assert_eq!(rt; run.errors.len(), 0);
+    assert_eq!(rt; run.status, 0);
+}
