@@ -10,14 +10,21 @@ use Rattle.stream_files.specs.declared.y4m.WriteFault.TheVariants.{Write}
 abbrev pub write_fault_word : WriteFault → List ℕ
 write_fault_word Write = codes "Write"
 
+abbrev pub fraction : ℕ → ℕ → List ℕ
+fraction rate scale = decimal rate ++ codes ":" ++ decimal scale
+
 -- the frames a second as a fraction, or 30 where it is none
 abbrev pub rate_text : ℕ → ℕ → List ℕ
-rate_text rate scale = if rate == 0 || scale == 0 then codes "30:1" else decimal rate ++ codes ":" ++ decimal scale
+rate_text rate scale = if rate == 0 || scale == 0 then codes "30:1" else fraction rate scale
 
--- the line that a stream begins with, and its newline
+-- a line of this size and this rate, and its newline
+abbrev pub line_of : ℕ → ℕ → List ℕ → List ℕ
+line_of width height rate =
+    codes "YUV4MPEG2 W" ++ decimal width ++ codes " H" ++ decimal height ++ codes " F" ++ rate ++ codes " Ip C420jpeg" ++ 10 ∷ []
+
+-- the line that a stream begins with
 abbrev pub y4m_line : ℕ → ℕ → ℕ → ℕ → List ℕ
-y4m_line width height rate scale =
-    codes "YUV4MPEG2 W" ++ decimal width ++ codes " H" ++ decimal height ++ codes " F" ++ rate_text rate scale ++ codes " Ip C420jpeg" ++ 10 ∷ []
+y4m_line width height rate scale = line_of width height (rate_text rate scale)
 
 -- a frame: its mark, and the shown samples of its three planes by rows
 abbrev pub frame_text : PictureSamples → List ℕ

@@ -1,6 +1,7 @@
 // IVF files, read.
 ghost use Rattle.std.specs.Prelude.{◌≡◌, IfOk, IfErr, drop};
-ghost use Rattle.stream_files.specs.Ivf.{HasHeader, IvfGives, IvfRefuses, body, head_of, ivf_fault_word};
+ghost use Rattle.stream_files.specs.Ivf.{HasHeader, IvfGives, IvfRefuses, body, head_of};
+ghost use Rattle.stream_files.specs.Ivf.{ivf_fault_word};
 
 use super::packets::Packets;
 use super::records;
@@ -75,7 +76,7 @@ pub const EMPTY: [u8; 32] = [
     0, 0, 0, 0, 0, 0, 0, 0, 0,
 ];
 
-/// The head of a file, and its records.
+/// The head of a file, and what stands behind its header.
 fn read_head(bytes: &[u8]) -> Result<(Head, &[u8]), IvfFault>
     ensures header { IfOk result (λ found. HasHeader bytes.now) }
     ensures head { IfOk result (λ found. found.0 ≡ head_of bytes.now) }
@@ -107,8 +108,8 @@ fn read_head(bytes: &[u8]) -> Result<(Head, &[u8]), IvfFault>
 /// The IVF file that the bytes are the text of.
 ///
 /// The faults come in the order of [`IvfFault`], `NoMemory` only where none of the others holds.
-/// The frame count that the header tells is not used, and a header longer than 32 bytes is
-/// skipped. Each packet's bytes are in memory of their own.
+/// The version and the frame count that the header tells are not used, and the bytes of a header
+/// behind its first 32 are skipped. Each packet's bytes are in memory of their own.
 pub fn ivf_read(alloc: Global, bytes: &[u8]) -> Result<Ivf, IvfFault>
     ensures { IvfGives bytes.now result }
 {

@@ -9,23 +9,31 @@ use super::EMPTY;
 
 /// Bytes are the text of one file at most.
 pub fn ivf_has_one_file()
-    ensures { (bytes : List ℕ) (file other : Ivf) → IsIvf bytes file → IsIvf bytes other → file ≡ other }
+    ensures { (bytes : List ℕ) (file other : Ivf)
+        → IsIvf bytes file → IsIvf bytes other → file ≡ other }
 {}
 
-/// Bytes are refused by one fault at most: so the text of a file is refused by want of memory alone.
+/// Bytes are refused by one fault at most: so the text of a file is refused by want of memory
+/// alone.
 pub fn ivf_has_one_fault()
-    ensures { (bytes : List ℕ) (fault other : IvfFault) → IvfRefuses bytes fault → IvfRefuses bytes other → fault ≡ other }
+    ensures { (bytes : List ℕ) (fault other : IvfFault)
+        → IvfRefuses bytes fault → IvfRefuses bytes other → fault ≡ other }
 {}
 
 /// The bytes of [`EMPTY`] are the text of a file of 30 frames a second with no packets.
 pub fn ivf_empty_is_a_file()
-    ensures { IsIvf EMPTY (record { head = record { width = 0; height = 0; rate = 30; scale = 1 }; packets = []; spare = 0 }) }
+    ensures { IsIvf EMPTY (record {
+      head = record { width = 0; height = 0; rate = 30; scale = 1 };
+      packets = [];
+      spare = 0;
+    }) }
 {}
 
 /// The text of a file is a header, unused bytes, the records of its packets, and a rest that begins
 /// with no whole record.
 pub fn ivf_is_its_text()
-    ensures { (bytes : List ℕ) (file : Ivf) → IsBytes bytes → IsIvf bytes file → IsIvfText bytes file }
+    ensures { (bytes : List ℕ) (file : Ivf)
+        → IsBytes bytes → IsIvf bytes file → IsIvfText bytes file }
 {}
 
 /// What is written so is the text of the file: reading it gives the file, or want of memory.

@@ -1,5 +1,6 @@
 // The bytes of a reader, up to a limit.
-ghost use Rattle.std.specs.Prelude.{◌≡◌, ℕ, ◌+◌, ◌-◌, ◌<◌, ◌≤◌, List, ◌++◌, length, take, IfOk, OnOk, OnErr, IfErr, IfSome, vec_len};
+ghost use Rattle.std.specs.Prelude.{◌≡◌, ℕ, ◌+◌, ◌-◌, ◌<◌, ◌≤◌, ◌++◌, List, length};
+ghost use Rattle.std.specs.Prelude.{IfOk, OnOk, OnErr, IfErr, IfSome, vec_len};
 ghost use Rattle.std.specs.Io.KnownBytes.{Consumes, IsAtEnd};
 ghost use Rattle.stream_files.specs.Reading.{read_fault_word, TakesAtMost, FaultMeans};
 
@@ -50,10 +51,14 @@ fn read_piece<R: Read>(
 
     ensures within { IfOk result (λ count. vec_len all.new ≤ limit) }
     ensures grows { IfOk result (λ count. vec_len all.new ≡ vec_len all.old + count) }
-    ensures taken { IfOk result (λ count. (bytes : List ℕ) × Consumes (R.remaining r.old) (R.remaining r.new) bytes × (all.new.items ≡ all.old.items ++ bytes)) }
+    ensures taken { IfOk result (λ count. (bytes : List ℕ)
+        × Consumes (R.remaining r.old) (R.remaining r.new) bytes
+        × (all.new.items ≡ all.old.items ++ bytes)) }
     ensures end { IfOk result (λ count. count ≡ 0 → IsAtEnd (R.remaining r.new)) }
-    ensures err { OnErr result (TakesAtMost (limit - vec_len all.old + 1) (R.remaining r.old) (R.remaining r.new)) }
-    ensures fault { IfErr result (FaultMeans (limit - vec_len all.old) (R.remaining r.old)) }
+    ensures err { OnErr result (TakesAtMost (limit - vec_len all.old + 1)
+        (R.remaining r.old) (R.remaining r.new)) }
+    ensures fault { IfErr result (FaultMeans (limit - vec_len all.old)
+        (R.remaining r.old)) }
 {
     let left = limit - all.len();
     let wanted = piece.len().min(left.saturating_add(1));

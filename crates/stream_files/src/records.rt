@@ -1,6 +1,7 @@
 // The records of an IVF file.
 ghost use Rattle.std.specs.Prelude.{◌≡◌, ◌≤◌, List, length, IfOk, IfNone, IfSome};
-ghost use Rattle.stream_files.specs.Ivf.{HasRecord, HasTooMany, Records, behind_first, first_packet, IsRecordCount};
+ghost use Rattle.stream_files.specs.Ivf.{HasRecord, HasTooMany, IsRecordCount, Records};
+ghost use Rattle.stream_files.specs.Ivf.{behind_first, first_packet};
 ghost use Rattle.stream_files.specs.declared.packets.Packet.{Packet};
 
 use super::packets::{Bytes, MAX_PACKETS, Packet, Packets};
@@ -23,7 +24,8 @@ struct Record<'a> {
 fn first_record(text: &[u8]) -> Option<Record<'_>>
     ensures none { IfNone result (¬ HasRecord text.now) }
     ensures whole { IfSome result (λ first. HasRecord text.now) }
-    ensures packet { IfSome result (λ first. record { stamp = first.stamp; bytes = first.bytes.now } ≡ first_packet text.now) }
+    ensures packet { IfSome result (λ first.
+        record { stamp = first.stamp; bytes = first.bytes.now } ≡ first_packet text.now) }
     ensures behind { IfSome result (λ first. first.behind.now ≡ behind_first text.now) }
 {
     if text.len() < RECORD_HEAD {

@@ -1,9 +1,8 @@
 // YUV4MPEG2, written.
-ghost use Rattle.std.specs.Prelude.{◌≡◌, ◌++◌, OnOk, codes, [], ◌∷◌};
-ghost use Rattle.std.specs.Fmt.{decimal};
+ghost use Rattle.std.specs.Prelude.{◌≡◌, OnOk};
 ghost use Rattle.std.specs.Io.KnownBytes.{Appends};
 ghost use Rattle.pixel_planes.specs.Pictures.{shown_height, shown_plane};
-ghost use Rattle.stream_files.specs.Y4m.{frame_text, write_fault_word, y4m_line};
+ghost use Rattle.stream_files.specs.Y4m.{fraction, frame_text, line_of, write_fault_word, y4m_line};
 
 use pixel_planes::{Component, Picture};
 use std::io::Write;
@@ -37,7 +36,7 @@ fn write_line<W: Write>(
     scale: u32,
 ) -> Result<(), WriteFault>
     ensures { OnOk result (Appends (W.contents w.old) (W.contents w.new)
-        (codes "YUV4MPEG2 W" ++ decimal width ++ codes " H" ++ decimal height ++ codes " F" ++ (decimal rate ++ codes ":" ++ decimal scale) ++ codes " Ip C420jpeg" ++ 10 ∷ [])) }
+        (line_of width height (fraction rate scale))) }
 {
     match writeln!(
         w,
@@ -59,7 +58,8 @@ pub fn y4m_header<W: Write>(
     rate: u32,
     scale: u32,
 ) -> Result<(), WriteFault>
-    ensures { OnOk result (Appends (W.contents w.old) (W.contents w.new) (y4m_line width height rate scale)) }
+    ensures { OnOk result (Appends (W.contents w.old) (W.contents w.new)
+        (y4m_line width height rate scale)) }
 {
     if rate == 0 || scale == 0 {
         write_line(w, width, height, 30, 1)
@@ -85,7 +85,8 @@ fn write_plane<W: Write>(
     picture: &Picture,
     component: Component,
 ) -> Result<(), WriteFault>
-    ensures { OnOk result (Appends (W.contents w.old) (W.contents w.new) (shown_plane picture.now component)) }
+    ensures { OnOk result (Appends (W.contents w.old) (W.contents w.new)
+        (shown_plane picture.now component)) }
 {
     for y in 0..row_count(picture, component) {
         w.write_all(picture.shown_row(component, y))
