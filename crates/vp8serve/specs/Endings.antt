@@ -1,5 +1,5 @@
 -- What the parts of a run leave.
-use Rattle.std.specs.Prelude.{◌≡◌, ℕ, ◌<◌, List, length, Option, IfSome}
+use Rattle.std.specs.Prelude.{◌≡◌, ℕ, ◌<◌, List, length, Option, IfSome, codes}
 use Rattle.std.specs.Io.KnownBytes.{Keeps}
 use Rattle.vp8_tables.specs.Tables.{flat_entries}
 use Rattle.stream_files.specs.Ivf.{IvfRefuses}
@@ -25,6 +25,21 @@ IsReadFault name left _ = ⊥
 abbrev pub IsAnswered : (bytes requests : List ℕ) → (frames frames' replies replies' : Option (List ℕ)) → ℕ → Type 0
 IsAnswered bytes requests frames frames' replies replies' spare =
     (end : Now) × Means flat_entries bytes requests frames frames' replies replies' end × (spare ≡ end.spare)
+
+-- the requests were answered so, and the replies are these; of the frames it is not known where they went
+abbrev pub IsReplied : (bytes requests : List ℕ) → (replies replies' : Option (List ℕ)) → ℕ → Type 0
+IsReplied bytes requests replies replies' spare =
+    (frames : Option (List ℕ)) × (frames' : Option (List ℕ)) × IsAnswered bytes requests frames frames' replies replies' spare
+
+-- what the words named was answered: these bytes stand for a stream that is not named, and what the input has left for
+-- requests that are not named
+pub record IsServed (unnamed stream requests : List ℕ) (left replies replies' : Option (List ℕ)) : Type 0 where
+  pub bytes : List ℕ
+  pub lines : List ℕ
+  pub spare : ℕ
+  pub replied : IsReplied bytes lines replies replies' spare
+  pub empty : stream ≡ codes "-" → bytes ≡ unnamed
+  pub input : requests ≡ codes "-" → IfSome left (λ bytes. lines ≡ bytes)
 
 -- why the requests were not answered over the file that these bytes are: but for a writer's refusal, nothing was written
 abbrev pub IsRunFault : List ℕ → (frames frames' replies replies' : Option (List ℕ)) → Fault → Type 0

@@ -7,14 +7,22 @@ mod program;
 mod sources;
 mod words;
 
+use fault::Fault;
+use std::io::{BufWriter, Write};
 use std::process::ExitCode;
 
-fn main(rt: HostRuntime) -> ExitCode {
+/// Runs the program on the words that it was started with.
+fn start<E: Write>(rt: &HostRuntime, errors: &mut E) -> Result<u8, Fault<'static>> {
+    let words = words::given(rt)?;
+    let mut output = BufWriter::new(rt.alloc(), rt.stdout()).map_err(|_| Fault::NoMemory)?;
     let mut input = rt.stdin();
-    let mut output = rt.stdout();
+    Ok(program::serve(rt, words.as_slice(), &mut input, &mut output, errors))
+}
+
+fn main(rt: HostRuntime) -> ExitCode {
     let mut errors = rt.stderr();
-    let status = match words::given(&rt) {
-        Ok(words) => program::serve(&rt, words.as_slice(), &mut input, &mut output, &mut errors),
+    let status = match start(&rt, &mut errors) {
+        Ok(status) => status,
         Err(fault) => program::tell(fault, &mut errors),
     };
     ExitCode::from(status)

@@ -1,7 +1,7 @@
 // The program over a reader and two writers.
-ghost use Rattle.std.specs.Prelude.{◌≡◌, ◌≢◌, ◌≤◌, IfOk, IfErr, Err};
+ghost use Rattle.std.specs.Prelude.{◌≡◌, ◌≢◌, ◌≤◌, IfOk, IfErr, OnOk, Err};
 ghost use Rattle.clap.specs.Values.{kind_of};
-ghost use Rattle.vp8serve.specs.Endings.{IsAnswered, IsRunFault};
+ghost use Rattle.vp8serve.specs.Endings.{IsAnswered, IsReplied, IsRunFault, IsServed};
 ghost use Rattle.vp8serve.specs.Statuses.{status_of};
 
 use crate::fault::Fault;
@@ -14,6 +14,7 @@ use std::convert::AsStr;
 use std::fs::File;
 use std::io::{self, BufWriter, Read, Write};
 use std::rt::Files;
+use stream_files::EMPTY;
 use vp8_tables::Tables;
 
 /// How many decoded states a session may keep.
@@ -74,25 +75,25 @@ pub fn run_to<F: Write, P: Write>(
 }
 
 /// The same, with frames that go to the file at `path`, which is made now, or nowhere.
-fn run_to_path<R: Files + AllocGlobal, O: Write>(
+fn run_to_path<R: Files + AllocGlobal, P: Write>(
     rt: &R,
     stream: &[u8],
     requests: &[u8],
     path: &str,
-    output: &mut O,
+    replies: &mut P,
 ) -> Result<u64, Fault<'static>>
-    ensures { IfErr result (λ fault. status_of fault ≡ 1) }
+    ensures replied { IfOk result (IsReplied stream.now requests.now (P.contents replies.old) (P.contents replies.new)) }
+    ensures fault { IfErr result (λ fault. status_of fault ≡ 1) }
 {
     let alloc = rt.alloc();
-    let mut replies = BufWriter::new(alloc, output).map_err(|_| Fault::NoMemory)?;
     if path == NO_FILE {
-        return run_to(alloc, stream, requests, &mut io::sink(), &mut replies);
+        return run_to(alloc, stream, requests, &mut io::sink(), replies);
     }
     let file = File::create(rt, path).map_err(|_| Fault::CannotWrite)?;
     let mut frames = BufWriter::with_capacity(alloc, FRAMES_AT_ONCE, file).map_err(
         |_| Fault::NoMemory,
     )?;
-    run_to(alloc, stream, requests, &mut frames, &mut replies)
+    run_to(alloc, stream, requests, &mut frames, replies)
 }
 
 /// Does what the command line's words ask for.
@@ -103,7 +104,8 @@ fn answer<'a, R: Files + AllocGlobal, I: Read, O: Write, E: Write>(
     output: &mut O,
     errors: &mut E,
 ) -> Result<(), Fault<'a>>
-    ensures { IfErr result (λ fault. status_of fault ≡ 1) }
+    ensures served { OnOk result (IsServed EMPTY words.entry.stream.now words.entry.requests.now (I.remaining input.old) (O.contents output.old) (O.contents output.new)) }
+    ensures fault { IfErr result (λ fault. status_of fault ≡ 1) }
 {
     let stream = read_stream(rt, words.stream)?;
     let requests = read_requests(rt, words.requests, input)?;
