@@ -7,3 +7,4 @@ pub mod Splits
 pub mod Numbers
 pub mod Served
 pub mod Determined
+pub mod Shown

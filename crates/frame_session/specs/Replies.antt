@@ -6,6 +6,8 @@ use Rattle.frame_header.specs.declared.cause.Cause.TheVariants as causes
 use Rattle.frame_header.specs.Cause.{cause_word}
 use Rattle.frame_session.specs.declared.refusal.Refusal.{Refusal}
 use Rattle.frame_session.specs.declared.refusal.Refusal.TheVariants as refusals
+use Rattle.frame_session.specs.declared.serving.RunFault.{RunFault}
+use Rattle.frame_session.specs.declared.serving.RunFault.TheVariants as faults
 
 -- the name of a refusal
 abbrev pub refusal_word : Refusal → List ℕ
@@ -32,3 +34,9 @@ refused_line refusal = codes "refused " ++ refusal_text refusal ++ 10 ∷ []
 -- the reply to a frame that was served
 abbrev pub served_line : ℕ → List ℕ
 served_line n = codes "served " ++ decimal n ++ 10 ∷ []
+
+-- the name of a run's fault
+abbrev pub run_fault_word : RunFault → List ℕ
+run_fault_word (faults.Ivf fault) = codes "Ivf"
+run_fault_word faults.Write = codes "Write"
+run_fault_word faults.NoMemory = codes "NoMemory"

@@ -1,7 +1,7 @@
 //! Laws over the definitions of this crate: each is the contract of a function that does nothing.
 
 ghost use Rattle.frame_session.specs.UnfilteredLaws.{AreFlat, WritesOneBlock};
-ghost use Rattle.frame_session.specs.Laws.{AnswersAreOne, BreaksAreNamed, EachHasOutcome, KeysBeginAnew};
+ghost use Rattle.frame_session.specs.Laws.{AnswersAreOne, BreaksAreNamed, EachHasOutcome, IsShownList, KeysBeginAnew};
 
 /// Each packet of a stream has one outcome.
 pub fn each_has_outcome()
@@ -16,6 +16,11 @@ pub fn breaks_are_named()
 /// The outcome of a packet with a key tag depends on nothing before it.
 pub fn keys_begin_anew()
     ensures { KeysBeginAnew }
+{}
+
+/// The shown list has the places of the shown packets and no other, in their order.
+pub fn shown_list_is_of_shown_packets()
+    ensures { IsShownList }
 {}
 
 /// Where memory is never refused, a request list has one meaning, but for the number of steps.

@@ -1,28 +1,34 @@
 ghost use Rattle.std.specs.Prelude.{◌≡◌};
 
 use frame_header::Cause;
+use thiserror::Error;
 
 /// Why a request is refused.
-#[derive(Clone, Copy, Debug, PartialEq, Eq)]
+#[derive(Clone, Copy, Debug, PartialEq, Eq, Error)]
 pub enum Refusal {
     /// The line is no request.
+    #[error("the line is no request")]
     Line,
     /// Fewer frames are shown.
+    #[error("fewer frames are shown")]
     NoSuchFrame,
     /// The stream is broken at the packet at `place`, counted from 0.
+    #[error("the stream is broken at packet {place}: {cause}")]
     Packet { place: usize, cause: Cause },
     /// The frame has not the size of the first frame that was served.
+    #[error("the frame has another size than the first frame that was served")]
     SizeDiffers,
     /// Memory was refused.
+    #[error("memory was refused")]
     NoMemory,
 }
 
 impl Refusal {
     ghost use Rattle.frame_session.specs.Replies.{refusal_word};
 
-    /// The refusal's name.
-    pub fn word(&self) -> &'static str
-        ensures { result.now ≡ refusal_word self.now }
+    /// The refusal's name; that of `Packet` is `packet`, without its place and cause.
+    pub fn word(self) -> &'static str
+        ensures { result.now ≡ refusal_word self }
     {
         match self {
             Refusal::Line => "Line",

@@ -11,17 +11,36 @@ use pixel_planes::Picture;
 use std::alloc::Global;
 use std::io::Write;
 use stream_files::{Head, IvfFault, WriteFault, ivf_read, y4m_frame, y4m_header};
+use thiserror::Error;
 use vp8_tables::Tables;
 
 /// Why a run gives no session.
-#[derive(Clone, Copy, Debug, PartialEq, Eq)]
+#[derive(Clone, Copy, Debug, PartialEq, Eq, Error)]
 pub enum RunFault {
-    /// The bytes of the stream are no IVF file.
+    /// The bytes of the stream are no IVF file, or memory for its packets was refused.
+    #[error("the stream cannot be read: {0}")]
     Ivf(IvfFault),
     /// A writer refused. Nothing is told of how much went out.
+    #[error("a writer refused")]
     Write,
     /// Memory was refused at the start.
+    #[error("memory was refused")]
     NoMemory,
+}
+
+impl RunFault {
+    ghost use Rattle.frame_session.specs.Replies.{run_fault_word};
+
+    /// The fault's name; that of the file's fault is its own.
+    pub fn word(self) -> &'static str
+        ensures { result.now ≡ run_fault_word self }
+    {
+        match self {
+            RunFault::Ivf(_) => "Ivf",
+            RunFault::Write => "Write",
+            RunFault::NoMemory => "NoMemory",
+        }
+    }
 }
 
 /// Writes the line that opens the frames, where its head is due.

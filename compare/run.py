@@ -1,0 +1,73 @@
+#!/usr/bin/env python3
+"""Compares served frames with what two other decoders show, sample for sample.
+
+Run by hand, not in the gate. It needs the built program (see README.md), vpxdec (Debian's vpx-tools)
+and ffmpeg. Each stream has two key packets whose partitions hold zero bytes only, enough of them that
+no decoder finds a partition cut: that is what is decoded so far.
+"""
+
+import pathlib
+import struct
+import subprocess
+import sys
+import tempfile
+
+HERE = pathlib.Path(__file__).resolve().parent
+PROGRAM = HERE.parent / "crates" / "vp8serve" / "out" / "vp8serve"
+SIZES = [(1, 1), (2, 3), (16, 16), (17, 33), (64, 48), (175, 143), (176, 144), (1920, 1080)]
+
+
+def key_packet(width, height, version):
+    macroblocks = ((width + 15) // 16) * ((height + 15) // 16)
+    first, tokens = 1000 + 20 * macroblocks, 1000 + 60 * macroblocks
+    tag = version << 1 | 1 << 4 | first << 5
+    start = struct.pack("<I", tag)[:3] + b"\x9d\x01\x2a" + struct.pack("<HH", width, height)
+    return start + bytes(first + tokens)
+
+
+def ivf(width, height, packets):
+    header = struct.pack("<4sHH4sHHIIII", b"DKIF", 0, 32, b"VP80", width, height, 30, 1, len(packets), 0)
+    return header + b"".join(struct.pack("<IQ", len(p), i) + p for i, p in enumerate(packets))
+
+
+def frames_of(text, size):
+    """The frames of a YUV4MPEG2 text, one behind another, without their marks."""
+    rest, frames = text.split(b"\n", 1)[1], b""
+    while rest:
+        if not rest.startswith(b"FRAME\n"):
+            raise ValueError("no frame where one should stand")
+        frames, rest = frames + rest[6 : 6 + size], rest[6 + size :]
+    return frames
+
+
+def run(words):
+    subprocess.run([str(word) for word in words], check=True, stdout=subprocess.PIPE, stderr=subprocess.PIPE)
+
+
+def compare(room, width, height, version):
+    stream, requests = room / "in.ivf", room / "requests"
+    stream.write_bytes(ivf(width, height, [key_packet(width, height, version)] * 2))
+    requests.write_text("frame 0\nframe 1\n")
+    run([PROGRAM, stream, requests, room / "out.y4m"])
+    run(["vpxdec", "--codec=vp8", "--i420", "-o", room / "vpxdec.yuv", stream])
+    run(["ffmpeg", "-y", "-v", "error", "-i", stream, "-pix_fmt", "yuv420p", "-f", "rawvideo", room / "ffmpeg.yuv"])
+    size = width * height + 2 * ((width + 1) // 2) * ((height + 1) // 2)
+    served = frames_of((room / "out.y4m").read_bytes(), size)
+    others = {name: (room / f"{name}.yuv").read_bytes() for name in ("vpxdec", "ffmpeg")}
+    return len(served) == 2 * size, {name: served == shown for name, shown in others.items()}
+
+
+def main():
+    all_same = True
+    with tempfile.TemporaryDirectory() as name:
+        for width, height in SIZES:
+            for version in range(4):
+                whole, same = compare(pathlib.Path(name), width, height, version)
+                all_same = all_same and whole and all(same.values())
+                told = ", ".join(f"{other} {'same' if yes else 'DIFFERS'}" for other, yes in same.items())
+                print(f"{width}x{height} version {version}: {told}")
+    return 0 if all_same else 1
+
+
+if __name__ == "__main__":
+    sys.exit(main())
