@@ -53,12 +53,17 @@ header_in start read partitions = record {
   reader = read.1;
 }
 
--- the header of a packet behind a context or none, or the first cause against it: the start of the
--- frame, the first partition, its fields, the token partitions (RFC 6386, sections 9 and 19)
-unfoldable pub header_of : TableEntries → Option Context → List ℕ → Result Header Cause
-header_of tables before packet = do
-  start ← start_of before packet
+-- the header of a frame behind its start, or the first cause against it: the first partition, its fields, the token
+-- partitions (RFC 6386, sections 9.2 to 9.6)
+abbrev pub header_behind : List ℕ → Start → Result Header Cause
+header_behind packet start = do
   end ← first_end start packet
   let read = fields start.tag.key start.context (started (slice_range packet start.place end))
   partitions ← token_places packet end read.0.partition_count
   if is_plain packet then Ok (header_in start read partitions) else Err NotYet
+
+-- the header of a packet behind a context or none, or the first cause against it (RFC 6386, sections 9 and 19)
+unfoldable pub header_of : TableEntries → Option Context → List ℕ → Result Header Cause
+header_of tables before packet = do
+  start ← start_of before packet
+  header_behind packet start

@@ -8,3 +8,4 @@ pub mod Start
 pub mod Tags
 pub mod Uncut
 pub mod Worked
+pub mod KeyFrames

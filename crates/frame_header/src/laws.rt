@@ -6,6 +6,7 @@ ghost use Rattle.frame_header.specs.Uncut.{uncut_read, bits_read};
 ghost use Rattle.frame_header.specs.Fields.{fields};
 ghost use Rattle.frame_header.specs.Start.{no_context};
 ghost use Rattle.frame_header.specs.Header.{header_of};
+ghost use Rattle.frame_header.specs.KeyFrames.{KeysTakeNoContext};
 ghost use Rattle.frame_header.specs.Worked.{behind_tag, written_fields, fields_written};
 ghost use Rattle.frame_header.specs.declared.cause.Cause.TheVariants.{ShortPacket, Version, StartCode, Size, NoKeyFrame, FirstPartition, TokenSizes, TokenPartition, NotYet};
 
@@ -51,4 +52,9 @@ pub fn worked_causes(tables: &Tables, context: &Context)
     ensures token_sizes { header_of tables.now None (0x50 ∷ 0 ∷ 0 ∷ behind_tag ++ 0 ∷ 1 ∷ []) ≡ Err TokenSizes }
     ensures token_partition { header_of tables.now None (0x50 ∷ 0 ∷ 0 ∷ behind_tag ++ 0 ∷ 1 ∷ 5 ∷ 0 ∷ 0 ∷ []) ≡ Err (TokenPartition 0) }
     ensures later_byte { header_of tables.now None (0x10 ∷ 0 ∷ 0 ∷ behind_tag ++ 1 ∷ []) ≡ Err NotYet }
+{}
+
+/// A key frame takes no context over: its header is the same whatever came before.
+pub fn keys_take_no_context()
+    ensures { KeysTakeNoContext }
 {}

@@ -13,7 +13,6 @@ mod start;
 mod tag_fields;
 mod tags;
 
-pub use bits::BitReader;
 pub use cause::Cause;
 pub use context::{Context, FilterDeltas, Segments};
 pub use fields::{Colors, Filter, Segmentation};

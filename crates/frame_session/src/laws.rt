@@ -1,7 +1,7 @@
 //! Laws over the definitions of this crate: each is the contract of a function that does nothing.
 
 ghost use Rattle.frame_session.specs.UnfilteredLaws.{AreFlat, WritesOneBlock};
-ghost use Rattle.frame_session.specs.Laws.{AnswersAreOne, BreaksAreNamed, EachHasOutcome, IsShownList, KeysBeginAnew};
+ghost use Rattle.frame_session.specs.Laws.{AnswersAreOne, BreaksAreNamed, EachHasOutcome, IsShownList, KeysBeginAnew, KeysStepFromNone};
 
 /// Each packet of a stream has one outcome.
 pub fn each_has_outcome()
@@ -17,6 +17,13 @@ pub fn breaks_are_named()
 pub fn keys_begin_anew()
     ensures { KeysBeginAnew }
 {}
+
+/// A step of a packet with a key tag is the same from any state as from none.
+pub fn keys_step_from_none()
+    ensures { KeysStepFromNone }
+{
+    frame_header::laws::keys_take_no_context();
+}
 
 /// The shown list has the places of the shown packets and no other, in their order.
 pub fn shown_list_is_of_shown_packets()
