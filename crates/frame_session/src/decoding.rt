@@ -3,7 +3,8 @@ ghost use Rattle.frame_session.specs.Decoding.{Outcome, OutcomeAnswers, outcome,
 
 use crate::step::{Decoded, State, StepFault, step};
 use frame_header::{Cause, has_key_tag, is_shown};
-use std::alloc::{AllocError, Global};
+use pixel_planes::NoMemory;
+use std::alloc::Global;
 use stream_files::Packet;
 use vp8_tables::Tables;
 
@@ -21,12 +22,15 @@ pub enum DecodeFault {
     NoMemory,
 }
 
+/// What stands before a packet: no state yet or one, or that the stream is broken.
+type Before = Result<Option<State>, Broken>;
+
 /// The outcome of one packet behind what stands before it. `steps` counts the steps made.
 fn outcome(
     alloc: Global,
     tables: &Tables,
     place: usize,
-    standing: &Result<Option<State>, Broken>,
+    standing: &Before,
     packet: &[u8],
     steps: &mut u64,
 ) -> Result<Decoded, DecodeFault>
@@ -55,7 +59,7 @@ fn standing_behind(
     tables: &Tables,
     packets: &[Packet],
     steps: &mut u64,
-) -> Result<Result<Option<State>, Broken>, AllocError>
+) -> Result<Before, NoMemory>
     ensures stands { IfOk result (λ standing. standing ≡ standing_after tables.now 0 (Ok None) (map (λ p. p.bytes) packets.now)) }
     ensures counted { steps.old ≤ steps.new }
 {
@@ -71,7 +75,7 @@ fn standing_behind(
         ) {
             Ok(decoded) => Ok(Some(decoded.state)),
             Err(DecodeFault::Refused(broken)) => Err(broken),
-            Err(DecodeFault::NoMemory) => return Err(AllocError),
+            Err(DecodeFault::NoMemory) => return Err(NoMemory),
         };
     }
     Ok(standing)
