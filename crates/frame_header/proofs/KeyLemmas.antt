@@ -1,10 +1,9 @@
 -- A packet with a key tag takes nothing over.
-use Rattle.std.proofs.Common.{◌≡◌, ℕ, Bool, true, false, cond, List, Option, Some, None, Result, Err, refl, ap}
+use Rattle.std.proofs.Common.{◌≡◌, ℕ, true, false, List, Option, Some, None, Result, Err, refl, ap}
 use Rattle.std.specs.Option.{option_map_or}
 use Rattle.vp8_tables.specs.Tables.{TableEntries}
 use Rattle.frame_header.specs.Tags.{has_key_tag, tag_of}
 use Rattle.frame_header.specs.Start.{tagged_start}
-use Rattle.frame_header.specs.declared.header.Header.{Header}
 use Rattle.frame_header.specs.Header.{◌>>=◌, header_behind, header_of}
 use Rattle.frame_header.specs.declared.cause.Cause.{Cause}
 use Rattle.frame_header.specs.declared.cause.Cause.TheVariants.{ShortPacket}

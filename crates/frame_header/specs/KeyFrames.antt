@@ -1,4 +1,4 @@
-use Rattle.std.specs.Prelude.{◌≡◌, ℕ, Bool, true, List, Option, None}
+use Rattle.std.specs.Prelude.{◌≡◌, ℕ, true, List, Option, None}
 use Rattle.vp8_tables.specs.Tables.{TableEntries}
 use Rattle.frame_header.specs.Tags.{has_key_tag}
 use Rattle.frame_header.specs.declared.context.Context.{Context}

@@ -1,13 +1,13 @@
 -- Where memory is never refused, a request list has one meaning, but for the number of steps.
-use Rattle.std.proofs.Common.{◌≡◌, ℕ, ◌+◌, List, [], ◌∷◌, ◌++◌, Option, Some, None, Result, Ok, Err, refl, sym, ap, ◌∙◌, subst}
+use Rattle.std.proofs.Common.{◌≡◌, ℕ, List, [], ◌∷◌, Result, Ok, Err, refl, sym, ap, ◌∙◌, subst}
 use Rattle.pixel_planes.specs.Pictures.{PictureSamples}
 use Rattle.frame_session.specs.declared.lines.Line.{Line}
 use Rattle.frame_session.specs.declared.lines.Line.TheVariants.{Silent, Unknown, Frame}
 use Rattle.frame_session.specs.declared.refusal.Refusal.{Refusal}
 use Rattle.frame_session.specs.declared.refusal.Refusal.TheVariants as refusals
 use Rattle.frame_session.specs.Replies.{refused_line}
-use Rattle.frame_session.specs.Sessions.{Gives, IsAfterFrame, Now, after_frame, frame_of}
-use Rattle.frame_session.specs.Answers.{Answer, Answers, Run, answer_to_frame, told}
+use Rattle.frame_session.specs.Sessions.{Gives, Now, after_frame, frame_of}
+use Rattle.frame_session.specs.Answers.{Answer, Answers, Run, answer_to_frame}
 use Rattle.frame_session.specs.Laws.{HaveMemory}
 
 -- another number of steps

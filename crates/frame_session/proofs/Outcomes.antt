@@ -1,5 +1,5 @@
 -- The outcomes of a stream, a packet at a time.
-use Rattle.std.proofs.Common.{◌≡◌, ℕ, suc, zero, ◌+◌, ◌<◌, ◌≤◌, ◌-◌, List, [], ◌∷◌, ◌++◌, Bool, true, false, Option, Some, None, Result, Ok, Err, length, map, take, drop, get_or, slice_get, refl, sym, ap, ◌∙◌, arith, add-zero, zero-add, add-one, min}
+use Rattle.std.proofs.Common.{◌≡◌, ℕ, suc, zero, ◌+◌, ◌<◌, ◌-◌, List, [], ◌∷◌, ◌++◌, true, false, Option, Some, None, Ok, length, map, take, drop, get_or, slice_get, refl, sym, ap, ◌∙◌, arith, add-zero, zero-add, add-one, min}
 use Rattle.std.proofs.Math.Seq.{drop-cons}
 use Rattle.std.proofs.lemmas.List.{get_or_default, take_more, drop-map, take-map, map-append, length-map, length-take}
 use Rattle.std.specs.Option.{option_map}

@@ -1,5 +1,5 @@
 -- Laws of the shown list.
-use Rattle.std.proofs.Common.{◌≡◌, ℕ, suc, zero, ◌+◌, ◌<◌, ◌≤◌, List, [], ◌∷◌, Bool, true, false, cond, Option, Some, None, slice_get, refl, sym, ap, ◌∙◌, arith, add-zero, zero-add}
+use Rattle.std.proofs.Common.{◌≡◌, ℕ, suc, zero, ◌+◌, ◌<◌, List, [], ◌∷◌, Bool, true, false, cond, Some, slice_get, refl, sym, ap, ◌∙◌, arith, add-zero, zero-add}
 use Rattle.frame_header.specs.Tags.{is_shown}
 use Rattle.frame_session.specs.Decoding.{shown_from, shown_places}
 

@@ -1,4 +1,4 @@
-use Rattle.std.proofs.Common.{◌≡◌, ◌≤◌, ◌<◌, true, sym, ◌∙◌, arith}
+use Rattle.std.proofs.Common.{sym, ◌∙◌, arith}
 use Rattle.frame_session.proofs.Outcomes.{shown_found, shown_counted, shown_passed}
 use Rattle.frame_session.proofs.decoding.shown_place.Goals as goal
 use Rattle.frame_session.proofs.decoding.shown_place.Goals.{then-is_shown+else-before-n, else-is_shown}

@@ -1,6 +1,6 @@
-use Rattle.std.proofs.Common.{rules, ◌∷◌, [], ◌++◌, refl}
+use Rattle.std.proofs.Common.{◌∷◌, [], ◌++◌}
 use Rattle.std.specs.Str.Lines.{lines}
-use Rattle.frame_session.proofs.Served.{runs_none, runs_more, runs_all, all_more}
+use Rattle.frame_session.proofs.Served.{runs_more, all_more}
 use Rattle.frame_session.proofs.serving.serve_all.Goals as goal
 
 pub lines-preserved : goal.lines-preserved

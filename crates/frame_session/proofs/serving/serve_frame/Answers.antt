@@ -1,4 +1,4 @@
-use Rattle.std.proofs.Common.{Ok, Err, ◌++◌, Option, subst}
+use Rattle.std.proofs.Common.{◌++◌, Option, subst}
 use Rattle.std.specs.Io.KnownBytes.{Appends}
 use Rattle.std.proofs.lemmas.Result.{on_ok_weaker}
 use Rattle.stream_files.specs.declared.ivf.Head.{Head}
