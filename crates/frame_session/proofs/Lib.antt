@@ -8,3 +8,4 @@ pub mod Numbers
 pub mod Served
 pub mod Determined
 pub mod Shown
+pub mod Answered

@@ -50,3 +50,7 @@ HaveMemory (answer ∷ answers) = (answer.reply ≡ refused_line refusals.NoMemo
 abbrev pub AnswersAreOne : Type 0
 AnswersAreOne = (old new new' : Now) (lines : List Line) (answers answers' : List Answer) → Run old lines answers new → Run old lines answers' new'
     → HaveMemory answers → HaveMemory answers' → (answers' ≡ answers) × (new' ≡ record new { decoded = new'.decoded })
+
+-- from every session, each list of requests has answers of which none tells of want of memory
+abbrev pub AnswersExist : Type 0
+AnswersExist = (old : Now) (lines : List Line) → (answers : List Answer) × (new : Now) × Run old lines answers new × HaveMemory answers

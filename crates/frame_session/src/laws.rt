@@ -1,7 +1,7 @@
 //! Laws over the definitions of this crate: each is the contract of a function that does nothing.
 
 ghost use Rattle.frame_session.specs.UnfilteredLaws.{AreFlat, WritesOneBlock};
-ghost use Rattle.frame_session.specs.Laws.{AnswersAreOne, BreaksAreNamed, EachHasOutcome, IsShownList, KeysBeginAnew, KeysStepFromNone};
+ghost use Rattle.frame_session.specs.Laws.{AnswersAreOne, AnswersExist, BreaksAreNamed, EachHasOutcome, IsShownList, KeysBeginAnew, KeysStepFromNone};
 
 /// Each packet of a stream has one outcome.
 pub fn each_has_outcome()
@@ -28,6 +28,11 @@ pub fn keys_step_from_none()
 /// The shown list has the places of the shown packets and no other, in their order.
 pub fn shown_list_is_of_shown_packets()
     ensures { IsShownList }
+{}
+
+/// Each request list has a meaning in which memory is never refused.
+pub fn answers_exist()
+    ensures { AnswersExist }
 {}
 
 /// Where memory is never refused, a request list has one meaning, but for the number of steps.
