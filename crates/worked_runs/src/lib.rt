@@ -9,3 +9,5 @@ mod fixtures;
 mod frames;
 #[cfg(test)]
 mod refusals;
+#[cfg(test)]
+mod sessions;

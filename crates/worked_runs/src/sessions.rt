@@ -1,0 +1,41 @@
+use crate::fixtures::{INTER, KEY, WIDE_KEY, ivf_of};
+use frame_header::Cause;
+use frame_session::{Refusal, Session};
+use pixel_planes::Component;
+use std::test::Fail;
+use stream_files::ivf_read;
+use vp8_tables::Tables;
+
+// The calls of a session by themselves, with ample memory: a body that always tells of want of it
+// fails here, as in each run.
+#[test]
+fn a_session_gives_pictures(rt: HostRuntime) -> Result<(), Fail> {
+    let text = ivf_of(rt.alloc(), &[INTER, KEY, &[], WIDE_KEY])?;
+    let file = ivf_read(rt.alloc(), text.as_slice())?;
+    assert_eq!(rt; file.packets.len(), 4);
+    let mut session = Session::new(rt.alloc(), Tables::flat(), 1, file)?;
+    let broken = Refusal::Packet {
+        place: 0,
+        cause: Cause::NoKeyFrame,
+    };
+    assert_eq!(rt; session.frame(0).err(), Some(broken));
+    let picture = session.frame(1)?;
+    assert_eq!(rt; (picture.width(), picture.height()), (16, 16));
+    for (component, y, samples) in [
+        (Component::Luma, 3, [0x80; 16].as_slice()),
+        (Component::Luma, 4, &[0x81; 16]),
+        (Component::Cb, 7, &[0x80; 8]),
+        (Component::Cr, 0, &[0x80; 8]),
+    ] {
+        assert_eq!(rt; picture.shown_row(component, y), samples);
+    }
+    let broken = Refusal::Packet {
+        place: 2,
+        cause: Cause::ShortPacket,
+    };
+    assert_eq!(rt; session.frame(2).err(), Some(broken));
+    assert_eq!(rt; session.frame(3).err(), Some(Refusal::SizeDiffers));
+    assert_eq!(rt; session.frame(4).err(), Some(Refusal::NoSuchFrame));
+    assert_eq!(rt; session.spare(), 0);
+    Ok(())
+}
