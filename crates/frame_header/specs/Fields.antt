@@ -64,7 +64,7 @@ segmentation before = do
   is_enabled ← flag
   if is_enabled then segment_updates before else give (record { is_enabled = false; updates_map = false; updates_data = false; map_probabilities = 255 ∷ 255 ∷ 255 ∷ [] }, before)
 
--- filter_type, level and sharpness (RFC 6386, section 9.6)
+-- filter_type, level and sharpness (RFC 6386, section 9.4)
 unfoldable pub filter : Reading Filter
 filter = do
   simple ← flag
@@ -72,7 +72,7 @@ filter = do
   sharpness ← literal 3
   give (record { is_simple = simple; level = level; sharpness = sharpness })
 
--- the changes of the level by reference and mode; an absent one stays (RFC 6386, section 9.6)
+-- the changes of the level by reference and mode; an absent one stays (RFC 6386, section 9.4)
 unfoldable pub deltas : FilterDeltas → Reading FilterDeltas
 deltas before = do
   is_updated ← flag
@@ -81,7 +81,7 @@ deltas before = do
     mode ← four_signed 6 before.mode
     give (record { reference = reference; mode = mode })) else give before
 
--- whether the level is adjusted, and the changes behind it (RFC 6386, section 9.6)
+-- whether the level is adjusted, and the changes behind it (RFC 6386, section 9.4)
 unfoldable pub adjustment : FilterDeltas → Reading (Bool × FilterDeltas)
 adjustment before = do
   is_enabled ← flag

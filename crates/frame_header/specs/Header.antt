@@ -21,7 +21,7 @@ abbrev pub ◌>>=◌ : {A B : Type 0} → Result A Cause → (A → Result B Cau
 Ok x >>= next = next x
 Err cause >>= next = Err cause
 
--- the place behind the first partition, which stands behind the tag (RFC 6386, section 9.2)
+-- the place behind the first partition, which stands behind the tag (RFC 6386, section 9.1)
 abbrev pub first_end : Start → List ℕ → Result ℕ Cause
 first_end start packet =
     if nat_lt (length packet - start.place) start.tag.first_partition then Err FirstPartition
@@ -54,7 +54,7 @@ header_in start read partitions = record {
 }
 
 -- the header of a frame behind its start, or the first cause against it: the first partition, its fields, the token
--- partitions (RFC 6386, sections 9.2 to 9.6)
+-- partitions (RFC 6386, sections 9.2 to 9.5)
 abbrev pub header_behind : List ℕ → Start → Result Header Cause
 header_behind packet start = do
   end ← first_end start packet

@@ -8,7 +8,7 @@ use Rattle.frame_header.specs.declared.context.Context.{Context}
 use Rattle.frame_header.specs.declared.start.Start.{Start}
 use Rattle.frame_header.specs.declared.tag_fields.Tag.{Tag}
 
--- the context with which a key frame begins: all of it is 0 (RFC 6386, sections 9.3 and 9.6)
+-- the context with which a key frame begins: all of it is 0 (RFC 6386, sections 9.3 and 9.4)
 abbrev pub no_context : Context
 no_context = record {
   segments = record { is_absolute = false; quantizers = no_numbers; levels = no_numbers };

@@ -10,7 +10,7 @@ pub struct Segments {
     pub levels: [i8; 4],
 }
 
-/// Changes of the loop filter level (RFC 6386, section 9.6), each -63 to 63.
+/// Changes of the loop filter level (RFC 6386, section 9.4), each -63 to 63.
 #[derive(Clone, Copy, Debug, PartialEq, Eq)]
 pub struct FilterDeltas {
     /// By the reference: the frame itself, last, golden, altref.

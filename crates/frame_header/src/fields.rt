@@ -1,5 +1,5 @@
 //! The fields of the first partition up to the number of token partitions
-//! (RFC 6386, sections 9.2 to 9.6 and 19.2).
+//! (RFC 6386, sections 9.2 to 9.5 and 19.2).
 
 ghost use Rattle.std.specs.Prelude.{◌≡◌, ◌<◌, ◌≤◌};
 ghost use Rattle.frame_header.specs.Fields.{four_signed, colors, segment_data, map_probability, map_probabilities, segment_updates, segmentation, filter, deltas, adjustment, partition_count, fields};
@@ -20,7 +20,7 @@ pub struct Segmentation {
     pub map_probabilities: [u8; 3],
 }
 
-/// The kind and strength of the loop filter (RFC 6386, section 9.6).
+/// The kind and strength of the loop filter (RFC 6386, section 9.4).
 #[derive(Clone, Copy, Debug, PartialEq, Eq)]
 pub struct Filter {
     /// The simple filter is used, not the normal one.
