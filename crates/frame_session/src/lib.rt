@@ -1,3 +1,5 @@
+//! Sessions over a stream: its packets decoded from the start, its request lines read and answered,
+//! and `run`, which does all of that over the bytes of a file and of a request list.
 #![tactic(auto)]
 
 mod decoding;

@@ -1,11 +1,11 @@
+//! Planes of samples and the pictures made of them.
 #![tactic(auto)]
 
-//! Planes of samples and the pictures made of them.
-
+pub mod laws;
 mod pictures;
 mod planes;
 
 pub use pictures::{Component, Picture, Planes};
-pub use planes::{Plane, row_write_is_local};
+pub use planes::Plane;
 /// The refusal of a block of memory.
 pub use std::alloc::AllocError as NoMemory;

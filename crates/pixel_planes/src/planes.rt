@@ -1,6 +1,6 @@
 ghost use Rattle.std.specs.Prelude.{◌≡◌, ◌+◌, ◌*◌, ◌<◌, ◌≤◌, length, IfOk};
 ghost use Rattle.std.specs.Borrow.{sem};
-ghost use Rattle.pixel_planes.specs.Samples.{IsWhole, uniform, row_of, WritesOneRow};
+ghost use Rattle.pixel_planes.specs.Samples.{IsWhole, uniform, row_of};
 ghost use Rattle.pixel_planes.specs.Lending.{LendsRow};
 
 use crate::NoMemory;
@@ -85,8 +85,3 @@ impl Plane {
         self.samples.slice_mut(start..end)
     }
 }
-
-/// A law: a row that is written changes no other row, and holds what was written.
-pub fn row_write_is_local()
-    ensures { WritesOneRow }
-{}
