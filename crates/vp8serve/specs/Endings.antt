@@ -48,6 +48,14 @@ IsRunFault bytes frames frames' replies replies' NoMemory = Keeps frames frames'
 IsRunFault bytes frames frames' replies replies' CannotWrite = Unit {0}
 IsRunFault bytes frames frames' replies replies' _ = ⊥
 
+-- why the requests were not answered over the file that these bytes are, where it is not known where frames went: but
+-- for a writer's refusal, no reply was written
+abbrev pub IsRefused : List ℕ → (replies replies' : Option (List ℕ)) → Fault → Type 0
+IsRefused bytes replies replies' (Input fault) = IvfRefuses bytes fault × Keeps replies replies'
+IsRefused bytes replies replies' NoMemory = Keeps replies replies'
+IsRefused bytes replies replies' CannotWrite = Unit {0}
+IsRefused bytes replies replies' _ = ⊥
+
 -- a run's fault as the program's
 abbrev pub told_as : RunFault → Fault
 told_as (runs.Ivf fault) = Input fault

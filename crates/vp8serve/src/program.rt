@@ -1,7 +1,7 @@
 // The program over a reader and two writers.
 ghost use Rattle.std.specs.Prelude.{◌≡◌, ◌≢◌, ◌≤◌, IfOk, IfErr, OnOk, Err};
 ghost use Rattle.clap.specs.Values.{kind_of};
-ghost use Rattle.vp8serve.specs.Endings.{IsAnswered, IsReplied, IsRunFault, IsServed};
+ghost use Rattle.vp8serve.specs.Endings.{IsAnswered, IsRefused, IsReplied, IsRunFault, IsServed};
 ghost use Rattle.vp8serve.specs.Statuses.{status_of};
 
 use crate::fault::Fault;
@@ -83,6 +83,7 @@ fn run_to_path<R: Files + AllocGlobal, P: Write>(
     replies: &mut P,
 ) -> Result<u64, Fault<'static>>
     ensures replied { IfOk result (IsReplied stream.now requests.now (P.contents replies.old) (P.contents replies.new)) }
+    ensures refused { IfErr result (IsRefused stream.now (P.contents replies.old) (P.contents replies.new)) }
     ensures fault { IfErr result (λ fault. status_of fault ≡ 1) }
 {
     let alloc = rt.alloc();
