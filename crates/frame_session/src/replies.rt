@@ -1,11 +1,10 @@
-ghost use Rattle.std.specs.Prelude.{◌≡◌, ◌++◌, OnOk, IsOk, ◌↔◌, codes};
+ghost use Rattle.std.specs.Prelude.{◌≡◌, ◌++◌, OnOk, codes};
 ghost use Rattle.std.specs.Fmt.{decimal};
 ghost use Rattle.std.specs.Io.KnownBytes.{Appends};
 ghost use Rattle.frame_session.specs.Replies.{cause_text, refusal_text, refused_line, served_line};
 
 use crate::refusal::Refusal;
 use frame_header::Cause;
-use std::io;
 use std::io::Write;
 use stream_files::WriteFault;
 
@@ -13,7 +12,7 @@ use stream_files::WriteFault;
 pub fn write_served<W: Write>(w: &mut W, n: u64) -> Result<(), WriteFault>
     ensures { OnOk result (Appends (W.contents w.old) (W.contents w.new) (served_line n)) }
 {
-    told(writeln!(w, "served {n}"))
+    writeln!(w, "served {n}").map_err(|_| WriteFault::Write)
 }
 
 /// Writes the reply to a line that is refused.
@@ -30,7 +29,7 @@ fn write_refusal<W: Write>(w: &mut W, refusal: Refusal) -> Result<(), WriteFault
 {
     match refusal {
         Refusal::Packet { place, cause } => {
-            told(write!(w, "packet {place} "))?;
+            write!(w, "packet {place} ").map_err(|_| WriteFault::Write)?;
             write_cause(w, cause)
         }
         _ => write_text(w, refusal.word()),
@@ -41,7 +40,9 @@ fn write_cause<W: Write>(w: &mut W, cause: Cause) -> Result<(), WriteFault>
     ensures { OnOk result (Appends (W.contents w.old) (W.contents w.new) (cause_text cause)) }
 {
     match cause {
-        Cause::TokenPartition(k) => told(write!(w, "TokenPartition {k}")),
+        Cause::TokenPartition(k) => {
+            write!(w, "TokenPartition {k}").map_err(|_| WriteFault::Write)
+        }
         _ => write_text(w, cause.word()),
     }
 }
@@ -49,14 +50,5 @@ fn write_cause<W: Write>(w: &mut W, cause: Cause) -> Result<(), WriteFault>
 fn write_text<W: Write>(w: &mut W, text: &str) -> Result<(), WriteFault>
     ensures { OnOk result (Appends (W.contents w.old) (W.contents w.new) text.now) }
 {
-    told(w.write_all(text.as_bytes()))
-}
-
-fn told(answer: io::Result<()>) -> Result<(), WriteFault>
-    ensures { IsOk result ↔ IsOk answer }
-{
-    match answer {
-        Ok(()) => Ok(()),
-        Err(_) => Err(WriteFault::Write),
-    }
+    w.write_all(text.as_bytes()).map_err(|_| WriteFault::Write)
 }
