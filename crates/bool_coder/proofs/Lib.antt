@@ -1,0 +1,3 @@
+pub mod Renewal
+pub mod Literals
+pub mod UncutAlike

@@ -1,0 +1,7 @@
+use Rattle.std.proofs.Common.{refl}
+use Rattle.bool_coder.specs.Reader.{read, renewed}
+use Rattle.bool_coder.proofs.laws.worked_bits.Goals as goal
+
+pub returns : goal.returns
+unfolding read renewed
+returns c = record { mixed = refl; zeros = refl; held = refl; unlikely = refl; likely = refl }

@@ -1,0 +1,44 @@
+use Rattle.std.specs.Prelude.{ℕ, ◌+◌, ◌*◌, zero, suc, Bool, ℤ, pos, neg_ℤ, if◌then◌else◌}
+use Rattle.std.specs.Int.{from_bool}
+use Rattle.bool_coder.specs.Reader.{Reader, read}
+
+-- a reading gives a value and the reader behind it
+abbrev pub Reading : Type 0 → Type 0
+Reading A = Reader → A × Reader
+
+-- one reading, then the next
+infixl 10 ◌>>=◌
+abbrev pub ◌>>=◌ : {A B : Type 0} → Reading A → (A → Reading B) → Reading B
+first >>= next = λ r. next (first r).0 (first r).1
+
+-- a value that reads nothing
+abbrev pub give : {A : Type 0} → A → Reading A
+give x = λ r. (x, r)
+
+-- a flag is one bit at even odds
+abbrev pub flag : Reading Bool
+flag = read 128
+
+-- the number whose bits stand behind those of `value`
+unfoldable pub more_bits : ℕ → ℕ → Reading ℕ
+more_bits zero value = give value
+more_bits (suc count) value = do
+  bit ← flag
+  more_bits count (2 * value + from_bool bit)
+
+-- L(n): a number of n bits, most significant first (RFC 6386, section 8)
+unfoldable pub literal : ℕ → Reading ℕ
+literal count = more_bits count 0
+
+-- a magnitude of n bits, then its sign, where 1 is minus
+unfoldable pub magnitude_and_sign : ℕ → Reading ℤ
+magnitude_and_sign count = do
+  magnitude ← literal count
+  is_minus ← flag
+  give (if is_minus then neg_ℤ (pos magnitude) else pos magnitude)
+
+-- a flagged number S(n): a flag, and where it is set a magnitude and a sign; else `absent` (RFC 6386, section 9.3)
+unfoldable pub signed_or : ℕ → ℤ → Reading ℤ
+signed_or count absent = do
+  is_present ← flag
+  if is_present then magnitude_and_sign count else give absent

@@ -1,0 +1,24 @@
+use Rattle.std.specs.Prelude.{ℕ, ◌+◌, ◌-◌, ◌*◌, zero, suc, Bool, true, false, List, [], ◌∷◌, nat_le, nat_lt, if◌then◌else◌}
+use Rattle.bool_coder.specs.Reader.{Reader, next_bit, after_bit, split_of}
+use Rattle.bool_coder.specs.Reading.{Reading}
+
+-- the same reading where the window is never held at the range, as RFC 6386, section 7.3 has it
+
+abbrev pub uncut_doubled : Reader → Reader
+uncut_doubled r = record { rest = after_bit r.rest; d = 2 * r.d + next_bit r.rest; range = 2 * r.range }
+
+unfoldable pub uncut_renewed : ℕ → Reader → Reader
+uncut_renewed zero r = r
+uncut_renewed (suc more) r = if nat_lt r.range 128 then uncut_renewed more (uncut_doubled r) else r
+
+unfoldable pub uncut_read : ℕ → Reader → Bool × Reader
+uncut_read prob r =
+    let split = split_of prob r.range in
+    if nat_le split r.d
+    then (true, uncut_renewed 7 (record r { d = r.d - split; range = r.range - split }))
+    else (false, uncut_renewed 7 (record r { range = split }))
+
+-- the bits that a way of reading gives for a list of probabilities
+abbrev pub bits_read : (ℕ → Reading Bool) → List ℕ → Reader → List Bool
+bits_read way [] r = []
+bits_read way (prob ∷ probs) r = (way prob r).0 ∷ bits_read way probs (way prob r).1

@@ -1,0 +1,7 @@
+//! The boolean entropy coder of VP8 (RFC 6386, section 7).
+#![tactic(auto)]
+
+mod decoder;
+pub mod laws;
+
+pub use decoder::Decoder;
