@@ -9,3 +9,4 @@ pub mod Served
 pub mod Determined
 pub mod Shown
 pub mod Answered
+pub mod Moves

@@ -2,6 +2,8 @@ pub mod Unfiltered
 pub mod UnfilteredLaws
 pub mod Steps
 pub mod Decoding
+pub mod Gives
+pub mod Edits
 pub mod Requests
 pub mod Replies
 pub mod Sessions

@@ -12,6 +12,9 @@ use Rattle.frame_session.specs.declared.serving.RunFault.TheVariants as faults
 -- the name of a refusal
 abbrev pub refusal_word : Refusal → List ℕ
 refusal_word refusals.Line = codes "Line"
+refusal_word refusals.Place = codes "Place"
+refusal_word refusals.Full = codes "Full"
+refusal_word refusals.Spent = codes "Spent"
 refusal_word refusals.NoSuchFrame = codes "NoSuchFrame"
 refusal_word (refusals.Packet place cause) = codes "packet"
 refusal_word refusals.SizeDiffers = codes "SizeDiffers"

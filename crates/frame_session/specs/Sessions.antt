@@ -57,24 +57,6 @@ frame_from size (Some (Ok decoded)) = fitted size decoded.picture
 abbrev pub frame_of : Now → ℕ → Result PictureSamples Refusal
 frame_of now n = frame_from now.size (outcome_of now n)
 
--- want of memory may be told in place of it
-abbrev pub MayLackMemory : {A : Type 0} → Result A Refusal → Type 0
-MayLackMemory (Ok a) = Unit {0}
-MayLackMemory (Err (refusals.Packet place cause)) = Unit {0}
-MayLackMemory (Err refusals.SizeDiffers) = Unit {0}
-MayLackMemory (Err refusals.NoMemory) = ⊥
-MayLackMemory (Err refusals.NoSuchFrame) = ⊥
-MayLackMemory (Err refusals.Line) = ⊥
-
--- the answer is the one that is wanted, or that there was no memory
-abbrev pub Gives : {A : Type 0} → Result A Refusal → Result A Refusal → Type 0
-Gives want (Err refusals.NoMemory) = MayLackMemory want
-Gives want (Err refusals.Line) = want ≡ Err refusals.Line
-Gives want (Err refusals.NoSuchFrame) = want ≡ Err refusals.NoSuchFrame
-Gives want (Err refusals.SizeDiffers) = want ≡ Err refusals.SizeDiffers
-Gives want (Err (refusals.Packet place cause)) = want ≡ Err (refusals.Packet place cause)
-Gives want (Ok a) = want ≡ Ok a
-
 -- the first frame that is served fixes the size
 abbrev pub after_frame : Now → Result PictureSamples Refusal → Now
 after_frame now (Ok picture) = record now { size = Some (size_of picture) }

@@ -3,8 +3,11 @@
 #![tactic(auto)]
 
 mod decoding;
+mod edit;
+mod entry;
 pub mod laws;
 mod lines;
+mod packet_list;
 mod prediction;
 mod refusal;
 mod replies;
@@ -13,6 +16,7 @@ mod session;
 mod size;
 mod step;
 
+pub use edit::Edit;
 pub use refusal::Refusal;
 pub use serving::{RunFault, run};
 pub use session::Session;

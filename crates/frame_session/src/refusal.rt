@@ -9,6 +9,15 @@ pub enum Refusal {
     /// The line is no request.
     #[error("the line is no request")]
     Line,
+    /// No packet stands at the place.
+    #[error("no packet stands at the place")]
+    Place,
+    /// The most packets stand.
+    #[error("the most packets stand")]
+    Full,
+    /// No id is left for another packet.
+    #[error("no id is left")]
+    Spent,
     /// Fewer frames are shown.
     #[error("fewer frames are shown")]
     NoSuchFrame,
@@ -32,6 +41,9 @@ impl Refusal {
     {
         match self {
             Refusal::Line => "Line",
+            Refusal::Place => "Place",
+            Refusal::Full => "Full",
+            Refusal::Spent => "Spent",
             Refusal::NoSuchFrame => "NoSuchFrame",
             Refusal::Packet { .. } => "packet",
             Refusal::SizeDiffers => "SizeDiffers",

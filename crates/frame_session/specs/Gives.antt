@@ -1,0 +1,28 @@
+-- Answers that may lack memory.
+use Rattle.std.specs.Prelude.{◌≡◌, Result, Ok, Err}
+use Rattle.frame_session.specs.declared.refusal.Refusal.{Refusal}
+use Rattle.frame_session.specs.declared.refusal.Refusal.TheVariants as refusals
+
+-- want of memory may be told in place of it
+abbrev pub MayLackMemory : {A : Type 0} → Result A Refusal → Type 0
+MayLackMemory (Ok a) = Unit {0}
+MayLackMemory (Err (refusals.Packet place cause)) = Unit {0}
+MayLackMemory (Err refusals.SizeDiffers) = Unit {0}
+MayLackMemory (Err refusals.NoMemory) = ⊥
+MayLackMemory (Err refusals.NoSuchFrame) = ⊥
+MayLackMemory (Err refusals.Line) = ⊥
+MayLackMemory (Err refusals.Place) = ⊥
+MayLackMemory (Err refusals.Full) = ⊥
+MayLackMemory (Err refusals.Spent) = ⊥
+
+-- the answer is the one that is wanted, or that there was no memory
+abbrev pub Gives : {A : Type 0} → Result A Refusal → Result A Refusal → Type 0
+Gives want (Err refusals.NoMemory) = MayLackMemory want
+Gives want (Err refusals.Line) = want ≡ Err refusals.Line
+Gives want (Err refusals.Place) = want ≡ Err refusals.Place
+Gives want (Err refusals.Full) = want ≡ Err refusals.Full
+Gives want (Err refusals.Spent) = want ≡ Err refusals.Spent
+Gives want (Err refusals.NoSuchFrame) = want ≡ Err refusals.NoSuchFrame
+Gives want (Err refusals.SizeDiffers) = want ≡ Err refusals.SizeDiffers
+Gives want (Err (refusals.Packet place cause)) = want ≡ Err (refusals.Packet place cause)
+Gives want (Ok a) = want ≡ Ok a
