@@ -10,3 +10,4 @@ pub mod Determined
 pub mod Shown
 pub mod Answered
 pub mod Moves
+pub mod HexWords

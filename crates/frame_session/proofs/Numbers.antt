@@ -10,7 +10,7 @@ use Rattle.std.specs.List.{list_all}
 use Rattle.std.specs.Str.{IsUtf8}
 use Rattle.std.specs.Result.{OkIff, result_ok}
 use Rattle.std.specs.Str.Parse.{AllDigits, ParsesUnsigned, digits_value}
-use Rattle.frame_session.specs.Requests.{number_of}
+use Rattle.frame_session.specs.Words.{number_of}
 
 digits : IsNumeralModel (λ word. list_all is_ascii_digit word ≡ true) (digits_value 10)
 digits = numerals_by_value _ (search rules)

@@ -1,16 +1,19 @@
 -- What the functions that answer lines give is the meaning of the lines.
-use Rattle.std.proofs.Common.{◌≡◌, ℕ, List, [], ◌∷◌, ◌++◌, map, Option, Ok, Err, refl, sym, ap, ◌∙◌, subst, append_assoc, append-nil}
+use Rattle.std.proofs.Common.{◌≡◌, ℕ, List, [], ◌∷◌, ◌++◌, map, Option, Result, Ok, Err, refl, sym, ap, ◌∙◌, subst, append_assoc, append-nil}
 use Rattle.std.specs.List.{flat_map}
 use Rattle.std.specs.Io.KnownBytes.{Appends}
 use Rattle.std.proofs.KnownBytes.{Appends-nil, Appends-trans}
 use Rattle.pixel_planes.specs.Pictures.{PictureSamples}
 use Rattle.frame_session.specs.declared.lines.Line.{Line}
-use Rattle.frame_session.specs.declared.lines.Line.TheVariants.{Silent, Unknown, Frame}
+use Rattle.frame_session.specs.declared.lines.Line.TheVariants.{Silent, Unknown, Frame, Insert, Replace, Delete, Move, Count, Stats}
+use Rattle.frame_session.specs.declared.edit.Edit.TheVariants as edits
 use Rattle.frame_session.specs.declared.refusal.Refusal.{Refusal}
 use Rattle.frame_session.specs.declared.refusal.Refusal.TheVariants as refusals
 use Rattle.frame_session.specs.Requests.{asked_by}
-use Rattle.frame_session.specs.Replies.{refused_line}
-use Rattle.frame_session.specs.Sessions.{Gives, IsAfterFrame, Now, frame_of}
+use Rattle.frame_session.specs.Gives.{Gives}
+use Rattle.frame_session.specs.Edits.{EditGives, edit_of}
+use Rattle.frame_session.specs.Replies.{refused_line, edit_line, count_line, stats_line}
+use Rattle.frame_session.specs.Sessions.{IsAfterFrame, Now, behind_edit, frame_count, frame_of, packet_count}
 use Rattle.frame_session.specs.Answers.{Answer, Answers, Run, Runs, Serves, answer_to_frame, frames_of, replies_of, told}
 
 module _ (old : Now) (f f' r r' : Option (List ℕ)) where
@@ -35,6 +38,40 @@ module _ (old : Now) (f f' r r' : Option (List ℕ)) where
     shown = shown;
     said = said;
   }
+
+  pub serves_inserted : (at stamp : ℕ) (bytes : List ℕ) (edited : Result ℕ Refusal) (new : Now) → Gives (edit_of old.list (edits.Insert at stamp bytes)) edited → new ≡ behind_edit (edits.Insert at stamp bytes) old edited → Appends r r' (edit_line edited) → Serves old (Insert at stamp bytes) f f r r' new
+  serves_inserted at stamp bytes edited new gives after said = record {
+    answer = told (edit_line edited);
+    means = (edited, gives, (refl, after));
+    shown = Appends-nil f;
+    said = said;
+  }
+
+  pub serves_replaced : (at : ℕ) (bytes : List ℕ) (edited : Result ℕ Refusal) (new : Now) → Gives (edit_of old.list (edits.Replace at bytes)) edited → new ≡ behind_edit (edits.Replace at bytes) old edited → Appends r r' (edit_line edited) → Serves old (Replace at bytes) f f r r' new
+  serves_replaced at bytes edited new gives after said = record {
+    answer = told (edit_line edited);
+    means = (edited, gives, (refl, after));
+    shown = Appends-nil f;
+    said = said;
+  }
+
+  pub serves_deleted : (at : ℕ) (new : Now) → ((edited : Result ℕ Refusal) × EditGives old.list (edits.Delete at) edited × (new ≡ behind_edit (edits.Delete at) old edited) × Appends r r' (edit_line edited)) → Serves old (Delete at) f f r r' new
+  serves_deleted at new made =
+      let P : Result ℕ Refusal → Type 0 = λ e. (new ≡ behind_edit (edits.Delete at) old e) × Appends r r' (edit_line e) in
+      let so = subst P made.1 (made.2, made.3) in
+      record { answer = told (edit_line (edit_of old.list (edits.Delete at))); means = (refl, so.0); shown = Appends-nil f; said = so.1 }
+
+  pub serves_moved : (from to : ℕ) (new : Now) → ((edited : Result ℕ Refusal) × EditGives old.list (edits.Move from to) edited × (new ≡ behind_edit (edits.Move from to) old edited) × Appends r r' (edit_line edited)) → Serves old (Move from to) f f r r' new
+  serves_moved from to new made =
+      let P : Result ℕ Refusal → Type 0 = λ e. (new ≡ behind_edit (edits.Move from to) old e) × Appends r r' (edit_line e) in
+      let so = subst P made.1 (made.2, made.3) in
+      record { answer = told (edit_line (edit_of old.list (edits.Move from to))); means = (refl, so.0); shown = Appends-nil f; said = so.1 }
+
+  pub serves_count : Appends r r' (count_line (packet_count old) (frame_count old)) → Serves old Count f f r r' old
+  serves_count said = record { answer = told (count_line (packet_count old) (frame_count old)); means = (refl, refl); shown = Appends-nil f; said = said }
+
+  pub serves_stats : Appends r r' (stats_line old.decoded) → Serves old Stats f f r r' old
+  serves_stats said = record { answer = told (stats_line old.decoded); means = (refl, refl); shown = Appends-nil f; said = said }
 
 -- one line more
 run_more : (old mid new : Now) (lines : List Line) (answers : List Answer) (line : Line) (answer : Answer) → Run old lines answers mid → Answers mid line answer new → Run old (lines ++ line ∷ []) (answers ++ answer ∷ []) new

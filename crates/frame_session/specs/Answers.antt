@@ -10,14 +10,18 @@ use Rattle.stream_files.specs.declared.ivf.Ivf.{Ivf}
 use Rattle.stream_files.specs.Ivf.{IsIvf, IvfRefuses}
 use Rattle.stream_files.specs.Y4m.{frame_text, y4m_line}
 use Rattle.frame_session.specs.declared.lines.Line.{Line}
-use Rattle.frame_session.specs.declared.lines.Line.TheVariants.{Silent, Unknown, Frame}
+use Rattle.frame_session.specs.declared.lines.Line.TheVariants as requests
+use Rattle.frame_session.specs.declared.edit.Edit.{Edit}
+use Rattle.frame_session.specs.declared.edit.Edit.TheVariants as edits
 use Rattle.frame_session.specs.declared.refusal.Refusal.{Refusal}
 use Rattle.frame_session.specs.declared.refusal.Refusal.TheVariants as refusals
 use Rattle.frame_session.specs.declared.serving.RunFault.{RunFault}
 use Rattle.frame_session.specs.declared.serving.RunFault.TheVariants as faults
 use Rattle.frame_session.specs.Requests.{asked_by}
-use Rattle.frame_session.specs.Replies.{refused_line, served_line}
-use Rattle.frame_session.specs.Sessions.{Gives, IsAfterFrame, Now, frame_of, head_due, start}
+use Rattle.frame_session.specs.Gives.{Gives}
+use Rattle.frame_session.specs.Edits.{edit_of}
+use Rattle.frame_session.specs.Replies.{refused_line, served_line, edit_line, count_line, stats_line}
+use Rattle.frame_session.specs.Sessions.{IsAfterFrame, Now, behind_edit, frame_count, frame_of, head_due, packet_count, start}
 
 -- what the lines of a text ask for, one after another
 abbrev pub requests_of : List ℕ → List Line
@@ -42,12 +46,24 @@ abbrev pub answer_to_frame : Now → ℕ → Result PictureSamples Refusal → A
 answer_to_frame now n (Ok picture) = record { reply = served_line n; frames = opening (head_due now) picture ++ frame_text picture }
 answer_to_frame now n (Err refusal) = told (refused_line refusal)
 
--- what may be answered to a line, and what stands behind it
+-- an edit was answered so
+abbrev pub AnswersEdit : Now → Edit → Result ℕ Refusal → Answer → Now → Type 0
+AnswersEdit old edit edited answer new = (answer ≡ told (edit_line edited)) × (new ≡ behind_edit edit old edited)
+
+-- what may be answered to a line, and what stands behind it: a frame, and packets that are put in, may lack memory
 abbrev pub Answers : Now → Line → Answer → Now → Type 0
-Answers old Silent answer new = (answer ≡ told []) × (new ≡ old)
-Answers old Unknown answer new = (answer ≡ told (refused_line refusals.Line)) × (new ≡ old)
-Answers old (Frame n) answer new =
+Answers old requests.Silent answer new = (answer ≡ told []) × (new ≡ old)
+Answers old requests.Unknown answer new = (answer ≡ told (refused_line refusals.Line)) × (new ≡ old)
+Answers old (requests.Frame n) answer new =
     (frame : Result PictureSamples Refusal) × Gives (frame_of old n) frame × (answer ≡ answer_to_frame old n frame) × IsAfterFrame old frame new
+Answers old (requests.Insert at stamp bytes) answer new =
+    (edited : Result ℕ Refusal) × Gives (edit_of old.list (edits.Insert at stamp bytes)) edited × AnswersEdit old (edits.Insert at stamp bytes) edited answer new
+Answers old (requests.Replace at bytes) answer new =
+    (edited : Result ℕ Refusal) × Gives (edit_of old.list (edits.Replace at bytes)) edited × AnswersEdit old (edits.Replace at bytes) edited answer new
+Answers old (requests.Delete at) answer new = AnswersEdit old (edits.Delete at) (edit_of old.list (edits.Delete at)) answer new
+Answers old (requests.Move from to) answer new = AnswersEdit old (edits.Move from to) (edit_of old.list (edits.Move from to)) answer new
+Answers old requests.Count answer new = (answer ≡ told (count_line (packet_count old) (frame_count old))) × (new ≡ old)
+Answers old requests.Stats answer new = (answer ≡ told (stats_line old.decoded)) × (new ≡ old)
 
 -- what may be answered to lines, one after another
 abbrev pub Run : Now → List Line → List Answer → Now → Type 0

@@ -4,6 +4,7 @@ pub mod Steps
 pub mod Decoding
 pub mod Gives
 pub mod Edits
+pub mod Words
 pub mod Requests
 pub mod Replies
 pub mod Sessions

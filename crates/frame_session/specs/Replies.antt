@@ -1,5 +1,5 @@
 -- The texts of replies.
-use Rattle.std.specs.Prelude.{ℕ, List, [], ◌∷◌, ◌++◌, codes}
+use Rattle.std.specs.Prelude.{ℕ, List, [], ◌∷◌, ◌++◌, codes, Result, Ok, Err}
 use Rattle.std.specs.Fmt.{decimal}
 use Rattle.frame_header.specs.declared.cause.Cause.{Cause}
 use Rattle.frame_header.specs.declared.cause.Cause.TheVariants as causes
@@ -37,6 +37,23 @@ refused_line refusal = codes "refused " ++ refusal_text refusal ++ 10 ∷ []
 -- the reply to a frame that was served
 abbrev pub served_line : ℕ → List ℕ
 served_line n = codes "served " ++ decimal n ++ 10 ∷ []
+
+-- the reply to an edit that was made, behind which so many packets stand
+abbrev pub ok_line : ℕ → List ℕ
+ok_line count = codes "ok " ++ decimal count ++ 10 ∷ []
+
+-- the reply to an edit
+abbrev pub edit_line : Result ℕ Refusal → List ℕ
+edit_line (Ok count) = ok_line count
+edit_line (Err refusal) = refused_line refusal
+
+-- how many packets stand, and how many frames are shown
+abbrev pub count_line : ℕ → ℕ → List ℕ
+count_line packets frames = codes "packets " ++ decimal packets ++ codes " frames " ++ decimal frames ++ 10 ∷ []
+
+-- how many steps of decoding were made
+abbrev pub stats_line : ℕ → List ℕ
+stats_line steps = codes "decoded " ++ decimal steps ++ 10 ∷ []
 
 -- the name of a run's fault
 abbrev pub run_fault_word : RunFault → List ℕ

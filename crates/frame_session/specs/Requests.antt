@@ -1,37 +1,55 @@
 -- What the lines of a request list ask for. The lines of a text are std's `lines`.
-use Rattle.std.specs.Prelude.{ℕ, ◌^◌, Bool, List, [], ◌∷◌, Option, None, Some, ◌&&◌, ◌==◌, not, nat_lt, nat_le, nat_eq, if◌then◌else◌, filter, length, codes}
-use Rattle.std.specs.Char.{is_ascii_digit}
-use Rattle.std.specs.List.{list_all, slice_split, starts_with}
+use Rattle.std.specs.Prelude.{ℕ, List, [], ◌∷◌, nat_eq, if◌then◌else◌, codes}
+use Rattle.std.specs.List.{starts_with}
 use Rattle.std.specs.Option.{option_map_or}
 use Rattle.std.specs.Str.{bytes_eq}
-use Rattle.std.specs.Str.Parse.{digits_value}
 use Rattle.frame_session.specs.declared.lines.Line.{Line}
-use Rattle.frame_session.specs.declared.lines.Line.TheVariants.{Silent, Unknown, Frame}
+use Rattle.frame_session.specs.declared.lines.Line.TheVariants.{Silent, Unknown, Frame, Insert, Replace, Delete, Move, Count, Stats}
+use Rattle.frame_session.specs.Words.{words_of, number_of, bytes_of}
 
--- the words of a line: the parts between spaces, but for the empty ones
-abbrev pub words_of : List ℕ → List (List ℕ)
-words_of line = filter (λ word. not (length word == 0)) (slice_split (λ b. b == 32) line)
+-- a line that goes on with a number, and with what is asked for behind it
+abbrev pub with_number : (ℕ → List (List ℕ) → Line) → List (List ℕ) → Line
+with_number next [] = Unknown
+with_number next (word ∷ words) = option_map_or (λ n. next n words) (number_of word) Unknown
 
--- 1 to 20 decimal digits, and nothing else
-abbrev pub is_numeral : List ℕ → Bool
-is_numeral word = nat_lt 0 (length word) && nat_le (length word) 20 && list_all is_ascii_digit word
+-- a line that goes on with bytes, and with what is asked for behind them
+abbrev pub with_bytes : (List ℕ → List (List ℕ) → Line) → List (List ℕ) → Line
+with_bytes next [] = Unknown
+with_bytes next (word ∷ words) = option_map_or (λ bytes. next bytes words) (bytes_of word) Unknown
 
--- the number that a word writes: a numeral of at most 18,446,744,073,709,551,615
-abbrev pub number_of : List ℕ → Option ℕ
-number_of word = if is_numeral word && nat_lt (digits_value 10 word) (2 ^ 64) then Some (digits_value 10 word) else None
+-- a line that ends here
+abbrev pub at_end : Line → List (List ℕ) → Line
+at_end line [] = line
+at_end line (word ∷ words) = Unknown
 
--- what `frame` asks for with these words behind it: the frame of one number
+-- what each command asks for with the words behind it
 abbrev pub frame_by : List (List ℕ) → Line
-frame_by [] = Unknown
-frame_by (word ∷ []) = option_map_or Frame (number_of word) Unknown
-frame_by (word ∷ next ∷ more) = Unknown
+frame_by words = with_number (λ n. at_end (Frame n)) words
+
+abbrev pub insert_by : List (List ℕ) → Line
+insert_by words = with_number (λ at. with_number (λ stamp. with_bytes (λ bytes. at_end (Insert at stamp bytes)))) words
+
+abbrev pub replace_by : List (List ℕ) → Line
+replace_by words = with_number (λ at. with_bytes (λ bytes. at_end (Replace at bytes))) words
+
+abbrev pub delete_by : List (List ℕ) → Line
+delete_by words = with_number (λ at. at_end (Delete at)) words
+
+abbrev pub move_by : List (List ℕ) → Line
+move_by words = with_number (λ from. with_number (λ to. at_end (Move from to))) words
 
 -- what a line of these words asks for: nothing where there are none, or where `#` begins the first
 abbrev pub asked_by_words : List (List ℕ) → Line
 asked_by_words [] = Silent
-asked_by_words (command ∷ arguments) =
+asked_by_words (command ∷ words) =
     if starts_with nat_eq command (codes "#") then Silent
-    else if bytes_eq command (codes "frame") then frame_by arguments
+    else if bytes_eq command (codes "frame") then frame_by words
+    else if bytes_eq command (codes "insert") then insert_by words
+    else if bytes_eq command (codes "replace") then replace_by words
+    else if bytes_eq command (codes "delete") then delete_by words
+    else if bytes_eq command (codes "move") then move_by words
+    else if bytes_eq command (codes "count") then at_end Count words
+    else if bytes_eq command (codes "stats") then at_end Stats words
     else Unknown
 
 -- what a line asks for

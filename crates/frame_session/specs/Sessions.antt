@@ -1,28 +1,29 @@
 -- What a session is to its requests, and what a request for a frame gives.
-use Rattle.std.specs.Prelude.{◌≡◌, ℕ, ◌≤◌, ◌==◌, ◌&&◌, Bool, if◌then◌else◌, List, map, Option, Some, None, Result, Ok, Err, is_none, option_and_then, slice_get}
+use Rattle.std.specs.Prelude.{◌≡◌, ℕ, ◌≤◌, ◌==◌, ◌&&◌, Bool, if◌then◌else◌, List, map, Option, Some, None, Result, Ok, Err, is_none, option_and_then, slice_get, length}
 use Rattle.vp8_tables.specs.declared.tables.Tables.{Tables}
 use Rattle.pixel_planes.specs.Pictures.{PictureSamples}
-use Rattle.stream_files.specs.declared.packets.Packet.{Packet}
 use Rattle.stream_files.specs.declared.ivf.Head.{Head}
 use Rattle.stream_files.specs.declared.ivf.Ivf.{Ivf}
 use Rattle.frame_session.specs.declared.refusal.Refusal.{Refusal}
 use Rattle.frame_session.specs.declared.refusal.Refusal.TheVariants as refusals
 use Rattle.frame_session.specs.declared.size.Size.{Size}
+use Rattle.frame_session.specs.declared.edit.Edit.{Edit}
 use Rattle.frame_session.specs.Decoding.{Outcome, outcomes, shown_places}
+use Rattle.frame_session.specs.Edits.{Listing, after_edit, listing_of}
 
--- what the answers to requests depend on: the tables, the file's head, the packets as they stand, the bytes that the
--- file had behind its records, the size that the first frame served has fixed, and the number of steps made
+-- what the answers to requests depend on: the tables, the file's head, the packet list as it stands, the bytes that
+-- the file had behind its records, the size that the first frame served has fixed, and the number of steps made
 pub record Now : Type 0 where
   pub tables : Tables
   pub head : Head
-  pub packets : List Packet
+  pub list : Listing
   pub spare : ℕ
   pub size : Option Size
   pub decoded : ℕ
 
 -- a session as it begins
 abbrev pub start : Tables → Ivf → Now
-start tables file = record { tables = tables; head = file.head; packets = file.packets; spare = file.spare; size = None; decoded = 0 }
+start tables file = record { tables = tables; head = file.head; list = listing_of file.packets; spare = file.spare; size = None; decoded = 0 }
 
 -- the head, while no frame was served: the line that opens the frames is still to be written with it
 abbrev pub head_due : Now → Option Head
@@ -30,7 +31,7 @@ head_due now = if is_none now.size then Some now.head else None
 
 -- the packets' bytes
 abbrev pub stream_of : Now → List (List ℕ)
-stream_of now = map (λ packet. packet.bytes) now.packets
+stream_of now = map (λ entry. entry.bytes) now.list.entries
 
 -- the outcome at the place of shown packet n, if so many are shown
 abbrev pub outcome_of : Now → ℕ → Option Outcome
@@ -66,3 +67,15 @@ after_frame now (Err refusal) = now
 pub record IsAfterFrame (old : Now) (answer : Result PictureSamples Refusal) (new : Now) : Type 0 where
   pub rest : new ≡ record (after_frame old answer) { decoded = new.decoded }
   pub steps : old.decoded ≤ new.decoded
+
+-- what stands after an edit that was answered so
+abbrev pub behind_edit : Edit → Now → Result ℕ Refusal → Now
+behind_edit edit now answer = record now { list = after_edit edit now.list answer }
+
+-- how many packets stand
+abbrev pub packet_count : Now → ℕ
+packet_count now = length now.list.entries
+
+-- how many of them are shown
+abbrev pub frame_count : Now → ℕ
+frame_count now = length (shown_places (stream_of now))

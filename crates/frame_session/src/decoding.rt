@@ -1,11 +1,11 @@
 ghost use Rattle.std.specs.Prelude.{◌≡◌, ◌≤◌, ◌<◌, map, length, take, slice_get, Ok, None, Some, IfOk, IfSome, Option};
 ghost use Rattle.frame_session.specs.Decoding.{Outcome, OutcomeAnswers, outcome, outcomes, shown_places, standing_after};
 
+use crate::entry::Entry;
 use crate::step::{Decoded, State, StepFault, step};
 use frame_header::{Cause, has_key_tag, is_shown};
 use pixel_planes::NoMemory;
 use std::alloc::Global;
-use stream_files::Packet;
 use vp8_tables::Tables;
 
 /// Where a stream is broken: at the packet at `place`, counted from 0, by its `cause`.
@@ -57,7 +57,7 @@ fn outcome(
 fn standing_behind(
     alloc: Global,
     tables: &Tables,
-    packets: &[Packet],
+    packets: &[Entry],
     steps: &mut u64,
 ) -> Result<Before, NoMemory>
     ensures stands { IfOk result (λ standing. standing ≡ standing_after tables.now 0 (Ok None) (map (λ p. p.bytes) packets.now)) }
@@ -86,7 +86,7 @@ fn standing_behind(
 pub fn decode(
     alloc: Global,
     tables: &Tables,
-    packets: &[Packet],
+    packets: &[Entry],
     place: usize,
     steps: &mut u64,
 ) -> Result<Decoded, DecodeFault>
@@ -110,7 +110,7 @@ pub fn decode(
 
 /// The place of shown packet `n`, counted from 0, or `None` where fewer are shown. A packet is shown
 /// where its tag has the show bit, or where it is under 3 bytes.
-pub fn shown_place(packets: &[Packet], n: u64) -> Option<usize>
+pub fn shown_place(packets: &[Entry], n: u64) -> Option<usize>
     ensures within { IfSome result (λ place. place < length packets.now) }
     ensures place { result ≡ slice_get (shown_places (map (λ p. p.bytes) packets.now)) n }
 {
@@ -124,4 +124,17 @@ pub fn shown_place(packets: &[Packet], n: u64) -> Option<usize>
         }
     }
     None
+}
+
+/// How many packets are shown.
+pub fn shown_count(packets: &[Entry]) -> u64
+    ensures { result ≡ length (shown_places (map (λ p. p.bytes) packets.now)) }
+{
+    let mut count = 0;
+    for packet in packets {
+        if is_shown(packet.bytes.as_slice()) {
+            count += 1;
+        }
+    }
+    count
 }

@@ -5,6 +5,7 @@
 mod decoding;
 mod edit;
 mod entry;
+mod hex_text;
 pub mod laws;
 mod lines;
 mod packet_list;

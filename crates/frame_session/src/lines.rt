@@ -1,25 +1,41 @@
 //! Reads the lines of a request list: lines, words, numbers, and what a line asks for.
 
-ghost use Rattle.std.specs.Prelude.{◌≡◌, ◌<◌, ◌≤◌, ◌==◌, [], ◌∷◌, length, MatchOption, IfSome};
+ghost use Rattle.std.specs.Prelude.{◌≡◌, ℕ, List, ◌<◌, ◌≤◌, ◌==◌, [], ◌∷◌, length, MatchOption, IfSome, IfNone};
 ghost use Rattle.std.specs.Char.{is_ascii_digit};
 ghost use Rattle.std.specs.List.{list_all, position_or_len, prefix_len};
 ghost use Rattle.std.specs.Str.Lines.{lines, strip_carriage_return};
-ghost use Rattle.frame_session.specs.Requests.{words_of, number_of, frame_by, asked_by};
+ghost use Rattle.frame_session.specs.Words.{words_of, number_of};
+ghost use Rattle.frame_session.specs.Requests.{with_number, with_bytes, at_end, frame_by, insert_by, replace_by, delete_by, move_by, asked_by};
+ghost use Rattle.frame_session.specs.declared.lines.Line.{Line};
+ghost use Rattle.frame_session.specs.declared.lines.Line.TheVariants.{Unknown};
 
+use crate::hex_text::Hex;
 use std::str;
 
 /// The most digits of a number.
 const MOST_DIGITS: usize = 20;
 
 /// What a request line asks for.
-#[derive(Clone, Copy, Debug, PartialEq, Eq)]
-pub enum Line {
+#[derive(Drop)]
+pub enum Line<'a> {
     /// No words, or a comment: no reply.
     Silent,
     /// No request, which is refused.
     Unknown,
     /// The frame of this number, counted from 0.
     Frame(u64),
+    /// A packet put in at place `at`.
+    Insert { at: u64, stamp: u64, bytes: Hex<'a> },
+    /// Other bytes for the packet at place `at`.
+    Replace { at: u64, bytes: Hex<'a> },
+    /// The packet at place `at` taken out.
+    Delete { at: u64 },
+    /// The packet at place `from` moved to place `to` of the others.
+    Move { from: u64, to: u64 },
+    /// How many packets stand, and how many are shown.
+    Count,
+    /// How many steps of decoding were made.
+    Stats,
 }
 
 /// The first line of a text and what follows it, or `None` where no line is left.
@@ -99,38 +115,128 @@ fn has_digits_alone(word: &[u8]) -> bool
     word.iter().all(|byte| byte.is_ascii_digit())
 }
 
+/// The number that the next word writes and what stands behind it, or `None` where there is none.
+fn next_number(line: &[u8]) -> Option<(u64, &[u8])>
+    ensures none { IfNone result ((next : ℕ → List (List ℕ) → Line) → with_number next (words_of line.now) ≡ Unknown) }
+    ensures some { IfSome result (λ found. (next : ℕ → List (List ℕ) → Line) → with_number next (words_of line.now) ≡ next found.0 (words_of found.1.now)) }
+{
+    let (word, rest) = next_word(line)?;
+    match number(word) {
+        Some(n) => Some((n, rest)),
+        None => None,
+    }
+}
+
+/// The bytes that the next word writes and what stands behind it, or `None` where there are none.
+fn next_bytes(line: &[u8]) -> Option<(Hex<'_>, &[u8])>
+    ensures none { IfNone result ((next : List ℕ → List (List ℕ) → Line) → with_bytes next (words_of line.now) ≡ Unknown) }
+    ensures some { IfSome result (λ found. (next : List ℕ → List (List ℕ) → Line) → with_bytes next (words_of line.now) ≡ next found.0 (words_of found.1.now)) }
+{
+    let (word, rest) = next_word(line)?;
+    match Hex::of_word(word) {
+        Some(bytes) => Some((bytes, rest)),
+        None => None,
+    }
+}
+
+/// What is asked for where no word is left.
+fn ended<'a>(asked: Line<'a>, rest: &[u8]) -> Line<'a>
+    ensures { result ≡ at_end asked.entry (words_of rest.now) }
+{
+    match next_word(rest) {
+        None => asked,
+        Some(_) => Line::Unknown,
+    }
+}
+
 /// What a line asks for.
 ///
-/// A line without words and one whose first word begins with `#` ask for nothing; `frame N`, with
-/// a number N, asks for a frame; every other line is unknown.
-pub fn read_line(line: &[u8]) -> Line
+/// A line without words and one whose first word begins with `#` ask for nothing. The requests are
+/// `frame N`, `insert AT STAMP HEX`, `replace AT HEX`, `delete AT`, `move FROM TO`, `count` and
+/// `stats`, where HEX is `-` or an even number of hexadecimal digits and the others are numbers;
+/// every other line is unknown.
+pub fn read_line(line: &[u8]) -> Line<'_>
     ensures { result ≡ asked_by line.now }
 {
-    let Some((command, arguments)) = next_word(line) else {
+    let Some((command, words)) = next_word(line) else {
         return Line::Silent;
     };
     if command.starts_with(b"#") {
         Line::Silent
     } else if command == b"frame".as_slice() {
-        frame_line(arguments)
+        frame_line(words)
+    } else if command == b"insert".as_slice() {
+        insert_line(words)
+    } else if command == b"replace".as_slice() {
+        replace_line(words)
+    } else if command == b"delete".as_slice() {
+        delete_line(words)
+    } else if command == b"move".as_slice() {
+        move_line(words)
+    } else if command == b"count".as_slice() {
+        ended(Line::Count, words)
+    } else if command == b"stats".as_slice() {
+        ended(Line::Stats, words)
     } else {
         Line::Unknown
     }
 }
 
-fn frame_line(arguments: &[u8]) -> Line
-    ensures { result ≡ frame_by (words_of arguments.now) }
+fn frame_line(words: &[u8]) -> Line<'_>
+    ensures { result ≡ frame_by (words_of words.now) }
 {
-    let Some((word, rest)) = next_word(arguments) else {
+    let Some((n, rest)) = next_number(words) else {
         return Line::Unknown;
     };
-    if next_word(rest).is_some() {
+    ended(Line::Frame(n), rest)
+}
+
+fn insert_line(words: &[u8]) -> Line<'_>
+    ensures { result ≡ insert_by (words_of words.now) }
+{
+    let Some((at, rest)) = next_number(words) else {
         return Line::Unknown;
-    }
-    match number(word) {
-        Some(n) => Line::Frame(n),
-        None => Line::Unknown,
-    }
+    };
+    let Some((stamp, rest)) = next_number(rest) else {
+        return Line::Unknown;
+    };
+    let Some((bytes, rest)) = next_bytes(rest) else {
+        return Line::Unknown;
+    };
+    ended(Line::Insert { at, stamp, bytes }, rest)
+}
+
+fn replace_line(words: &[u8]) -> Line<'_>
+    ensures { result ≡ replace_by (words_of words.now) }
+{
+    let Some((at, rest)) = next_number(words) else {
+        return Line::Unknown;
+    };
+    let Some((bytes, rest)) = next_bytes(rest) else {
+        return Line::Unknown;
+    };
+    ended(Line::Replace { at, bytes }, rest)
+}
+
+fn delete_line(words: &[u8]) -> Line<'_>
+    ensures { result ≡ delete_by (words_of words.now) }
+{
+    let Some((at, rest)) = next_number(words) else {
+        return Line::Unknown;
+    };
+    ended(Line::Delete { at }, rest)
+}
+
+fn move_line(words: &[u8]) -> Line<'_>
+    ensures { result ≡ move_by (words_of words.now) }
+{
+    let Some((from, rest)) = next_number(words) else {
+        return Line::Unknown;
+    };
+    let Some((to, rest)) = next_number(rest) else {
+        return Line::Unknown;
+    };
+    ended(Line::Move { from, to }, rest)
 }
 
 #[cfg(test)]

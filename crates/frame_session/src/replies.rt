@@ -1,7 +1,7 @@
 ghost use Rattle.std.specs.Prelude.{◌≡◌, ◌++◌, OnOk, codes};
 ghost use Rattle.std.specs.Fmt.{decimal};
 ghost use Rattle.std.specs.Io.KnownBytes.{Appends};
-ghost use Rattle.frame_session.specs.Replies.{cause_text, refusal_text, refused_line, served_line};
+ghost use Rattle.frame_session.specs.Replies.{cause_text, count_line, edit_line, ok_line, refusal_text, refused_line, served_line, stats_line};
 
 use crate::refusal::Refusal;
 use frame_header::Cause;
@@ -13,6 +13,36 @@ pub fn write_served<W: Write>(w: &mut W, n: u64) -> Result<(), WriteFault>
     ensures { OnOk result (Appends (W.contents w.old) (W.contents w.new) (served_line n)) }
 {
     writeln!(w, "served {n}").map_err(|_| WriteFault::Write)
+}
+
+/// Writes the reply to an edit that was made, or that is refused.
+pub fn write_edited<W: Write>(w: &mut W, answer: Result<u64, Refusal>) -> Result<(), WriteFault>
+    ensures { OnOk result (Appends (W.contents w.old) (W.contents w.new) (edit_line answer)) }
+{
+    match answer {
+        Ok(count) => write_ok(w, count),
+        Err(refusal) => write_refused(w, refusal),
+    }
+}
+
+fn write_ok<W: Write>(w: &mut W, count: u64) -> Result<(), WriteFault>
+    ensures { OnOk result (Appends (W.contents w.old) (W.contents w.new) (ok_line count)) }
+{
+    writeln!(w, "ok {count}").map_err(|_| WriteFault::Write)
+}
+
+/// Writes how many packets stand, and how many frames are shown.
+pub fn write_count<W: Write>(w: &mut W, packets: u64, frames: u64) -> Result<(), WriteFault>
+    ensures { OnOk result (Appends (W.contents w.old) (W.contents w.new) (count_line packets frames)) }
+{
+    writeln!(w, "packets {packets} frames {frames}").map_err(|_| WriteFault::Write)
+}
+
+/// Writes how many steps of decoding were made.
+pub fn write_stats<W: Write>(w: &mut W, steps: u64) -> Result<(), WriteFault>
+    ensures { OnOk result (Appends (W.contents w.old) (W.contents w.new) (stats_line steps)) }
+{
+    writeln!(w, "decoded {steps}").map_err(|_| WriteFault::Write)
 }
 
 /// Writes the reply to a line that is refused.

@@ -1,11 +1,16 @@
-ghost use Rattle.std.specs.Prelude.{◌≡◌, ◌≤◌, ◌++◌, IfOk, OnOk, IfErr};
+ghost use Rattle.std.specs.Prelude.{◌≡◌, ℕ, ◌≤◌, ◌++◌, IfOk, OnOk, IfErr, Result};
 ghost use Rattle.std.specs.Io.KnownBytes.{Appends};
 ghost use Rattle.stream_files.specs.Y4m.{frame_text};
+ghost use Rattle.frame_session.specs.declared.refusal.Refusal.{Refusal};
+ghost use Rattle.frame_session.specs.Edits.{EditGives};
+ghost use Rattle.frame_session.specs.Replies.{count_line, edit_line};
+ghost use Rattle.frame_session.specs.Sessions.{behind_edit, frame_count, packet_count};
 ghost use Rattle.frame_session.specs.Answers.{Leaves, Means, RunRefuses, Runs, Serves, opening, requests_of};
 
+use crate::edit::Edit;
 use crate::lines::{Line, next_line, read_line};
 use crate::refusal::Refusal;
-use crate::replies::{write_refused, write_served};
+use crate::replies::{write_count, write_edited, write_refused, write_served, write_stats};
 use crate::session::Session;
 use pixel_planes::Picture;
 use std::alloc::Global;
@@ -94,19 +99,51 @@ fn serve_frame<F: Write, R: Write>(
     }
 }
 
+/// Tells how many packets stand, and how many frames are shown.
+fn tell_count<R: Write>(session: &Session, replies: &mut R) -> Result<(), WriteFault>
+    ensures { OnOk result (Appends (R.contents replies.old) (R.contents replies.new) (count_line (packet_count session.now) (frame_count session.now))) }
+{
+    let (packets, frames) = session.count();
+    write_count(replies, packets, frames)
+}
+
+/// Makes an edit and tells how many packets stand then, or why it is refused.
+fn serve_edit<R: Write>(
+    session: &mut Session,
+    edit: Edit,
+    replies: &mut R,
+) -> Result<(), WriteFault>
+    ensures { OnOk result ((edited : Result ℕ Refusal) × EditGives session.old.list edit edited × (session.new ≡ behind_edit edit session.old edited) × Appends (R.contents replies.old) (R.contents replies.new) (edit_line edited)) }
+{
+    let edited = session.edit(edit);
+    write_edited(replies, edited)
+}
+
 /// Answers one line.
 fn serve<F: Write, R: Write>(
     session: &mut Session,
-    line: Line,
+    line: Line<'_>,
     frames: &mut F,
     replies: &mut R,
 ) -> Result<(), WriteFault>
-    ensures { OnOk result (Serves session.old line (F.contents frames.old) (F.contents frames.new) (R.contents replies.old) (R.contents replies.new) session.new) }
+    ensures { OnOk result (Serves session.old line.entry (F.contents frames.old) (F.contents frames.new) (R.contents replies.old) (R.contents replies.new) session.new) }
 {
     match line {
         Line::Silent => Ok(()),
         Line::Unknown => write_refused(replies, Refusal::Line),
         Line::Frame(n) => serve_frame(session, n, frames, replies),
+        Line::Insert { at, stamp, bytes } => {
+            let edited = session.insert_written(at, stamp, bytes);
+            write_edited(replies, edited)
+        }
+        Line::Replace { at, bytes } => {
+            let edited = session.replace_written(at, bytes);
+            write_edited(replies, edited)
+        }
+        Line::Delete { at } => serve_edit(session, Edit::Delete { at }, replies),
+        Line::Move { from, to } => serve_edit(session, Edit::Move { from, to }, replies),
+        Line::Count => tell_count(session, replies),
+        Line::Stats => write_stats(replies, session.decoded()),
     }
 }
 

@@ -1,13 +1,19 @@
 ghost use Rattle.std.specs.Prelude.{◌≡◌, ◌≤◌, IfOk, length};
+ghost use Rattle.frame_session.specs.Gives.{Gives};
+ghost use Rattle.frame_session.specs.Edits.{EditGives, edit_of};
+ghost use Rattle.frame_session.specs.declared.edit.Edit.TheVariants.{Insert, Replace};
 
-use crate::decoding::{DecodeFault, decode, shown_place};
+use crate::decoding::{DecodeFault, decode, shown_count, shown_place};
+use crate::edit::Edit;
+use crate::hex_text::Hex;
+use crate::packet_list::PacketList;
 use crate::refusal::Refusal;
 use crate::size::Size;
 use crate::step::Decoded;
 use pixel_planes::{NoMemory, Picture};
 use std::alloc::Global;
 use std::marker::Model;
-use stream_files::{Head, Ivf, Packets};
+use stream_files::{Head, Ivf};
 use vp8_tables::Tables;
 
 /// A stream and what was asked of it so far.
@@ -16,7 +22,7 @@ pub struct Session {
     alloc: Global,
     tables: Tables,
     head: Head,
-    packets: Packets,
+    list: PacketList,
     spare: u64,
     size: Option<Size>,
     decoded: u64,
@@ -27,14 +33,16 @@ impl Model for Session {
 
     ghost Value = { Now };
 
-    ghost view = { λ s. record { tables = s.tables; head = s.head; packets = s.packets; spare = s.spare; size = s.size; decoded = s.decoded } };
+    ghost view = { λ s. record { tables = s.tables; head = s.head; list = s.list; spare = s.spare; size = s.size; decoded = s.decoded } };
 }
 
 impl Session {
-    ghost use Rattle.frame_session.specs.Sessions.{Gives, IsAfterFrame, frame_of, head_due, start};
+    ghost use Rattle.frame_session.specs.Sessions.{IsAfterFrame, behind_edit, frame_count, frame_of, head_due, packet_count, start};
 
     /// A session over a file's packets, which are at most 1,048,576. `capacity`, 1 to 4,096, is how
-    /// many decoded states may be kept; none is kept yet.
+    /// many decoded states may be kept; none is kept yet. The packets get ids from 0 on.
+    ///
+    /// `NoMemory` where memory for the packet list was refused.
     pub fn new(alloc: Global, tables: Tables, capacity: u16, file: Ivf) -> Result<Session, NoMemory>
         requires capacity { (1 ≤ capacity) × (capacity ≤ 4096) }
         requires few { length file.packets ≤ 1048576 }
@@ -45,7 +53,7 @@ impl Session {
             alloc,
             tables,
             head: file.head,
-            packets: file.packets,
+            list: PacketList::of_file(alloc, file.packets)?,
             spare: file.spare,
             size: None,
             decoded: 0,
@@ -58,14 +66,14 @@ impl Session {
         ensures gives { Gives (frame_of self.old n) result }
         ensures after { IsAfterFrame self.old result self.new }
     {
-        let Some(place) = shown_place(self.packets.as_slice(), n) else {
+        let Some(place) = shown_place(self.list.entries(), n) else {
             return Err(Refusal::NoSuchFrame);
         };
         let mut steps = self.decoded;
         let answer = decode(
             self.alloc,
             &self.tables,
-            self.packets.as_slice(),
+            self.list.entries(),
             place,
             &mut steps,
         );
@@ -91,6 +99,62 @@ impl Session {
         }
         self.size = Some(size);
         Ok(picture)
+    }
+
+    /// Makes an edit of the packet list, and gives how many packets stand then.
+    ///
+    /// An insertion is refused as `Place` where `at` is above the number of packets, `Full` where
+    /// 1,048,576 packets stand, `Spent` where no id is left, and `NoMemory`, in this order; a
+    /// replacement as `Place` where no packet stands at `at`, and `Spent`; a deletion or a move as
+    /// `Place` where no packet stands at one of its places. A refused edit changes nothing.
+    pub fn edit(&mut self, edit: Edit) -> Result<u64, Refusal>
+        ensures gives { EditGives self.old.list edit result }
+        ensures after { self.new ≡ behind_edit edit self.old result }
+    {
+        self.list.edit(edit)
+    }
+
+    /// Puts in a packet of bytes that are made once nothing else is refused.
+    pub(crate) fn insert_written(&mut self, at: u64, stamp: u64, bytes: Hex<'_>) -> Result<u64, Refusal>
+        ensures gives { Gives (edit_of self.old.list (Insert at stamp bytes.entry)) result }
+        ensures after { self.new ≡ behind_edit (Insert at stamp bytes.entry) self.old result }
+    {
+        if let Some(refusal) = self.list.refused_insertion(at) {
+            return Err(refusal);
+        }
+        match bytes.read(self.alloc) {
+            Ok(bytes) => self.edit(Edit::Insert { at, stamp, bytes }),
+            Err(_) => Err(Refusal::NoMemory),
+        }
+    }
+
+    /// Replaces a packet by bytes that are made once nothing else is refused.
+    pub(crate) fn replace_written(&mut self, at: u64, bytes: Hex<'_>) -> Result<u64, Refusal>
+        ensures gives { Gives (edit_of self.old.list (Replace at bytes.entry)) result }
+        ensures after { self.new ≡ behind_edit (Replace at bytes.entry) self.old result }
+    {
+        if let Some(refusal) = self.list.refused_replacement(at) {
+            return Err(refusal);
+        }
+        match bytes.read(self.alloc) {
+            Ok(bytes) => self.edit(Edit::Replace { at, bytes }),
+            Err(_) => Err(Refusal::NoMemory),
+        }
+    }
+
+    /// How many packets stand, and how many of them are shown.
+    pub fn count(&self) -> (u64, u64)
+        ensures packets { result.0 ≡ packet_count self.now }
+        ensures frames { result.1 ≡ frame_count self.now }
+    {
+        (self.list.count(), shown_count(self.list.entries()))
+    }
+
+    /// How many steps of decoding were made, whatever they answered; at most 18,446,744,073,709,551,615.
+    pub fn decoded(&self) -> u64
+        ensures { result ≡ self.now.decoded }
+    {
+        self.decoded
     }
 
     /// The file's head, while no frame was served and the line that opens the frames is not written.

@@ -1,0 +1,28 @@
+-- The words of a request line, and what they write.
+use Rattle.std.specs.Prelude.{ℕ, ◌^◌, Bool, List, [], Option, None, Some, ◌&&◌, ◌==◌, not, nat_lt, nat_le, if◌then◌else◌, filter, length, codes}
+use Rattle.std.specs.Char.{is_ascii_digit}
+use Rattle.std.specs.List.{list_all, slice_split}
+use Rattle.std.specs.Result.{result_ok, result_unwrap_or}
+use Rattle.std.specs.Str.{bytes_eq}
+use Rattle.std.specs.Str.Parse.{digits_value}
+use Rattle.hex.specs.Hex.{decode_of}
+
+-- the words of a line: the parts between spaces, but for the empty ones
+abbrev pub words_of : List ℕ → List (List ℕ)
+words_of line = filter (λ word. not (length word == 0)) (slice_split (λ b. b == 32) line)
+
+-- 1 to 20 decimal digits, and nothing else
+abbrev pub is_numeral : List ℕ → Bool
+is_numeral word = nat_lt 0 (length word) && nat_le (length word) 20 && list_all is_ascii_digit word
+
+-- the number that a word writes: a numeral of at most 18,446,744,073,709,551,615
+abbrev pub number_of : List ℕ → Option ℕ
+number_of word = if is_numeral word && nat_lt (digits_value 10 word) (2 ^ 64) then Some (digits_value 10 word) else None
+
+-- the bytes that hexadecimal digits of either case write, two digits for each byte
+abbrev pub digits_bytes : List ℕ → List ℕ
+digits_bytes digits = result_unwrap_or (decode_of digits) []
+
+-- the bytes that a word writes: none for `-`, else those of an even number of hexadecimal digits
+abbrev pub bytes_of : List ℕ → Option (List ℕ)
+bytes_of word = if bytes_eq word (codes "-") then Some [] else result_ok (decode_of word)
