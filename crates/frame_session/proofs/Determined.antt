@@ -2,23 +2,30 @@
 use Rattle.std.proofs.Common.{◌≡◌, ℕ, List, [], ◌∷◌, Result, Ok, Err, refl, sym, ap, ◌∙◌, subst}
 use Rattle.pixel_planes.specs.Pictures.{PictureSamples}
 use Rattle.frame_session.specs.declared.lines.Line.{Line}
-use Rattle.frame_session.specs.declared.lines.Line.TheVariants.{Silent, Unknown, Frame}
+use Rattle.frame_session.specs.declared.lines.Line.TheVariants.{Silent, Unknown, Frame, Insert, Replace, Delete, Move, Count, Stats}
+use Rattle.frame_session.specs.declared.edit.Edit.{Edit}
+use Rattle.frame_session.specs.declared.edit.Edit.TheVariants as edits
 use Rattle.frame_session.specs.declared.refusal.Refusal.{Refusal}
 use Rattle.frame_session.specs.declared.refusal.Refusal.TheVariants as refusals
-use Rattle.frame_session.specs.Replies.{refused_line}
-use Rattle.frame_session.specs.Sessions.{Gives, Now, after_frame, frame_of}
-use Rattle.frame_session.specs.Answers.{Answer, Answers, Run, answer_to_frame}
-use Rattle.frame_session.specs.Laws.{HaveMemory}
+use Rattle.frame_session.specs.Gives.{Gives}
+use Rattle.frame_session.specs.Edits.{edit_of}
+use Rattle.frame_session.specs.Replies.{refused_line, edit_line}
+use Rattle.frame_session.specs.Sessions.{Now, after_frame, behind_edit, frame_of}
+use Rattle.frame_session.specs.Answers.{Answer, Answers, AnswersEdit, Run, answer_to_frame, told}
+use Rattle.frame_session.specs.Laws.{AllAlike, AreAlike, HaveMemory}
 
 -- another number of steps
 abbrev counted : Now → ℕ → Now
 counted now steps = record now { decoded = steps }
 
--- the frame that is given is the one that is wanted, unless there was no memory
-given : (want answer : Result PictureSamples Refusal) → (answer ≡ Err refusals.NoMemory → ⊥) → Gives want answer → want ≡ answer
+-- what is given is what is wanted, unless there was no memory
+given : {A : Type 0} (want answer : Result A Refusal) → (answer ≡ Err refusals.NoMemory → ⊥) → Gives want answer → want ≡ answer
 given want (Ok picture) enough gives = gives
 given want (Err refusals.NoMemory) enough gives = absurd (enough refl)
 given want (Err refusals.Line) enough gives = gives
+given want (Err refusals.Place) enough gives = gives
+given want (Err refusals.Full) enough gives = gives
+given want (Err refusals.Spent) enough gives = gives
 given want (Err refusals.NoSuchFrame) enough gives = gives
 given want (Err refusals.SizeDiffers) enough gives = gives
 given want (Err (refusals.Packet place cause)) enough gives = gives
@@ -33,12 +40,44 @@ after_counted : (old : Now) (steps d : ℕ) (frame : Result PictureSamples Refus
 after_counted old steps d (Ok picture) = refl
 after_counted old steps d (Err refusal) = refl
 
+-- an answer that leaves everything as it is
+same_answer : (old : Now) (steps : ℕ) (answer answer' wanted : Answer) (new new' : Now) → (answer ≡ wanted) × (new ≡ old) → (answer' ≡ wanted) × (new' ≡ counted old steps) → (answer' ≡ answer) × (new' ≡ counted new new'.decoded)
+same_answer old steps answer answer' wanted new new' first second =
+    (second.0 ∙ sym first.0, second.1 ∙ ap (λ (s : Now). counted s steps) (sym first.1) ∙ ap (λ (d : ℕ). counted new d) (sym (ap (λ (s : Now). s.decoded) second.1)))
+
+-- two answers to an edit that give the same
+same_edit : (old : Now) (steps : ℕ) (edit : Edit) (edited edited' : Result ℕ Refusal) (answer answer' : Answer) (new new' : Now) → edited' ≡ edited → AnswersEdit old edit edited answer new → AnswersEdit (counted old steps) edit edited' answer' new' → (answer' ≡ answer) × (new' ≡ counted new new'.decoded)
+same_edit old steps edit edited edited' answer answer' new new' same first second =
+    let again : new' ≡ counted (behind_edit edit old edited) steps = second.1 ∙ ap (λ (e : Result ℕ Refusal). behind_edit edit (counted old steps) e) same in (
+      second.0 ∙ ap (λ (e : Result ℕ Refusal). told (edit_line e)) same ∙ sym first.0,
+      again ∙ ap (λ (s : Now). counted s steps) (sym first.1) ∙ ap (λ (d : ℕ). counted new d) (sym (ap (λ (s : Now). s.decoded) again)),
+    )
+
+-- and so do two that do not tell of want of memory
+told_edit : (edited : Result ℕ Refusal) (answer : Answer) → answer ≡ told (edit_line edited) → (answer.reply ≡ refused_line refusals.NoMemory → ⊥) → edited ≡ Err refusals.NoMemory → ⊥
+told_edit edited answer is enough lacks = enough (ap (λ (a : Answer). a.reply) is ∙ ap edit_line lacks)
+
+one_edit : (old : Now) (steps : ℕ) (edit : Edit) (edited edited' : Result ℕ Refusal) (answer answer' : Answer) (new new' : Now) → Gives (edit_of old.list edit) edited → Gives (edit_of old.list edit) edited' → AnswersEdit old edit edited answer new → AnswersEdit (counted old steps) edit edited' answer' new' → (answer.reply ≡ refused_line refusals.NoMemory → ⊥) → (answer'.reply ≡ refused_line refusals.NoMemory → ⊥) → (answer' ≡ answer) × (new' ≡ counted new new'.decoded)
+one_edit old steps edit edited edited' answer answer' new new' gives gives' first second enough enough' =
+    let wanted : edit_of old.list edit ≡ edited = given (edit_of old.list edit) edited (told_edit edited answer first.0 enough) gives in
+    let wanted' : edit_of old.list edit ≡ edited' = given (edit_of old.list edit) edited' (told_edit edited' answer' second.0 enough') gives' in
+    same_edit old steps edit edited edited' answer answer' new new' (sym wanted' ∙ wanted) first second
+
 -- two answers to one line, of which the second was given after another number of steps
-one_answer : (old : Now) (steps : ℕ) (line : Line) (answer answer' : Answer) (new new' : Now) → Answers old line answer new → Answers (counted old steps) line answer' new' → (answer.reply ≡ refused_line refusals.NoMemory → ⊥) → (answer'.reply ≡ refused_line refusals.NoMemory → ⊥) → (answer' ≡ answer) × (new' ≡ counted new new'.decoded)
-one_answer old steps Silent answer answer' new new' first second enough enough' =
-    (second.0 ∙ sym first.0, second.1 ∙ ap (λ (s : Now). counted s steps) (sym first.1) ∙ ap (λ (d : ℕ). counted new d) (sym (ap (λ (s : Now). s.decoded) second.1)))
-one_answer old steps Unknown answer answer' new new' first second enough enough' =
-    (second.0 ∙ sym first.0, second.1 ∙ ap (λ (s : Now). counted s steps) (sym first.1) ∙ ap (λ (d : ℕ). counted new d) (sym (ap (λ (s : Now). s.decoded) second.1)))
+one_answer : (old : Now) (steps : ℕ) (line : Line) (answer answer' : Answer) (new new' : Now) → Answers old line answer new → Answers (counted old steps) line answer' new' → (answer.reply ≡ refused_line refusals.NoMemory → ⊥) → (answer'.reply ≡ refused_line refusals.NoMemory → ⊥) → AreAlike line answer answer' × (new' ≡ counted new new'.decoded)
+one_answer old steps Silent answer answer' new new' first second enough enough' = same_answer old steps answer answer' _ new new' first second
+one_answer old steps Unknown answer answer' new new' first second enough enough' = same_answer old steps answer answer' _ new new' first second
+one_answer old steps (Insert at stamp bytes) answer answer' new new' first second enough enough' =
+    one_edit old steps (edits.Insert at stamp bytes) first.0 second.0 answer answer' new new' first.1 second.1 first.2 second.2 enough enough'
+one_answer old steps (Replace at bytes) answer answer' new new' first second enough enough' =
+    one_edit old steps (edits.Replace at bytes) first.0 second.0 answer answer' new new' first.1 second.1 first.2 second.2 enough enough'
+one_answer old steps (Delete at) answer answer' new new' first second enough enough' =
+    same_edit old steps (edits.Delete at) _ _ answer answer' new new' refl first second
+one_answer old steps (Move from to) answer answer' new new' first second enough enough' =
+    same_edit old steps (edits.Move from to) _ _ answer answer' new new' refl first second
+one_answer old steps Count answer answer' new new' first second enough enough' = same_answer old steps answer answer' _ new new' first second
+one_answer old steps Stats answer answer' new new' first second enough enough' =
+    ((old.decoded, steps, first.0, second.0), second.1 ∙ ap (λ (s : Now). counted s steps) (sym first.1) ∙ ap (λ (d : ℕ). counted new d) (sym (ap (λ (s : Now). s.decoded) second.1)))
 one_answer old steps (Frame n) answer answer' new new' first second enough enough' =
     let frame : Result PictureSamples Refusal = first.0 in
     let frame' : Result PictureSamples Refusal = second.0 in
@@ -51,9 +90,9 @@ one_answer old steps (Frame n) answer answer' new new' first second enough enoug
           ∙ sym (ap (λ (s : Now). counted s new'.decoded) first.3.rest),
     )
 
-one_run : (old : Now) (steps : ℕ) (lines : List Line) (answers answers' : List Answer) (new new' : Now) → Run old lines answers new → Run (counted old steps) lines answers' new' → HaveMemory answers → HaveMemory answers' → (answers' ≡ answers) × (new' ≡ counted new new'.decoded)
+one_run : (old : Now) (steps : ℕ) (lines : List Line) (answers answers' : List Answer) (new new' : Now) → Run old lines answers new → Run (counted old steps) lines answers' new' → HaveMemory answers → HaveMemory answers' → AllAlike lines answers answers' × (new' ≡ counted new new'.decoded)
 one_run old steps [] [] [] new new' first second enough enough' =
-    (refl, second ∙ ap (λ (s : Now). counted s steps) (sym first) ∙ ap (λ (d : ℕ). counted new d) (sym (ap (λ (s : Now). s.decoded) second)))
+    (tt, second ∙ ap (λ (s : Now). counted s steps) (sym first) ∙ ap (λ (d : ℕ). counted new d) (sym (ap (λ (s : Now). s.decoded) second)))
 one_run old steps [] [] (x' ∷ answers') new new' first second enough enough' = absurd second
 one_run old steps [] (x ∷ answers) answers' new new' first second enough enough' = absurd first
 one_run old steps (line ∷ lines) [] answers' new new' first second enough enough' = absurd first
@@ -62,7 +101,7 @@ one_run old steps (line ∷ lines) (x ∷ answers) (x' ∷ answers') new new' fi
     let here = one_answer old steps line x x' first.0 second.0 first.1 second.1 enough.0 enough'.0 in
     let P : Now → Type 0 = λ s. Run s lines answers' new' in
     let rest = one_run first.0 second.0.decoded lines answers answers' new new' first.2 (subst P here.1 second.2) enough.1 enough'.1 in
-    (ap (λ (a : Answer). a ∷ answers') here.0 ∙ ap (λ (as' : List Answer). x ∷ as') rest.0, rest.1)
+    ((here.0, rest.0), rest.1)
 
-pub runs_one : (old new new' : Now) (lines : List Line) (answers answers' : List Answer) → Run old lines answers new → Run old lines answers' new' → HaveMemory answers → HaveMemory answers' → (answers' ≡ answers) × (new' ≡ record new { decoded = new'.decoded })
+pub runs_one : (old new new' : Now) (lines : List Line) (answers answers' : List Answer) → Run old lines answers new → Run old lines answers' new' → HaveMemory answers → HaveMemory answers' → AllAlike lines answers answers' × (new' ≡ record new { decoded = new'.decoded })
 runs_one old new new' lines answers answers' first second enough enough' = one_run old old.decoded lines answers answers' new new' first second enough enough'

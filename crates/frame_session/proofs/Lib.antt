@@ -11,3 +11,4 @@ pub mod Shown
 pub mod Answered
 pub mod Moves
 pub mod HexWords
+pub mod Kept

@@ -5,12 +5,14 @@ use Rattle.frame_header.specs.Tags.{has_key_tag, is_shown}
 use Rattle.frame_session.specs.declared.step.State.{State}
 use Rattle.frame_session.specs.declared.decoding.Broken.{Broken}
 use Rattle.frame_session.specs.declared.lines.Line.{Line}
+use Rattle.frame_session.specs.declared.lines.Line.TheVariants.{Stats}
+use Rattle.frame_session.specs.declared.refusal.Refusal.{Refusal}
 use Rattle.frame_session.specs.declared.refusal.Refusal.TheVariants as refusals
 use Rattle.frame_session.specs.Steps.{step_of}
 use Rattle.frame_session.specs.Decoding.{outcomes, shown_places, told_at}
-use Rattle.frame_session.specs.Replies.{refused_line}
+use Rattle.frame_session.specs.Replies.{refused_line, stats_line}
 use Rattle.frame_session.specs.Sessions.{Now}
-use Rattle.frame_session.specs.Answers.{Answer, Run}
+use Rattle.frame_session.specs.Answers.{Answer, Answers, Run, told}
 
 -- each packet has one outcome
 abbrev pub EachHasOutcome : Type 0
@@ -45,11 +47,30 @@ abbrev pub HaveMemory : List Answer → Type 0
 HaveMemory [] = Unit {0}
 HaveMemory (answer ∷ answers) = (answer.reply ≡ refused_line refusals.NoMemory → ⊥) × HaveMemory answers
 
--- where no answer tells of want of memory, the requests have one answer each, and what stands behind them differs in
--- the number of steps alone
+-- two answers to a line are one, but for the number that `stats` tells
+abbrev pub AreAlike : Line → Answer → Answer → Type 0
+AreAlike Stats answer answer' = (steps : ℕ) × (steps' : ℕ) × (answer ≡ told (stats_line steps)) × (answer' ≡ told (stats_line steps'))
+AreAlike line answer answer' = answer' ≡ answer
+
+abbrev pub AllAlike : List Line → List Answer → List Answer → Type 0
+AllAlike [] [] [] = Unit {0}
+AllAlike (line ∷ lines) (answer ∷ answers) (answer' ∷ answers') = AreAlike line answer answer' × AllAlike lines answers answers'
+AllAlike lines answers answers' = ⊥
+
+-- where no answer tells of want of memory, the requests have one answer each but for the numbers that `stats` tells, and
+-- what stands behind them differs in the number of steps alone
 abbrev pub AnswersAreOne : Type 0
 AnswersAreOne = (old new new' : Now) (lines : List Line) (answers answers' : List Answer) → Run old lines answers new → Run old lines answers' new'
-    → HaveMemory answers → HaveMemory answers' → (answers' ≡ answers) × (new' ≡ record new { decoded = new'.decoded })
+    → HaveMemory answers → HaveMemory answers' → AllAlike lines answers answers' × (new' ≡ record new { decoded = new'.decoded })
+
+-- the number that `stats` tells never falls
+abbrev pub StepsNeverFall : Type 0
+StepsNeverFall = (old new : Now) (lines : List Line) (answers : List Answer) → Run old lines answers new → old.decoded ≤ new.decoded
+
+-- a line that is refused changes nothing but the number of steps: neither packets nor ids nor the fixed size
+abbrev pub RefusedLinesChangeNothing : Type 0
+RefusedLinesChangeNothing = (old new : Now) (line : Line) (answer : Answer) (refusal : Refusal) → Answers old line answer new → answer.reply ≡ refused_line refusal
+    → new ≡ record old { decoded = new.decoded }
 
 -- from every session, each list of requests has answers of which none tells of want of memory
 abbrev pub AnswersExist : Type 0

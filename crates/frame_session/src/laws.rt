@@ -1,7 +1,7 @@
 //! Laws over the definitions of this crate: each is the contract of a function that does nothing.
 
 ghost use Rattle.frame_session.specs.UnfilteredLaws.{AreFlat, WritesOneBlock};
-ghost use Rattle.frame_session.specs.Laws.{AnswersAreOne, AnswersExist, BreaksAreNamed, EachHasOutcome, IsShownList, KeysBeginAnew, KeysStepFromNone};
+ghost use Rattle.frame_session.specs.Laws.{AnswersAreOne, AnswersExist, BreaksAreNamed, EachHasOutcome, IsShownList, KeysBeginAnew, KeysStepFromNone, RefusedLinesChangeNothing, StepsNeverFall};
 
 /// Each packet of a stream has one outcome.
 pub fn each_has_outcome()
@@ -35,9 +35,20 @@ pub fn answers_exist()
     ensures { AnswersExist }
 {}
 
-/// Where memory is never refused, a request list has one meaning, but for the number of steps.
+/// Where memory is never refused, a request list has one meaning, but for the number of steps, which
+/// `stats` tells.
 pub fn answers_are_one()
     ensures { AnswersAreOne }
+{}
+
+/// The number that `stats` tells never falls.
+pub fn steps_never_fall()
+    ensures { StepsNeverFall }
+{}
+
+/// A refused line changes nothing but the number of steps: neither packets nor ids nor the fixed size.
+pub fn refused_lines_change_nothing()
+    ensures { RefusedLinesChangeNothing }
 {}
 
 /// A block that is written has its value throughout, and every other sample is as it was.

@@ -243,6 +243,7 @@ fn move_line(words: &[u8]) -> Line<'_>
 mod tests {
     use super::*;
     use std::test::Fail;
+    use stream_files::Bytes;
 
     type Cut = Option<(&'static [u8], &'static [u8])>;
 
@@ -264,34 +265,92 @@ mod tests {
         }
     }
 
-    const ROWS: [(&[u8], Line); 18] = [
-        (b"", Line::Silent),
-        (b"   ", Line::Silent),
-        (b"# x", Line::Silent),
-        (b"  # x", Line::Silent),
-        (b"#frame 3", Line::Silent),
-        (b"frame 3", Line::Frame(3)),
-        (b"  frame   3  ", Line::Frame(3)),
+    /// A line's request: its name, its numbers in their order, and its bytes.
+    type Asked = (&'static str, u64, u64, &'static [u8]);
+
+    fn name_of(line: &Line<'_>) -> (&'static str, u64, u64) {
+        match line {
+            Line::Silent => ("silent", 0, 0),
+            Line::Unknown => ("unknown", 0, 0),
+            Line::Frame(n) => ("frame", *n, 0),
+            Line::Insert { at, stamp, .. } => ("insert", *at, *stamp),
+            Line::Replace { at, .. } => ("replace", *at, 0),
+            Line::Delete { at } => ("delete", *at, 0),
+            Line::Move { from, to } => ("move", *from, *to),
+            Line::Count => ("count", 0, 0),
+            Line::Stats => ("stats", 0, 0),
+        }
+    }
+
+    const UNKNOWN: Asked = ("unknown", 0, 0, b"");
+
+    const ROWS: [(&[u8], Asked); 41] = [
+        (b"", ("silent", 0, 0, b"")),
+        (b"   ", ("silent", 0, 0, b"")),
+        (b"# x", ("silent", 0, 0, b"")),
+        (b"  # x", ("silent", 0, 0, b"")),
+        (b"#frame 3", ("silent", 0, 0, b"")),
+        (b"frame 3", ("frame", 3, 0, b"")),
+        (b"  frame   3  ", ("frame", 3, 0, b"")),
         (
             b"frame 18446744073709551615",
-            Line::Frame(18_446_744_073_709_551_615),
+            ("frame", 18_446_744_073_709_551_615, 0, b""),
         ),
-        (b"frame 00000000000000000001", Line::Frame(1)),
-        (b"frame 18446744073709551616", Line::Unknown),
-        (b"frame 000000000000000000001", Line::Unknown),
-        (b"frame", Line::Unknown),
-        (b"frame 3 4", Line::Unknown),
-        (b"frame -1", Line::Unknown),
-        (b"frame +1", Line::Unknown),
-        (b"FRAME 1", Line::Unknown),
-        (b"frame\t3", Line::Unknown),
-        (b"frame 3\r", Line::Unknown),
+        (b"frame 00000000000000000001", ("frame", 1, 0, b"")),
+        (b"frame 18446744073709551616", UNKNOWN),
+        (b"frame 000000000000000000001", UNKNOWN),
+        (b"frame", UNKNOWN),
+        (b"frame 3 4", UNKNOWN),
+        (b"frame -1", UNKNOWN),
+        (b"frame +1", UNKNOWN),
+        (b"FRAME 1", UNKNOWN),
+        (b"frame\t3", UNKNOWN),
+        (b"frame 3\r", UNKNOWN),
+        (b"insert 1 2 0aF9", ("insert", 1, 2, &[10, 0xF9])),
+        (b" insert  1   2  - ", ("insert", 1, 2, b"")),
+        (
+            b"insert 18446744073709551615 18446744073709551615 00",
+            (
+                "insert",
+                18_446_744_073_709_551_615,
+                18_446_744_073_709_551_615,
+                &[0],
+            ),
+        ),
+        (b"insert 0 0 1", UNKNOWN),
+        (b"insert 0 0 0x10", UNKNOWN),
+        (b"insert 0 0 1g", UNKNOWN),
+        (b"insert 0 0 --", UNKNOWN),
+        (b"insert 0 0", UNKNOWN),
+        (b"insert 0 0 00 00", UNKNOWN),
+        (b"insert 0 18446744073709551616 -", UNKNOWN),
+        (b"replace 7 Ab", ("replace", 7, 0, &[0xAB])),
+        (b"replace 7 -", ("replace", 7, 0, b"")),
+        (b"replace 7 0 -", UNKNOWN),
+        (b"replace 7 a", UNKNOWN),
+        (b"delete 5", ("delete", 5, 0, b"")),
+        (b"delete", UNKNOWN),
+        (b"delete 5 6", UNKNOWN),
+        (b"move 1 0", ("move", 1, 0, b"")),
+        (b"move 1", UNKNOWN),
+        (b"count", ("count", 0, 0, b"")),
+        (b"count 1", UNKNOWN),
+        (b"stats ", ("stats", 0, 0, b"")),
+        (b"stat", UNKNOWN),
     ];
 
     #[test]
-    fn reads_each_row(rt: HostRuntime) {
-        for (line, want) in ROWS {
-            assert_eq!(rt; read_line(line), want, "at {line:?}");
+    fn reads_each_row(rt: HostRuntime) -> Result<(), Fail> {
+        for (row, (name, first, second, bytes)) in ROWS {
+            let line = read_line(row);
+            assert_eq!(rt; name_of(&line), (name, first, second), "at {row:?}");
+            let written = match line {
+                Line::Insert { bytes, .. } => bytes.read(rt.alloc())?,
+                Line::Replace { bytes, .. } => bytes.read(rt.alloc())?,
+                _ => Bytes::new(Vec::new(rt.alloc())),
+            };
+            assert_eq!(rt; written.as_slice(), bytes, "at {row:?}");
         }
+        Ok(())
     }
 }

@@ -193,3 +193,116 @@ fn move_entry(entries: &mut [Entry], from: usize, to: usize)
         entries[to..=from].rotate_right(1);
     }
 }
+
+#[cfg(test)]
+mod tests {
+    use super::*;
+    use std::test::Fail;
+    use stream_files::Packet;
+
+    const LAST: u64 = 18_446_744_073_709_551_615;
+
+    fn list_of(alloc: Global, packets: &[(u64, &[u8])]) -> Result<PacketList, NoMemory> {
+        let mut all = Vec::new(alloc);
+        for (stamp, bytes) in packets {
+            all.push(Packet {
+                stamp: *stamp,
+                bytes: Bytes::from_slice(alloc, bytes)?,
+            })?;
+        }
+        if all.len() > MAX_PACKETS {
+            return Err(NoMemory);
+        }
+        PacketList::of_file(alloc, Packets::new(all))
+    }
+
+    fn holds(list: &PacketList, rows: &[(u64, u64, &[u8])]) -> bool {
+        list.entries().len() == rows.len()
+            && list
+                .entries()
+                .iter()
+                .zip(rows)
+                .all(|(entry, (id, stamp, bytes))| {
+                    entry.id == *id && entry.stamp == *stamp && entry.bytes.as_slice() == *bytes
+                })
+    }
+
+    #[test]
+    fn each_edit(rt: HostRuntime) -> Result<(), Fail> {
+        let alloc = rt.alloc();
+        let mut list = list_of(alloc, &[(10, b"a"), (20, b"b"), (30, b"c")])?;
+        assert!(rt; holds(&list, &[(0, 10, b"a"), (1, 20, b"b"), (2, 30, b"c")]));
+        let bytes = Bytes::from_slice(alloc, b"dd")?;
+        let insert = Edit::Insert { at: 1, stamp: 15, bytes };
+        assert_eq!(rt; list.edit(insert), Ok(4));
+        assert!(rt; holds(&list, &[(0, 10, b"a"), (3, 15, b"dd"), (1, 20, b"b"), (2, 30, b"c")]));
+        assert_eq!(rt; list.edit(Edit::Move { from: 0, to: 2 }), Ok(4));
+        assert!(rt; holds(&list, &[(3, 15, b"dd"), (1, 20, b"b"), (0, 10, b"a"), (2, 30, b"c")]));
+        assert_eq!(rt; list.edit(Edit::Move { from: 3, to: 0 }), Ok(4));
+        assert!(rt; holds(&list, &[(2, 30, b"c"), (3, 15, b"dd"), (1, 20, b"b"), (0, 10, b"a")]));
+        let bytes = Bytes::from_slice(alloc, b"")?;
+        assert_eq!(rt; list.edit(Edit::Replace { at: 2, bytes }), Ok(4));
+        assert!(rt; holds(&list, &[(2, 30, b"c"), (3, 15, b"dd"), (4, 20, b""), (0, 10, b"a")]));
+        assert_eq!(rt; list.edit(Edit::Delete { at: 0 }), Ok(3));
+        assert!(rt; holds(&list, &[(3, 15, b"dd"), (4, 20, b""), (0, 10, b"a")]));
+        Ok(())
+    }
+
+    #[test]
+    fn places_that_do_not_stand(rt: HostRuntime) -> Result<(), Fail> {
+        let alloc = rt.alloc();
+        let mut list = list_of(alloc, &[(10, b"a"), (20, b"b")])?;
+        let edits = [
+            Edit::Insert { at: 3, stamp: 0, bytes: Bytes::from_slice(alloc, b"x")? },
+            Edit::Insert { at: LAST, stamp: 0, bytes: Bytes::from_slice(alloc, b"x")? },
+            Edit::Replace { at: 2, bytes: Bytes::from_slice(alloc, b"x")? },
+            Edit::Delete { at: 2 },
+            Edit::Move { from: 2, to: 0 },
+            Edit::Move { from: 0, to: 2 },
+        ];
+        for edit in edits {
+            assert_eq!(rt; list.edit(edit), Err(Refusal::Place));
+            assert!(rt; holds(&list, &[(0, 10, b"a"), (1, 20, b"b")]));
+        }
+        assert_eq!(rt; list.next_id, 2);
+        Ok(())
+    }
+
+    #[test]
+    fn ids_that_are_spent(rt: HostRuntime) -> Result<(), Fail> {
+        let alloc = rt.alloc();
+        let mut list = PacketList { entries: Vec::new(alloc), next_id: LAST - 1 };
+        let insert = Edit::Insert { at: 0, stamp: 0, bytes: Bytes::from_slice(alloc, b"x")? };
+        assert_eq!(rt; list.edit(insert), Ok(1));
+        assert!(rt; holds(&list, &[(LAST - 1, 0, b"x")]));
+        let outside = Edit::Insert { at: 2, stamp: 0, bytes: Bytes::from_slice(alloc, b"y")? };
+        assert_eq!(rt; list.edit(outside), Err(Refusal::Place));
+        let insert = Edit::Insert { at: 1, stamp: 0, bytes: Bytes::from_slice(alloc, b"y")? };
+        assert_eq!(rt; list.edit(insert), Err(Refusal::Spent));
+        let replace = Edit::Replace { at: 0, bytes: Bytes::from_slice(alloc, b"y")? };
+        assert_eq!(rt; list.edit(replace), Err(Refusal::Spent));
+        assert!(rt; holds(&list, &[(LAST - 1, 0, b"x")]));
+        assert_eq!(rt; list.edit(Edit::Delete { at: 0 }), Ok(0));
+        Ok(())
+    }
+
+    #[test]
+    fn the_most_packets(rt: HostRuntime) -> Result<(), Fail> {
+        let alloc = rt.alloc();
+        let mut list = PacketList { entries: Vec::with_capacity(alloc, MAX_PACKETS)?, next_id: LAST };
+        for id in 0..1_048_576 {
+            list.entries.push(Entry { id, stamp: 0, bytes: Bytes::new(Vec::new(alloc)) })?;
+        }
+        let outside = Edit::Insert { at: 1_048_577, stamp: 0, bytes: Bytes::from_slice(alloc, b"x")? };
+        assert_eq!(rt; list.edit(outside), Err(Refusal::Place));
+        let insert = Edit::Insert { at: 0, stamp: 0, bytes: Bytes::from_slice(alloc, b"x")? };
+        assert_eq!(rt; list.edit(insert), Err(Refusal::Full));
+        assert_eq!(rt; list.edit(Edit::Delete { at: 0 }), Ok(1_048_575));
+        let insert = Edit::Insert { at: 0, stamp: 0, bytes: Bytes::from_slice(alloc, b"x")? };
+        assert_eq!(rt; list.edit(insert), Err(Refusal::Spent));
+        list.next_id = 7;
+        let insert = Edit::Insert { at: 0, stamp: 0, bytes: Bytes::from_slice(alloc, b"x")? };
+        assert_eq!(rt; list.edit(insert), Ok(1_048_576));
+        Ok(())
+    }
+}

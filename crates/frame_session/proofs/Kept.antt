@@ -1,0 +1,62 @@
+-- What answers leave as it was.
+use Rattle.std.proofs.Common.{◌≡◌, ℕ, ◌≤◌, List, [], ◌∷◌, Result, Ok, Err, get_or, refl, sym, ap, ◌∙◌, subst, arith}
+use Rattle.pixel_planes.specs.Pictures.{PictureSamples}
+use Rattle.frame_session.specs.declared.lines.Line.{Line}
+use Rattle.frame_session.specs.declared.lines.Line.TheVariants.{Silent, Unknown, Frame, Insert, Replace, Delete, Move, Count, Stats}
+use Rattle.frame_session.specs.declared.edit.Edit.{Edit}
+use Rattle.frame_session.specs.declared.edit.Edit.TheVariants as edits
+use Rattle.frame_session.specs.declared.refusal.Refusal.{Refusal}
+use Rattle.frame_session.specs.Edits.{edit_of}
+use Rattle.frame_session.specs.Replies.{refused_line, edit_line, ok_line, served_line}
+use Rattle.frame_session.specs.Sessions.{IsAfterFrame, Now, after_frame, behind_edit}
+use Rattle.frame_session.specs.Answers.{Answer, Answers, AnswersEdit, Run, answer_to_frame}
+use Rattle.frame_session.proofs.Answered.{begins_otherwise}
+
+-- one line more leaves the number of steps or raises it
+line_counts : (old new : Now) (line : Line) (answer : Answer) → Answers old line answer new → old.decoded ≤ new.decoded
+line_counts old new Silent answer means = rw means.1 (omega arith)
+line_counts old new Unknown answer means = rw means.1 (omega arith)
+line_counts old new (Frame n) answer means = means.3.steps
+line_counts old new (Insert at stamp bytes) answer means = rw means.2.1 (omega arith)
+line_counts old new (Replace at bytes) answer means = rw means.2.1 (omega arith)
+line_counts old new (Delete at) answer means = rw means.1 (omega arith)
+line_counts old new (Move from to) answer means = rw means.1 (omega arith)
+line_counts old new Count answer means = rw means.1 (omega arith)
+line_counts old new Stats answer means = rw means.1 (omega arith)
+
+pub lines_count : (old new : Now) (lines : List Line) (answers : List Answer) → Run old lines answers new → old.decoded ≤ new.decoded
+lines_count old new [] [] ran = rw ran (omega arith)
+lines_count old new [] (answer ∷ answers) ran = absurd ran
+lines_count old new (line ∷ lines) [] ran = absurd ran
+lines_count old new (line ∷ lines) (answer ∷ answers) ran =
+    let first : old.decoded ≤ ran.0.decoded = line_counts old ran.0 line answer ran.1 in
+    let rest : ran.0.decoded ≤ new.decoded = lines_count ran.0 new lines answers ran.2 in
+    omega (arith, first, rest)
+
+-- what is as it was
+same : (old new : Now) → new ≡ old → new ≡ record old { decoded = new.decoded }
+same old new is = is ∙ ap (λ (s : Now). record old { decoded = s.decoded }) (sym is)
+
+-- a frame that is refused
+frame_kept : (old new : Now) (n : ℕ) (frame : Result PictureSamples Refusal) (refusal : Refusal) → IsAfterFrame old frame new → (answer_to_frame old n frame).reply ≡ refused_line refusal → new ≡ record old { decoded = new.decoded }
+frame_kept old new n (Ok picture) refusal after e = absurd (begins_otherwise (served_line n) refusal (λ h. omega (arith, h)) e)
+frame_kept old new n (Err other) refusal after e = after.rest
+
+-- an edit that is refused
+edit_kept : (old new : Now) (edit : Edit) (edited : Result ℕ Refusal) (refusal : Refusal) → new ≡ behind_edit edit old edited → edit_line edited ≡ refused_line refusal → new ≡ record old { decoded = new.decoded }
+edit_kept old new edit (Ok count) refusal after e = absurd (begins_otherwise (ok_line count) refusal (λ h. omega (arith, h)) e)
+edit_kept old new edit (Err other) refusal after e = same old new after
+
+reply_of : (answer told : Answer) (reply : List ℕ) → answer ≡ told → answer.reply ≡ reply → told.reply ≡ reply
+reply_of answer told reply is e = sym (ap (λ (a : Answer). a.reply) is) ∙ e
+
+pub refused_kept : (old new : Now) (line : Line) (answer : Answer) (refusal : Refusal) → Answers old line answer new → answer.reply ≡ refused_line refusal → new ≡ record old { decoded = new.decoded }
+refused_kept old new Silent answer refusal means e = same old new means.1
+refused_kept old new Unknown answer refusal means e = same old new means.1
+refused_kept old new (Frame n) answer refusal means e = frame_kept old new n means.0 refusal means.3 (reply_of answer _ _ means.2 e)
+refused_kept old new (Insert at stamp bytes) answer refusal means e = edit_kept old new (edits.Insert at stamp bytes) means.0 refusal means.2.1 (reply_of answer _ _ means.2.0 e)
+refused_kept old new (Replace at bytes) answer refusal means e = edit_kept old new (edits.Replace at bytes) means.0 refusal means.2.1 (reply_of answer _ _ means.2.0 e)
+refused_kept old new (Delete at) answer refusal means e = edit_kept old new (edits.Delete at) (edit_of old.list (edits.Delete at)) refusal means.1 (reply_of answer _ _ means.0 e)
+refused_kept old new (Move from to) answer refusal means e = edit_kept old new (edits.Move from to) (edit_of old.list (edits.Move from to)) refusal means.1 (reply_of answer _ _ means.0 e)
+refused_kept old new Count answer refusal means e = same old new means.1
+refused_kept old new Stats answer refusal means e = same old new means.1
