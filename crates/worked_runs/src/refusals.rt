@@ -84,7 +84,7 @@ fn a_broken_stream(rt: HostRuntime) -> Result<(), Fail> {
 #[test]
 fn lines_that_are_no_request(rt: HostRuntime) -> Result<(), Fail> {
     let requests =
-        b"\n  \n# frame 0\n  # x\r\nframe\nframe 0 0\nframe x\nFRAME 0\ncount\n frame  0 \r\nframe 0\r";
+        b"\n  \n# frame 0\n  # x\r\nframe\nframe 0 0\nframe x\nFRAME 0\ncounts\n frame  0 \r\nframe 0\r";
     let ran = run_packets(rt.alloc(), &[KEY], requests)?;
     let replies =
         "refused Line\nrefused Line\nrefused Line\nrefused Line\nrefused Line\nserved 0\nrefused Line\n";
