@@ -12,3 +12,4 @@ pub mod Answered
 pub mod Moves
 pub mod HexWords
 pub mod Kept
+pub mod Ids

@@ -10,3 +10,4 @@ pub mod Replies
 pub mod Sessions
 pub mod Answers
 pub mod Laws
+pub mod EditLaws

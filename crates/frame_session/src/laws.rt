@@ -1,5 +1,12 @@
 //! Laws over the definitions of this crate: each is the contract of a function that does nothing.
 
+ghost use Rattle.std.specs.Prelude.{◌≡◌, [], ◌∷◌, codes, Ok, Err};
+ghost use Rattle.frame_session.specs.declared.edit.Edit.TheVariants as edits;
+ghost use Rattle.frame_session.specs.declared.lines.Line.TheVariants as requests;
+ghost use Rattle.frame_session.specs.declared.refusal.Refusal.TheVariants as refusals;
+ghost use Rattle.frame_session.specs.EditLaws.{IdsStayOwn, packet, three};
+ghost use Rattle.frame_session.specs.Edits.{edited, edit_of};
+ghost use Rattle.frame_session.specs.Requests.{asked_by};
 ghost use Rattle.frame_session.specs.UnfilteredLaws.{AreFlat, WritesOneBlock};
 ghost use Rattle.frame_session.specs.Laws.{AnswersAreOne, AnswersExist, BreaksAreNamed, EachHasOutcome, IsShownList, KeysBeginAnew, KeysStepFromNone, RefusedLinesChangeNothing, StepsNeverFall};
 
@@ -49,6 +56,39 @@ pub fn steps_never_fall()
 /// A refused line changes nothing but the number of steps: neither packets nor ids nor the fixed size.
 pub fn refused_lines_change_nothing()
     ensures { RefusedLinesChangeNothing }
+{}
+
+/// Each packet has an id of its own, whatever is edited.
+pub fn ids_stay_own()
+    ensures { IdsStayOwn }
+{}
+
+/// Each edit of three packets, and refusals in their order.
+pub fn worked_edits()
+    ensures insert { (edited (edits.Insert 1 5 (68 ∷ [])) three).entries ≡ packet 0 10 65 ∷ packet 3 5 68 ∷ packet 1 20 66 ∷ packet 2 30 67 ∷ [] }
+    ensures replace { (edited (edits.Replace 1 (68 ∷ [])) three).entries ≡ packet 0 10 65 ∷ packet 3 20 68 ∷ packet 2 30 67 ∷ [] }
+    ensures delete { (edited (edits.Delete 1) three).entries ≡ packet 0 10 65 ∷ packet 2 30 67 ∷ [] }
+    ensures move_up { (edited (edits.Move 0 2) three).entries ≡ packet 1 20 66 ∷ packet 2 30 67 ∷ packet 0 10 65 ∷ [] }
+    ensures move_down { (edited (edits.Move 2 1) three).entries ≡ packet 0 10 65 ∷ packet 2 30 67 ∷ packet 1 20 66 ∷ [] }
+    ensures stays { (edited (edits.Move 1 1) three).entries ≡ three.entries }
+    ensures next { (edited (edits.Insert 3 5 []) three).next_id ≡ 4 }
+    ensures told { edit_of three (edits.Insert 3 5 []) ≡ Ok 4 }
+    ensures place { edit_of (record three { next_id = 0xFFFF_FFFF_FFFF_FFFF }) (edits.Insert 4 5 []) ≡ Err refusals.Place }
+    ensures spent { edit_of (record three { next_id = 0xFFFF_FFFF_FFFF_FFFF }) (edits.Replace 2 []) ≡ Err refusals.Spent }
+{}
+
+/// What lines ask for.
+#[tactic(auto, unfolding(hex::specs::Hex::decode_pairs))]
+pub fn worked_lines()
+    ensures insert { asked_by (codes "insert 1 2 0aF9") ≡ requests.Insert 1 2 (10 ∷ 249 ∷ []) }
+    ensures replace { asked_by (codes "  replace  3  - ") ≡ requests.Replace 3 [] }
+    ensures delete { asked_by (codes "delete 18446744073709551615") ≡ requests.Delete 18446744073709551615 }
+    ensures move_up { asked_by (codes "move 0 2") ≡ requests.Move 0 2 }
+    ensures count { asked_by (codes "count") ≡ requests.Count }
+    ensures stats { asked_by (codes "stats") ≡ requests.Stats }
+    ensures odd { asked_by (codes "insert 0 0 1") ≡ requests.Unknown }
+    ensures wide { asked_by (codes "delete 18446744073709551616") ≡ requests.Unknown }
+    ensures long { asked_by (codes "delete 000000000000000000001") ≡ requests.Unknown }
 {}
 
 /// A block that is written has its value throughout, and every other sample is as it was.
