@@ -1,0 +1,59 @@
+#!/bin/sh
+# Times random edits of a long packet list, and the same on a plain vector beside them. README.md says more.
+set -eu
+here=$(cd "$(dirname "$0")" && pwd)
+program=$here/../crates/vp8serve/out/vp8serve
+count=${1:-100000}
+room=$(mktemp -d)
+trap 'rm -rf "$room"' EXIT
+
+(cd "$here/../crates/vp8serve" && rt run < stdin) > "$room/build.log" 2>&1 || { tail -n 20 "$room/build.log"; exit 1; }
+rustc -O --edition 2021 -o "$room/plain" "$here/edits.rs" 2> "$room/rustc.log" || { cat "$room/rustc.log"; exit 1; }
+
+python3 - "$room" "$count" <<'END'
+import random, struct, sys
+room, count = sys.argv[1], int(sys.argv[2])
+random.seed(6386)
+with open(f"{room}/in.ivf", "wb") as file:
+    file.write(struct.pack("<4sHH4sHHIIII", b"DKIF", 0, 32, b"VP80", 16, 16, 30, 1, count, 0))
+    for stamp in range(count):
+        file.write(struct.pack("<IQ", 3, stamp) + bytes([0x11, 0, 0]))
+standing = count
+with open(f"{room}/edits", "w") as file, open(f"{room}/replies", "w") as replies:
+    for _ in range(count):
+        kind = random.choice(["insert", "replace", "delete", "move"])
+        at = random.randrange(standing + (kind == "insert"))
+        hex = random.randbytes(random.randrange(8)).hex() or "-"
+        if kind == "insert":
+            file.write(f"insert {at} {random.randrange(2**32)} {hex}\n")
+            standing += 1
+        elif kind == "replace":
+            file.write(f"replace {at} {hex}\n")
+        elif kind == "delete":
+            file.write(f"delete {at}\n")
+            standing -= 1
+        else:
+            file.write(f"move {at} {random.randrange(standing)}\n")
+        replies.write(f"ok {standing}\n")
+open(f"{room}/nothing", "w").close()
+END
+
+"$program" "$room/in.ivf" "$room/edits" > "$room/told"
+cmp "$room/told" "$room/replies"
+
+python3 - "$count" "$program" "$room" <<'END'
+import subprocess, sys, time
+count, program, room = int(sys.argv[1]), sys.argv[2], sys.argv[3]
+def seconds(requests):
+    start = time.perf_counter()
+    subprocess.run([program, f"{room}/in.ivf", requests], check=True, stdout=subprocess.DEVNULL)
+    return time.perf_counter() - start
+def plain():
+    words = [f"{room}/plain", str(count), f"{room}/edits"]
+    return float(subprocess.run(words, check=True, capture_output=True).stdout)
+edited = min(seconds(f"{room}/edits") for _ in range(3)) - min(seconds(f"{room}/nothing") for _ in range(3))
+beside = min(plain() for _ in range(3))
+print(f"vp8serve, {count} edits of {count} packets: {count / edited:.0f} edits a second")
+print(f"plain vector, the same edits:      {count / beside:.0f} edits a second")
+print(f"ratio of the times: {edited / beside:.2f}")
+END
