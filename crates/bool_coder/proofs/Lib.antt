@@ -1,3 +1,4 @@
 pub mod Renewal
 pub mod Literals
 pub mod UncutAlike
+pub mod ByteBits

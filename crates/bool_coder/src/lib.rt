@@ -3,5 +3,6 @@
 
 mod decoder;
 pub mod laws;
+pub mod round_trip;
 
 pub use decoder::Decoder;
