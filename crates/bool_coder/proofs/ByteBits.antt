@@ -5,7 +5,7 @@ use Rattle.bool_coder.specs.Reader.{bits_of, bit_string}
 use Rattle.bool_coder.specs.CodeText.{bytes_of, padding}
 
 -- a front and what follows it
-both : {a b : ℕ} {xs ys : List ℕ} → a ≡ b → xs ≡ ys → a ∷ xs ≡ b ∷ ys
+pub both : {a b : ℕ} {xs ys : List ℕ} → a ≡ b → xs ≡ ys → a ∷ xs ≡ b ∷ ys
 both p q = cc
 
 -- the high bits of a number come before its low ones

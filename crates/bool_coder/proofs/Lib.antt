@@ -2,3 +2,4 @@ pub mod Renewal
 pub mod Literals
 pub mod UncutAlike
 pub mod ByteBits
+pub mod RoundTrip
