@@ -3,3 +3,4 @@ pub mod Literals
 pub mod UncutAlike
 pub mod ByteBits
 pub mod RoundTrip
+pub mod LowNumbers

@@ -2,3 +2,4 @@ pub mod Reader
 pub mod Reading
 pub mod Uncut
 pub mod CodeText
+pub mod Low
