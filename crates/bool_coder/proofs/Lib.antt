@@ -4,3 +4,4 @@ pub mod UncutAlike
 pub mod ByteBits
 pub mod RoundTrip
 pub mod LowNumbers
+pub mod EncoderSteps

@@ -37,15 +37,15 @@ doubled-at value left range small =
     reader_same _ _ _ _ _ refl (omega arith)
 
 -- the equations of the code's renewal
-code_renewed-small : (fuel : ℕ) (c : Code) → c.range < 128 → code_renewed (suc fuel) c ≡ code_renewed fuel (code_doubled c)
+pub code_renewed-small : (fuel : ℕ) (c : Code) → c.range < 128 → code_renewed (suc fuel) c ≡ code_renewed fuel (code_doubled c)
 unfolding code_renewed
 code_renewed-small fuel c small = rw (lt-ltb c.range 128 small) refl
 
-code_renewed-large : (fuel : ℕ) (c : Code) → 128 ≤ c.range → code_renewed (suc fuel) c ≡ c
+pub code_renewed-large : (fuel : ℕ) (c : Code) → 128 ≤ c.range → code_renewed (suc fuel) c ≡ c
 unfolding code_renewed
 code_renewed-large fuel c large = rw (le-ltb c.range 128 large) refl
 
-code_renewed-zero : (c : Code) → code_renewed 0 c ≡ c
+pub code_renewed-zero : (c : Code) → code_renewed 0 c ≡ c
 unfolding code_renewed
 code_renewed-zero c = refl
 
@@ -105,7 +105,7 @@ bits_of-above (suc left) n a =
     rw twice (both (rw over (omega arith)) (bits_of-above left n (2 * a)))
 
 -- a split leaves something on both sides
-split_of-inside : (prob range : ℕ) → prob ≤ 255 → 128 ≤ range → split_of prob range < range
+pub split_of-inside : (prob range : ℕ) → prob ≤ 255 → 128 ≤ range → split_of prob range < range
 split_of-inside prob range probable large =
     let most : (range - 1) * prob ≤ (range - 1) * 255 = mul-le-mul_left (range - 1) probable in omega arith
 
