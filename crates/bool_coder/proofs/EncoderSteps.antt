@@ -1,12 +1,14 @@
 use Rattle.std.proofs.Common.{◌≡◌, ℕ, zero, suc, ◌+◌, ◌-◌, ◌*◌, ◌/◌, ◌%◌, ◌^◌, ◌<◌, ◌≤◌, Bool, true, false, List, length, refl, ap, sym, ◌∙◌, arith, inl, inr}
 use Rattle.std.proofs.Math.Nat.{pow-suc, mul-le-mul_right, mul-le-mul_left, pow-le-pow_right, mod-eq_of_lt}
-use Rattle.std.proofs.lemmas.Nat.{pow-add, pow_pos, leading_top}
+use Rattle.std.proofs.lemmas.Nat.{pow-add, pow_pos, leading_top, shr-shr, shl-shr, shl_whole}
 use Rattle.std.proofs.lemmas.Bool.{cases_lt}
 use Rattle.std.specs.Int.Count.{count_leading_zeros}
 use Rattle.bool_coder.specs.Reader.{split_of}
-use Rattle.bool_coder.specs.CodeText.{Code, code_doubled, code_renewed, narrowed, written}
-use Rattle.bool_coder.specs.Low.{value_of, doublings_of, code_of, HasTail, StaysInside}
+use Rattle.std.proofs.Common.{[], ◌∷◌, ◌++◌, get_or, length-append}
+use Rattle.bool_coder.specs.CodeText.{Code, padding, text_of, bytes_of, code_doubled, code_renewed, narrowed, written}
+use Rattle.bool_coder.specs.Low.{number_of, value_of, doublings_of, code_of, HasTail, StaysInside}
 use Rattle.bool_coder.specs.declared.encoder.Low.{Low}
+use Rattle.bool_coder.proofs.LowNumbers.{bytes_of-number_of, number_of-push}
 use Rattle.bool_coder.proofs.RoundTrip.{code_renewed-small, code_renewed-large, code_renewed-zero, split_of-inside}
 
 code_same : (low low' range range' shifts shifts' : ℕ) → low ≡ low' → range ≡ range' → shifts ≡ shifts' → ◌≡◌ {A = Code} (record { low = low; range = range; shifts = shifts }) (record { low = low'; range = range'; shifts = shifts' })
@@ -82,3 +84,44 @@ shifted-inside low low' range count inside value doublings =
 
 pub small-mod : (n : ℕ) → n ≤ 255 → n % 4294967296 ≡ n
 small-mod n small = mod-eq_of_lt (omega arith)
+
+-- a text whose number is that of some bytes is those bytes
+bytes-text : (bytes : List ℕ) (low : Low) (range : ℕ) → ((k : ℕ) → get_or bytes k 0 < 256) → (doublings_of low + 8 + padding (doublings_of low)) / 8 ≡ length bytes → value_of low * 2 ^ padding (doublings_of low) ≡ number_of bytes → bytes ≡ text_of (code_of low range)
+bytes-text bytes low range small count number =
+    rw (count, number) (sym (bytes_of-number_of bytes small))
+
+-- a tail of a whole byte is the last
+pub text-one : (bytes : List ℕ) (low : Low) (range : ℕ) → ((k : ℕ) → get_or bytes k 0 < 256) → low.shifts ≡ 0 → bytes ≡ low.bytes.items ++ low.tail / 2 ^ low.shifts ∷ [] → bytes ≡ text_of (code_of low range)
+text-one bytes low range small none pushed =
+    let len : length bytes ≡ length low.bytes.items + 1 = ap length pushed ∙ length-append low.bytes.items (low.tail / 2 ^ low.shifts ∷ []) in
+    let pad : padding (doublings_of low) ≡ 0 = omega arith in
+    let power : 2 ^ (8 + low.shifts) ≡ 256 = rw none refl in
+    let one : 2 ^ low.shifts ≡ 1 = rw none refl in
+    let count : (doublings_of low + 8 + padding (doublings_of low)) / 8 ≡ length bytes = omega arith in
+    let whole : low.tail / 1 ≡ low.tail = omega arith in
+    let number : number_of bytes ≡ number_of low.bytes.items * 256 + low.tail = rw pushed (number_of-push low.bytes.items (low.tail / 2 ^ low.shifts) ∙ rw (one, whole) refl) in
+    bytes-text bytes low range small count (rw (pad, power, number) (omega arith))
+
+-- the first byte of a tail that was filled up with zeros
+rest-first : (tail shifts : ℕ) → shifts ≤ 7 → tail / 2 ^ shifts ≡ tail * 2 ^ (8 - shifts) / 256
+rest-first tail shifts few =
+    let all : 8 - shifts + shifts ≡ 8 = omega arith in
+    let both_shifts : tail * 2 ^ (8 - shifts) / 2 ^ (8 - shifts) / 2 ^ shifts ≡ tail * 2 ^ (8 - shifts) / 2 ^ (8 - shifts + shifts) = shr-shr (tail * 2 ^ (8 - shifts)) (8 - shifts) shifts in
+    let whole = rw (shl-shr tail (8 - shifts), all) at both_shifts in
+    whole
+
+-- a longer tail ends in a byte of its last bits and zeros
+pub text-two : (bytes : List ℕ) (low : Low) (range : ℕ) → ((k : ℕ) → get_or bytes k 0 < 256) → 0 < low.shifts → HasTail low → bytes ≡ (low.bytes.items ++ low.tail / 2 ^ low.shifts ∷ []) ++ low.tail * 2 ^ (8 - low.shifts) % 4294967296 % 256 ∷ [] → bytes ≡ text_of (code_of low range)
+text-two bytes low range small some tail pushed =
+    let front = low.bytes.items ++ low.tail / 2 ^ low.shifts ∷ [] in
+    let last = low.tail * 2 ^ (8 - low.shifts) in
+    let len : length bytes ≡ length low.bytes.items + 2 = ap length pushed ∙ length-append front (last % 4294967296 % 256 ∷ []) ∙ rw (length-append low.bytes.items (low.tail / 2 ^ low.shifts ∷ [])) (omega arith) in
+    let few : low.shifts ≤ 7 = tail.0 in
+    let pad : padding (doublings_of low) ≡ 8 - low.shifts = omega arith in
+    let count : (doublings_of low + 8 + padding (doublings_of low)) / 8 ≡ length bytes = omega arith in
+    let fits : last % 4294967296 ≡ last = shl_whole low.tail (8 + low.shifts) (8 - low.shifts) 32 tail.1 (omega arith) in
+    let first : low.tail / 2 ^ low.shifts ≡ last / 256 = rest-first low.tail low.shifts few in
+    let number : number_of bytes ≡ (number_of low.bytes.items * 256 + last / 256) * 256 + last % 256 = rw (pushed, fits, number_of-push front (last % 256), number_of-push low.bytes.items (low.tail / 2 ^ low.shifts), first) refl in
+    let power : 2 ^ (8 + low.shifts) * 2 ^ (8 - low.shifts) ≡ 65536 = sym (pow-add 2 (8 + low.shifts) (8 - low.shifts)) ∙ (let all : 8 + low.shifts + (8 - low.shifts) ≡ 16 = omega arith in rw all refl) in
+    let value : (number_of low.bytes.items * 2 ^ (8 + low.shifts) + low.tail) * 2 ^ (8 - low.shifts) ≡ number_of low.bytes.items * 65536 + last = omega (arith, ap (λ (p : ℕ). number_of low.bytes.items * p) power) in
+    bytes-text bytes low range small count (rw (pad, number, value) (omega arith))

@@ -1,6 +1,6 @@
 //! The bit encoder of RFC 6386, section 7.
 
-ghost use Rattle.std.specs.Prelude.{◌≡◌, ◌+◌, ◌*◌, ◌^◌, ◌<◌, ◌≤◌, length, vec_len, vec_capacity, IfOk, OnOk, OnErr};
+ghost use Rattle.std.specs.Prelude.{◌≡◌, ℕ, ◌+◌, ◌*◌, ◌^◌, ◌<◌, ◌≤◌, length, slice_index, vec_len, vec_capacity, IfOk, OnOk, OnErr};
 ghost use Rattle.bool_coder.specs.CodeText.{no_code, written, text_of};
 ghost use Rattle.bool_coder.specs.Low.{number_of, value_of, doublings_of, HasTail};
 
@@ -20,6 +20,11 @@ fn add_one(bytes: &mut [u8])
     }
     bytes[end - 1] += 1;
 }
+
+// Says of a byte list what its type says: proofs take it from the call.
+fn bytes_fit(bytes: &[u8])
+    ensures { (place : ℕ) → slice_index bytes.now place < 256 }
+{}
 
 /// The number low of an encoder: whole bytes, and behind them a tail of 8 + `shifts` bits.
 #[derive(Drop)]
@@ -141,6 +146,7 @@ impl Encoder {
         if shifts > 0 {
             bytes.push(((tail << (8 - shifts)) % 256) as u8)?;
         }
+        bytes_fit(&bytes);
         Ok(bytes)
     }
 }
