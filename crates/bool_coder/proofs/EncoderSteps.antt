@@ -5,7 +5,7 @@ use Rattle.std.proofs.lemmas.Bool.{cases_lt}
 use Rattle.std.specs.Int.Count.{count_leading_zeros}
 use Rattle.bool_coder.specs.Reader.{split_of}
 use Rattle.std.proofs.Common.{[], ◌∷◌, ◌++◌, get_or, length-append}
-use Rattle.bool_coder.specs.CodeText.{Code, padding, text_of, bytes_of, code_doubled, code_renewed, narrowed, written}
+use Rattle.bool_coder.specs.CodeText.{Code, padding, text_of, code_doubled, code_renewed, narrowed, written}
 use Rattle.bool_coder.specs.Low.{number_of, value_of, doublings_of, code_of, HasTail, StaysInside}
 use Rattle.bool_coder.specs.declared.encoder.Low.{Low}
 use Rattle.bool_coder.proofs.LowNumbers.{bytes_of-number_of, number_of-push}

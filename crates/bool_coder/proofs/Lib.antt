@@ -5,3 +5,4 @@ pub mod ByteBits
 pub mod RoundTrip
 pub mod LowNumbers
 pub mod EncoderSteps
+pub mod CodeFits

@@ -1,6 +1,6 @@
-use Rattle.std.proofs.Common.{◌≡◌, ℕ, zero, suc, ◌+◌, ◌-◌, ◌*◌, ◌/◌, ◌%◌, ◌^◌, ◌<◌, ◌≤◌, List, [], ◌∷◌, ◌++◌, length, get_or, set, refl, ap, sym, ◌∙◌, arith, length-set, length-append, inl, inr, add-one}
-use Rattle.std.proofs.Math.Nat.{pow-suc, mul-le-mul_right, mul-add-div_right}
-use Rattle.std.proofs.lemmas.Nat.{pow-add, pow_pos, div-mul-add, mod-mul-add, mul-add-lt, shl_below, shr_below, shl_whole, one_shl, div-add-mod'}
+use Rattle.std.proofs.Common.{◌≡◌, ℕ, zero, suc, ◌+◌, ◌-◌, ◌*◌, ◌/◌, ◌%◌, ◌^◌, ◌<◌, ◌≤◌, List, [], ◌∷◌, ◌++◌, length, get_or, set, refl, ◌∙◌, arith, length-set, length-append, inl, inr}
+use Rattle.std.proofs.Math.Nat.{mul-le-mul_right, mul-add-div_right}
+use Rattle.std.proofs.lemmas.Nat.{pow-add, pow_pos, div-mul-add, mul-add-lt, shl_below, shr_below, shl_whole, one_shl, div-add-mod'}
 use Rattle.std.proofs.lemmas.Bool.{cases_lt}
 use Rattle.std.proofs.Common.{◌⊎◌}
 use Rattle.bool_coder.specs.CodeText.{bytes_of}

@@ -1,13 +1,13 @@
-use Rattle.std.proofs.Common.{◌≡◌, ℕ, zero, suc, ◌+◌, ◌-◌, ◌*◌, ◌/◌, ◌%◌, ◌^◌, ◌<◌, ◌≤◌, min, Bool, true, false, List, [], ◌∷◌, map, refl, ap, sym, subst, ◌∙◌, arith, inl, inr}
+use Rattle.std.proofs.Common.{◌≡◌, ℕ, zero, suc, ◌+◌, ◌-◌, ◌*◌, ◌/◌, ◌^◌, ◌<◌, ◌≤◌, Bool, true, false, List, [], ◌∷◌, map, refl, ap, sym, subst, ◌∙◌, arith, inl, inr}
 use Rattle.std.proofs.Math.Nat.{pow-suc, mul-le-mul_left, mul-le-mul_right, mul-add-div_right}
 use Rattle.std.proofs.lemmas.Bool.{lt-ltb, le-ltb, le-leb, lt-leb, cases_lt}
-use Rattle.std.proofs.lemmas.Nat.{shr-shr, shl-shr, div_below, pow_pos, le-div}
+use Rattle.std.proofs.lemmas.Nat.{shr-shr, div_below, pow_pos}
 use Rattle.std.specs.Prelude.{nat_le}
 use Rattle.std.proofs.lemmas.List.Elements.{All-head, All-tail}
 use Rattle.std.specs.List.{All}
 use Rattle.bool_coder.specs.Reader.{Reader, bits_of, doubled, renewed, read, split_of, started}
 use Rattle.bool_coder.specs.Uncut.{bits_read}
-use Rattle.bool_coder.specs.CodeText.{Code, no_code, code_doubled, code_renewed, narrowed, written, all_written, bytes_of, padding, text_of, code_text}
+use Rattle.bool_coder.specs.CodeText.{Code, no_code, code_doubled, code_renewed, narrowed, written, all_written, bytes_of, padding, code_text}
 use Rattle.bool_coder.proofs.ByteBits.{both, bit_string-bytes_of}
 
 -- the reader that has `value` in its window and in the `left` bits behind it
@@ -85,16 +85,18 @@ renewed-back zero c whole places s standing =
     let here : StandsAt c whole places s = subst (λ (e : Code). StandsAt e whole places s) (code_renewed-zero c) standing in
     (s, here, reader_renewed-zero s)
 renewed-back (suc fuel) c whole places s standing =
-    elim (cases_lt c.range 128) [ inl small ↦ (
-      let doubled_here : StandsAt (code_renewed fuel (code_doubled c)) whole places s = subst (λ (e : Code). StandsAt e whole places s) (code_renewed-small fuel c small) standing in
-      let later = renewed-back fuel (code_doubled c) whole places s doubled_here in
-      let back = doubled-back c whole places later.0 later.1 in
-      let small' : back.0.range < 128 = rw back.3 small in
-      (back.0, back.1, reader_renewed-small fuel back.0 small' ∙ rw back.2 later.2))
-    | inr large ↦ (
-      let here : StandsAt c whole places s = subst (λ (e : Code). StandsAt e whole places s) (code_renewed-large fuel c large) standing in
-      let large' : 128 ≤ s.range = rw (StandsAt-range c whole places s here) large in
-      (s, here, reader_renewed-large fuel s large')) ]
+    elim (cases_lt c.range 128) [
+      | inl small ↦ (
+          let doubled_here : StandsAt (code_renewed fuel (code_doubled c)) whole places s = subst (λ (e : Code). StandsAt e whole places s) (code_renewed-small fuel c small) standing in
+          let later = renewed-back fuel (code_doubled c) whole places s doubled_here in
+          let back = doubled-back c whole places later.0 later.1 in
+          let small' : back.0.range < 128 = rw back.3 small in
+          (back.0, back.1, reader_renewed-small fuel back.0 small' ∙ rw back.2 later.2))
+      | inr large ↦ (
+          let here : StandsAt c whole places s = subst (λ (e : Code). StandsAt e whole places s) (code_renewed-large fuel c large) standing in
+          let large' : 128 ≤ s.range = rw (StandsAt-range c whole places s here) large in
+          (s, here, reader_renewed-large fuel s large'))
+    ]
 
 -- what stands above the low bits does not change them
 bits_of-above : (left n a : ℕ) → bits_of left (a * 2 ^ left + n) ≡ bits_of left n
@@ -164,7 +166,7 @@ code_renewed-range (suc fuel) c most enough =
     let much = rw power at enough in
     elim (cases_lt c.range 128) [ inl small ↦ rw (code_renewed-small fuel c small) (code_renewed-range fuel (code_doubled c) (omega arith) (omega (arith, much))) | inr large ↦ rw (code_renewed-large fuel c large) (omega arith, omega arith) ]
 
-written-range : (bit : Bool) (prob : ℕ) (c : Code) → prob ≤ 255 → 128 ≤ c.range → c.range ≤ 255 → (128 ≤ (written bit prob c).range) × ((written bit prob c).range ≤ 255)
+pub written-range : (bit : Bool) (prob : ℕ) (c : Code) → prob ≤ 255 → 128 ≤ c.range → c.range ≤ 255 → (128 ≤ (written bit prob c).range) × ((written bit prob c).range ≤ 255)
 unfolding written
 written-range false prob c probable large most =
     let inside : split_of prob c.range < c.range = split_of-inside prob c.range probable large in

@@ -1,4 +1,4 @@
-use Rattle.std.proofs.Common.{◌<◌, ◌≤◌, ◌+◌, ◌*◌, ◌^◌, length, arith}
+use Rattle.std.proofs.Common.{◌<◌, ◌+◌, ◌*◌, ◌^◌, length}
 use Rattle.bool_coder.specs.Low.{number_of}
 use Rattle.bool_coder.proofs.LowNumbers.{Carries-inside, Carries-more, Carries-end}
 use Rattle.bool_coder.proofs.encoder.add_one.Goals as goal

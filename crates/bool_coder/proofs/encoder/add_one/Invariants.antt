@@ -1,4 +1,3 @@
-use Rattle.std.proofs.Common.{◌≡◌, length}
 use Rattle.bool_coder.specs.Low.{number_of}
 use Rattle.bool_coder.proofs.LowNumbers.{Carries}
 use Rattle.bool_coder.proofs.encoder.add_one.Given as goal

@@ -1,4 +1,4 @@
-use Rattle.std.proofs.Common.{ℕ, ◌+◌, ◌*◌, ◌/◌, ◌^◌, ◌∙◌}
+use Rattle.std.proofs.Common.{◌+◌, ◌*◌, ◌/◌, ◌^◌, ◌∙◌}
 use Rattle.bool_coder.specs.CodeText.{padding}
 use Rattle.bool_coder.proofs.ByteBits.{bit_string-bytes_of, bits_of-padded, whole_bytes}
 use Rattle.bool_coder.proofs.round_trip.text_bits.Goals as goal

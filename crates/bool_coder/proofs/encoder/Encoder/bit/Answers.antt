@@ -1,6 +1,4 @@
-use Rattle.std.proofs.Common.{◌≡◌, ◌<◌, ◌≤◌, ◌+◌, ◌*◌, ◌-◌, ◌^◌, ◌%◌, length, arith, sym, ◌∙◌}
-use Rattle.std.specs.Int.Count.{count_leading_zeros}
-use Rattle.bool_coder.specs.CodeText.{Code}
+use Rattle.std.proofs.Common.{◌≡◌, arith}
 use Rattle.bool_coder.specs.Low.{code_of, StaysInside}
 use Rattle.bool_coder.specs.declared.encoder.Low.{Low}
 use Rattle.bool_coder.proofs.EncoderSteps.{IsNarrowed, IsNarrowed-one, IsNarrowed-zero, IsNarrowed-written, split-inside, shifted-inside, leading-count, small-mod}

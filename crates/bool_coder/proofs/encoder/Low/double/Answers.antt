@@ -1,4 +1,4 @@
-use Rattle.std.proofs.Common.{◌≡◌, ◌<◌, ◌≤◌, ◌+◌, ◌*◌, ◌-◌, ◌/◌, ◌^◌, ◌%◌, true, is_ok, refl, sym, ◌∙◌, length, arith}
+use Rattle.std.proofs.Common.{◌≡◌, true, is_ok, refl, arith}
 use Rattle.bool_coder.specs.Low.{number_of}
 use Rattle.bool_coder.proofs.LowNumbers.{shifted-tail, shifted-value, moved-shifted, moved-byte}
 use Rattle.bool_coder.proofs.encoder.Low.double.Goals as goal
