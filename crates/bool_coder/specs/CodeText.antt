@@ -40,14 +40,15 @@ abbrev pub bytes_of : ℕ → ℕ → List ℕ
 bytes_of zero n = []
 bytes_of (suc count) n = n / 2 ^ (8 * count) % 256 ∷ bytes_of count n
 
--- how many bits fill the last byte
+-- how many zero bits fill the last byte behind so many bits
 abbrev pub padding : ℕ → ℕ
 padding bits = (8 - bits % 8) % 8
 
--- a code's text is low in shifts + 8 bits, most significant first, and zero bits up to a whole byte
+-- a code's text is low in shifts + 8 bits, most significant first, and zero bits up to a whole byte; whoever reads
+-- on behind it reads zeros (RFC 6386, section 7.3)
 abbrev pub text_of : Code → List ℕ
 text_of c = bytes_of ((c.shifts + 8 + padding c.shifts) / 8) (c.low * 2 ^ padding c.shifts)
 
--- the text of a list of pairs
+-- the text of a list of pairs, the first of them written first
 abbrev pub code_text : List (Bool × ℕ) → List ℕ
 code_text pairs = text_of (all_written pairs no_code)

@@ -35,6 +35,7 @@ struct Low {
 }
 
 impl Low {
+    /// Adds at most 255 to it, where the sum has no bit more than it has.
     fn add(&mut self, amount: u32)
         requires tail { HasTail self.old }
         requires small { amount ≤ 255 }
@@ -53,7 +54,7 @@ impl Low {
         }
     }
 
-    /// Doubles it `count` times, at most 7.
+    /// Doubles it `count` times, at most 7; the bytes have room for one more.
     fn double(&mut self, count: u32)
         requires tail { HasTail self.old }
         requires few { count ≤ 7 }
