@@ -1,3 +1,5 @@
 pub mod Reader
 pub mod Reading
 pub mod Uncut
+pub mod CodeText
+pub mod Low

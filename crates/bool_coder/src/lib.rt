@@ -2,6 +2,11 @@
 #![tactic(auto)]
 
 mod decoder;
+mod encoder;
 pub mod laws;
+pub mod round_trip;
 
 pub use decoder::Decoder;
+pub use encoder::Encoder;
+/// The refusal of a block of memory.
+pub use std::alloc::AllocError as NoMemory;

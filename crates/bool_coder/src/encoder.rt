@@ -1,0 +1,245 @@
+//! The bit encoder of RFC 6386, section 7.
+
+ghost use Rattle.std.specs.Prelude.{◌≡◌, ℕ, ◌+◌, ◌*◌, ◌^◌, ◌<◌, ◌≤◌, length, slice_index, vec_len, vec_capacity, IfOk, OnOk, OnErr};
+ghost use Rattle.bool_coder.specs.CodeText.{no_code, written, text_of};
+ghost use Rattle.bool_coder.specs.Low.{number_of, value_of, doublings_of, HasTail};
+
+use crate::NoMemory;
+use std::alloc::Global;
+use std::marker::Model;
+
+/// Adds one to the number that the bytes write, most significant first.
+fn add_one(bytes: &mut [u8])
+    requires { number_of bytes.old + 1 < 2 ^ (8 * length bytes.old) }
+    ensures { number_of bytes.new ≡ number_of bytes.old + 1 }
+{
+    let mut end = bytes.len();
+    while bytes[end - 1] == 255 {
+        end -= 1;
+        bytes[end] = 0;
+    }
+    bytes[end - 1] += 1;
+}
+
+// Says of a byte list what its type says: proofs take it from the call.
+fn bytes_fit(bytes: &[u8])
+    ensures { (place : ℕ) → slice_index bytes.now place < 256 }
+{}
+
+/// The number low of an encoder: whole bytes, and behind them a tail of 8 + `shifts` bits.
+#[derive(Drop)]
+struct Low {
+    bytes: Vec<u8>,
+    tail: u32,
+    shifts: u32,
+}
+
+impl Low {
+    /// Adds at most 255 to it, where the sum has no bit more than it has.
+    fn add(&mut self, amount: u32)
+        requires tail { HasTail self.old }
+        requires small { amount ≤ 255 }
+        requires inside { value_of self.old + amount < 2 ^ (8 + doublings_of self.old) }
+        ensures value { value_of self.new ≡ value_of self.old + amount }
+        ensures doublings { doublings_of self.new ≡ doublings_of self.old }
+        ensures tail { HasTail self.new }
+        ensures len { vec_len self.new.bytes ≡ vec_len self.old.bytes }
+        ensures capacity { vec_capacity self.new.bytes ≡ vec_capacity self.old.bytes }
+    {
+        self.tail += amount;
+        let top = 1 << (8 + self.shifts);
+        if self.tail >= top {
+            self.tail -= top;
+            add_one(&mut self.bytes);
+        }
+    }
+
+    /// Doubles it `count` times, at most 7; the bytes have room for one more.
+    fn double(&mut self, count: u32)
+        requires tail { HasTail self.old }
+        requires few { count ≤ 7 }
+        requires room { vec_len self.old.bytes < vec_capacity self.old.bytes }
+        ensures value { value_of self.new ≡ value_of self.old * 2 ^ count }
+        ensures doublings { doublings_of self.new ≡ doublings_of self.old + count }
+        ensures tail { HasTail self.new }
+    {
+        self.tail <<= count;
+        self.shifts += count;
+        if self.shifts >= 8 {
+            self.shifts -= 8;
+            let width = 8 + self.shifts;
+            self.bytes.push((self.tail >> width) as u8).unwrap();
+            self.tail %= 1 << width;
+        }
+    }
+}
+
+/// A writer of one partition (RFC 6386, section 7).
+///
+/// A contract sees the code of what was written.
+#[derive(Drop)]
+pub struct Encoder {
+    low: Low,
+    range: u32,
+}
+
+impl Model for Encoder {
+    ghost use Rattle.std.specs.Prelude.{◌≤◌};
+    ghost use Rattle.bool_coder.specs.CodeText.{Code};
+    ghost use Rattle.bool_coder.specs.Low.{code_of, HasTail, StaysInside};
+
+    ghost Value = { Code };
+
+    ghost view = { λ e. code_of e.low e.range };
+
+    ghost invariant = { λ e. (128 ≤ e.range) × (e.range ≤ 255) × HasTail e.low × StaysInside (code_of e.low e.range) };
+}
+
+impl Encoder {
+    /// An encoder that has written nothing; it grows nothing yet.
+    pub fn new(alloc: Global) -> Encoder
+        ensures { result ≡ no_code }
+    {
+        Encoder {
+            low: Low {
+                bytes: Vec::new(alloc),
+                tail: 0,
+                shifts: 0,
+            },
+            range: 255,
+        }
+    }
+
+    /// Writes one bit that is 0 with a probability of `prob` in 256.
+    ///
+    /// `NoMemory` where a growth is refused; the encoder is as it was then.
+    pub fn bit(&mut self, bit: bool, prob: u8) -> Result<(), NoMemory>
+        ensures value { OnOk result (self.new ≡ written bit prob self.old) }
+        ensures unchanged { OnErr result (self.new ≡ self.old) }
+    {
+        self.low.bytes.reserve(1)?;
+        let split = 1 + (((self.range - 1) * prob as u32) >> 8);
+        if bit {
+            self.low.add(split);
+            self.range -= split;
+        } else {
+            self.range = split;
+        }
+        let count = self.range.leading_zeros() - 24;
+        self.low.double(count);
+        self.range <<= count;
+        Ok(())
+    }
+
+    /// The bytes of what was written: the code's number, most significant bit first, and zero bits up
+    /// to a whole byte.
+    ///
+    /// `NoMemory` where a growth is refused; the encoder is given up then.
+    pub fn finish(self) -> Result<Vec<u8>, NoMemory>
+        ensures { IfOk result (λ bytes. bytes.items ≡ text_of self) }
+    {
+        let Low {
+            mut bytes,
+            tail,
+            shifts,
+        } = self.low;
+        bytes.push((tail >> shifts) as u8)?;
+        if shifts > 0 {
+            bytes.push(((tail << (8 - shifts)) % 256) as u8)?;
+        }
+        bytes_fit(&bytes);
+        Ok(bytes)
+    }
+}
+
+#[cfg(test)]
+mod tests {
+    use super::*;
+    use crate::Decoder;
+    use std::test::Fail;
+
+    fn text(alloc: Global, pairs: &[(bool, u8)]) -> Result<Vec<u8>, NoMemory> {
+        let mut encoder = Encoder::new(alloc);
+        for (bit, prob) in pairs {
+            encoder.bit(*bit, *prob)?;
+        }
+        encoder.finish()
+    }
+
+    #[test]
+    fn no_bits_are_a_byte_of_zeros(rt: HostRuntime) -> Result<(), Fail> {
+        let text = text(rt.alloc(), &[])?;
+        assert_eq!(rt; text.as_slice(), [0x00].as_slice());
+        Ok(())
+    }
+
+    // split = 1 + (254 * 128 >> 8) = 128: low is 128 and the range 127, doubled once to 254:
+    // 1 0000 0000 in 9 bits.
+    #[test]
+    fn one_bit(rt: HostRuntime) -> Result<(), Fail> {
+        let text = text(rt.alloc(), &[(true, 128)])?;
+        assert_eq!(rt; text.as_slice(), [0x80, 0x00].as_slice());
+        Ok(())
+    }
+
+    // After the first bit low is 256 of range 254. The split is 127: bit 0 leaves range 127, and
+    // low is 512 of range 254. Bit 1 adds 127: 639 of range 127, doubled to 1278:
+    // 100 1111 1110 in 11 bits.
+    #[test]
+    fn three_bits(rt: HostRuntime) -> Result<(), Fail> {
+        let text = text(rt.alloc(), &[(true, 128), (false, 128), (true, 128)])?;
+        assert_eq!(rt; text.as_slice(), [0x9F, 0xC0].as_slice());
+        Ok(())
+    }
+
+    // Steps of a linear congruential generator, whose high bits are taken.
+    fn next(state: u32) -> u32 {
+        state.wrapping_mul(1_664_525).wrapping_add(1_013_904_223)
+    }
+
+    fn pair(state: u32) -> (bool, u8) {
+        let prob = match (state >> 16) % 8 {
+            0 => 0,
+            1 => 255,
+            2 => 128,
+            3 => 1,
+            4 => 254,
+            _ => (state >> 24) as u8,
+        };
+        ((state >> 20) % 2 == 1, prob)
+    }
+
+    #[test]
+    fn mixed_pairs_are_read_back(rt: HostRuntime) -> Result<(), Fail> {
+        let mut pairs = Vec::new(rt.alloc());
+        let mut state = 6386;
+        for _ in 0..400 {
+            state = next(state);
+            pairs.push(pair(state))?;
+        }
+        let text = text(rt.alloc(), &pairs)?;
+        let mut decoder = Decoder::new(&text);
+        for (bit, prob) in &pairs {
+            assert_eq!(rt; decoder.bit(*prob), *bit);
+        }
+        Ok(())
+    }
+
+    // The bits of a text that begins 80 00 00 00 00: low stays under that number, at 7F FF FF FF FF,
+    // until the bit that passes it.
+    #[test]
+    fn carries_run_through_full_bytes(rt: HostRuntime) -> Result<(), Fail> {
+        let mut read = Decoder::new(&[0x80, 0, 0, 0, 0, 1]);
+        let mut pairs = Vec::new(rt.alloc());
+        for _ in 0..60 {
+            pairs.push((read.bit(200), 200))?;
+        }
+        let text = text(rt.alloc(), &pairs)?;
+        assert!(rt; text.starts_with(&[0x80, 0, 0, 0, 0]));
+        let mut decoder = Decoder::new(&text);
+        for (bit, prob) in &pairs {
+            assert_eq!(rt; decoder.bit(*prob), *bit);
+        }
+        Ok(())
+    }
+}
