@@ -1,2 +1,12 @@
 //! Intra prediction of VP8 (RFC 6386, section 12).
 #![tactic(auto)]
+
+mod fills;
+mod means;
+mod modes;
+mod sub_blocks;
+mod whole_blocks;
+
+pub use modes::{BlockSize, SubMode, WholeMode};
+pub use sub_blocks::sub;
+pub use whole_blocks::whole;

@@ -1,0 +1,3 @@
+pub mod MeanLemmas
+pub mod Places
+pub mod Rows

@@ -1,0 +1,4 @@
+pub mod Means
+pub mod Blocks
+pub mod WholeSample
+pub mod SubSample
