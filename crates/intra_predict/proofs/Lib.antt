@@ -1,3 +1,4 @@
+pub mod Directions
 pub mod MeanLemmas
 pub mod Places
 pub mod Rows

@@ -2,3 +2,4 @@ pub mod Means
 pub mod Blocks
 pub mod WholeSample
 pub mod SubSample
+pub mod SubLaws

@@ -2,9 +2,12 @@
 #![tactic(auto)]
 
 mod fills;
+pub mod laws;
 mod means;
 mod modes;
 mod sub_blocks;
+#[cfg(test)]
+mod tests;
 mod whole_blocks;
 
 pub use modes::{BlockSize, SubMode, WholeMode};
