@@ -22,9 +22,8 @@ pub fn avg3(a: u8, b: u8, c: u8) -> u8
 pub fn gradient(left: u8, above: u8, corner: u8) -> u8
     ensures { result ≡ gradient_of left above corner }
 {
-    (u16::from(left) + u16::from(above))
-        .saturating_sub(u16::from(corner))
-        .min(255) as u8
+    let sum = u16::from(left) + u16::from(above);
+    sum.saturating_sub(u16::from(corner)).min(255) as u8
 }
 
 /// The sum of at most 16 samples.
