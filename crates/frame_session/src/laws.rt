@@ -40,7 +40,7 @@ pub fn answers_are_one()
     ensures { AnswersAreOne }
 {}
 
-/// A block that is written has its value throughout, and every other sample is as it was.
+/// A block that is written has its samples, and every other sample is as it was.
 pub fn block_write_is_local()
     ensures { WritesOneBlock }
 {}
