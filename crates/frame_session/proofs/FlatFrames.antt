@@ -1,14 +1,17 @@
 -- The planes of a blank picture, sample by sample.
-use Rattle.std.proofs.Common.{◌≡◌, ℕ, zero, suc, ◌+◌, ◌-◌, ◌*◌, ◌/◌, ◌%◌, ◌<◌, ◌≤◌, ◌⊎◌, inl, inr, refl, ap, sym, ◌∙◌, arith}
-use Rattle.std.proofs.lemmas.Bool.{cases_lt, cases_eq}
+use Rattle.std.specs.Prelude.{replicate, Option, Some, None}
+use Rattle.std.proofs.Common.{◌≡◌, ℕ, zero, suc, ◌+◌, ◌-◌, ◌*◌, ◌/◌, ◌%◌, ◌<◌, ◌≤◌, ◌⊎◌, inl, inr, List, [], ◌++◌, take, refl, ap, sym, ◌∙◌, arith, eq-eqb}
+use Rattle.std.proofs.lemmas.Bool.{cases_lt, cases_eq, ne_eqb, cond-true, cond-false}
 use Rattle.std.proofs.lemmas.Bool.Decides.{nat_tests}
 use Rattle.std.proofs.lemmas.List.{length-replicate}
+use Rattle.intra_predict.specs.Means.{mean_of}
+use Rattle.intra_predict.specs.SubSample.{sub_sample}
+use Rattle.intra_predict.specs.WholeSample.{whole_sample, inside}
 use Rattle.pixel_planes.specs.Samples.{Samples, uniform}
 use Rattle.pixel_planes.specs.declared.pictures.Planes.{Planes}
-use Rattle.frame_session.specs.Unfiltered.{above_sum, left_sum, sub_block_dc, chroma_dc, predicted_sub_block, predicted_sub_blocks, predicted_chroma, predicted_macroblock, predicted_row, predicted_rows, empty_planes}
+use Rattle.frame_session.specs.Unfiltered.{above, left, left_column, above_eight, above_side, left_side, sub_column, sub_row, sub_block_sample, chroma_sample, with_block, predicted_sub_blocks, predicted_chroma, predicted_macroblock, predicted_row, predicted_rows, empty_planes}
 use Rattle.frame_session.specs.UnfilteredLaws.{luma_of_row, AreFlat}
-use Rattle.frame_session.proofs.Blocks.{chroma_dc-first, chroma_dc-left, chroma_dc-top, chroma_dc-inside}
-use Rattle.frame_session.proofs.Flat.{IsPlane, IsPlane-with_block_rows, IsDone, IsDone-less, block_kept, block_more, above_sum_edge, left_sum_edge, above_sum_done, left_sum_done}
+use Rattle.frame_session.proofs.Flat.{IsPlane, IsPlane-with_block_rows, IsDone, IsDone-less, block_kept, block_more, above_row_is, left_column_is, above_eight_is, above_edge, left_edge, above_done, left_done}
 
 -- ---- the values
 
@@ -26,61 +29,142 @@ luma_same y j aligned from to =
       | inr below ↦ luma_low j (omega arith) ∙ sym (luma_low y below)
     ]
 
-dc_is : (p : Samples) (x y a b value : ℕ) → above_sum p x y 4 ≡ a → left_sum p x y 4 ≡ b → (a + b + 4) / 8 ≡ value → sub_block_dc p x y ≡ value
-unfolding sub_block_dc
-dc_is p x y a b value e f g = rw (e, f) g
+-- round a sub block each sample above is one value and each to the left another, and their mean is the value of the block's rows
+record IsRound (p : Samples) (x y : ℕ) : Type 0 where
+  pub top : ℕ
+  pub side : ℕ
+  pub above_is : (k : ℕ) → k < 4 → above p (x + k) y ≡ top
+  pub left_is : (k : ℕ) → k < 4 → left p x (y + k) ≡ side
+  pub mean_is : mean_of (replicate 4 top ++ replicate 4 side) ≡ luma_of_row y
+
+-- the means of the values that occur
+mean_127_129 : mean_of (replicate 4 127 ++ replicate 4 129) ≡ 128
+unfolding mean_of
+mean_127_129 = refl
+
+mean_127_128 : mean_of (replicate 4 127 ++ replicate 4 128) ≡ 128
+unfolding mean_of
+mean_127_128 = refl
+
+mean_128_129 : mean_of (replicate 4 128 ++ replicate 4 129) ≡ 129
+unfolding mean_of
+mean_128_129 = refl
+
+mean_129_129 : mean_of (replicate 4 129 ++ replicate 4 129) ≡ 129
+unfolding mean_of
+mean_129_129 = refl
+
+-- what mode DC gives such a sub block
+dc_is : (p : Samples) (mx my n : ℕ) → sub_column mx n + 4 ≤ p.width → IsRound p (sub_column mx n) (sub_row my n) → (column row : ℕ) → sub_block_sample p mx my n column row ≡ luma_of_row (sub_row my n)
+unfolding sub_sample
+dc_is p mx my n wide round column row =
+    let upper : take 4 (above_eight p mx my n) ≡ replicate 4 round.top = above_eight_is p mx my n round.top wide round.above_is in
+    let beside : left_column p (sub_column mx n) (sub_row my n) 4 ≡ replicate 4 round.side = left_column_is p (sub_column mx n) (sub_row my n) 4 round.side round.left_is in
+    ap (λ xs. mean_of (xs ++ left_column p (sub_column mx n) (sub_row my n) 4)) upper ∙ ap (λ xs. mean_of (replicate 4 round.top ++ xs)) beside ∙ round.mean_is
 
 -- a sub block in the first row
-dc_top : (w h : ℕ) (p : Samples) (x y : ℕ) → IsDone luma_of_row w h x (y + 4) p → x + 4 ≤ w → y + 4 ≤ h → y ≡ 0 → sub_block_dc p x y ≡ 128
+dc_top : (w h : ℕ) (p : Samples) (x y : ℕ) → IsDone luma_of_row w h x (y + 4) p → x + 4 ≤ w → y + 4 ≤ h → y ≡ 0 → IsRound p x y
 dc_top w h p x y before wide high top =
+    let value : luma_of_row y ≡ 128 = luma_high y (omega arith) in
+    let upper : (k : ℕ) → k < 4 → above p (x + k) y ≡ 127 = λ k less. above_edge p (x + k) y top in
     elim (cases_eq x 0) [
-      | inl edge ↦ dc_is p x y 508 516 128 (above_sum_edge p x y 4 top) (left_sum_edge p x y 4 edge) refl
-      | inr beside ↦ dc_is p x y 508 512 128 (above_sum_edge p x y 4 top) (left_sum_done luma_of_row w h p x y 4 128 before (omega arith) high beside (λ j from to. luma_high j (omega arith))) refl
+      | inl edge ↦ record { top = 127; side = 129; above_is = upper; left_is = λ k less. left_edge p x (y + k) edge; mean_is = mean_127_129 ∙ sym value }
+      | inr beside ↦ record {
+        top = 127;
+        side = 128;
+        above_is = upper;
+        left_is = λ k less. left_done luma_of_row w h p x y 4 k 128 before (omega arith) high beside (luma_high (y + k) (omega arith)) less;
+        mean_is = mean_127_128 ∙ sym value;
+      }
     ]
 
 -- what stands to the left of a sub block below the first row
-left_below : (w h : ℕ) (p : Samples) (x y : ℕ) → IsDone luma_of_row w h x (y + 4) p → x + 4 ≤ w → y + 4 ≤ h → 4 ≤ y → left_sum p x y 4 ≡ 516
-left_below w h p x y before wide high below =
+left_below : (w h : ℕ) (p : Samples) (x y : ℕ) → IsDone luma_of_row w h x (y + 4) p → x + 4 ≤ w → y + 4 ≤ h → 4 ≤ y → (k : ℕ) → k < 4 → left p x (y + k) ≡ 129
+left_below w h p x y before wide high below k less =
     elim (cases_eq x 0) [
-      | inl edge ↦ left_sum_edge p x y 4 edge
-      | inr beside ↦ left_sum_done luma_of_row w h p x y 4 129 before (omega arith) high beside (λ j from to. luma_low j (omega arith))
+      | inl edge ↦ left_edge p x (y + k) edge
+      | inr beside ↦ left_done luma_of_row w h p x y 4 k 129 before (omega arith) high beside (luma_low (y + k) (omega arith)) less
     ]
 
 -- a sub block below the first row
-dc_below : (w h : ℕ) (p : Samples) (x y : ℕ) → IsDone luma_of_row w h (x + 4) y p → IsDone luma_of_row w h x (y + 4) p → x + 4 ≤ w → y + 4 ≤ h → 4 ≤ y → sub_block_dc p x y ≡ 129
+dc_below : (w h : ℕ) (p : Samples) (x y : ℕ) → IsDone luma_of_row w h (x + 4) y p → IsDone luma_of_row w h x (y + 4) p → x + 4 ≤ w → y + 4 ≤ h → 4 ≤ y → IsRound p x y
 dc_below w h p x y upper before wide high below =
-    let beside : left_sum p x y 4 ≡ 516 = left_below w h p x y before wide high below in
+    let value : luma_of_row y ≡ 129 = luma_low y below in
+    let beside : (k : ℕ) → k < 4 → left p x (y + k) ≡ 129 = left_below w h p x y before wide high below in
     let under : y ≡ 0 → ⊥ = λ e. omega arith in
     elim (cases_lt (y - 1) 4) [
-      | inl second ↦ dc_is p x y 512 516 129 (above_sum_done luma_of_row w h p x y 4 128 upper wide (omega arith) under (luma_high (y - 1) second)) beside refl
-      | inr later ↦ dc_is p x y 516 516 129 (above_sum_done luma_of_row w h p x y 4 129 upper wide (omega arith) under (luma_low (y - 1) later)) beside refl
+      | inl second ↦ record {
+        top = 128;
+        side = 129;
+        above_is = λ k less. above_done luma_of_row w h p x y 4 k 128 upper wide (omega arith) under (luma_high (y - 1) second) less;
+        left_is = beside;
+        mean_is = mean_128_129 ∙ sym value;
+      }
+      | inr later ↦ record {
+        top = 129;
+        side = 129;
+        above_is = λ k less. above_done luma_of_row w h p x y 4 k 129 upper wide (omega arith) under (luma_low (y - 1) later) less;
+        left_is = beside;
+        mean_is = mean_129_129 ∙ sym value;
+      }
     ]
 
-dc_value : (w h : ℕ) (p : Samples) (x y : ℕ) → IsDone luma_of_row w h (x + 4) y p → IsDone luma_of_row w h x (y + 4) p → x + 4 ≤ w → y + 4 ≤ h → (y ≡ 0) ⊎ (4 ≤ y) → sub_block_dc p x y ≡ luma_of_row y
-dc_value w h p x y upper before wide high aligned =
+dc_round : (w h : ℕ) (p : Samples) (x y : ℕ) → IsDone luma_of_row w h (x + 4) y p → IsDone luma_of_row w h x (y + 4) p → x + 4 ≤ w → y + 4 ≤ h → (y ≡ 0) ⊎ (4 ≤ y) → IsRound p x y
+dc_round w h p x y upper before wide high aligned =
     elim aligned [
-      | inl top ↦ dc_top w h p x y before wide high top ∙ sym (luma_high y (omega arith))
-      | inr below ↦ dc_below w h p x y upper before wide high below ∙ sym (luma_low y below)
+      | inl top ↦ dc_top w h p x y before wide high top
+      | inr below ↦ dc_below w h p x y upper before wide high below
     ]
 
 -- each chroma sample
 abbrev pub grey : ℕ → ℕ
 grey y = 128
 
-chroma_value : (w h : ℕ) (p : Samples) (x y : ℕ) → IsDone grey w h (x + 8) y p → IsDone grey w h x (y + 8) p → x + 8 ≤ w → y + 8 ≤ h → chroma_dc p x y ≡ 128
+-- the sides of a chroma block, outside the frame and inside
+above_outside : (p : Samples) (x y n : ℕ) → y ≡ 0 → above_side p x y n ≡ None
+above_outside p x y n top = cond-true _ _ _ (eq-eqb y 0 top)
+
+above_inside : (w h : ℕ) (p : Samples) (x y n : ℕ) → IsDone grey w h (x + n) y p → x + n ≤ w → y ≤ h → (y ≡ 0 → ⊥) → above_side p x y n ≡ Some (replicate n 128)
+above_inside w h p x y n upper wide high under =
+    cond-false _ _ _ (ne_eqb y 0 under) ∙ ap Some (above_row_is p x y n 128 (λ k less. above_done grey w h p x y n k 128 upper wide high under refl less))
+
+left_outside : (p : Samples) (x y n : ℕ) → x ≡ 0 → left_side p x y n ≡ None
+left_outside p x y n edge = cond-true _ _ _ (eq-eqb x 0 edge)
+
+left_inside : (w h : ℕ) (p : Samples) (x y n : ℕ) → IsDone grey w h x (y + n) p → x ≤ w → y + n ≤ h → (x ≡ 0 → ⊥) → left_side p x y n ≡ Some (replicate n 128)
+left_inside w h p x y n before wide high beside =
+    cond-false _ _ _ (ne_eqb x 0 beside) ∙ ap Some (left_column_is p x y n 128 (λ k less. left_done grey w h p x y n k 128 before wide high beside refl less))
+
+-- what mode DC gives between two such sides
+grey_mean : (p : Samples) (x y : ℕ) (upper beside : Option (List ℕ)) → above_side p x y 8 ≡ upper → left_side p x y 8 ≡ beside → mean_of (inside upper ++ inside beside) ≡ 128 → (column row : ℕ) → chroma_sample p x y column row ≡ 128
+unfolding whole_sample
+grey_mean p x y upper beside upper_is beside_is mean column row =
+    ap (λ side. mean_of (inside side ++ inside (left_side p x y 8))) upper_is ∙ ap (λ side. mean_of (inside upper ++ inside side)) beside_is ∙ mean
+
+mean_none : mean_of [] ≡ 128
+unfolding mean_of
+mean_none = refl
+
+mean_eight : mean_of (replicate 8 128) ≡ 128
+unfolding mean_of
+mean_eight = refl
+
+mean_sixteen : mean_of (replicate 8 128 ++ replicate 8 128) ≡ 128
+unfolding mean_of
+mean_sixteen = refl
+
+chroma_value : (w h : ℕ) (p : Samples) (x y : ℕ) → IsDone grey w h (x + 8) y p → IsDone grey w h x (y + 8) p → x + 8 ≤ w → y + 8 ≤ h → (column row : ℕ) → chroma_sample p x y column row ≡ 128
 chroma_value w h p x y upper before wide high =
     elim (cases_eq x 0) [
       | inl edge ↦ elim (cases_eq y 0) [
-        | inl top ↦ chroma_dc-first p x y edge top
-        | inr under ↦ chroma_dc-left p x y edge under ∙ ap (λ a. (a + 4) / 8) (above_sum_done grey w h p x y 8 128 upper wide (omega arith) under refl)
+        | inl top ↦ grey_mean p x y None None (above_outside p x y 8 top) (left_outside p x y 8 edge) mean_none
+        | inr under ↦ grey_mean p x y (Some (replicate 8 128)) None (above_inside w h p x y 8 upper wide (omega arith) under) (left_outside p x y 8 edge) mean_eight
       ]
       | inr beside ↦
-          let left_is : left_sum p x y 8 ≡ 1024 = left_sum_done grey w h p x y 8 128 before (omega arith) high beside (λ j from to. refl) in
+          let left_is : left_side p x y 8 ≡ Some (replicate 8 128) = left_inside w h p x y 8 before (omega arith) high beside in
           elim (cases_eq y 0) [
-            | inl top ↦ chroma_dc-top p x y beside top ∙ ap (λ b. (b + 4) / 8) left_is
-            | inr under ↦
-                let above_is : above_sum p x y 8 ≡ 1024 = above_sum_done grey w h p x y 8 128 upper wide (omega arith) under refl in
-                chroma_dc-inside p x y beside under ∙ ap (λ a. (a + left_sum p x y 8 + 8) / 16) above_is ∙ ap (λ b. (1024 + b + 8) / 16) left_is
+            | inl top ↦ grey_mean p x y None (Some (replicate 8 128)) (above_outside p x y 8 top) left_is mean_eight
+            | inr under ↦ grey_mean p x y (Some (replicate 8 128)) (Some (replicate 8 128)) (above_inside w h p x y 8 upper wide (omega arith) under) left_is mean_sixteen
           ]
     ]
 
@@ -97,13 +181,13 @@ chroma_step columns rows my mx p in_row in_frame begun =
     let wide : 8 * mx + 8 ≤ 8 * columns = omega arith in
     let high : 8 * my + 8 ≤ 8 * rows = omega arith in
     let upper = IsDone-less grey (8 * columns) (8 * rows) (8 * columns) (8 * my) (8 * mx + 8) (8 * my) p (omega arith) (omega arith) begun.upper in
-    let value : chroma_dc p (8 * mx) (8 * my) ≡ 128 = chroma_value (8 * columns) (8 * rows) p (8 * mx) (8 * my) upper begun.before wide high in
+    let value : (column row : ℕ) → chroma_sample p (8 * mx) (8 * my) column row ≡ 128 = chroma_value (8 * columns) (8 * rows) p (8 * mx) (8 * my) upper begun.before wide high in
     record {
-      shape = IsPlane-with_block_rows (8 * columns) (8 * rows) p (8 * mx) (8 * my) 8 (chroma_dc p (8 * mx) (8 * my)) 8 begun.shape;
-      upper = block_kept grey (8 * columns) (8 * rows) (8 * columns) (8 * my) p (8 * mx) (8 * my) 8 (chroma_dc p (8 * mx) (8 * my)) begun.shape wide high (λ j from to. sym value) begun.upper;
+      shape = IsPlane-with_block_rows (8 * columns) (8 * rows) p (8 * mx) (8 * my) 8 (chroma_sample p (8 * mx) (8 * my)) 8 begun.shape;
+      upper = block_kept grey (8 * columns) (8 * rows) (8 * columns) (8 * my) p (8 * mx) (8 * my) 8 (chroma_sample p (8 * mx) (8 * my)) begun.shape wide high (λ column row less. value column row) begun.upper;
       before =
           IsDone-less grey (8 * columns) (8 * rows) (8 * mx + 8) (8 * my + 8) (8 * suc mx) (8 * my + 8) (predicted_chroma p mx my) (omega arith) (omega arith)
-          (block_more grey (8 * columns) (8 * rows) p (8 * mx) (8 * my) 8 (chroma_dc p (8 * mx) (8 * my)) begun.shape wide high (λ j from to. sym value) upper begun.before);
+          (block_more grey (8 * columns) (8 * rows) p (8 * mx) (8 * my) 8 (chroma_sample p (8 * mx) (8 * my)) begun.shape wide high (λ column row less. value column row) upper begun.before);
     }
 
 -- n sub blocks of the macroblock in column mx of row my are done, and all before it
@@ -115,38 +199,57 @@ pub record IsInside (columns rows my mx n : ℕ) (p : Samples) : Type 0 where
 aligned_or : (y q : ℕ) → y ≡ 4 * q → (y ≡ 0) ⊎ (4 ≤ y)
 aligned_or y q e = elim (cases_eq q 0) [ inl top ↦ inl (omega arith) | inr below ↦ inr (omega arith) ]
 
--- the block at (x, y) is the n-th of its macroblock
-sub_block_at : (columns rows my mx n x y : ℕ) (p : Samples) → x ≡ 16 * mx + 4 * (n % 4) → y ≡ 16 * my + 4 * (n / 4) → mx < columns → my < rows → n < 16 → IsInside columns rows my mx n p → IsInside columns rows my mx (suc n) (predicted_sub_block p x y)
-sub_block_at columns rows my mx n x y p x_is y_is in_row in_frame in_block inside =
+-- what stands round the n-th block of a macroblock, which is the one at (x, y)
+record StandsRound (w h x y : ℕ) (p : Samples) : Type 0 where
+  pub wide : x + 4 ≤ w
+  pub high : y + 4 ≤ h
+  pub aligned : (y ≡ 0) ⊎ (4 ≤ y)
+  pub upper : IsDone luma_of_row w h (x + 4) y p
+  pub beside : IsDone luma_of_row w h x (y + 4) p
+
+stands_round : (columns rows my mx n x y : ℕ) (p : Samples) → x ≡ 16 * mx + 4 * (n % 4) → y ≡ 16 * my + 4 * (n / 4) → mx < columns → my < rows → n < 16 → IsInside columns rows my mx n p → StandsRound (16 * columns) (16 * rows) x y p
+stands_round columns rows my mx n x y p x_is y_is in_row in_frame in_block inside = record {
+  wide = omega arith;
+  high = omega arith;
+  aligned = aligned_or y (4 * my + n / 4) (omega arith);
+  upper = IsDone-less luma_of_row (16 * columns) (16 * rows) (16 * mx + 16) (16 * my + 4 * (n / 4)) (x + 4) y p (omega arith) (omega arith) inside.lines;
+  beside = IsDone-less luma_of_row (16 * columns) (16 * rows) (16 * mx + 4 * (n % 4)) (16 * my + 4 * (n / 4) + 4) x (y + 4) p (omega arith) (omega arith) (inside.line in_block);
+}
+
+-- the n-th block is written with the value of its rows
+sub_block_at : (columns rows my mx n x y : ℕ) (p : Samples) (sample : ℕ → ℕ → ℕ) → x ≡ 16 * mx + 4 * (n % 4) → y ≡ 16 * my + 4 * (n / 4) → mx < columns → my < rows → n < 16 → ((column row : ℕ) → sample column row ≡ luma_of_row y) → IsInside columns rows my mx n p → IsInside columns rows my mx (suc n) (with_block p x y 4 sample)
+sub_block_at columns rows my mx n x y p sample x_is y_is in_row in_frame in_block value inside =
     let w = 16 * columns in
     let h = 16 * rows in
-    let wide : x + 4 ≤ 16 * columns = omega arith in
-    let high : y + 4 ≤ 16 * rows = omega arith in
-    let aligned : (y ≡ 0) ⊎ (4 ≤ y) = aligned_or y (4 * my + n / 4) (omega arith) in
-    let upper : IsDone luma_of_row (16 * columns) (16 * rows) (x + 4) y p = IsDone-less luma_of_row w h (16 * mx + 16) (16 * my + 4 * (n / 4)) (x + 4) y p (omega arith) (omega arith) inside.lines in
-    let beside : IsDone luma_of_row (16 * columns) (16 * rows) x (y + 4) p = IsDone-less luma_of_row w h (16 * mx + 4 * (n % 4)) (16 * my + 4 * (n / 4) + 4) x (y + 4) p (omega arith) (omega arith) (inside.line in_block) in
-    let value : sub_block_dc p x y ≡ luma_of_row y = dc_value w h p x y upper beside wide high aligned in
-    let right : (j : ℕ) → y ≤ j → j < y + 4 → luma_of_row j ≡ sub_block_dc p x y = λ j from to. luma_same y j aligned from to ∙ sym value in
-    let after : IsDone luma_of_row (16 * columns) (16 * rows) (x + 4) (y + 4) (predicted_sub_block p x y) = block_more luma_of_row w h p x y 4 (sub_block_dc p x y) inside.begun.shape wide high right upper beside in
-    let lines : IsDone luma_of_row (16 * columns) (16 * rows) (16 * mx + 16) (16 * my + 4 * (n / 4)) (predicted_sub_block p x y) = block_kept luma_of_row w h (16 * mx + 16) (16 * my + 4 * (n / 4)) p x y 4 (sub_block_dc p x y) inside.begun.shape wide high right inside.lines in
-    let before : IsDone luma_of_row (16 * columns) (16 * rows) (16 * mx) (16 * my + 16) (predicted_sub_block p x y) = block_kept luma_of_row w h (16 * mx) (16 * my + 16) p x y 4 (sub_block_dc p x y) inside.begun.shape wide high right inside.begun.before in
-    let begun : IsBegun luma_of_row 16 columns rows my mx (predicted_sub_block p x y) = record {
-      shape = IsPlane-with_block_rows w h p x y 4 (sub_block_dc p x y) 4 inside.begun.shape;
-      upper = block_kept luma_of_row w h w (16 * my) p x y 4 (sub_block_dc p x y) inside.begun.shape wide high right inside.begun.upper;
+    let round = stands_round columns rows my mx n x y p x_is y_is in_row in_frame in_block inside in
+    let right : (column row : ℕ) → row < 4 → sample column row ≡ luma_of_row (y + row) = λ column row less. value column row ∙ sym (luma_same y (y + row) round.aligned (omega arith) (omega arith)) in
+    let after : IsDone luma_of_row (16 * columns) (16 * rows) (x + 4) (y + 4) (with_block p x y 4 sample) = block_more luma_of_row w h p x y 4 sample inside.begun.shape round.wide round.high right round.upper round.beside in
+    let lines : IsDone luma_of_row (16 * columns) (16 * rows) (16 * mx + 16) (16 * my + 4 * (n / 4)) (with_block p x y 4 sample) = block_kept luma_of_row w h (16 * mx + 16) (16 * my + 4 * (n / 4)) p x y 4 sample inside.begun.shape round.wide round.high right inside.lines in
+    let before : IsDone luma_of_row (16 * columns) (16 * rows) (16 * mx) (16 * my + 16) (with_block p x y 4 sample) = block_kept luma_of_row w h (16 * mx) (16 * my + 16) p x y 4 sample inside.begun.shape round.wide round.high right inside.begun.before in
+    let begun : IsBegun luma_of_row 16 columns rows my mx (with_block p x y 4 sample) = record {
+      shape = IsPlane-with_block_rows w h p x y 4 sample 4 inside.begun.shape;
+      upper = block_kept luma_of_row w h w (16 * my) p x y 4 sample inside.begun.shape round.wide round.high right inside.begun.upper;
       before = before;
     } in
     elim (cases_lt (n % 4) 3) [
       | inl further ↦ record {
         begun = begun;
-        lines = IsDone-less luma_of_row w h (16 * mx + 16) (16 * my + 4 * (n / 4)) (16 * mx + 16) (16 * my + 4 * (suc n / 4)) (predicted_sub_block p x y) (omega arith) (omega arith) lines;
-        line = λ more. IsDone-less luma_of_row w h (x + 4) (y + 4) (16 * mx + 4 * (suc n % 4)) (16 * my + 4 * (suc n / 4) + 4) (predicted_sub_block p x y) (omega arith) (omega arith) after;
+        lines = IsDone-less luma_of_row w h (16 * mx + 16) (16 * my + 4 * (n / 4)) (16 * mx + 16) (16 * my + 4 * (suc n / 4)) (with_block p x y 4 sample) (omega arith) (omega arith) lines;
+        line = λ more. IsDone-less luma_of_row w h (x + 4) (y + 4) (16 * mx + 4 * (suc n % 4)) (16 * my + 4 * (suc n / 4) + 4) (with_block p x y 4 sample) (omega arith) (omega arith) after;
       }
       | inr last ↦ record {
         begun = begun;
-        lines = IsDone-less luma_of_row w h (x + 4) (y + 4) (16 * mx + 16) (16 * my + 4 * (suc n / 4)) (predicted_sub_block p x y) (omega arith) (omega arith) after;
-        line = λ more. IsDone-less luma_of_row w h (16 * mx) (16 * my + 16) (16 * mx + 4 * (suc n % 4)) (16 * my + 4 * (suc n / 4) + 4) (predicted_sub_block p x y) (omega arith) (omega arith) before;
+        lines = IsDone-less luma_of_row w h (x + 4) (y + 4) (16 * mx + 16) (16 * my + 4 * (suc n / 4)) (with_block p x y 4 sample) (omega arith) (omega arith) after;
+        line = λ more. IsDone-less luma_of_row w h (16 * mx) (16 * my + 16) (16 * mx + 4 * (suc n % 4)) (16 * my + 4 * (suc n / 4) + 4) (with_block p x y 4 sample) (omega arith) (omega arith) before;
       }
     ]
+
+-- what mode DC gives the n-th block
+sub_block_flat : (columns rows my mx n : ℕ) (p : Samples) → mx < columns → my < rows → n < 16 → IsInside columns rows my mx n p → (column row : ℕ) → sub_block_sample p mx my n column row ≡ luma_of_row (sub_row my n)
+sub_block_flat columns rows my mx n p in_row in_frame in_block inside =
+    let round = stands_round columns rows my mx n (sub_column mx n) (sub_row my n) p refl refl in_row in_frame in_block inside in
+    let wide : sub_column mx n + 4 ≤ p.width = omega (arith, round.wide, inside.begun.shape.wide) in
+    dc_is p mx my n wide (dc_round (16 * columns) (16 * rows) p (sub_column mx n) (sub_row my n) round.upper round.beside round.wide round.high round.aligned)
 
 sub_blocks_done : (columns rows my mx n : ℕ) (p : Samples) → mx < columns → my < rows → n ≤ 16 → IsBegun luma_of_row 16 columns rows my mx p → IsInside columns rows my mx n (predicted_sub_blocks p mx my n)
 unfolding predicted_sub_blocks
@@ -156,7 +259,9 @@ sub_blocks_done columns rows my mx zero p in_row in_frame in_block begun = recor
   line = λ more. IsDone-less luma_of_row (16 * columns) (16 * rows) (16 * mx) (16 * my + 16) (16 * mx + 4 * (0 % 4)) (16 * my + 4 * (0 / 4) + 4) p (omega arith) (omega arith) begun.before;
 }
 sub_blocks_done columns rows my mx (suc n) p in_row in_frame in_block begun =
-    sub_block_at columns rows my mx n (16 * mx + 4 * (n % 4)) (16 * my + 4 * (n / 4)) (predicted_sub_blocks p mx my n) refl refl in_row in_frame (omega arith) (sub_blocks_done columns rows my mx n p in_row in_frame (omega arith) begun)
+    let q = predicted_sub_blocks p mx my n in
+    let inside : IsInside columns rows my mx n (predicted_sub_blocks p mx my n) = sub_blocks_done columns rows my mx n p in_row in_frame (omega arith) begun in
+    sub_block_at columns rows my mx n (sub_column mx n) (sub_row my n) q (sub_block_sample q mx my n) refl refl in_row in_frame (omega arith) (sub_block_flat columns rows my mx n q in_row in_frame (omega arith) inside) inside
 
 luma_step : (columns rows my mx : ℕ) (p : Samples) → mx < columns → my < rows → IsBegun luma_of_row 16 columns rows my mx p → IsBegun luma_of_row 16 columns rows my (suc mx) (predicted_sub_blocks p mx my 16)
 luma_step columns rows my mx p in_row in_frame begun =

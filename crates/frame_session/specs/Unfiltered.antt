@@ -1,6 +1,11 @@
 -- The unfiltered picture of a frame in which every macroblock has sub block modes DC, chroma mode DC and no residual (RFC 6386, section 12).
-use Rattle.std.specs.Prelude.{◌≡◌, ℕ, zero, suc, ◌+◌, ◌-◌, ◌*◌, ◌/◌, ◌%◌, ◌≤◌, ◌==◌, if◌then◌else◌, List, replicate}
+use Rattle.std.specs.Prelude.{◌≡◌, ℕ, zero, suc, ◌+◌, ◌-◌, ◌*◌, ◌/◌, ◌%◌, ◌≤◌, ◌==◌, nat_lt, min, if◌then◌else◌, List, map, Option, Some, None}
+use Rattle.std.specs.List.{range_with_len}
 use Rattle.std.specs.Simd.Lanes.{put_chunk}
+use Rattle.intra_predict.specs.declared.modes.SubMode.TheVariants.{Dc}
+use Rattle.intra_predict.specs.declared.modes.WholeMode.TheVariants.{Dc as WholeDc}
+use Rattle.intra_predict.specs.SubSample.{sub_sample}
+use Rattle.intra_predict.specs.WholeSample.{whole_sample}
 use Rattle.pixel_planes.specs.Samples.{Samples, uniform, sample_at, row_of, with_row}
 use Rattle.pixel_planes.specs.Pictures.{PictureSamples, macroblocks}
 use Rattle.pixel_planes.specs.declared.pictures.Planes.{Planes}
@@ -38,52 +43,81 @@ above p x y = if y == 0 then 127 else sample_at p x (y - 1)
 abbrev pub left : Samples → ℕ → ℕ → ℕ
 left p x y = if x == 0 then 129 else sample_at p (x - 1) y
 
--- the sum of n samples above a block at (x, y), from the left
-unfoldable pub above_sum : Samples → ℕ → ℕ → ℕ → ℕ
-above_sum p x y zero = 0
-above_sum p x y (suc n) = above_sum p x y n + above p (x + n) y
+-- the corner between the two: 127 above the frame, and 129 to its left below that
+abbrev pub corner : Samples → ℕ → ℕ → ℕ
+corner p x y = if y == 0 then 127 else left p x (y - 1)
 
--- the sum of n samples to the left of a block at (x, y), from the top
-unfoldable pub left_sum : Samples → ℕ → ℕ → ℕ → ℕ
-left_sum p x y zero = 0
-left_sum p x y (suc n) = left_sum p x y n + left p x (y + n)
+-- n samples above a block at (x, y), from the left
+unfoldable pub above_row : Samples → ℕ → ℕ → ℕ → List ℕ
+above_row p x y n = map (λ k. above p (x + k) y) (range_with_len 0 n)
 
--- the value that mode DC gives a sub block of 4 by 4 samples (section 12.3)
-unfoldable pub sub_block_dc : Samples → ℕ → ℕ → ℕ
-sub_block_dc p x y = (above_sum p x y 4 + left_sum p x y 4 + 4) / 8
+-- n samples to the left of a block at (x, y), from the top
+unfoldable pub left_column : Samples → ℕ → ℕ → ℕ → List ℕ
+left_column p x y n = map (λ k. left p x (y + k)) (range_with_len 0 n)
 
--- the value that mode DC gives a chroma block of 8 by 8 samples: the mean of the sides inside the frame, 128 with none (section 12.2)
-unfoldable pub chroma_dc : Samples → ℕ → ℕ → ℕ
-chroma_dc p x y =
-    if x == 0
-    then (if y == 0 then 128 else (above_sum p x y 8 + 4) / 8)
-    else (if y == 0 then (left_sum p x y 8 + 4) / 8 else (above_sum p x y 8 + left_sum p x y 8 + 8) / 16)
+-- those of the n samples above or to the left of a block that are inside the frame
+abbrev pub above_side : Samples → ℕ → ℕ → ℕ → Option (List ℕ)
+above_side p x y n = if y == 0 then None else Some (above_row p x y n)
+
+abbrev pub left_side : Samples → ℕ → ℕ → ℕ → Option (List ℕ)
+left_side p x y n = if x == 0 then None else Some (left_column p x y n)
+
+-- the first column and the first row of sub block n of the macroblock in column mx of row my
+abbrev pub sub_column : ℕ → ℕ → ℕ
+sub_column mx n = 16 * mx + 4 * (n % 4)
+
+abbrev pub sub_row : ℕ → ℕ → ℕ
+sub_row my n = 16 * my + 4 * (n / 4)
+
+-- the row below the four samples that stand above a sub block on its right: in a macroblock's last column, its first row (section 12.3)
+abbrev pub right_row : ℕ → ℕ → ℕ
+right_row my n = if n % 4 == 3 then 16 * my else sub_row my n
+
+-- the eight samples above a sub block; behind the last column of the plane, that column stands again
+unfoldable pub above_eight : Samples → ℕ → ℕ → ℕ → List ℕ
+above_eight p mx my n =
+    map (λ k. above p (min (sub_column mx n + k) (p.width - 1)) (if nat_lt k 4 then sub_row my n else right_row my n)) (range_with_len 0 8)
+
+-- what mode DC gives each column and row of a sub block of 4 by 4 samples
+abbrev pub sub_block_sample : Samples → ℕ → ℕ → ℕ → ℕ → ℕ → ℕ
+sub_block_sample p mx my n =
+    let x = sub_column mx n in
+    let y = sub_row my n in
+    sub_sample Dc (left_column p x y 4) (corner p x y) (above_eight p mx my n)
+
+-- what mode DC gives each column and row of a chroma block of 8 by 8 samples
+abbrev pub chroma_sample : Samples → ℕ → ℕ → ℕ → ℕ → ℕ
+chroma_sample p x y = whole_sample WholeDc (above_side p x y 8) (left_side p x y 8) (corner p x y)
 
 -- the plane with these samples written from column x of row y on
 abbrev pub with_span : Samples → ℕ → ℕ → List ℕ → Samples
 with_span p x y span = with_row p y (put_chunk x (row_of p y) span)
 
+-- a row of a block whose samples are given by column and row
+abbrev pub block_row : ℕ → (ℕ → ℕ → ℕ) → ℕ → List ℕ
+block_row side sample row = map (λ column. sample column row) (range_with_len 0 side)
+
 -- the plane with the first n rows of a block written
-unfoldable pub with_block_rows : Samples → ℕ → ℕ → ℕ → ℕ → ℕ → Samples
-with_block_rows p x y side value zero = p
-with_block_rows p x y side value (suc n) = with_span (with_block_rows p x y side value n) x (y + n) (replicate side value)
+unfoldable pub with_block_rows : Samples → ℕ → ℕ → ℕ → (ℕ → ℕ → ℕ) → ℕ → Samples
+with_block_rows p x y side sample zero = p
+with_block_rows p x y side sample (suc n) = with_span (with_block_rows p x y side sample n) x (y + n) (block_row side sample n)
 
--- the plane with each sample of a block set to `value`
-abbrev pub with_block : Samples → ℕ → ℕ → ℕ → ℕ → Samples
-with_block p x y side value = with_block_rows p x y side value side
+-- the plane with a block of these samples written at (x, y)
+abbrev pub with_block : Samples → ℕ → ℕ → ℕ → (ℕ → ℕ → ℕ) → Samples
+with_block p x y side sample = with_block_rows p x y side sample side
 
--- a plane after the prediction of a sub block
-abbrev pub predicted_sub_block : Samples → ℕ → ℕ → Samples
-predicted_sub_block p x y = with_block p x y 4 (sub_block_dc p x y)
+-- a plane after the prediction of sub block n of a macroblock
+abbrev pub predicted_sub_block : Samples → ℕ → ℕ → ℕ → Samples
+predicted_sub_block p mx my n = with_block p (sub_column mx n) (sub_row my n) 4 (sub_block_sample p mx my n)
 
 -- the luma plane after the first n of a macroblock's 16 sub blocks, in raster order
 unfoldable pub predicted_sub_blocks : Samples → ℕ → ℕ → ℕ → Samples
 predicted_sub_blocks p mx my zero = p
-predicted_sub_blocks p mx my (suc n) = predicted_sub_block (predicted_sub_blocks p mx my n) (16 * mx + 4 * (n % 4)) (16 * my + 4 * (n / 4))
+predicted_sub_blocks p mx my (suc n) = predicted_sub_block (predicted_sub_blocks p mx my n) mx my n
 
 -- a chroma plane after a macroblock's block
 abbrev pub predicted_chroma : Samples → ℕ → ℕ → Samples
-predicted_chroma p mx my = with_block p (8 * mx) (8 * my) 8 (chroma_dc p (8 * mx) (8 * my))
+predicted_chroma p mx my = with_block p (8 * mx) (8 * my) 8 (chroma_sample p (8 * mx) (8 * my))
 
 -- the planes after the prediction of the macroblock in column mx of row my
 unfoldable pub predicted_macroblock : Planes → ℕ → ℕ → Planes

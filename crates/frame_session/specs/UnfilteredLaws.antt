@@ -1,5 +1,5 @@
 -- What the definitions of the unfiltered picture come to, sample by sample.
-use Rattle.std.specs.Prelude.{◌≡◌, ℕ, ◌+◌, ◌*◌, ◌<◌, ◌≤◌, nat_lt, if◌then◌else◌}
+use Rattle.std.specs.Prelude.{◌≡◌, ℕ, ◌+◌, ◌-◌, ◌*◌, ◌<◌, ◌≤◌, nat_lt, if◌then◌else◌}
 use Rattle.pixel_planes.specs.Samples.{Samples, IsWhole, sample_at}
 use Rattle.frame_session.specs.Unfiltered.{HoldsSquare, with_block, unfiltered}
 
@@ -7,11 +7,11 @@ use Rattle.frame_session.specs.Unfiltered.{HoldsSquare, with_block, unfiltered}
 abbrev pub IsInSquare : ℕ → ℕ → ℕ → ℕ → ℕ → Type 0
 IsInSquare x y side i j = (x ≤ i) × (i < x + side) × (y ≤ j) × (j < y + side)
 
--- a block that is written has its value throughout, and every other sample is as it was
+-- a block that is written has its samples, and every other sample is as it was
 abbrev pub WritesOneBlock : Type 0
 WritesOneBlock =
-    (p : Samples) (x y side value i j : ℕ) → IsWhole p → HoldsSquare p x y side → i < p.width → j < p.height →
-    (IsInSquare x y side i j → sample_at (with_block p x y side value) i j ≡ value) × ((IsInSquare x y side i j → ⊥) → sample_at (with_block p x y side value) i j ≡ sample_at p i j)
+    (p : Samples) (x y side : ℕ) (sample : ℕ → ℕ → ℕ) (i j : ℕ) → IsWhole p → HoldsSquare p x y side → i < p.width → j < p.height →
+    (IsInSquare x y side i j → sample_at (with_block p x y side sample) i j ≡ sample (i - x) (j - y)) × ((IsInSquare x y side i j → ⊥) → sample_at (with_block p x y side sample) i j ≡ sample_at p i j)
 
 -- the luma sample in each column of row y
 abbrev pub luma_of_row : ℕ → ℕ

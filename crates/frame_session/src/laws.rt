@@ -91,7 +91,7 @@ pub fn worked_lines()
     ensures long { asked_by (codes "delete 000000000000000000001") ≡ requests.Unknown }
 {}
 
-/// A block that is written has its value throughout, and every other sample is as it was.
+/// A block that is written has its samples, and every other sample is as it was.
 pub fn block_write_is_local()
     ensures { WritesOneBlock }
 {}

@@ -1,7 +1,9 @@
-ghost use Rattle.std.specs.Prelude.{◌≡◌, ◌*◌, ◌+◌, ◌<◌, ◌≤◌, IfOk};
-ghost use Rattle.frame_session.specs.Unfiltered.{HoldsSquare, HoldsMacroblock, HaveRoomFor, SameSides, SameShape, above, left, above_sum, left_sum, sub_block_dc, chroma_dc, with_block, predicted_sub_block, predicted_sub_blocks, predicted_chroma, predicted_macroblock, predicted_row, predicted_rows, blank_picture as blank_picture_of, empty_planes as empty_planes_of};
+ghost use Rattle.std.specs.Prelude.{◌≡◌, ◌*◌, ◌+◌, ◌<◌, ◌≤◌, IfOk, length, slice_index, if◌then◌else◌};
+ghost use Rattle.std.specs.Option.{option_copied, ForSome};
+ghost use Rattle.frame_session.specs.Unfiltered.{HoldsSquare, HoldsMacroblock, HaveRoomFor, SameSides, SameShape, above, left, corner, above_row, left_column, above_eight, with_block, predicted_sub_block, predicted_sub_blocks, predicted_chroma, predicted_macroblock, predicted_row, predicted_rows, blank_picture as blank_picture_of, empty_planes as empty_planes_of};
 ghost use Rattle.pixel_planes.specs.Pictures.{macroblocks as macroblocks_of};
 
+use intra_predict::{BlockSize, SubMode, WholeMode, sub, whole};
 use pixel_planes::{NoMemory, Picture, Plane, Planes};
 use std::alloc::Global;
 
@@ -21,66 +23,85 @@ fn sample_left(plane: &Plane, x: usize, y: usize) -> u8
     if x == 0 { 129 } else { plane.row(y)[x - 1] }
 }
 
-/// The sum of the samples above a block of at most 16 by 16 samples at column `x` of row `y`.
-fn sum_above(plane: &Plane, x: usize, y: usize, side: usize) -> u16
-    requires within { HoldsSquare plane.now x y side }
-    requires small { side ≤ 16 }
-    ensures value { result ≡ above_sum plane.now x y side }
-    ensures bound { result ≤ 255 * side }
+/// The sample above the column to the left of a block at column `x` of row `y` (RFC 6386, section 12.2).
+fn sample_corner(plane: &Plane, x: usize, y: usize) -> u8
+    requires { (x ≤ plane.now.width) × (y ≤ plane.now.height) }
+    ensures { result ≡ corner plane.now x y }
 {
-    let mut sum = 0;
-    for i in 0..side {
-        sum += u16::from(sample_above(plane, x + i, y));
+    if y == 0 {
+        127
+    } else {
+        sample_left(plane, x, y - 1)
     }
-    sum
 }
 
-/// The sum of the samples to the left of a block of at most 16 by 16 samples at column `x` of row `y`.
-fn sum_left(plane: &Plane, x: usize, y: usize, side: usize) -> u16
-    requires within { HoldsSquare plane.now x y side }
-    requires small { side ≤ 16 }
-    ensures value { result ≡ left_sum plane.now x y side }
-    ensures bound { result ≤ 255 * side }
+/// Reads the samples above a block at column `x` of row `y` into `out`.
+fn read_above(plane: &Plane, x: usize, y: usize, out: &mut [u8])
+    requires within { (x + length out.old ≤ plane.now.width) × (y ≤ plane.now.height) }
+    requires small { plane.now.width ≤ 16384 }
+    ensures { out.new ≡ above_row plane.now x y (length out.old) }
 {
-    let mut sum = 0;
-    for i in 0..side {
-        sum += u16::from(sample_left(plane, x, y + i));
+    for k in 0..out.len() {
+        out[k] = sample_above(plane, x + k, y);
     }
-    sum
 }
 
-/// The value that mode DC gives a sub block (RFC 6386, section 12.3).
-fn sub_block_mean(plane: &Plane, x: usize, y: usize) -> u8
-    requires { HoldsSquare plane.now x y 4 }
-    ensures { result ≡ sub_block_dc plane.now x y }
+/// Reads the samples to the left of a block at column `x` of row `y` into `out`.
+fn read_left(plane: &Plane, x: usize, y: usize, out: &mut [u8])
+    requires within { (x ≤ plane.now.width) × (y + length out.old ≤ plane.now.height) }
+    requires small { plane.now.height ≤ 16384 }
+    ensures { out.new ≡ left_column plane.now x y (length out.old) }
 {
-    let sum = sum_above(plane, x, y, 4) + sum_left(plane, x, y, 4);
-    ((sum + 4) >> 3) as u8
+    for k in 0..out.len() {
+        out[k] = sample_left(plane, x, y + k);
+    }
 }
 
-/// The value that mode DC gives a chroma block (RFC 6386, section 12.2).
-fn chroma_mean(plane: &Plane, x: usize, y: usize) -> u8
-    requires { HoldsSquare plane.now x y 8 }
-    ensures { result ≡ chroma_dc plane.now x y }
+/// Reads the eight samples above a sub block of a macroblock. Those on the right of the last
+/// column of sub blocks stand above the macroblock, for each of its rows (RFC 6386, section 12.3).
+fn read_above_eight(plane: &Plane, mx: usize, my: usize, block: usize, out: &mut [u8; 8])
+    requires within { HoldsSquare plane.now (16 * mx) (16 * my) 16 }
+    requires block { block < 16 }
+    ensures { out.new ≡ above_eight plane.now mx my block }
 {
-    let mean = match (x == 0, y == 0) {
-        (true, true) => 128,
-        (true, false) => (sum_above(plane, x, y, 8) + 4) >> 3,
-        (false, true) => (sum_left(plane, x, y, 8) + 4) >> 3,
-        (false, false) => (sum_above(plane, x, y, 8) + sum_left(plane, x, y, 8) + 8) >> 4,
-    };
-    mean as u8
+    let x = 16 * mx + 4 * (block % 4);
+    let y = 16 * my + 4 * (block / 4);
+    let right_y = if block % 4 == 3 { 16 * my } else { y };
+    let last = plane.width() - 1;
+    for k in 0..8 {
+        let y = if k < 4 { y } else { right_y };
+        out[k] = sample_above(plane, (x + k).min(last), y);
+    }
 }
 
-/// Sets each sample of a block at column `x` of row `y`.
-fn fill_block(plane: &mut Plane, x: usize, y: usize, side: usize, value: u8)
-    requires { HoldsSquare plane.old x y side }
-    ensures value { plane.new ≡ with_block plane.old x y side value }
+/// Writes a block of `side` by `side` samples at column `x` of row `y`.
+fn write_block(plane: &mut Plane, x: usize, y: usize, side: usize, block: &[u8])
+    requires within { HoldsSquare plane.old x y side }
+    requires small { side ≤ 16 }
+    requires whole { length block.now ≡ side * side }
+    ensures value { plane.new ≡ with_block plane.old x y side (λ column row. slice_index block.now (row * side + column)) }
     ensures sides { SameSides plane.old plane.new }
 {
     for row in 0..side {
-        plane.row_mut(y + row)[x..x + side].fill(value);
+        let start = row * side;
+        plane.row_mut(y + row)[x..x + side].copy_from_slice(&block[start..start + side]);
     }
+}
+
+/// Predicts a sub block of a macroblock from what stands round it by then.
+fn predict_sub_block(plane: &mut Plane, mx: usize, my: usize, block: usize)
+    requires within { HoldsSquare plane.old (16 * mx) (16 * my) 16 }
+    requires block { block < 16 }
+    ensures value { plane.new ≡ predicted_sub_block plane.old mx my block }
+    ensures sides { SameSides plane.old plane.new }
+{
+    let (x, y) = (16 * mx + 4 * (block % 4), 16 * my + 4 * (block / 4));
+    let mut left = [0; 4];
+    read_left(plane, x, y, &mut left);
+    let mut above = [0; 8];
+    read_above_eight(plane, mx, my, block, &mut above);
+    let samples = sub(SubMode::Dc, left, sample_corner(plane, x, y), above);
+    write_block(plane, x, y, 4, &samples);
 }
 
 /// Predicts the 16 sub blocks of a macroblock, each from what stands round it by then.
@@ -90,11 +111,16 @@ fn predict_luma(plane: &mut Plane, mx: usize, my: usize)
     ensures sides { SameSides plane.old plane.new }
 {
     for block in 0..16 {
-        let x = 16 * mx + 4 * (block % 4);
-        let y = 16 * my + 4 * (block / 4);
-        let value = sub_block_mean(plane, x, y);
-        fill_block(plane, x, y, 4, value);
+        predict_sub_block(plane, mx, my, block);
     }
+}
+
+/// A side of a block, `None` where it is outside the frame.
+fn side_inside(is_outside: bool, samples: &[u8]) -> Option<&[u8]>
+    ensures value { option_copied result ≡ (if is_outside then None else Some samples.now) }
+    ensures len { ForSome result (λ side. length side.now ≡ length samples.now) }
+{
+    if is_outside { None } else { Some(samples) }
 }
 
 /// Predicts the block of a macroblock in a chroma plane.
@@ -103,8 +129,23 @@ fn predict_chroma(plane: &mut Plane, mx: usize, my: usize)
     ensures value { plane.new ≡ predicted_chroma plane.old mx my }
     ensures sides { SameSides plane.old plane.new }
 {
-    let value = chroma_mean(plane, 8 * mx, 8 * my);
-    fill_block(plane, 8 * mx, 8 * my, 8, value);
+    let (x, y) = (8 * mx, 8 * my);
+    let mut above = [0; 8];
+    read_above(plane, x, y, &mut above);
+    let mut left = [0; 8];
+    read_left(plane, x, y, &mut left);
+    let above = side_inside(y == 0, &above);
+    let left = side_inside(x == 0, &left);
+    let mut block = [0; 64];
+    whole(
+        WholeMode::Dc,
+        BlockSize::Eight,
+        above,
+        left,
+        sample_corner(plane, x, y),
+        &mut block,
+    );
+    write_block(plane, x, y, 8, &block);
 }
 
 /// Predicts the macroblock in column `mx` of row `my` from what stands round it.

@@ -1,2 +1,15 @@
 //! Intra prediction of VP8 (RFC 6386, section 12).
 #![tactic(auto)]
+
+mod fills;
+pub mod laws;
+mod means;
+mod modes;
+mod sub_blocks;
+#[cfg(test)]
+mod tests;
+mod whole_blocks;
+
+pub use modes::{BlockSize, SubMode, WholeMode};
+pub use sub_blocks::sub;
+pub use whole_blocks::whole;

@@ -8,4 +8,4 @@ loop-block-init c = (refl, search rules)
 
 pub loop-block-preserved : goal.loop-block-preserved
 unfolding predicted_sub_blocks
-loop-block-preserved c = (rw (add-one, ← c.loop-block.invariant.0, c.fill_block.ensures.value, c.sub_block_mean-value.ensures) refl, search rules)
+loop-block-preserved c = (rw (add-one, ← c.loop-block.invariant.0) c.predict_sub_block.ensures.value, search rules)

@@ -1,0 +1,4 @@
+pub mod Directions
+pub mod MeanLemmas
+pub mod Places
+pub mod Rows

@@ -1,0 +1,5 @@
+pub mod Means
+pub mod Blocks
+pub mod WholeSample
+pub mod SubSample
+pub mod SubLaws
