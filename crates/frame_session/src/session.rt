@@ -1,4 +1,4 @@
-ghost use Rattle.std.specs.Prelude.{◌≡◌, ◌≤◌, IfOk, length};
+ghost use Rattle.std.specs.Prelude.{◌≡◌, ◌≤◌, IfOk, OnErr, length};
 ghost use Rattle.frame_session.specs.Gives.{Gives};
 ghost use Rattle.frame_session.specs.Edits.{EditGives, edit_of};
 ghost use Rattle.frame_session.specs.declared.edit.Edit.TheVariants.{Insert, Replace};
@@ -110,6 +110,7 @@ impl Session {
     pub fn edit(&mut self, edit: Edit) -> Result<u64, Refusal>
         ensures gives { EditGives self.old.list edit result }
         ensures after { self.new ≡ behind_edit edit self.old result }
+        ensures refused { OnErr result (self.new ≡ self.old) }
     {
         self.list.edit(edit)
     }
