@@ -1,0 +1,150 @@
+#!/usr/bin/env python3
+"""Compares the program's replies to random lists of requests with those of a plain model of them, written anew here.
+
+    compare/edits.py [LISTS]
+
+README.md says more.
+"""
+import pathlib
+import random
+import struct
+import subprocess
+import sys
+import tempfile
+
+PROGRAM = pathlib.Path(__file__).resolve().parent.parent / "crates/vp8serve/out/vp8serve"
+TOP = 2**64
+
+
+def key(width, height):
+    return bytes.fromhex("10 00 00 9D 01 2A") + struct.pack("<HH", width, height)
+
+
+PACKETS = [
+    key(16, 16),
+    key(16, 16),
+    key(40, 24),
+    bytes([0x11, 0, 0]),
+    bytes([0x01, 0, 0]),
+    b"",
+    bytes([0x11, 0]),
+    bytes.fromhex("10 00 00 9D 01 2B 10 00 10 00"),
+    bytes.fromhex("18 00 00 9D 01 2A 10 00 10 00"),
+    bytes.fromhex("30 00 00 9D 01 2A 10 00 10 00"),
+    bytes.fromhex("00 00 00 9D 01 2A 20 00 10 00"),
+]
+
+
+def cause(packet, has_state):
+    """What is wrong with a packet, or None: these packets alone."""
+    if len(packet) < 3 or (packet[0] % 2 == 0 and len(packet) < 10):
+        return "ShortPacket"
+    if packet[0] >> 1 & 7 > 3:
+        return "Version"
+    if packet[0] % 2 == 0:
+        if packet[3:6] != bytes([0x9D, 0x01, 0x2A]):
+            return "StartCode"
+        return "FirstPartition" if packet[0] >> 5 else None
+    return "NotYet" if has_state else "NoKeyFrame"
+
+
+class Model:
+    """A session: the packets, and the size that the first frame served has fixed."""
+
+    def __init__(self, packets):
+        self.packets = list(packets)
+        self.size = None
+
+    def frame(self, n):
+        shown = [i for i, p in enumerate(self.packets) if len(p) < 3 or p[0] & 0x10]
+        if n >= len(shown):
+            return "refused NoSuchFrame"
+        size, broken = None, None
+        for place, packet in enumerate(self.packets[: shown[n] + 1]):
+            has_key_tag = len(packet) >= 3 and packet[0] % 2 == 0
+            if broken and not has_key_tag:
+                continue
+            fault = cause(packet, size is not None and not has_key_tag)
+            broken = (place, fault) if fault else None
+            size = None if fault else struct.unpack("<HH", packet[6:10])
+        if broken:
+            return f"refused packet {broken[0]} {broken[1]}"
+        if self.size not in (None, size):
+            return "refused SizeDiffers"
+        self.size = size
+        return f"served {n}"
+
+    def answer(self, line):
+        words = line.split(" ")
+        words = [word for word in words if word]
+        count = len(self.packets)
+        try:
+            command, numbers = words[0], [int(word) for word in words[1:3]]
+        except ValueError:
+            command, numbers = words[0], [int(word) for word in words[1:2]]
+        if command == "frame":
+            return self.frame(numbers[0])
+        if command == "count":
+            return f"packets {count} frames {sum(len(p) < 3 or p[0] & 0x10 != 0 for p in self.packets)}"
+        if command == "stats":
+            return "decoded"
+        if command == "insert":
+            if numbers[0] > count:
+                return "refused Place"
+            self.packets.insert(numbers[0], bytes.fromhex(words[3].replace("-", "")))
+        elif numbers[0] >= count or (command == "move" and numbers[1] >= count):
+            return "refused Place"
+        elif command == "replace":
+            self.packets[numbers[0]] = bytes.fromhex(words[2].replace("-", ""))
+        elif command == "delete":
+            del self.packets[numbers[0]]
+        else:
+            self.packets.insert(numbers[1], self.packets.pop(numbers[0]))
+        return f"ok {len(self.packets)}"
+
+
+def random_line(most):
+    place = lambda: random.choice([random.randrange(most), random.randrange(most), TOP - 1]) if random.random() < 0.1 else random.randrange(most)
+    hex = random.choice(PACKETS).hex() or "-"
+    hex = random.choice([hex, hex.upper()])
+    return random.choice(
+        [f"frame {place()}"] * 6
+        + [f"insert {place()} {random.randrange(TOP)} {hex}"] * 2
+        + [f"replace {place()} {hex}", f"delete {place()}", f"move {place()} {place()}", f"  move   {place()}  {place()} ", "count", "stats"]
+    )
+
+
+def compare(room, seed):
+    random.seed(seed)
+    packets = [random.choice(PACKETS) for _ in range(random.randrange(9))]
+    lines = [random_line(10) for _ in range(60)]
+    with open(f"{room}/in.ivf", "wb") as file:
+        file.write(struct.pack("<4sHH4sHHIIII", b"DKIF", 0, 32, b"VP80", 16, 16, 30, 1, len(packets), 0))
+        for stamp, packet in enumerate(packets):
+            file.write(struct.pack("<IQ", len(packet), stamp) + packet)
+    pathlib.Path(f"{room}/requests").write_text("\n".join(lines))
+    ran = subprocess.run([PROGRAM, f"{room}/in.ivf", f"{room}/requests"], check=True, capture_output=True, text=True)
+    model = Model(packets)
+    wanted = [model.answer(line) for line in lines]
+    told = ["decoded" if reply.startswith("decoded ") else reply for reply in ran.stdout.splitlines()]
+    steps = [int(reply.split()[1]) for reply in ran.stdout.splitlines() if reply.startswith("decoded ")]
+    if told != wanted or steps != sorted(steps):
+        row = next((i for i, pair in enumerate(zip(told, wanted)) if pair[0] != pair[1]), min(len(told), len(wanted)))
+        sys.exit(f"list {seed}, line {row}: {lines[row : row + 1]}: told {told[row : row + 1]}, wanted {wanted[row : row + 1]}")
+    return wanted
+
+
+def main():
+    lists = int(sys.argv[1]) if len(sys.argv) > 1 else 500
+    kinds = {}
+    with tempfile.TemporaryDirectory() as room:
+        for seed in range(lists):
+            for reply in compare(room, seed):
+                kind = " ".join(word for word in reply.split() if not word.isdigit())
+                kinds[kind] = kinds.get(kind, 0) + 1
+    print(f"{lists} lists of 60 requests each: all replies are the model's")
+    for kind, count in sorted(kinds.items()):
+        print(f"{count:7} {kind}")
+
+
+main()
