@@ -1,5 +1,5 @@
 -- Each request list has a meaning in which memory is never refused.
-use Rattle.std.proofs.Common.{◌≡◌, ℕ, List, [], ◌∷◌, Bool, true, false, cond, Option, Some, None, Result, Ok, Err, get_or, refl, ap, arith}
+use Rattle.std.proofs.Common.{◌≡◌, ℕ, List, [], ◌∷◌, Bool, true, false, cond, Option, Some, None, Result, Ok, Err, get_or, refl, sym, ap, ◌∙◌, ◌≤◌, arith}
 use Rattle.pixel_planes.specs.Pictures.{PictureSamples}
 use Rattle.frame_session.specs.declared.lines.Line.{Line}
 use Rattle.frame_session.specs.declared.lines.Line.TheVariants.{Silent, Unknown, Frame}
@@ -7,8 +7,8 @@ use Rattle.frame_session.specs.declared.refusal.Refusal.{Refusal}
 use Rattle.frame_session.specs.declared.refusal.Refusal.TheVariants as refusals
 use Rattle.frame_session.specs.declared.size.Size.{Size}
 use Rattle.frame_session.specs.Decoding.{Outcome}
-use Rattle.frame_session.specs.Replies.{refused_line}
-use Rattle.frame_session.specs.Sessions.{Gives, Now, after_frame, frame_from, frame_of, has_size, outcome_of}
+use Rattle.frame_session.specs.Replies.{refused_line, served_line}
+use Rattle.frame_session.specs.Sessions.{Gives, IsAfterFrame, Now, after_frame, fitted, frame_from, frame_of, has_size, outcome_of}
 use Rattle.frame_session.specs.Answers.{Answer, Answers, Run, answer_to_frame, told}
 use Rattle.frame_session.specs.Laws.{HaveMemory}
 
