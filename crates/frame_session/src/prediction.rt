@@ -8,6 +8,7 @@ use pixel_planes::{NoMemory, Picture, Plane, Planes};
 use std::alloc::Global;
 
 /// The sample above column `x` of row `y`, 127 above the frame (RFC 6386, section 12.2).
+#[inline]
 fn sample_above(plane: &Plane, x: usize, y: usize) -> u8
     requires { (x < plane.now.width) × (y ≤ plane.now.height) }
     ensures { result ≡ above plane.now x y }
@@ -16,6 +17,7 @@ fn sample_above(plane: &Plane, x: usize, y: usize) -> u8
 }
 
 /// The sample to the left of column `x` of row `y`, 129 left of the frame (RFC 6386, section 12.2).
+#[inline]
 fn sample_left(plane: &Plane, x: usize, y: usize) -> u8
     requires { (x ≤ plane.now.width) × (y < plane.now.height) }
     ensures { result ≡ left plane.now x y }
@@ -36,6 +38,7 @@ fn sample_corner(plane: &Plane, x: usize, y: usize) -> u8
 }
 
 /// Reads the samples above a block at column `x` of row `y` into `out`.
+#[inline(always)]
 fn read_above(plane: &Plane, x: usize, y: usize, out: &mut [u8])
     requires within { (x + length out.old ≤ plane.now.width) × (y ≤ plane.now.height) }
     requires small { plane.now.width ≤ 16384 }
@@ -47,6 +50,7 @@ fn read_above(plane: &Plane, x: usize, y: usize, out: &mut [u8])
 }
 
 /// Reads the samples to the left of a block at column `x` of row `y` into `out`.
+#[inline(always)]
 fn read_left(plane: &Plane, x: usize, y: usize, out: &mut [u8])
     requires within { (x ≤ plane.now.width) × (y + length out.old ≤ plane.now.height) }
     requires small { plane.now.height ≤ 16384 }
@@ -59,6 +63,7 @@ fn read_left(plane: &Plane, x: usize, y: usize, out: &mut [u8])
 
 /// Reads the eight samples above a sub block of a macroblock. Those on the right of the last
 /// column of sub blocks stand above the macroblock, for each of its rows (RFC 6386, section 12.3).
+#[inline(always)]
 fn read_above_eight(plane: &Plane, mx: usize, my: usize, block: usize, out: &mut [u8; 8])
     requires within { HoldsSquare plane.now (16 * mx) (16 * my) 16 }
     requires block { block < 16 }
@@ -75,6 +80,7 @@ fn read_above_eight(plane: &Plane, mx: usize, my: usize, block: usize, out: &mut
 }
 
 /// Writes a block of `side` by `side` samples at column `x` of row `y`.
+#[inline(always)]
 fn write_block(plane: &mut Plane, x: usize, y: usize, side: usize, block: &[u8])
     requires within { HoldsSquare plane.old x y side }
     requires small { side ≤ 16 }

@@ -27,6 +27,7 @@ pub fn gradient(left: u8, above: u8, corner: u8) -> u8
 }
 
 /// The sum of at most 16 samples.
+#[inline]
 pub fn sum_of(samples: &[u8]) -> u16
     requires { length samples.now ≤ 16 }
     ensures value { result ≡ sum samples.now }

@@ -11,6 +11,7 @@ use crate::modes::SubMode;
 /// `left` is the column to its left from the top, `corner` the sample above that column, and
 /// `above` the row above it, of which four samples stand further right. The result is four rows of
 /// four samples.
+#[inline]
 pub fn sub(mode: SubMode, left: [u8; 4], corner: u8, above: [u8; 8]) -> [u8; 16]
     ensures { IsBlock 4 (sub_sample mode left corner above) result }
 {
@@ -29,6 +30,7 @@ pub fn sub(mode: SubMode, left: [u8; 4], corner: u8, above: [u8; 8]) -> [u8; 16]
 }
 
 /// `B_DC_PRED`.
+#[inline]
 fn mean_of_sides(left: [u8; 4], above: [u8; 8]) -> [u8; 16]
     ensures { (corner : ℕ) → IsBlock 4 (sub_sample SubMode.Dc left corner above) result }
 {

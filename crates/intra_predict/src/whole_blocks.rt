@@ -19,6 +19,7 @@ const LEFT_OF_FRAME: [u8; 16] = [129; 16];
 /// `above` is the row above the block and `left` the column to its left from the top, as many
 /// samples as the block has in a row; `None` stands for a side outside the frame. `corner` is the
 /// sample above the left column. `out` is the block, row by row.
+#[inline]
 pub fn whole(
     mode: WholeMode,
     size: BlockSize,
