@@ -1,3 +1,5 @@
 pub mod Renewal
 pub mod Literals
 pub mod UncutAlike
+pub mod Windows
+pub mod Shifts

@@ -1,3 +1,4 @@
 pub mod Reader
 pub mod Reading
 pub mod Uncut
+pub mod Window

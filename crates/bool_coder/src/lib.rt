@@ -3,5 +3,6 @@
 
 mod decoder;
 pub mod laws;
+mod window;
 
 pub use decoder::Decoder;
