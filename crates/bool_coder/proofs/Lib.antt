@@ -3,3 +3,4 @@ pub mod Literals
 pub mod UncutAlike
 pub mod Windows
 pub mod Shifts
+pub mod Leaves

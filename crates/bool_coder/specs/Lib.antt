@@ -1,4 +1,6 @@
 pub mod Reader
 pub mod Reading
+pub mod Trees
 pub mod Uncut
 pub mod Window
+pub mod Worked

@@ -1,8 +1,9 @@
 //! The decoder of RFC 6386, section 7.
 
-ghost use Rattle.std.specs.Prelude.{◌≡◌, ◌*◌, ◌<◌, ◌≤◌, ◌^◌};
+ghost use Rattle.std.specs.Prelude.{◌≡◌, ◌*◌, ◌<◌, ◌≤◌, ◌^◌, IsTrue, unsigned_abs};
 ghost use Rattle.bool_coder.specs.Reader.{started, read};
-ghost use Rattle.bool_coder.specs.Reading.{flag, literal, magnitude_and_sign, signed_or};
+ghost use Rattle.bool_coder.specs.Reading.{flag, literal, signed};
+ghost use Rattle.bool_coder.specs.Trees.{is_tree, leaf};
 
 use crate::window::Window;
 use std::marker::Model;
@@ -80,26 +81,36 @@ impl<'a> Decoder<'a> {
         value
     }
 
-    /// A magnitude of `count` bits, at most 7, and its sign.
-    #[tactic(auto, unfolding(crate::specs::Reading::magnitude_and_sign))]
-    fn magnitude_and_sign(&mut self, count: u32) -> i8
-        requires { count ≤ 7 }
-        ensures { magnitude_and_sign count self.old ≡ (result, self.new) }
+    /// A flagged number: a flag, and where it is set a magnitude of `count` bits, at most 15, and a
+    /// sign, where 1 is minus; else 0 (RFC 6386, section 9.3).
+    #[tactic(auto, unfolding(crate::specs::Reading::signed))]
+    pub fn signed(&mut self, count: u32) -> i16
+        requires { count ≤ 15 }
+        ensures value { signed count self.old ≡ (result, self.new) }
+        ensures small { unsigned_abs result < 2 ^ count }
     {
-        let magnitude = self.literal(count) as i8;
+        if !self.flag() {
+            return 0;
+        }
+        let magnitude = self.literal(count) as i16;
         if self.flag() { -magnitude } else { magnitude }
     }
 
-    /// A flagged number of `count` bits, at most 7: `absent` where its flag is 0.
-    #[tactic(auto, unfolding(crate::specs::Reading::signed_or))]
-    pub fn signed_or(&mut self, count: u32, absent: i8) -> i8
-        requires { count ≤ 7 }
-        ensures { signed_or count absent self.old ≡ (result, self.new) }
+    /// The leaf of a tree to which one bit at each node leads (RFC 6386, section 8.1). A tree is a
+    /// list of pairs of entries, of which an entry above 0 is the place of a later pair and another
+    /// is a leaf with its negative as the value; `probs` has a probability for each pair.
+    pub fn tree(&mut self, tree: &[i8], probs: &[u8]) -> u8
+        requires { IsTrue (is_tree tree.now probs.now) }
+        ensures { leaf tree.now probs.now self.old ≡ (result, self.new) }
     {
-        if self.flag() {
-            self.magnitude_and_sign(count)
-        } else {
-            absent
+        let mut node = 0;
+        loop {
+            let bit = self.bit(probs[node / 2]);
+            let entry = tree[node + bit as usize];
+            if entry <= 0 {
+                return entry.unsigned_abs();
+            }
+            node = entry as usize;
         }
     }
 }
