@@ -2,6 +2,8 @@
 #![tactic(auto)]
 
 mod decoder;
+#[cfg(test)]
+mod decoder_tests;
 pub mod laws;
 mod window;
 
