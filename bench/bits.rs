@@ -31,6 +31,7 @@ fn proved_ones(bytes: &[u8], probs: &[u8], rounds: u32) -> u32 {
 }
 
 /// The decoder of RFC 6386, section 7, over a window of 64 bits, of which the low `left` are unread.
+#[derive(Clone, Copy)]
 struct HandWritten<'a> {
     bytes: &'a [u8],
     value: u64,
@@ -65,7 +66,7 @@ impl<'a> HandWritten<'a> {
         }
         let count = self.range.leading_zeros() - 24;
         if self.left < count {
-            self.refill(count);
+            *self = self.refilled(count);
         }
         self.left -= count;
         self.range <<= count;
@@ -74,7 +75,7 @@ impl<'a> HandWritten<'a> {
 
     #[cold]
     #[inline(never)]
-    fn refill(&mut self, count: u32) {
+    fn refilled(mut self, count: u32) -> Self {
         let d = self.value >> self.left;
         if d > u64::from(self.range) {
             self.value -= (d - u64::from(self.range)) << self.left;
@@ -91,6 +92,7 @@ impl<'a> HandWritten<'a> {
             self.value <<= count - self.left;
             self.left = count;
         }
+        self
     }
 }
 

@@ -9,7 +9,7 @@ ghost use Rattle.bool_coder.specs.Window.{reader_of, doublings};
 ///
 /// Once d has reached the range it stays there, and every bit is 1. Nothing on the way through the
 /// bits changes that, so d is cut to the range in `hold` alone, before bytes come in.
-#[derive(Drop)]
+#[derive(Clone, Copy)]
 pub struct Window<'a> {
     pub bytes: &'a [u8],
     pub value: u64,
@@ -46,28 +46,31 @@ impl<'a> Window<'a> {
         ensures room { self.new.left ≤ 56 }
     {
         if self.left < count {
-            self.refill(count, range);
+            *self = self.refilled(count, range);
         }
         self.left -= count;
     }
 
-    /// Makes at least `count` bits of the window unread, with zeros behind the last byte.
+    /// This window with at least `count` unread bits, with zeros behind the last byte. It is taken
+    /// and given by value, so that what reads bits one after another keeps it in registers.
     #[cold]
     #[inline(never)]
-    fn refill(&mut self, count: u32, range: u32)
+    fn refilled(self, count: u32, range: u32) -> Window<'a>
         requires few { count ≤ 7 }
         requires range { range ≤ 255 }
-        requires short { self.old.left < count }
-        ensures same { reader_of self.new.value (self.new.left - count) self.new.bytes.now (range * 2 ^ count) ≡ doublings count (reader_of self.old.value self.old.left self.old.bytes.now range) }
-        ensures enough { count ≤ self.new.left }
-        ensures room { self.new.left ≤ 56 }
+        requires short { self.left < count }
+        ensures same { reader_of result.value (result.left - count) result.bytes.now (range * 2 ^ count) ≡ doublings count (reader_of self.entry.value self.entry.left self.entry.bytes.now range) }
+        ensures enough { count ≤ result.left }
+        ensures room { result.left ≤ 56 }
     {
-        self.hold(range);
-        self.pull();
-        if self.left < count {
-            self.value <<= count - self.left;
-            self.left = count;
+        let mut window = self;
+        window.hold(range);
+        window.pull();
+        if window.left < count {
+            window.value <<= count - window.left;
+            window.left = count;
         }
+        window
     }
 
     /// Cuts d to the range, which leaves room above it.
