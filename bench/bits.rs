@@ -117,7 +117,12 @@ fn pseudo_random(mut seed: u32, count: usize) -> Vec<u8> {
     (0..count).map(|_| next()).collect()
 }
 
-fn seconds(of: fn(&[u8], &[u8], u32) -> u32, bytes: &[u8], probs: &[u8], rounds: u32) -> (f64, u32) {
+fn seconds(
+    of: fn(&[u8], &[u8], u32) -> u32,
+    bytes: &[u8],
+    probs: &[u8],
+    rounds: u32,
+) -> (f64, u32) {
     let start = Instant::now();
     let ones = of(black_box(bytes), black_box(probs), rounds);
     (start.elapsed().as_secs_f64(), ones)
@@ -138,6 +143,9 @@ fn main() {
     }
     let nanoseconds = |time: f64| time * 1e9 / READS as f64;
     println!("bool_coder::Decoder: {:.2} ns a bit", nanoseconds(proved));
-    println!("written by hand:     {:.2} ns a bit", nanoseconds(hand_written));
+    println!(
+        "written by hand:     {:.2} ns a bit",
+        nanoseconds(hand_written)
+    );
     println!("ratio: {:.2}", proved / hand_written);
 }

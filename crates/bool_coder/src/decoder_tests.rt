@@ -119,6 +119,13 @@ fn reads_written_bits(rt: HostRuntime) {
     }
 }
 
+const STEPS: [i8; 6] = [0, 2, -1, 4, -2, -3];
+
+/// A leaf at probabilities that the caller has, as a frame's header gives them.
+fn step_of(text: &[u8], probs: [u8; 3]) -> u8 {
+    Decoder::new(text).tree(&STEPS, &probs)
+}
+
 // The bits are those of the test above. 0xC0 is 192: 1 leaves 64 of 127, doubled 128 of 254; 1
 // leaves 1 of 127, doubled 2 of 254, which is below the split at 127.
 #[test]
@@ -129,10 +136,8 @@ fn reads_numbers_and_leaves(rt: HostRuntime) {
     assert_eq!(rt; Decoder::new(&[0xC0]).signed(1), 1);
     assert_eq!(rt; Decoder::new(&[0xFF; 4]).signed(15), -32_767);
     assert_eq!(rt; Decoder::new(&[]).signed(15), 0);
-    let steps = [0, 2, -1, 4, -2, -3];
-    let probs = [128; 3];
-    assert_eq!(rt; Decoder::new(&[]).tree(&steps, &probs), 0);
-    assert_eq!(rt; Decoder::new(&[0x9F, 0xC0]).tree(&steps, &probs), 1);
-    assert_eq!(rt; Decoder::new(&[0xC0]).tree(&steps, &probs), 2);
-    assert_eq!(rt; Decoder::new(&[0xFF; 4]).tree(&steps, &probs), 3);
+    assert_eq!(rt; step_of(&[], [128; 3]), 0);
+    assert_eq!(rt; step_of(&[0x9F, 0xC0], [128; 3]), 1);
+    assert_eq!(rt; step_of(&[0xC0], [128; 3]), 2);
+    assert_eq!(rt; step_of(&[0xFF; 4], [128; 3]), 3);
 }
