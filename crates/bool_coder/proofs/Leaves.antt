@@ -1,5 +1,5 @@
-use Rattle.std.proofs.Common.{◌≡◌, ℕ, zero, suc, ◌+◌, ◌*◌, ◌/◌, ◌%◌, ◌<◌, ◌≤◌, Bool, true, false, List, [], ◌∷◌, length, slice_index_or, refl, sym, ◌∙◌, arith}
-use Rattle.std.specs.Prelude.{ℤ, pos, negsuc, unsigned_abs, slice_index, nat_lt, nat_eq, ◌&&◌, ◌||◌}
+use Rattle.std.proofs.Common.{◌≡◌, ℕ, zero, suc, ◌+◌, ◌*◌, ◌/◌, ◌%◌, ◌<◌, ◌≤◌, Bool, true, false, List, [], ◌∷◌, length, slice_index_or, refl, sym, ◌∙◌, arith, inl, inr}
+use Rattle.std.specs.Prelude.{◌⊎◌, ℤ, pos, negsuc, unsigned_abs, slice_index, nat_lt, nat_eq, ◌&&◌, ◌||◌}
 use Rattle.std.specs.Int.{from_bool}
 use Rattle.std.specs.Int.Signed.{le_z}
 use Rattle.std.proofs.lemmas.Bool.{and_parts, eqb-true, leb-true}
@@ -124,3 +124,31 @@ move_at tree probs start r s bit place (suc fuel) node facts stands enough same 
 pub stands-moved : (tree : List ℤ) (probs : List ℕ) (start r s : Reader) (bit : Bool) (place node : ℕ) → is_tree tree probs ≡ true → StandsAt tree probs start r place → read (slice_index probs (place / 2)) r ≡ (bit, s) → le_z (slice_index_or tree (place + from_bool bit) (pos 0)) (pos 0) ≡ false → node ≡ unsigned_abs (slice_index_or tree (place + from_bool bit) (pos 0)) → Moved tree probs start s place node
 stands-moved tree probs start r s bit place node is stands told leads next =
     move_at tree probs start r s bit place stands.fuel node (tree_of tree probs is) stands.node stands.enough stands.same told (is_node-node (slice_index_or tree (place + from_bool bit) (pos 0)) leads) next
+
+either : (b : Bool) → (b ≡ true) ⊎ (b ≡ false)
+either true = inl refl
+either false = inr refl
+
+-- a walk from a node is over before a fuel that reaches the tree's end is used up
+pub leaf_below-more : (tree : List ℤ) (probs : List ℕ) → Tree tree probs → (fuel more place : ℕ) (r : Reader) → Node tree place → length tree ≤ place + fuel → leaf_below (fuel + more) tree probs place r ≡ leaf_below fuel tree probs place r
+leaf_below-more tree probs facts zero more place r node enough = absurd (omega arith)
+leaf_below-more tree probs facts (suc fuel) more place r node enough =
+    let next : suc fuel + more ≡ suc (fuel + more) = omega arith in
+    let bit : Bool = (read (slice_index probs (place / 2)) r).0 in
+    let s : Reader = (read (slice_index probs (place / 2)) r).1 in
+    let entry : ℤ = slice_index_or tree (place + from_bool bit) (pos 0) in
+    let small : from_bool bit ≤ 1 = from_bool-le_one bit in
+    let here : place + from_bool bit < length tree = omega arith in
+    rw next
+    (elim (either (is_node entry)) [
+      | inl leads ↦
+          let found : Later (length tree) (place + from_bool bit) (unsigned_abs entry) = entry_node (length tree) (place + from_bool bit) entry facts.even (facts.entries _ here) leads in
+          leaf_below-on (fuel + more) tree probs place r s bit refl leads ∙ leaf_below-more tree probs facts fuel more (unsigned_abs entry) s (record { even = found.even; inside = found.inside }) (omega arith) ∙ sym (leaf_below-on fuel tree probs place r s bit refl leads)
+      | inr ends ↦ leaf_below-end (fuel + more) tree probs place r s bit refl ends ∙ sym (leaf_below-end fuel tree probs place r s bit refl ends)
+    ])
+
+pub leaf-reached : (tree : List ℤ) (probs : List ℕ) → is_tree tree probs ≡ true → (more : ℕ) (r : Reader) → leaf_below (length tree + more) tree probs 0 r ≡ leaf tree probs r
+unfolding leaf
+leaf-reached tree probs is more r =
+    let facts : Tree tree probs = tree_of tree probs is in
+    leaf_below-more tree probs facts (length tree) more 0 r (record { even = refl; inside = omega arith }) (omega arith)

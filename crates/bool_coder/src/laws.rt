@@ -1,9 +1,9 @@
 //! Laws that show that the definitions mean what they are to mean.
 
-ghost use Rattle.std.specs.Prelude.{◌≡◌, ◌≤◌, ℕ, pos, negsuc, neg_ℤ, true, false, [], ◌∷◌, replicate, IsTrue};
+ghost use Rattle.std.specs.Prelude.{◌≡◌, ◌≤◌, ◌+◌, ℕ, length, pos, negsuc, neg_ℤ, true, false, [], ◌∷◌, replicate, IsTrue};
 ghost use Rattle.bool_coder.specs.Reader.{Reader, started, read};
 ghost use Rattle.bool_coder.specs.Reading.{literal, signed};
-ghost use Rattle.bool_coder.specs.Trees.{is_tree, leaf};
+ghost use Rattle.bool_coder.specs.Trees.{is_tree, leaf_below, leaf};
 ghost use Rattle.bool_coder.specs.Uncut.{uncut_read, held, bits_read};
 ghost use Rattle.bool_coder.specs.Worked.{steps};
 
@@ -47,4 +47,11 @@ pub fn worked_leaves()
     ensures short { is_tree steps (128 ∷ 128 ∷ []) ≡ false }
     ensures back { is_tree (pos 0 ∷ pos 2 ∷ pos 2 ∷ negsuc 0 ∷ []) (128 ∷ 128 ∷ []) ≡ false }
     ensures odd { is_tree (pos 0 ∷ pos 1 ∷ []) (128 ∷ []) ≡ false }
+{}
+
+/// A walk down a tree ends at a leaf: bits beyond those that the tree's length allows are never
+/// read.
+pub fn leaves_are_reached(tree: &[i8], probs: &[u8])
+    requires { IsTrue (is_tree tree.now probs.now) }
+    ensures { (more : ℕ) → (r : Reader) → leaf_below (length tree.now + more) tree.now probs.now 0 r ≡ leaf tree.now probs.now r }
 {}
