@@ -6,3 +6,6 @@ pub mod RoundTrip
 pub mod LowNumbers
 pub mod EncoderSteps
 pub mod CodeFits
+pub mod Windows
+pub mod Shifts
+pub mod Leaves

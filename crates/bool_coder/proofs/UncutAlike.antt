@@ -2,11 +2,7 @@ use Rattle.std.proofs.Common.{◌≡◌, ℕ, zero, suc, ◌-◌, ◌*◌, ◌<�
 use Rattle.std.proofs.Math.Nat.{mul-le-mul_left}
 use Rattle.std.proofs.lemmas.Bool.{lt-ltb, le-ltb, le-leb, lt-leb, cases_lt}
 use Rattle.bool_coder.specs.Reader.{Reader, doubled, renewed, read, split_of, started}
-use Rattle.bool_coder.specs.Uncut.{uncut_doubled, uncut_renewed, uncut_read, bits_read}
-
--- a reader with its window held at the range
-abbrev pub held : Reader → Reader
-held r = record { rest = r.rest; d = min r.d r.range; range = r.range }
+use Rattle.bool_coder.specs.Uncut.{uncut_doubled, uncut_renewed, uncut_read, held, bits_read}
 
 -- the window and the range of a reader decide it
 reader_same : (rest : List ℕ) (range d e : ℕ) → d ≡ e → ◌≡◌ {A = Reader} (record { rest = rest; d = d; range = range }) (record { rest = rest; d = e; range = range })
@@ -55,14 +51,14 @@ read-held_one prob r reached inside =
     rw (le-leb _ _ held_reached, le-leb _ _ reached) (ap (λ s. (true, s)) (ap (renewed 7) same ∙ renewed-held 7 start))
 
 -- one bit: the same bit, and the same reader but for the window
-read-held : (prob : ℕ) (r : Reader) → prob ≤ 255 → 2 ≤ r.range → read prob (held r) ≡ ((uncut_read prob r).0, held (uncut_read prob r).1)
+pub read-held : (prob : ℕ) (r : Reader) → prob ≤ 255 → 2 ≤ r.range → read prob (held r) ≡ ((uncut_read prob r).0, held (uncut_read prob r).1)
 unfolding read uncut_read
 read-held prob r probable some =
     let inside : split_of prob r.range < r.range = split_of-below prob r.range probable some in
     elim (cases_lt r.d (split_of prob r.range)) [ inl below ↦ read-held_zero prob r below inside | inr reached ↦ read-held_one prob r reached inside ]
 
 -- the reader behind a bit has a range again
-uncut_read-range : (prob : ℕ) (r : Reader) → prob ≤ 255 → 2 ≤ r.range → 2 ≤ (uncut_read prob r).1.range
+pub uncut_read-range : (prob : ℕ) (r : Reader) → prob ≤ 255 → 2 ≤ r.range → 2 ≤ (uncut_read prob r).1.range
 unfolding uncut_read
 uncut_read-range prob r probable some =
     let inside : split_of prob r.range < r.range = split_of-below prob r.range probable some in

@@ -30,15 +30,11 @@ more_bits (suc count) value = do
 unfoldable pub literal : ℕ → Reading ℕ
 literal count = more_bits count 0
 
--- a magnitude of n bits, then its sign, where 1 is minus
-unfoldable pub magnitude_and_sign : ℕ → Reading ℤ
-magnitude_and_sign count = do
-  magnitude ← literal count
-  is_minus ← flag
-  give (if is_minus then neg_ℤ (pos magnitude) else pos magnitude)
-
--- a flagged number S(n): a flag, and where it is set a magnitude and a sign; else `absent` (RFC 6386, section 9.3)
-unfoldable pub signed_or : ℕ → ℤ → Reading ℤ
-signed_or count absent = do
+-- S(n): a flag, and where it is set a magnitude of n bits and a sign, where 1 is minus; an absent number is 0 (RFC 6386, section 9.3)
+unfoldable pub signed : ℕ → Reading ℤ
+signed count = do
   is_present ← flag
-  if is_present then magnitude_and_sign count else give absent
+  if is_present then (do
+    magnitude ← literal count
+    is_minus ← flag
+    give (if is_minus then neg_ℤ (pos magnitude) else pos magnitude)) else give (pos 0)

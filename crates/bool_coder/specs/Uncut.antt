@@ -1,4 +1,4 @@
-use Rattle.std.specs.Prelude.{ℕ, ◌+◌, ◌-◌, ◌*◌, zero, suc, Bool, true, false, List, [], ◌∷◌, nat_le, nat_lt, if◌then◌else◌}
+use Rattle.std.specs.Prelude.{ℕ, ◌+◌, ◌-◌, ◌*◌, min, zero, suc, Bool, true, false, List, [], ◌∷◌, nat_le, nat_lt, if◌then◌else◌}
 use Rattle.bool_coder.specs.Reader.{Reader, next_bit, after_bit, split_of}
 use Rattle.bool_coder.specs.Reading.{Reading}
 
@@ -17,6 +17,10 @@ uncut_read prob r =
     if nat_le split r.d
     then (true, uncut_renewed 7 (record r { d = r.d - split; range = r.range - split }))
     else (false, uncut_renewed 7 (record r { range = split }))
+
+-- a reader with its window held at the range
+abbrev pub held : Reader → Reader
+held r = record { rest = r.rest; d = min r.d r.range; range = r.range }
 
 -- the bits that a way of reading gives for a list of probabilities
 abbrev pub bits_read : (ℕ → Reading Bool) → List ℕ → Reader → List Bool

@@ -1,110 +1,66 @@
-//! The bit decoder of RFC 6386, section 7, bit by bit.
+//! The decoder of RFC 6386, section 7.
 
-ghost use Rattle.std.specs.Prelude.{◌≡◌, ◌<◌, ◌≤◌, ◌^◌};
-ghost use Rattle.bool_coder.specs.Reader.{next_bit, after_bit, started, read};
-ghost use Rattle.bool_coder.specs.Reading.{flag, literal, magnitude_and_sign, signed_or};
+ghost use Rattle.std.specs.Prelude.{◌≡◌, ◌*◌, ◌<◌, ◌≤◌, ◌^◌, IsTrue, unsigned_abs};
+ghost use Rattle.bool_coder.specs.Reader.{started, read};
+ghost use Rattle.bool_coder.specs.Reading.{flag, literal, signed};
+ghost use Rattle.bool_coder.specs.Trees.{is_tree, leaf};
 
+use crate::window::Window;
 use std::marker::Model;
 
-/// The bits of a byte slice that are left, most significant first; zeros follow without end.
-#[derive(Drop)]
-struct Bits<'a> {
-    bytes: &'a [u8],
-    current: u8,
-    left: u32,
-}
-
-impl<'a> Model for Bits<'a> {
-    ghost use Rattle.std.specs.Prelude.{ℕ, List, ◌++◌, ◌≤◌};
-    ghost use Rattle.bool_coder.specs.Reader.{bits_of, bit_string};
-
-    ghost Value = { List ℕ };
-
-    ghost view = { λ b. bits_of b.left b.current ++ bit_string b.bytes.now };
-
-    ghost invariant = { λ b. b.left ≤ 8 };
-}
-
-impl<'a> Bits<'a> {
-    fn next(&mut self) -> u32
-        ensures bit { result ≡ next_bit self.old }
-        ensures rest { self.new ≡ after_bit self.old }
-        ensures small { result ≤ 1 }
-    {
-        if self.left == 0 {
-            match self.bytes {
-                [] => return 0,
-                [first, rest @ ..] => {
-                    self.bytes = rest;
-                    self.current = *first;
-                    self.left = 8;
-                }
-            }
-        }
-        self.left -= 1;
-        ((self.current >> self.left) % 2) as u32
-    }
-}
-
-/// A reader of one partition (RFC 6386, section 7).
+/// A decoder of the bits of one partition (RFC 6386, section 7). Zeros stand behind its last byte,
+/// without end.
 #[derive(Drop)]
 pub struct Decoder<'a> {
-    bits: Bits<'a>,
-    d: u32,
+    window: Window<'a>,
     range: u32,
 }
 
 impl<'a> Model for Decoder<'a> {
     ghost use Rattle.std.specs.Prelude.{◌≤◌};
     ghost use Rattle.bool_coder.specs.Reader.{Reader};
+    ghost use Rattle.bool_coder.specs.Window.{reader_of};
 
     ghost Value = { Reader };
 
-    ghost view = { λ r. record { rest = r.bits; d = r.d; range = r.range } };
+    ghost view = { λ s. reader_of s.window.value s.window.left s.window.bytes.now s.range };
 
-    ghost invariant = { λ r. (128 ≤ r.range) × (r.range ≤ 255) × (r.d ≤ r.range) };
+    ghost invariant = { λ s. (128 ≤ s.range) × (s.range ≤ 255) × (s.window.left ≤ 56) };
 }
 
 impl<'a> Decoder<'a> {
-    /// A reader at the start of a partition.
+    /// A decoder at the start of a partition.
     pub fn new(bytes: &'a [u8]) -> Decoder<'a>
         ensures { result ≡ started bytes.now }
     {
-        let (first, bytes) = match bytes {
-            [] => (0, bytes),
-            [first, rest @ ..] => (*first, rest),
-        };
         Decoder {
-            bits: Bits {
-                bytes,
-                current: 0,
-                left: 0,
-            },
-            d: u32::from(first),
+            window: Window::new(bytes),
             range: 255,
         }
     }
 
     /// One bit that is 0 with a probability of `prob` in 256.
+    #[inline]
     pub fn bit(&mut self, prob: u8) -> bool
         ensures { read prob self.old ≡ (result, self.new) }
     {
         let split = 1 + (((self.range - 1) * prob as u32) >> 8);
-        let bit = self.d >= split;
-        if bit {
-            self.d -= split;
-            self.range -= split;
+        let least = (split as u64) << self.window.left;
+        let bit = self.window.value >= least;
+        let range = if bit {
+            self.window.value -= least;
+            self.range - split
         } else {
-            self.range = split;
-        }
-        while self.range < 128 {
-            self.d = (2 * self.d + self.bits.next()).min(2 * self.range);
-            self.range *= 2;
-        }
+            split
+        };
+        let count = shift_of(range);
+        self.window.shift(count, range);
+        self.range = range << count;
         bit
     }
 
     /// One bit at even odds.
+    #[inline]
     pub fn flag(&mut self) -> bool
         ensures { flag self.old ≡ (result, self.new) }
     {
@@ -125,26 +81,48 @@ impl<'a> Decoder<'a> {
         value
     }
 
-    /// A magnitude of `count` bits, at most 7, and its sign.
-    #[tactic(auto, unfolding(crate::specs::Reading::magnitude_and_sign))]
-    fn magnitude_and_sign(&mut self, count: u32) -> i8
-        requires { count ≤ 7 }
-        ensures { magnitude_and_sign count self.old ≡ (result, self.new) }
+    /// A flagged number: a flag, and where it is set a magnitude of `count` bits, at most 15, and a
+    /// sign, where 1 is minus; else 0 (RFC 6386, section 9.3).
+    #[tactic(auto, unfolding(crate::specs::Reading::signed))]
+    pub fn signed(&mut self, count: u32) -> i16
+        requires { count ≤ 15 }
+        ensures value { signed count self.old ≡ (result, self.new) }
+        ensures small { unsigned_abs result < 2 ^ count }
     {
-        let magnitude = self.literal(count) as i8;
+        if !self.flag() {
+            return 0;
+        }
+        let magnitude = self.literal(count) as i16;
         if self.flag() { -magnitude } else { magnitude }
     }
 
-    /// A flagged number of `count` bits, at most 7: `absent` where its flag is 0.
-    #[tactic(auto, unfolding(crate::specs::Reading::signed_or))]
-    pub fn signed_or(&mut self, count: u32, absent: i8) -> i8
-        requires { count ≤ 7 }
-        ensures { signed_or count absent self.old ≡ (result, self.new) }
+    /// The leaf of a tree to which one bit at each node leads (RFC 6386, section 8.1). A tree is a
+    /// list of pairs of entries, of which an entry above 0 is the place of a later pair and another
+    /// is a leaf with its negative as the value; `probs` has a probability for each pair.
+    pub fn tree(&mut self, tree: &[i8], probs: &[u8]) -> u8
+        requires { IsTrue (is_tree tree.now probs.now) }
+        ensures { leaf tree.now probs.now self.old ≡ (result, self.new) }
     {
-        if self.flag() {
-            self.magnitude_and_sign(count)
-        } else {
-            absent
+        let mut node = 0;
+        loop {
+            let bit = self.bit(probs[node / 2]);
+            let entry = tree[node + bit as usize];
+            if entry <= 0 {
+                return entry.unsigned_abs();
+            }
+            node = entry as usize;
         }
     }
+}
+
+/// By how many bits a range of 1 to 255 is shifted to be 128 or more.
+#[inline]
+fn shift_of(range: u32) -> u32
+    requires some { 1 ≤ range }
+    requires most { range ≤ 255 }
+    ensures few { result ≤ 7 }
+    ensures large { 128 ≤ range * 2 ^ result }
+    ensures small { range * 2 ^ result < 256 }
+{
+    range.leading_zeros() - 24
 }

@@ -1,13 +1,20 @@
 //! Laws that show that the definitions mean what they are to mean.
 
-ghost use Rattle.std.specs.Prelude.{◌≡◌, true, false, [], ◌∷◌, replicate};
-ghost use Rattle.bool_coder.specs.Reader.{started, read};
-ghost use Rattle.bool_coder.specs.Uncut.{uncut_read, bits_read};
+ghost use Rattle.std.specs.Prelude.{◌≡◌, ◌≤◌, ◌+◌, ℕ, length, pos, negsuc, neg_ℤ, true, false, [], ◌∷◌, replicate, IsTrue};
+ghost use Rattle.bool_coder.specs.Reader.{Reader, started, read};
+ghost use Rattle.bool_coder.specs.Reading.{literal, signed};
+ghost use Rattle.bool_coder.specs.Trees.{is_tree, leaf_below, leaf};
+ghost use Rattle.bool_coder.specs.Uncut.{uncut_read, held, bits_read};
+ghost use Rattle.bool_coder.specs.Worked.{steps};
 
 /// A window that is held at the range reads the same bits as one that is not, for every byte text
-/// and all probabilities (RFC 6386, section 7).
+/// and all probabilities (RFC 6386, section 7). So does each single read, which leaves a held
+/// reader again: what is folded from reads is the same with either.
 pub fn uncut_reads_alike(bytes: &[u8], probs: &[u8])
-    ensures { bits_read read probs.now (started bytes.now) ≡ bits_read uncut_read probs.now (started bytes.now) }
+    ensures bits { bits_read read probs.now (started bytes.now) ≡ bits_read uncut_read probs.now (started bytes.now) }
+    ensures start { held (started bytes.now) ≡ started bytes.now }
+    ensures step { (prob : ℕ) → (r : Reader) → prob ≤ 255 → 2 ≤ r.range → read prob (held r) ≡ ((uncut_read prob r).0, held (uncut_read prob r).1) }
+    ensures range { (prob : ℕ) → (r : Reader) → prob ≤ 255 → 2 ≤ r.range → 2 ≤ (uncut_read prob r).1.range }
 {}
 
 /// What a reader gives of texts that an encoder wrote, and of one that holds the window at the
@@ -18,4 +25,33 @@ pub fn worked_bits()
     ensures held { bits_read read (replicate 20 128) (started (replicate 4 255)) ≡ replicate 20 true }
     ensures unlikely { bits_read read (replicate 20 0) (started (replicate 4 255)) ≡ replicate 20 true }
     ensures likely { bits_read read (replicate 20 255) (started (replicate 4 255)) ≡ replicate 20 true }
+{}
+
+/// Numbers at the start of texts whose even bits are 1, 0, 1, then 1, 1, 0, then 1 for good, and 0
+/// for good.
+pub fn worked_numbers()
+    ensures literal { (literal 3 (started (0x9F ∷ 0xC0 ∷ []))).0 ≡ 5 }
+    ensures plus { (signed 1 (started (0xC0 ∷ []))).0 ≡ pos 1 }
+    ensures minus { (signed 2 (started (replicate 4 255))).0 ≡ neg_ℤ (pos 3) }
+    ensures absent { (signed 7 (started [])).0 ≡ pos 0 }
+{}
+
+/// The leaves of a tree, whose bit strings are 0, 10, 110 and 111, and lists that are no trees: one
+/// without a probability for each pair, one that leads to its own pair, and one with an odd node.
+pub fn worked_leaves()
+    ensures first { (leaf steps (128 ∷ 128 ∷ 128 ∷ []) (started [])).0 ≡ 0 }
+    ensures second { (leaf steps (128 ∷ 128 ∷ 128 ∷ []) (started (0x9F ∷ 0xC0 ∷ []))).0 ≡ 1 }
+    ensures third { (leaf steps (128 ∷ 128 ∷ 128 ∷ []) (started (0xC0 ∷ []))).0 ≡ 2 }
+    ensures fourth { (leaf steps (128 ∷ 128 ∷ 128 ∷ []) (started (replicate 4 255))).0 ≡ 3 }
+    ensures tree { IsTrue (is_tree steps (128 ∷ 128 ∷ 128 ∷ [])) }
+    ensures short { is_tree steps (128 ∷ 128 ∷ []) ≡ false }
+    ensures back { is_tree (pos 0 ∷ pos 2 ∷ pos 2 ∷ negsuc 0 ∷ []) (128 ∷ 128 ∷ []) ≡ false }
+    ensures odd { is_tree (pos 0 ∷ pos 1 ∷ []) (128 ∷ []) ≡ false }
+{}
+
+/// A walk down a tree ends at a leaf: bits beyond those that the tree's length allows are never
+/// read.
+pub fn leaves_are_reached(tree: &[i8], probs: &[u8])
+    requires { IsTrue (is_tree tree.now probs.now) }
+    ensures { (more : ℕ) → (r : Reader) → leaf_below (length tree.now + more) tree.now probs.now 0 r ≡ leaf tree.now probs.now r }
 {}

@@ -2,9 +2,12 @@
 #![tactic(auto)]
 
 mod decoder;
+#[cfg(test)]
+mod decoder_tests;
 mod encoder;
 pub mod laws;
 pub mod round_trip;
+mod window;
 
 pub use decoder::Decoder;
 pub use encoder::Encoder;

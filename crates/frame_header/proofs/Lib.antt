@@ -1,5 +1,2 @@
-pub mod Renewal
-pub mod Literals
 pub mod PlaceLemmas
-pub mod UncutAlike
 pub mod KeyLemmas

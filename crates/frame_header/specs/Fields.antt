@@ -1,5 +1,5 @@
-use Rattle.std.specs.Prelude.{ℕ, ◌^◌, Bool, true, false, ℤ, pos, List, [], ◌∷◌, slice_index_or, if◌then◌else◌}
-use Rattle.frame_header.specs.Reading.{Reading, ◌>>=◌, give, flag, literal, signed_or}
+use Rattle.std.specs.Prelude.{ℕ, ◌^◌, Bool, true, false, ℤ, pos, neg_ℤ, List, [], ◌∷◌, slice_index_or, if◌then◌else◌}
+use Rattle.bool_coder.specs.Reading.{Reading, ◌>>=◌, give, flag, literal, signed}
 use Rattle.frame_header.specs.declared.context.Segments.{Segments}
 use Rattle.frame_header.specs.declared.context.FilterDeltas.{FilterDeltas}
 use Rattle.frame_header.specs.declared.context.Context.{Context}
@@ -12,13 +12,13 @@ use Rattle.frame_header.specs.declared.fields.Fields.{Fields}
 abbrev pub no_numbers : List ℤ
 no_numbers = pos 0 ∷ pos 0 ∷ pos 0 ∷ pos 0 ∷ []
 
--- four flagged numbers, where an absent one is as in `absent`
-unfoldable pub four_signed : ℕ → List ℤ → Reading (List ℤ)
-four_signed count absent = do
-  first ← signed_or count (slice_index_or absent 0 (pos 0))
-  second ← signed_or count (slice_index_or absent 1 (pos 0))
-  third ← signed_or count (slice_index_or absent 2 (pos 0))
-  fourth ← signed_or count (slice_index_or absent 3 (pos 0))
+-- four flagged numbers, where an absent one is 0
+unfoldable pub four_signed : ℕ → Reading (List ℤ)
+four_signed count = do
+  first ← signed count
+  second ← signed count
+  third ← signed count
+  fourth ← signed count
   give (first ∷ second ∷ third ∷ fourth ∷ [])
 
 -- color_space and clamping_type (RFC 6386, section 9.2)
@@ -32,8 +32,8 @@ colors = do
 unfoldable pub segment_data : Reading Segments
 segment_data = do
   absolute ← flag
-  quantizers ← four_signed 7 no_numbers
-  levels ← four_signed 6 no_numbers
+  quantizers ← four_signed 7
+  levels ← four_signed 6
   give (record { is_absolute = absolute; quantizers = quantizers; levels = levels })
 
 -- a probability of the segment map's tree, 255 where absent (RFC 6386, section 9.3)
@@ -72,13 +72,30 @@ filter = do
   sharpness ← literal 3
   give (record { is_simple = simple; level = level; sharpness = sharpness })
 
--- the changes of the level by reference and mode; an absent one stays (RFC 6386, section 9.4)
+-- a change of the level: a flag, and where it is set a magnitude and a sign, where 1 is minus; an absent one stays (RFC 6386, section 9.4)
+unfoldable pub delta : ℤ → Reading ℤ
+delta before = do
+  is_updated ← flag
+  if is_updated then (do
+    magnitude ← literal 6
+    is_minus ← flag
+    give (if is_minus then neg_ℤ (pos magnitude) else pos magnitude)) else give before
+
+unfoldable pub four_deltas : List ℤ → Reading (List ℤ)
+four_deltas before = do
+  first ← delta (slice_index_or before 0 (pos 0))
+  second ← delta (slice_index_or before 1 (pos 0))
+  third ← delta (slice_index_or before 2 (pos 0))
+  fourth ← delta (slice_index_or before 3 (pos 0))
+  give (first ∷ second ∷ third ∷ fourth ∷ [])
+
+-- the changes of the level by reference and mode; where none is updated, all stay (RFC 6386, section 9.4)
 unfoldable pub deltas : FilterDeltas → Reading FilterDeltas
 deltas before = do
   is_updated ← flag
   if is_updated then (do
-    reference ← four_signed 6 before.reference
-    mode ← four_signed 6 before.mode
+    reference ← four_deltas before.reference
+    mode ← four_deltas before.mode
     give (record { reference = reference; mode = mode })) else give before
 
 -- whether the level is adjusted, and the changes behind it (RFC 6386, section 9.4)

@@ -2,7 +2,7 @@ use Rattle.std.specs.Prelude.{ℕ, ◌+◌, ◌-◌, Bool, ◌&&◌, List, lengt
 use Rattle.std.specs.List.{list_all}
 use Rattle.arrayvec.specs.ArrayVec.{ArrayVec}
 use Rattle.vp8_tables.specs.Tables.{TableEntries}
-use Rattle.frame_header.specs.Reader.{Reader, started}
+use Rattle.bool_coder.specs.Reader.{Reader, started}
 use Rattle.frame_header.specs.Tags.{has_key_tag}
 use Rattle.frame_header.specs.Fields.{fields}
 use Rattle.frame_header.specs.Places.{token_places}

@@ -2,10 +2,7 @@ pub mod Cause
 pub mod Fields
 pub mod Header
 pub mod Places
-pub mod Reader
-pub mod Reading
 pub mod Start
 pub mod Tags
-pub mod Uncut
 pub mod Worked
 pub mod KeyFrames

@@ -2,10 +2,11 @@
 //! (RFC 6386, sections 9.2 to 9.5 and 19.2).
 
 ghost use Rattle.std.specs.Prelude.{◌≡◌, ◌<◌, ◌≤◌};
-ghost use Rattle.frame_header.specs.Fields.{four_signed, colors, segment_data, map_probability, map_probabilities, segment_updates, segmentation, filter, deltas, adjustment, partition_count, fields};
+ghost use Rattle.bool_coder.specs.Reading.{signed};
+ghost use Rattle.frame_header.specs.Fields.{four_signed, delta, four_deltas, colors, segment_data, map_probability, map_probabilities, segment_updates, segmentation, filter, deltas, adjustment, partition_count, fields};
 
-use crate::bits::BitReader;
 use crate::context::{Context, FilterDeltas, Segments};
+use bool_coder::Decoder;
 
 /// What a frame says of its segments (RFC 6386, section 9.3).
 #[derive(Clone, Copy, Debug, PartialEq, Eq)]
@@ -51,20 +52,27 @@ pub(crate) struct Fields {
     pub(crate) context: Context,
 }
 
-#[tactic(auto, unfolding(crate::specs::Fields::four_signed))]
-fn four_signed(reader: &mut BitReader, count: u32, absent: [i8; 4]) -> [i8; 4]
+fn read_signed(reader: &mut Decoder, count: u32) -> i8
     requires { count ≤ 7 }
-    ensures { four_signed count absent reader.old ≡ (result, reader.new) }
+    ensures { signed count reader.old ≡ (result, reader.new) }
 {
-    let first = reader.signed_or(count, absent[0]);
-    let second = reader.signed_or(count, absent[1]);
-    let third = reader.signed_or(count, absent[2]);
-    let fourth = reader.signed_or(count, absent[3]);
+    reader.signed(count) as i8
+}
+
+#[tactic(auto, unfolding(crate::specs::Fields::four_signed))]
+fn four_signed(reader: &mut Decoder, count: u32) -> [i8; 4]
+    requires { count ≤ 7 }
+    ensures { four_signed count reader.old ≡ (result, reader.new) }
+{
+    let first = read_signed(reader, count);
+    let second = read_signed(reader, count);
+    let third = read_signed(reader, count);
+    let fourth = read_signed(reader, count);
     [first, second, third, fourth]
 }
 
 #[tactic(auto, unfolding(crate::specs::Fields::colors))]
-fn read_colors(reader: &mut BitReader) -> Colors
+fn read_colors(reader: &mut Decoder) -> Colors
     ensures { colors reader.old ≡ (result, reader.new) }
 {
     let color_space = reader.flag();
@@ -76,12 +84,12 @@ fn read_colors(reader: &mut BitReader) -> Colors
 }
 
 #[tactic(auto, unfolding(crate::specs::Fields::segment_data))]
-fn read_segment_data(reader: &mut BitReader) -> Segments
+fn read_segment_data(reader: &mut Decoder) -> Segments
     ensures { segment_data reader.old ≡ (result, reader.new) }
 {
     let is_absolute = reader.flag();
-    let quantizers = four_signed(reader, 7, [0; 4]);
-    let levels = four_signed(reader, 6, [0; 4]);
+    let quantizers = four_signed(reader, 7);
+    let levels = four_signed(reader, 6);
     Segments {
         is_absolute,
         quantizers,
@@ -90,7 +98,7 @@ fn read_segment_data(reader: &mut BitReader) -> Segments
 }
 
 #[tactic(auto, unfolding(crate::specs::Fields::map_probability))]
-fn read_map_probability(reader: &mut BitReader) -> u8
+fn read_map_probability(reader: &mut Decoder) -> u8
     ensures { map_probability reader.old ≡ (result, reader.new) }
 {
     if reader.flag() {
@@ -101,7 +109,7 @@ fn read_map_probability(reader: &mut BitReader) -> u8
 }
 
 #[tactic(auto, unfolding(crate::specs::Fields::map_probabilities))]
-fn read_map_probabilities(reader: &mut BitReader) -> [u8; 3]
+fn read_map_probabilities(reader: &mut Decoder) -> [u8; 3]
     ensures { map_probabilities reader.old ≡ (result, reader.new) }
 {
     let first = read_map_probability(reader);
@@ -111,7 +119,7 @@ fn read_map_probabilities(reader: &mut BitReader) -> [u8; 3]
 }
 
 #[tactic(auto, unfolding(crate::specs::Fields::segment_updates))]
-fn read_segment_updates(reader: &mut BitReader, before: Segments) -> (Segmentation, Segments)
+fn read_segment_updates(reader: &mut Decoder, before: Segments) -> (Segmentation, Segments)
     ensures { segment_updates before reader.old ≡ (result, reader.new) }
 {
     let updates_map = reader.flag();
@@ -136,7 +144,7 @@ fn read_segment_updates(reader: &mut BitReader, before: Segments) -> (Segmentati
 }
 
 #[tactic(auto, unfolding(crate::specs::Fields::segmentation))]
-fn read_segmentation(reader: &mut BitReader, before: Segments) -> (Segmentation, Segments)
+fn read_segmentation(reader: &mut Decoder, before: Segments) -> (Segmentation, Segments)
     ensures { segmentation before reader.old ≡ (result, reader.new) }
 {
     if reader.flag() {
@@ -152,7 +160,7 @@ fn read_segmentation(reader: &mut BitReader, before: Segments) -> (Segmentation,
 }
 
 #[tactic(auto, unfolding(crate::specs::Fields::filter))]
-fn read_filter(reader: &mut BitReader) -> Filter
+fn read_filter(reader: &mut Decoder) -> Filter
     ensures { filter reader.old ≡ (result, reader.new) }
 {
     let is_simple = reader.flag();
@@ -165,20 +173,42 @@ fn read_filter(reader: &mut BitReader) -> Filter
     }
 }
 
+#[tactic(auto, unfolding(crate::specs::Fields::delta))]
+fn read_delta(reader: &mut Decoder, before: i8) -> i8
+    ensures { delta before reader.old ≡ (result, reader.new) }
+{
+    if !reader.flag() {
+        return before;
+    }
+    let magnitude = reader.literal(6) as i8;
+    if reader.flag() { -magnitude } else { magnitude }
+}
+
+#[tactic(auto, unfolding(crate::specs::Fields::four_deltas))]
+fn four_deltas(reader: &mut Decoder, before: [i8; 4]) -> [i8; 4]
+    ensures { four_deltas before reader.old ≡ (result, reader.new) }
+{
+    let first = read_delta(reader, before[0]);
+    let second = read_delta(reader, before[1]);
+    let third = read_delta(reader, before[2]);
+    let fourth = read_delta(reader, before[3]);
+    [first, second, third, fourth]
+}
+
 #[tactic(auto, unfolding(crate::specs::Fields::deltas))]
-fn read_deltas(reader: &mut BitReader, before: FilterDeltas) -> FilterDeltas
+fn read_deltas(reader: &mut Decoder, before: FilterDeltas) -> FilterDeltas
     ensures { deltas before reader.old ≡ (result, reader.new) }
 {
     if !reader.flag() {
         return before;
     }
-    let reference = four_signed(reader, 6, before.reference);
-    let mode = four_signed(reader, 6, before.mode);
+    let reference = four_deltas(reader, before.reference);
+    let mode = four_deltas(reader, before.mode);
     FilterDeltas { reference, mode }
 }
 
 #[tactic(auto, unfolding(crate::specs::Fields::adjustment))]
-fn read_adjustment(reader: &mut BitReader, before: FilterDeltas) -> (bool, FilterDeltas)
+fn read_adjustment(reader: &mut Decoder, before: FilterDeltas) -> (bool, FilterDeltas)
     ensures { adjustment before reader.old ≡ (result, reader.new) }
 {
     if reader.flag() {
@@ -189,7 +219,7 @@ fn read_adjustment(reader: &mut BitReader, before: FilterDeltas) -> (bool, Filte
 }
 
 #[tactic(auto, unfolding(crate::specs::Fields::partition_count))]
-fn read_partition_count(reader: &mut BitReader) -> usize
+fn read_partition_count(reader: &mut Decoder) -> usize
     ensures read { partition_count reader.old ≡ (result, reader.new) }
     ensures some { 0 < result }
     ensures few { result ≤ 8 }
@@ -201,7 +231,7 @@ fn read_partition_count(reader: &mut BitReader) -> usize
 /// The fields of the first partition up to the number of token partitions, for a key frame or
 /// another, where `before` is the context that the frame takes over.
 #[tactic(auto, unfolding(crate::specs::Fields::fields))]
-pub(crate) fn read_fields(reader: &mut BitReader, is_key: bool, before: Context) -> Fields
+pub(crate) fn read_fields(reader: &mut Decoder, is_key: bool, before: Context) -> Fields
     ensures read { fields is_key before reader.old ≡ (result, reader.new) }
     ensures some { 0 < result.partition_count }
     ensures few { result.partition_count ≤ 8 }

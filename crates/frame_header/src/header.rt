@@ -3,7 +3,6 @@ ghost use Rattle.std.specs.Option.{option_copied};
 ghost use Rattle.frame_header.specs.Header.{first_end, is_zero_behind_size, is_plain, header_of};
 ghost use Rattle.frame_header.specs.Tags.{has_key_tag};
 
-use crate::bits::BitReader;
 use crate::cause::Cause;
 use crate::context::Context;
 use crate::fields::{Colors, Filter, Segmentation, read_fields};
@@ -11,6 +10,7 @@ use crate::places::{Place, token_places};
 use crate::start::{Start, start_of};
 use crate::tags::has_key_tag;
 use arrayvec::ArrayVec;
+use bool_coder::Decoder;
 use vp8_tables::Tables;
 
 /// The header of a frame (RFC 6386, sections 9 and 19). It borrows the packet.
@@ -41,7 +41,7 @@ pub struct Header<'a> {
     /// The context that the frame leaves for the next.
     pub context_after: Context,
     /// The reader of the first partition behind these fields.
-    pub(crate) reader: BitReader<'a>,
+    pub(crate) reader: Decoder<'a>,
 }
 
 /// The place behind the first partition; `FirstPartition` where the packet ends before it.
@@ -91,7 +91,7 @@ pub fn read_header<'a>(
 {
     let start = start_of(context, packet)?;
     let end = first_end(&start, packet)?;
-    let mut reader = BitReader::new(&packet[start.place..end]);
+    let mut reader = Decoder::new(&packet[start.place..end]);
     let fields = read_fields(&mut reader, start.tag.key, start.context);
     let partitions = token_places(packet, end, fields.partition_count)?;
     if !is_plain(packet) {

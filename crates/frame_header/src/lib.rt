@@ -2,7 +2,6 @@
 //! (RFC 6386, sections 7, 9 and 19).
 #![tactic(auto)]
 
-mod bits;
 mod cause;
 mod context;
 mod fields;

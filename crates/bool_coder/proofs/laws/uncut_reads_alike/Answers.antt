@@ -1,11 +1,16 @@
 use Rattle.std.proofs.Common.{ℕ, ◌≤◌, get_or, ap, sym, ◌∙◌, arith}
 use Rattle.bool_coder.specs.Reader.{started, read}
 use Rattle.bool_coder.specs.Uncut.{bits_read}
-use Rattle.bool_coder.proofs.UncutAlike.{bits_read-held, started-held, started-range}
+use Rattle.bool_coder.proofs.UncutAlike.{bits_read-held, started-held, started-range, read-held, uncut_read-range}
 use Rattle.bool_coder.proofs.laws.uncut_reads_alike.Goals as goal
 
 pub returns : goal.returns
 returns c =
     let probable : (k : ℕ) → get_or c.args.probs.now k 0 ≤ 255 = λ k. omega (arith, c.type_inv.probs k) in
     let small : (k : ℕ) → get_or c.args.bytes.now k 0 ≤ 255 = λ k. omega (arith, c.type_inv.bytes k) in
-    ap (bits_read read c.args.probs.now) (sym (started-held c.args.bytes.now small)) ∙ bits_read-held c.args.probs.now (started c.args.bytes.now) probable (started-range c.args.bytes.now)
+    record {
+      bits = ap (bits_read read c.args.probs.now) (sym (started-held c.args.bytes.now small)) ∙ bits_read-held c.args.probs.now (started c.args.bytes.now) probable (started-range c.args.bytes.now);
+      start = started-held c.args.bytes.now small;
+      step = read-held;
+      range = uncut_read-range;
+    }

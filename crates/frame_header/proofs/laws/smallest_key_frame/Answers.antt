@@ -1,8 +1,8 @@
 use Rattle.std.proofs.Common.{refl}
 use Rattle.frame_header.specs.Header.{header_of}
 use Rattle.frame_header.specs.Fields.{fields, partition_count, adjustment, filter, segmentation, colors}
-use Rattle.frame_header.specs.Reading.{literal, more_bits}
-use Rattle.frame_header.specs.Reader.{read, renewed}
+use Rattle.bool_coder.specs.Reading.{literal, more_bits}
+use Rattle.bool_coder.specs.Reader.{read, renewed}
 use Rattle.frame_header.specs.Places.{token_places}
 use Rattle.frame_header.proofs.laws.smallest_key_frame.Goals as goal
 

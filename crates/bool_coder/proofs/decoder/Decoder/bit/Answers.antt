@@ -1,15 +1,24 @@
-use Rattle.std.proofs.Common.{arith, mul_comm}
-use Rattle.bool_coder.proofs.Renewal.{IsRenewing-one, IsRenewing-zero, IsRenewing-doubled, IsRenewing-done}
+use Rattle.std.proofs.Common.{◌≡◌, ◌<◌, ◌*◌, ◌%◌, ◌^◌, arith}
+use Rattle.std.proofs.Math.Nat.{mod-eq_of_lt}
+use Rattle.bool_coder.specs.Reader.{split_of}
+use Rattle.bool_coder.proofs.Renewal.{split_of-small}
+use Rattle.bool_coder.proofs.Windows.{bit-one, bit-zero}
 use Rattle.bool_coder.proofs.decoder.Decoder.bit.Goals as goal
 use Rattle.bool_coder.proofs.decoder.Decoder.bit.Goals.{then-bit, else-bit}
 
-pub loop-self-init : goal.loop-self-init
-loop-self-init c =
-    rw (← c.self.view_is) (elim c.if-bit.branch [ then-bit w ↦ rw w.self-inside-is (IsRenewing-one _ _ (omega arith) c.self.invariant.0 c.self.invariant.1 c.self.invariant.2 w.if-bit.true) | else-bit w ↦ rw w.self-inside-is (IsRenewing-zero _ _ (omega arith) c.self.invariant.0 c.self.invariant.1 w.if-bit.false) ])
-
-pub loop-self-preserved : goal.loop-self-preserved
-loop-self-preserved c =
-    rw (c.min-self-inside.ensures, c.next.ensures.bit, c.next.ensures.rest, mul_comm c.loop-self.self-inside.range 2) (IsRenewing-doubled _ _ _ _ c.loop-self.invariant c.loop-self-test.true)
+pub shift_of-count-requires-clause-some : goal.shift_of-count-requires-clause-some
+shift_of-count-requires-clause-some c =
+    let inside : split_of c.args.prob c.self.inside.range < c.self.inside.range = split_of-small _ _ (omega arith) c.self.invariant.0 in
+    elim c.if-bit.branch [ then-bit w ↦ rw w.range-is (omega arith) | else-bit w ↦ rw w.range-is (omega arith) ]
 
 pub returns : goal.returns
-returns c = IsRenewing-done _ _ _ _ c.loop-self.invariant c.loop-self-test.false
+returns c =
+    let few = c.shift_of-count.ensures.few in
+    let large = c.shift_of-count.ensures.large in
+    let small = c.shift_of-count.ensures.small in
+    let whole : c.if-bit.range * 2 ^ c.shift_of-count.result % 2 ^ 32 ≡ c.if-bit.range * 2 ^ c.shift_of-count.result = mod-eq_of_lt (omega arith) in
+    rw (← c.self.view_is, whole, c.shift.ensures.same)
+    (elim c.if-bit.branch [
+      | then-bit w ↦ rw (w.range-is, w.self-inside-is) (bit-one _ _ _ _ _ _ (omega arith) c.self.invariant.0 c.self.invariant.1 c.self.invariant.2 w.if-bit.true few (rw w.range-is at large) (rw w.range-is at small))
+      | else-bit w ↦ rw (w.range-is, w.self-inside-is) (bit-zero _ _ _ _ _ _ (omega arith) c.self.invariant.0 c.self.invariant.1 c.self.invariant.2 w.if-bit.false few (rw w.range-is at large) (rw w.range-is at small))
+    ])

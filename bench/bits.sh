@@ -1,0 +1,34 @@
+#!/bin/sh
+# Times reads of the bit decoder beside the same algorithm written by hand. README.md says more.
+set -eu
+here=$(cd "$(dirname "$0")" && pwd)
+kit=$(dirname "$(rt doc | head -n 1)")
+room=$(mktemp -d)
+trap 'rm -rf "$room"' EXIT
+
+mkdir -p "$room/crates/bool_coder" "$room/crates/bit_times/src"
+for part in src specs proofs; do
+    cp -r "$here/../crates/bool_coder/$part" "$room/crates/bool_coder"
+done
+printf 'bool_coder:\nbit_times staticlib: bool_coder\n' > "$room/crates.txt"
+cat > "$room/crates/bit_times/src/lib.rt" <<'END'
+#![tactic(auto)]
+
+use bool_coder::Decoder;
+
+#[unsafe(no_mangle)]
+pub extern "C" fn decoder_ones(bytes: &[u8], probs: &[u8], rounds: u32) -> u32 {
+    let mut decoder = Decoder::new(bytes);
+    let mut ones: u32 = 0;
+    for _round in 0..rounds {
+        for prob in probs {
+            ones = ones.wrapping_add(decoder.bit(*prob) as u32);
+        }
+    }
+    ones
+}
+END
+(cd "$room/crates/bit_times" && rt lib --jobs 1 < /dev/null) > "$room/build.log" 2>&1 || { tail -n 20 "$room/build.log"; exit 1; }
+rustc -O --edition 2024 -C target-cpu=x86-64-v2 -o "$room/bits" "$here/bits.rs" \
+    -L "$room/crates/bit_times/out" -l static=bit_times -L "$kit/c" -l static=libc_c
+"$room/bits"

@@ -1,0 +1,143 @@
+use crate::Decoder;
+use std::test::Fail;
+
+/// The reader of RFC 6386, section 7.3, a bit at a time. Its d is not held at the range: it
+/// stops at the largest number, which is far above every range.
+#[derive(Drop)]
+struct PlainReader<'a> {
+    bytes: &'a [u8],
+    place: usize,
+    d: u32,
+    range: u32,
+}
+
+impl<'a> PlainReader<'a> {
+    fn new(bytes: &'a [u8]) -> PlainReader<'a> {
+        PlainReader {
+            bytes,
+            place: 8,
+            d: bytes.first().copied().unwrap_or(0) as u32,
+            range: 255,
+        }
+    }
+
+    fn next(&mut self) -> u32 {
+        let byte = self.bytes.get(self.place / 8).copied().unwrap_or(0);
+        let bit = (byte >> (7 - self.place % 8)) % 2;
+        self.place = self.place.wrapping_add(1);
+        bit as u32
+    }
+
+    fn bit(&mut self, prob: u8) -> bool {
+        let split = 1 + (self.range.wrapping_sub(1).wrapping_mul(prob as u32) >> 8);
+        let bit = self.d >= split;
+        if bit {
+            self.d -= split;
+            self.range = self.range.wrapping_sub(split);
+        } else {
+            self.range = split;
+        }
+        for _doubling in 0..7 {
+            if self.range < 128 {
+                self.range *= 2;
+                self.d = self.d.saturating_mul(2).saturating_add(self.next());
+            }
+        }
+        bit
+    }
+}
+
+/// Bytes of a linear congruential generator.
+#[derive(Drop)]
+struct Bytes(u32);
+
+impl Bytes {
+    fn next(&mut self) -> u8 {
+        self.0 = self.0.wrapping_mul(1_664_525).wrapping_add(1_013_904_223);
+        (self.0 >> 24) as u8
+    }
+
+    /// Certain, likely and unlikely bits, even ones and others.
+    fn next_prob(&mut self) -> u8 {
+        match self.next() % 8 {
+            0 => 0,
+            1 => 255,
+            2 => 128,
+            3 => 1,
+            4 => 254,
+            _ => self.next(),
+        }
+    }
+}
+
+#[test]
+fn window_reads_as_bit_by_bit(rt: HostRuntime) {
+    let mut bytes = Bytes(1);
+    for ones in 0..4 {
+        for length in 0..=40 {
+            let mut text = [255; 40];
+            for byte in text.iter_mut().skip(ones) {
+                *byte = bytes.next();
+            }
+            let text = &text[..length];
+            let mut decoder = Decoder::new(text);
+            let mut reader = PlainReader::new(text);
+            for _bit in 0..8 * length + 40 {
+                let prob = bytes.next_prob();
+                assert_eq!(rt;
+                    decoder.bit(prob),
+                    reader.bit(prob),
+                    "behind {ones} of {length}"
+                );
+            }
+        }
+    }
+}
+
+#[test]
+fn text_of_ones_reads_ones(rt: HostRuntime) {
+    for prob in [0, 128, 255] {
+        let mut decoder = Decoder::new(&[0xFF; 4]);
+        for _bit in 0..100 {
+            assert!(rt; decoder.bit(prob));
+        }
+    }
+}
+
+#[test]
+fn reads_written_bits(rt: HostRuntime) {
+    // 0x9F is 159: at 128 the range 255 is split at 128, so 1 leaves 31 of 127, doubled 63 of 254
+    // with the next bit, 1. That is split at 127, so 0 leaves 63 of 127, doubled 127 of 254 with a
+    // 1, and then 1 is read.
+    let mut decoder = Decoder::new(&[0x9F, 0xC0]);
+    let bits = [decoder.bit(128), decoder.bit(128), decoder.bit(128)];
+    assert_eq!(rt; bits, [true, false, true]);
+    assert!(rt; Decoder::new(&[0x80, 0]).bit(128));
+    let mut zeros = Decoder::new(&[0]);
+    for _bit in 0..100 {
+        assert!(rt; !zeros.flag());
+    }
+}
+
+const STEPS: [i8; 6] = [0, 2, -1, 4, -2, -3];
+
+/// A leaf at probabilities that the caller has, as a frame's header gives them.
+fn step_of(text: &[u8], probs: [u8; 3]) -> u8 {
+    Decoder::new(text).tree(&STEPS, &probs)
+}
+
+// The bits are those of the test above. 0xC0 is 192: 1 leaves 64 of 127, doubled 128 of 254; 1
+// leaves 1 of 127, doubled 2 of 254, which is below the split at 127.
+#[test]
+fn reads_numbers_and_leaves(rt: HostRuntime) {
+    assert_eq!(rt; Decoder::new(&[0x9F, 0xC0]).literal(3), 0b101);
+    assert_eq!(rt; Decoder::new(&[0xFF; 4]).literal(16), 0xFFFF);
+    assert_eq!(rt; Decoder::new(&[]).literal(16), 0);
+    assert_eq!(rt; Decoder::new(&[0xC0]).signed(1), 1);
+    assert_eq!(rt; Decoder::new(&[0xFF; 4]).signed(15), -32_767);
+    assert_eq!(rt; Decoder::new(&[]).signed(15), 0);
+    assert_eq!(rt; step_of(&[], [128; 3]), 0);
+    assert_eq!(rt; step_of(&[0x9F, 0xC0], [128; 3]), 1);
+    assert_eq!(rt; step_of(&[0xC0], [128; 3]), 2);
+    assert_eq!(rt; step_of(&[0xFF; 4], [128; 3]), 3);
+}

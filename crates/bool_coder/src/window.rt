@@ -1,0 +1,121 @@
+//! The 64-bit window through which a decoder reads its bytes.
+
+ghost use Rattle.std.specs.Prelude.{◌≡◌, ◌+◌, ◌-◌, ◌*◌, ◌<◌, ◌≤◌, ◌^◌, ℕ, [], ◌∷◌};
+ghost use Rattle.bool_coder.specs.Reader.{started};
+ghost use Rattle.bool_coder.specs.Window.{reader_of, doublings};
+
+/// What a decoder has in hand of its bytes: a number whose low `left` bits are not yet read and
+/// whose higher bits are the d of RFC 6386, section 7.3, and the bytes behind them.
+///
+/// Once d has reached the range it stays there, and every bit is 1. Nothing on the way through the
+/// bits changes that, so d is cut to the range in `hold` alone, before bytes come in.
+#[derive(Clone, Copy)]
+pub struct Window<'a> {
+    pub bytes: &'a [u8],
+    pub value: u64,
+    pub left: u32,
+}
+
+impl<'a> Window<'a> {
+    /// The window at the start of a partition.
+    pub fn new(bytes: &'a [u8]) -> Window<'a>
+        ensures same { reader_of result.value result.left result.bytes.now 255 ≡ started bytes.now }
+        ensures room { result.left ≤ 56 }
+    {
+        match bytes {
+            [] => Window {
+                bytes,
+                value: 0,
+                left: 0,
+            },
+            [first, rest @ ..] => Window {
+                bytes: rest,
+                value: *first as u64,
+                left: 0,
+            },
+        }
+    }
+
+    /// Moves `count` bits, at most 7, up into d, before the range is shifted by as many.
+    #[inline]
+    pub fn shift(&mut self, count: u32, range: u32)
+        requires few { count ≤ 7 }
+        requires range { range ≤ 255 }
+        requires room { self.old.left ≤ 56 }
+        ensures same { reader_of self.new.value self.new.left self.new.bytes.now (range * 2 ^ count) ≡ doublings count (reader_of self.old.value self.old.left self.old.bytes.now range) }
+        ensures room { self.new.left ≤ 56 }
+    {
+        if self.left < count {
+            *self = self.refilled(count, range);
+        }
+        self.left -= count;
+    }
+
+    /// This window with at least `count` unread bits, with zeros behind the last byte. It is taken
+    /// and given by value, so that what reads bits one after another keeps it in registers.
+    #[cold]
+    #[inline(never)]
+    fn refilled(self, count: u32, range: u32) -> Window<'a>
+        requires few { count ≤ 7 }
+        requires range { range ≤ 255 }
+        requires short { self.left < count }
+        ensures same { reader_of result.value (result.left - count) result.bytes.now (range * 2 ^ count) ≡ doublings count (reader_of self.entry.value self.entry.left self.entry.bytes.now range) }
+        ensures enough { count ≤ result.left }
+        ensures room { result.left ≤ 56 }
+    {
+        let mut window = self;
+        window.hold(range);
+        window.pull();
+        if window.left < count {
+            window.value <<= count - window.left;
+            window.left = count;
+        }
+        window
+    }
+
+    /// Cuts d to the range, which leaves room above it.
+    fn hold(&mut self, range: u32)
+        requires range { range ≤ 255 }
+        requires room { self.old.left ≤ 56 }
+        ensures same { reader_of self.new.value self.new.left self.new.bytes.now range ≡ reader_of self.old.value self.old.left self.old.bytes.now range }
+        ensures small { self.new.value < 2 ^ (self.new.left + 8) }
+        ensures left { self.new.left ≡ self.old.left }
+    {
+        let d = self.value >> self.left;
+        let range = range as u64;
+        if d > range {
+            self.value -= (d - range) << self.left;
+        }
+    }
+
+    /// Takes in bytes as long as the window has room for them.
+    fn pull(&mut self)
+        requires small { self.old.value < 2 ^ (self.old.left + 8) }
+        requires room { self.old.left ≤ 56 }
+        ensures same { (range : ℕ) → reader_of self.new.value self.new.left self.new.bytes.now range ≡ reader_of self.old.value self.old.left self.old.bytes.now range }
+        ensures small { self.new.value < 2 ^ (self.new.left + 8) }
+        ensures room { self.new.left ≤ 56 }
+        ensures full { self.new.left ≤ 48 → self.new.bytes.now ≡ [] }
+    {
+        while self.left <= 48 {
+            match self.bytes {
+                [] => return,
+                [first, rest @ ..] => self.take(*first, rest),
+            }
+        }
+    }
+
+    /// Takes in the first byte, behind which `rest` stands.
+    fn take(&mut self, first: u8, rest: &'a [u8])
+        requires next { self.old.bytes.now ≡ first ∷ rest.now }
+        requires small { self.old.value < 2 ^ (self.old.left + 8) }
+        requires room { self.old.left ≤ 48 }
+        ensures same { (range : ℕ) → reader_of self.new.value self.new.left self.new.bytes.now range ≡ reader_of self.old.value self.old.left self.old.bytes.now range }
+        ensures small { self.new.value < 2 ^ (self.new.left + 8) }
+        ensures left { self.new.left ≡ self.old.left + 8 }
+    {
+        self.bytes = rest;
+        self.value = 256 * self.value + first as u64;
+        self.left += 8;
+    }
+}

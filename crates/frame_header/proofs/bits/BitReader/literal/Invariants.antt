@@ -1,6 +1,0 @@
-use Rattle.std.proofs.Common.{◌≡◌, ◌<◌, ◌-◌, ◌^◌}
-use Rattle.frame_header.specs.Reading.{more_bits, literal}
-use Rattle.frame_header.proofs.bits.BitReader.literal.Given as goal
-
-abbrev pub invariant-loop-i : goal.invariant-loop-i
-invariant-loop-i l = (more_bits (l.count - l._i) l.value l.self ≡ literal l.count l.fn.self) × (l.value < 2 ^ l._i)
