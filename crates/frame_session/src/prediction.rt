@@ -1,11 +1,19 @@
-ghost use Rattle.std.specs.Prelude.{◌≡◌, ◌*◌, ◌+◌, ◌<◌, ◌≤◌, IfOk, length, slice_index, if◌then◌else◌};
+ghost use Rattle.std.specs.Prelude.{◌≡◌, ◌*◌, ◌+◌, ◌-◌, ◌<◌, ◌≤◌, IfOk, length, map, min, slice_index, if◌then◌else◌};
+ghost use Rattle.std.specs.List.{range_with_len};
 ghost use Rattle.std.specs.Option.{option_copied, ForSome};
 ghost use Rattle.frame_session.specs.Unfiltered.{HoldsSquare, HoldsMacroblock, HaveRoomFor, SameSides, SameShape, above, left, corner, above_row, left_column, above_eight, with_block, predicted_sub_block, predicted_sub_blocks, predicted_chroma, predicted_macroblock, predicted_row, predicted_rows, blank_picture as blank_picture_of, empty_planes as empty_planes_of};
 ghost use Rattle.pixel_planes.specs.Pictures.{macroblocks as macroblocks_of};
+ghost use Rattle.pixel_planes.specs.Samples.{sample_at};
 
 use intra_predict::{BlockSize, SubMode, WholeMode, sub, whole};
 use pixel_planes::{NoMemory, Picture, Plane, Planes};
 use std::alloc::Global;
+
+/// What stands above the frame (RFC 6386, section 12.2).
+const ABOVE_FRAME: u8 = 127;
+
+/// What stands to the left of the frame (RFC 6386, section 12.2).
+const LEFT_OF_FRAME: u8 = 129;
 
 /// The sample above column `x` of row `y`, 127 above the frame (RFC 6386, section 12.2).
 #[inline]
@@ -13,7 +21,11 @@ fn sample_above(plane: &Plane, x: usize, y: usize) -> u8
     requires { (x < plane.now.width) × (y ≤ plane.now.height) }
     ensures { result ≡ above plane.now x y }
 {
-    if y == 0 { 127 } else { plane.row(y - 1)[x] }
+    if y == 0 {
+        ABOVE_FRAME
+    } else {
+        plane.row(y - 1)[x]
+    }
 }
 
 /// The sample to the left of column `x` of row `y`, 129 left of the frame (RFC 6386, section 12.2).
@@ -22,42 +34,57 @@ fn sample_left(plane: &Plane, x: usize, y: usize) -> u8
     requires { (x ≤ plane.now.width) × (y < plane.now.height) }
     ensures { result ≡ left plane.now x y }
 {
-    if x == 0 { 129 } else { plane.row(y)[x - 1] }
+    if x == 0 {
+        LEFT_OF_FRAME
+    } else {
+        plane.row(y)[x - 1]
+    }
 }
 
 /// The sample above the column to the left of a block at column `x` of row `y` (RFC 6386, section 12.2).
+#[inline]
 fn sample_corner(plane: &Plane, x: usize, y: usize) -> u8
     requires { (x ≤ plane.now.width) × (y ≤ plane.now.height) }
     ensures { result ≡ corner plane.now x y }
 {
     if y == 0 {
-        127
+        ABOVE_FRAME
     } else {
         sample_left(plane, x, y - 1)
     }
 }
 
-/// Reads the samples above a block at column `x` of row `y` into `out`.
+/// Reads the samples above a block at column `x` of row `y` into `out`, 127 above the frame
+/// (RFC 6386, section 12.2).
 #[inline(always)]
 fn read_above(plane: &Plane, x: usize, y: usize, out: &mut [u8])
     requires within { (x + length out.old ≤ plane.now.width) × (y ≤ plane.now.height) }
     requires small { plane.now.width ≤ 16384 }
     ensures { out.new ≡ above_row plane.now x y (length out.old) }
 {
-    for k in 0..out.len() {
-        out[k] = sample_above(plane, x + k, y);
+    if y == 0 {
+        out.fill(ABOVE_FRAME);
+    } else {
+        let end = x + out.len();
+        out.copy_from_slice(&plane.row(y - 1)[x..end]);
     }
 }
 
-/// Reads the samples to the left of a block at column `x` of row `y` into `out`.
+/// Reads the samples above a block at column `x` of row `y` into `out`; behind the plane's last
+/// column, that column stands again.
 #[inline(always)]
-fn read_left(plane: &Plane, x: usize, y: usize, out: &mut [u8])
-    requires within { (x ≤ plane.now.width) × (y + length out.old ≤ plane.now.height) }
-    requires small { plane.now.height ≤ 16384 }
-    ensures { out.new ≡ left_column plane.now x y (length out.old) }
+fn read_above_or_last(plane: &Plane, x: usize, y: usize, out: &mut [u8])
+    requires within { (x ≤ plane.now.width) × (y ≤ plane.now.height) }
+    requires small { (0 < plane.now.width) × (plane.now.width ≤ 16384) × (length out.old ≤ 16) }
+    ensures { out.new ≡ map (λ k. above plane.now (min (x + k) (plane.now.width - 1)) y) (range_with_len 0 (length out.old)) }
 {
-    for k in 0..out.len() {
-        out[k] = sample_left(plane, x, y + k);
+    if x + out.len() <= plane.width() {
+        read_above(plane, x, y, out);
+    } else {
+        let last = plane.width() - 1;
+        for k in 0..out.len() {
+            out[k] = sample_above(plane, (x + k).min(last), y);
+        }
     }
 }
 
@@ -72,10 +99,35 @@ fn read_above_eight(plane: &Plane, mx: usize, my: usize, block: usize, out: &mut
     let x = 16 * mx + 4 * (block % 4);
     let y = 16 * my + 4 * (block / 4);
     let right_y = if block % 4 == 3 { 16 * my } else { y };
-    let last = plane.width() - 1;
-    for k in 0..8 {
-        let y = if k < 4 { y } else { right_y };
-        out[k] = sample_above(plane, (x + k).min(last), y);
+    let (above, above_right) = out.split_at_mut(4);
+    read_above(plane, x, y, above);
+    read_above_or_last(plane, x + 4, right_y, above_right);
+}
+
+/// Reads the samples of column `x` from row `y` on into `out`.
+#[inline(always)]
+fn read_column(plane: &Plane, x: usize, y: usize, out: &mut [u8])
+    requires within { (x < plane.now.width) × (y + length out.old ≤ plane.now.height) }
+    requires small { plane.now.height ≤ 16384 }
+    ensures { out.new ≡ map (λ k. sample_at plane.now x (y + k)) (range_with_len 0 (length out.old)) }
+{
+    for k in 0..out.len() {
+        out[k] = plane.row(y + k)[x];
+    }
+}
+
+/// Reads the samples to the left of a block at column `x` of row `y` into `out`, 129 left of the
+/// frame (RFC 6386, section 12.2).
+#[inline(always)]
+fn read_left(plane: &Plane, x: usize, y: usize, out: &mut [u8])
+    requires within { (x ≤ plane.now.width) × (y + length out.old ≤ plane.now.height) }
+    requires small { plane.now.height ≤ 16384 }
+    ensures { out.new ≡ left_column plane.now x y (length out.old) }
+{
+    if x == 0 {
+        out.fill(LEFT_OF_FRAME);
+    } else {
+        read_column(plane, x - 1, y, out);
     }
 }
 

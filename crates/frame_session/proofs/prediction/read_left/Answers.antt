@@ -1,8 +1,9 @@
-use Rattle.std.proofs.Common.{ℕ, ◌+◌, length, arith}
-use Rattle.std.proofs.lemmas.List.FromFn.{fill_by_all}
-use Rattle.frame_session.specs.Unfiltered.{left, left_column}
+use Rattle.std.proofs.Common.{◌∙◌, length}
+use Rattle.frame_session.proofs.Sides.{left_of_frame, left_part}
 use Rattle.frame_session.proofs.prediction.read_left.Goals as goal
 
-pub returns : goal.returns
-unfolding left_column
-returns c = fill_by_all (λ (k : ℕ). left c.args.plane.now c.args.x (c.args.y + k)) c.loop-k.out (length c.args.out.now) 0 c.loop-k.auto.out (λ k less. c.loop-k.invariant k (omega arith))
+pub returns-then-x-eq0 : goal.returns-then-x-eq0
+returns-then-x-eq0 c = c.fill.ensures.after (λ y h. h) ∙ left_of_frame c.args.plane.now c.args.x c.args.y (length c.args.out.now) c.if-x-eq0.true
+
+pub returns-else-x-eq0 : goal.returns-else-x-eq0
+returns-else-x-eq0 c = c.read_column.ensures ∙ left_part c.args.plane.now c.args.x c.args.y (length c.args.out.now) c.if-x-eq0.false
