@@ -12,7 +12,7 @@ use Rattle.frame_session.specs.Decoding.{Outcome}
 use Rattle.frame_session.specs.Gives.{Gives}
 use Rattle.frame_session.specs.Edits.{Listing, edit_of, unless_refused}
 use Rattle.frame_session.specs.Replies.{refused_line, served_line, ok_line, edit_line, count_line, stats_line}
-use Rattle.frame_session.specs.Sessions.{IsAfterFrame, Now, after_frame, behind_edit, fitted, frame_count, frame_from, frame_of, has_size, outcome_of, packet_count}
+use Rattle.frame_session.specs.Sessions.{Now, after_frame, behind_edit, frame_count, frame_from, frame_of, has_size, outcome_of, packet_count}
 use Rattle.frame_session.specs.Answers.{Answer, Answers, Run, answer_to_frame, told}
 use Rattle.frame_session.specs.Laws.{HaveMemory}
 
@@ -119,7 +119,6 @@ answered old (Frame n) =
       means = (frame, wanted_given old.size (outcome_of old n), refl, record { rest = refl; steps = omega arith });
       enough = tells_no_lack old n frame (wanted_some old.size (outcome_of old n));
     }
-
 answered old (Insert at stamp bytes) =
     let edit = edits.Insert at stamp bytes in
     let answer = edit_of old.list edit in

@@ -1,5 +1,5 @@
 -- The ids of a packet list.
-use Rattle.std.proofs.Common.{◌≡◌, ℕ, zero, suc, ◌+◌, ◌<◌, ◌≤◌, List, [], ◌∷◌, ◌++◌, length, take, drop, slice_get, slice_set, Option, Some, None, Result, Ok, Err, refl, sym, ap, ◌∙◌, subst, arith, add-zero, zero-add}
+use Rattle.std.proofs.Common.{◌≡◌, ℕ, zero, suc, ◌+◌, ◌<◌, ◌≤◌, List, [], ◌∷◌, length, slice_get, slice_set, Option, Some, None, Result, Ok, Err, refl, sym, ap, ◌∙◌, subst, arith, zero-add}
 use Rattle.std.specs.List.{insert, remove}
 use Rattle.std.specs.Option.{option_map_or}
 use Rattle.stream_files.specs.declared.packets.Packet.{Packet}
@@ -7,7 +7,7 @@ use Rattle.frame_session.specs.declared.entry.Entry.{Entry}
 use Rattle.frame_session.specs.declared.edit.Edit.{Edit}
 use Rattle.frame_session.specs.declared.edit.Edit.TheVariants.{Insert, Replace, Delete, Move}
 use Rattle.frame_session.specs.declared.refusal.Refusal.{Refusal}
-use Rattle.frame_session.specs.Edits.{Listing, after_edit, edited, listing_of, moved, numbered, with_packet}
+use Rattle.frame_session.specs.Edits.{Listing, after_edit, edited, listing_of, numbered}
 use Rattle.frame_session.specs.EditLaws.{HaveOwnIds, IsNotAmong}
 
 -- ids below a number are below a greater one

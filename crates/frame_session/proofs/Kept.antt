@@ -1,5 +1,5 @@
 -- What answers leave as it was.
-use Rattle.std.proofs.Common.{◌≡◌, ℕ, ◌≤◌, List, [], ◌∷◌, Result, Ok, Err, get_or, refl, sym, ap, ◌∙◌, subst, arith}
+use Rattle.std.proofs.Common.{◌≡◌, ℕ, ◌≤◌, List, [], ◌∷◌, Result, Ok, Err, sym, ap, ◌∙◌, arith}
 use Rattle.pixel_planes.specs.Pictures.{PictureSamples}
 use Rattle.frame_session.specs.declared.lines.Line.{Line}
 use Rattle.frame_session.specs.declared.lines.Line.TheVariants.{Silent, Unknown, Frame, Insert, Replace, Delete, Move, Count, Stats}
@@ -8,8 +8,8 @@ use Rattle.frame_session.specs.declared.edit.Edit.TheVariants as edits
 use Rattle.frame_session.specs.declared.refusal.Refusal.{Refusal}
 use Rattle.frame_session.specs.Edits.{edit_of}
 use Rattle.frame_session.specs.Replies.{refused_line, edit_line, ok_line, served_line}
-use Rattle.frame_session.specs.Sessions.{IsAfterFrame, Now, after_frame, behind_edit}
-use Rattle.frame_session.specs.Answers.{Answer, Answers, AnswersEdit, Run, answer_to_frame}
+use Rattle.frame_session.specs.Sessions.{IsAfterFrame, Now, behind_edit}
+use Rattle.frame_session.specs.Answers.{Answer, Answers, Run, answer_to_frame}
 use Rattle.frame_session.proofs.Answered.{begins_otherwise}
 
 -- one line more leaves the number of steps or raises it

@@ -1,5 +1,5 @@
 -- What edits come to, as laws over them and on worked lists.
-use Rattle.std.specs.Prelude.{◌≡◌, ℕ, ◌<◌, ◌≤◌, ◌*◌, List, [], ◌∷◌, Result}
+use Rattle.std.specs.Prelude.{◌≡◌, ℕ, ◌<◌, ◌≤◌, List, [], ◌∷◌, Result}
 use Rattle.stream_files.specs.declared.packets.Packet.{Packet}
 use Rattle.frame_session.specs.declared.entry.Entry.{Entry}
 use Rattle.frame_session.specs.declared.edit.Edit.{Edit}

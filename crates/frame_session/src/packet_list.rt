@@ -218,13 +218,9 @@ mod tests {
 
     fn holds(list: &PacketList, rows: &[(u64, u64, &[u8])]) -> bool {
         list.entries().len() == rows.len()
-            && list
-                .entries()
-                .iter()
-                .zip(rows)
-                .all(|(entry, (id, stamp, bytes))| {
-                    entry.id == *id && entry.stamp == *stamp && entry.bytes.as_slice() == *bytes
-                })
+            && list.entries().iter().zip(rows).all(|(entry, (id, stamp, bytes))| {
+                entry.id == *id && entry.stamp == *stamp && entry.bytes.as_slice() == *bytes
+            })
     }
 
     #[test]
@@ -233,16 +229,40 @@ mod tests {
         let mut list = list_of(alloc, &[(10, b"a"), (20, b"b"), (30, b"c")])?;
         assert!(rt; holds(&list, &[(0, 10, b"a"), (1, 20, b"b"), (2, 30, b"c")]));
         let bytes = Bytes::from_slice(alloc, b"dd")?;
-        let insert = Edit::Insert { at: 1, stamp: 15, bytes };
+        let insert = Edit::Insert {
+            at: 1,
+            stamp: 15,
+            bytes,
+        };
         assert_eq!(rt; list.edit(insert), Ok(4));
-        assert!(rt; holds(&list, &[(0, 10, b"a"), (3, 15, b"dd"), (1, 20, b"b"), (2, 30, b"c")]));
+        assert!(rt;
+            holds(
+                &list,
+                &[(0, 10, b"a"), (3, 15, b"dd"), (1, 20, b"b"), (2, 30, b"c")]
+            )
+        );
         assert_eq!(rt; list.edit(Edit::Move { from: 0, to: 2 }), Ok(4));
-        assert!(rt; holds(&list, &[(3, 15, b"dd"), (1, 20, b"b"), (0, 10, b"a"), (2, 30, b"c")]));
+        assert!(rt;
+            holds(
+                &list,
+                &[(3, 15, b"dd"), (1, 20, b"b"), (0, 10, b"a"), (2, 30, b"c")]
+            )
+        );
         assert_eq!(rt; list.edit(Edit::Move { from: 3, to: 0 }), Ok(4));
-        assert!(rt; holds(&list, &[(2, 30, b"c"), (3, 15, b"dd"), (1, 20, b"b"), (0, 10, b"a")]));
+        assert!(rt;
+            holds(
+                &list,
+                &[(2, 30, b"c"), (3, 15, b"dd"), (1, 20, b"b"), (0, 10, b"a")]
+            )
+        );
         let bytes = Bytes::from_slice(alloc, b"")?;
         assert_eq!(rt; list.edit(Edit::Replace { at: 2, bytes }), Ok(4));
-        assert!(rt; holds(&list, &[(2, 30, b"c"), (3, 15, b"dd"), (4, 20, b""), (0, 10, b"a")]));
+        assert!(rt;
+            holds(
+                &list,
+                &[(2, 30, b"c"), (3, 15, b"dd"), (4, 20, b""), (0, 10, b"a")]
+            )
+        );
         assert_eq!(rt; list.edit(Edit::Delete { at: 0 }), Ok(3));
         assert!(rt; holds(&list, &[(3, 15, b"dd"), (4, 20, b""), (0, 10, b"a")]));
         Ok(())
@@ -253,9 +273,20 @@ mod tests {
         let alloc = rt.alloc();
         let mut list = list_of(alloc, &[(10, b"a"), (20, b"b")])?;
         let edits = [
-            Edit::Insert { at: 3, stamp: 0, bytes: Bytes::from_slice(alloc, b"x")? },
-            Edit::Insert { at: LAST, stamp: 0, bytes: Bytes::from_slice(alloc, b"x")? },
-            Edit::Replace { at: 2, bytes: Bytes::from_slice(alloc, b"x")? },
+            Edit::Insert {
+                at: 3,
+                stamp: 0,
+                bytes: Bytes::from_slice(alloc, b"x")?,
+            },
+            Edit::Insert {
+                at: LAST,
+                stamp: 0,
+                bytes: Bytes::from_slice(alloc, b"x")?,
+            },
+            Edit::Replace {
+                at: 2,
+                bytes: Bytes::from_slice(alloc, b"x")?,
+            },
             Edit::Delete { at: 2 },
             Edit::Move { from: 2, to: 0 },
             Edit::Move { from: 0, to: 2 },
@@ -271,15 +302,33 @@ mod tests {
     #[test]
     fn ids_that_are_spent(rt: HostRuntime) -> Result<(), Fail> {
         let alloc = rt.alloc();
-        let mut list = PacketList { entries: Vec::new(alloc), next_id: LAST - 1 };
-        let insert = Edit::Insert { at: 0, stamp: 0, bytes: Bytes::from_slice(alloc, b"x")? };
+        let mut list = PacketList {
+            entries: Vec::new(alloc),
+            next_id: LAST - 1,
+        };
+        let insert = Edit::Insert {
+            at: 0,
+            stamp: 0,
+            bytes: Bytes::from_slice(alloc, b"x")?,
+        };
         assert_eq!(rt; list.edit(insert), Ok(1));
         assert!(rt; holds(&list, &[(LAST - 1, 0, b"x")]));
-        let outside = Edit::Insert { at: 2, stamp: 0, bytes: Bytes::from_slice(alloc, b"y")? };
+        let outside = Edit::Insert {
+            at: 2,
+            stamp: 0,
+            bytes: Bytes::from_slice(alloc, b"y")?,
+        };
         assert_eq!(rt; list.edit(outside), Err(Refusal::Place));
-        let insert = Edit::Insert { at: 1, stamp: 0, bytes: Bytes::from_slice(alloc, b"y")? };
+        let insert = Edit::Insert {
+            at: 1,
+            stamp: 0,
+            bytes: Bytes::from_slice(alloc, b"y")?,
+        };
         assert_eq!(rt; list.edit(insert), Err(Refusal::Spent));
-        let replace = Edit::Replace { at: 0, bytes: Bytes::from_slice(alloc, b"y")? };
+        let replace = Edit::Replace {
+            at: 0,
+            bytes: Bytes::from_slice(alloc, b"y")?,
+        };
         assert_eq!(rt; list.edit(replace), Err(Refusal::Spent));
         assert!(rt; holds(&list, &[(LAST - 1, 0, b"x")]));
         assert_eq!(rt; list.edit(Edit::Delete { at: 0 }), Ok(0));
@@ -289,19 +338,42 @@ mod tests {
     #[test]
     fn the_most_packets(rt: HostRuntime) -> Result<(), Fail> {
         let alloc = rt.alloc();
-        let mut list = PacketList { entries: Vec::with_capacity(alloc, MAX_PACKETS)?, next_id: LAST };
+        let mut list = PacketList {
+            entries: Vec::with_capacity(alloc, MAX_PACKETS)?,
+            next_id: LAST,
+        };
         for id in 0..1_048_576 {
-            list.entries.push(Entry { id, stamp: 0, bytes: Bytes::new(Vec::new(alloc)) })?;
+            list.entries.push(Entry {
+                id,
+                stamp: 0,
+                bytes: Bytes::new(Vec::new(alloc)),
+            })?;
         }
-        let outside = Edit::Insert { at: 1_048_577, stamp: 0, bytes: Bytes::from_slice(alloc, b"x")? };
+        let outside = Edit::Insert {
+            at: 1_048_577,
+            stamp: 0,
+            bytes: Bytes::from_slice(alloc, b"x")?,
+        };
         assert_eq!(rt; list.edit(outside), Err(Refusal::Place));
-        let insert = Edit::Insert { at: 0, stamp: 0, bytes: Bytes::from_slice(alloc, b"x")? };
+        let insert = Edit::Insert {
+            at: 0,
+            stamp: 0,
+            bytes: Bytes::from_slice(alloc, b"x")?,
+        };
         assert_eq!(rt; list.edit(insert), Err(Refusal::Full));
         assert_eq!(rt; list.edit(Edit::Delete { at: 0 }), Ok(1_048_575));
-        let insert = Edit::Insert { at: 0, stamp: 0, bytes: Bytes::from_slice(alloc, b"x")? };
+        let insert = Edit::Insert {
+            at: 0,
+            stamp: 0,
+            bytes: Bytes::from_slice(alloc, b"x")?,
+        };
         assert_eq!(rt; list.edit(insert), Err(Refusal::Spent));
         list.next_id = 7;
-        let insert = Edit::Insert { at: 0, stamp: 0, bytes: Bytes::from_slice(alloc, b"x")? };
+        let insert = Edit::Insert {
+            at: 0,
+            stamp: 0,
+            bytes: Bytes::from_slice(alloc, b"x")?,
+        };
         assert_eq!(rt; list.edit(insert), Ok(1_048_576));
         Ok(())
     }

@@ -116,7 +116,12 @@ impl Session {
     }
 
     /// Puts in a packet of bytes that are made once nothing else is refused.
-    pub(crate) fn insert_written(&mut self, at: u64, stamp: u64, bytes: Hex<'_>) -> Result<u64, Refusal>
+    pub(crate) fn insert_written(
+        &mut self,
+        at: u64,
+        stamp: u64,
+        bytes: Hex<'_>,
+    ) -> Result<u64, Refusal>
         ensures gives { Gives (edit_of self.old.list (Insert at stamp bytes.entry)) result }
         ensures after { self.new ≡ behind_edit (Insert at stamp bytes.entry) self.old result }
     {

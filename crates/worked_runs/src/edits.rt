@@ -40,7 +40,8 @@ fn tells_steps(text: &[u8]) -> bool {
 
 #[test]
 fn from_nothing(rt: HostRuntime) -> Result<(), Fail> {
-    let requests = b"insert 0 0 -\nframe 0\nreplace 0 1000009D012A10001000\nframe 0\ndelete 1\nstats\n";
+    let requests =
+        b"insert 0 0 -\nframe 0\nreplace 0 1000009D012A10001000\nframe 0\ndelete 1\nstats\n";
     let ran = run_over(rt.alloc(), &EMPTY, requests);
     let before = b"ok 1\nrefused packet 0 ShortPacket\nok 1\nserved 0\nrefused Place\n";
     let stats = ran.replies.as_slice().strip_prefix(before);
@@ -54,15 +55,14 @@ fn lines_that_are_refused(rt: HostRuntime) -> Result<(), Fail> {
     let ran = run_over(rt.alloc(), &EMPTY, requests);
     assert_eq!(rt;
         ran.replies.as_slice(),
-        b"refused Place\nrefused Line\nrefused Place\nrefused Place\nrefused Place\npackets 0 frames 0\n"
-            .as_slice()
+        b"refused Place\nrefused Line\nrefused Place\nrefused Place\nrefused Place\npackets 0 frames 0\n".as_slice()
     );
-    let requests = b"insert 0 0 0g\ninsert 0 18446744073709551616 -\ndelete 0 0\ncount 0\nstats 0\nmove 0\ncount\n";
+    let requests =
+        b"insert 0 0 0g\ninsert 0 18446744073709551616 -\ndelete 0 0\ncount 0\nstats 0\nmove 0\ncount\n";
     let ran = run_packets(rt.alloc(), &[KEY], requests)?;
     assert_eq!(rt;
         ran.replies.as_slice(),
-        b"refused Line\nrefused Line\nrefused Line\nrefused Line\nrefused Line\nrefused Line\npackets 1 frames 1\n"
-            .as_slice()
+        b"refused Line\nrefused Line\nrefused Line\nrefused Line\nrefused Line\nrefused Line\npackets 1 frames 1\n".as_slice()
     );
     Ok(())
 }
@@ -73,8 +73,7 @@ fn hidden_packets_are_no_frames(rt: HostRuntime) -> Result<(), Fail> {
     let ran = run_packets(rt.alloc(), &[KEY, HIDDEN, INTER], requests)?;
     assert_eq!(rt;
         ran.replies.as_slice(),
-        b"packets 3 frames 2\nrefused NoSuchFrame\nok 4\npackets 4 frames 3\nok 5\npackets 5 frames 3\n"
-            .as_slice()
+        b"packets 3 frames 2\nrefused NoSuchFrame\nok 4\npackets 4 frames 3\nok 5\npackets 5 frames 3\n".as_slice()
     );
     Ok(())
 }
@@ -82,12 +81,12 @@ fn hidden_packets_are_no_frames(rt: HostRuntime) -> Result<(), Fail> {
 // Each place of a move, seen by the sizes and the causes of the frames.
 #[test]
 fn packets_that_are_moved(rt: HostRuntime) -> Result<(), Fail> {
-    let requests = b"frame 0\nmove 0 2\nframe 0\nframe 1\nframe 2\nmove 2 1\nframe 0\nframe 1\nframe 2\nmove 1 1\nframe 1\n";
+    let requests =
+        b"frame 0\nmove 0 2\nframe 0\nframe 1\nframe 2\nmove 2 1\nframe 0\nframe 1\nframe 2\nmove 1 1\nframe 1\n";
     let ran = run_packets(rt.alloc(), &[KEY, &[0x11, 0], WIDE_KEY], requests)?;
     assert_eq!(rt;
         ran.replies.as_slice(),
-        b"served 0\nok 3\nrefused packet 0 ShortPacket\nrefused SizeDiffers\nserved 2\nok 3\nrefused packet 0 ShortPacket\nserved 1\nrefused SizeDiffers\nok 3\nserved 1\n"
-            .as_slice()
+        b"served 0\nok 3\nrefused packet 0 ShortPacket\nrefused SizeDiffers\nserved 2\nok 3\nrefused packet 0 ShortPacket\nserved 1\nrefused SizeDiffers\nok 3\nserved 1\n".as_slice()
     );
     Ok(())
 }
@@ -95,10 +94,17 @@ fn packets_that_are_moved(rt: HostRuntime) -> Result<(), Fail> {
 // Hexadecimal digits of either case give the packet's bytes.
 #[test]
 fn bytes_that_are_written(rt: HostRuntime) -> Result<(), Fail> {
-    let requests = b"insert 0 7 1000009d012A10001000\n  replace   0  1000009D012a20001000 \nframe 0\n";
+    let requests =
+        b"insert 0 7 1000009d012A10001000\n  replace   0  1000009D012a20001000 \nframe 0\n";
     let ran = run_over(rt.alloc(), &EMPTY, requests);
-    assert_eq!(rt; ran.replies.as_slice(), b"ok 1\nok 1\nserved 0\n".as_slice());
-    assert!(rt; ran.frames.starts_with(b"YUV4MPEG2 W32 H16 F30:1 Ip C420jpeg\nFRAME\n"));
+    assert_eq!(rt;
+        ran.replies.as_slice(),
+        b"ok 1\nok 1\nserved 0\n".as_slice()
+    );
+    assert!(rt;
+        ran.frames
+            .starts_with(b"YUV4MPEG2 W32 H16 F30:1 Ip C420jpeg\nFRAME\n")
+    );
     assert_eq!(rt; ran.frames.len(), 42 + 768);
     Ok(())
 }
@@ -115,7 +121,11 @@ fn a_session_is_edited(rt: HostRuntime) -> Result<(), Fail> {
     let mut session = Session::new(alloc, Tables::flat(), 4096, file)?;
     assert_eq!(rt; (session.count(), session.decoded()), ((1, 1), 0));
     let bytes = Bytes::from_slice(alloc, HIDDEN)?;
-    let insert = Edit::Insert { at: 1, stamp: 3, bytes };
+    let insert = Edit::Insert {
+        at: 1,
+        stamp: 3,
+        bytes,
+    };
     assert_eq!(rt; session.edit(insert), Ok(2));
     assert_eq!(rt; session.count(), (2, 1));
     let bytes = Bytes::from_slice(alloc, &[0x11, 0])?;
