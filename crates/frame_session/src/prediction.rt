@@ -182,6 +182,7 @@ fn side_inside(is_outside: bool, samples: &[u8]) -> Option<&[u8]>
 }
 
 /// Predicts the block of a macroblock in a chroma plane.
+#[inline(always)]
 fn predict_chroma(plane: &mut Plane, mx: usize, my: usize)
     requires { HoldsSquare plane.old (8 * mx) (8 * my) 8 }
     ensures value { plane.new ≡ predicted_chroma plane.old mx my }
