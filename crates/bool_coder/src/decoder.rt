@@ -39,6 +39,18 @@ impl<'a> Decoder<'a> {
         }
     }
 
+    /// A decoder that stands where this one does. A loop that reads through a copy of its own keeps
+    /// it in registers.
+    #[inline]
+    pub fn copied(&self) -> Decoder<'a>
+        ensures { result ≡ self.now }
+    {
+        Decoder {
+            window: self.window,
+            range: self.range,
+        }
+    }
+
     /// One bit that is 0 with a probability of `prob` in 256.
     #[inline]
     pub fn bit(&mut self, prob: u8) -> bool

@@ -1,4 +1,4 @@
-use Rattle.std.specs.Prelude.{ℕ, ◌+◌, ◌*◌, ◌==◌, List, length, take, drop, replicate, Result, Ok, Err, if◌then◌else◌}
+use Rattle.std.specs.Prelude.{ℕ, ◌+◌, ◌*◌, ◌==◌, List, length, take, drop, replicate, slice_range, Result, Ok, Err, if◌then◌else◌}
 use Rattle.vp8_tables.specs.declared.fault.TableFault.{TableFault}
 use Rattle.vp8_tables.specs.declared.fault.TableFault.TheVariants.{Length}
 
@@ -27,3 +27,7 @@ coefficient_place kind band context node = ((kind * 8 + band) * 3 + context) * 1
 -- the place of a sub mode probability in a table of 10 modes above, 10 modes to the left and 9 nodes (RFC 6386, section 11)
 abbrev pub key_sub_place : ℕ → ℕ → ℕ → ℕ
 key_sub_place above left node = (above * 10 + left) * 9 + node
+
+-- the nine probabilities of the sub mode tree between these two modes (RFC 6386, section 11.5)
+abbrev pub key_sub_nodes_of : TableEntries → ℕ → ℕ → List ℕ
+key_sub_nodes_of tables above left = slice_range tables.key_subs (key_sub_place above left 0) (key_sub_place above left 9)

@@ -1,12 +1,19 @@
 //! The long probability tables of VP8 (RFC 6386, sections 11.5, 13.4 and 13.5), as a value that
-//! is handed to the decoder.
+//! is handed to the decoder, and its short tables as constants.
 #![tactic(auto)]
 
 mod fault;
+mod modes;
 mod tables;
+mod vectors;
 
 pub use fault::TableFault;
+pub use modes::{
+    DEFAULT_UV_PROBABILITIES, DEFAULT_Y_PROBABILITIES, KEY_UV_PROBABILITIES, KEY_Y_PROBABILITIES,
+    KEY_Y_TREE, SUB_TREE, UV_TREE,
+};
 pub use tables::Tables;
+pub use vectors::DEFAULT_VECTOR_PROBABILITIES;
 
 #[cfg(test)]
 mod tests {

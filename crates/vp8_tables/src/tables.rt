@@ -1,5 +1,5 @@
-ghost use Rattle.std.specs.Prelude.{◌≡◌, ◌<◌, slice_index};
-ghost use Rattle.vp8_tables.specs.Tables.{flat_entries, entries_of, coefficient_place, key_sub_place};
+ghost use Rattle.std.specs.Prelude.{◌≡◌, ◌<◌, length, slice_index};
+ghost use Rattle.vp8_tables.specs.Tables.{flat_entries, entries_of, coefficient_place, key_sub_place, key_sub_nodes_of};
 
 use crate::fault::TableFault;
 use std::marker::Model;
@@ -94,5 +94,34 @@ impl Tables {
         ensures { result ≡ slice_index self.now.key_subs (key_sub_place above left node) }
     {
         self.key_subs[(above * 10 + left) * 9 + node]
+    }
+
+    /// All default coefficient probabilities in index order: kind by band by context by node
+    /// (RFC 6386, section 13.5).
+    pub fn coefficients(&self) -> &[u8; 1056]
+        ensures { result.now ≡ self.now.coefficients }
+    {
+        &self.coefficients
+    }
+
+    /// All coefficient update probabilities in index order: kind by band by context by node
+    /// (RFC 6386, section 13.4).
+    pub fn updates(&self) -> &[u8; 1056]
+        ensures { result.now ≡ self.now.updates }
+    {
+        &self.updates
+    }
+
+    /// The 9 probabilities of the sub mode tree in a key frame, one for each node: `above` and
+    /// `left`, the modes there, below 10 (RFC 6386, section 11.5).
+    #[inline]
+    pub fn key_sub_nodes(&self, above: usize, left: usize) -> &[u8]
+        requires above { above < 10 }
+        requires left { left < 10 }
+        ensures value { result.now ≡ key_sub_nodes_of self.now above left }
+        ensures len { length result.now ≡ 9 }
+    {
+        let start = (above * 10 + left) * 9;
+        &self.key_subs[start..start + 9]
     }
 }

@@ -1,0 +1,13 @@
+//! The fixed probabilities of motion vectors (RFC 6386, section 17.2).
+
+/// The probabilities of the parts of a motion vector with which inter frames begin behind a key
+/// frame: those of the row component, then those of the column component (RFC 6386, section 17.2).
+pub const DEFAULT_VECTOR_PROBABILITIES: [[u8; 19]; 2] = [
+    [
+        162, 128, 225, 146, 172, 147, 214, 39, 156, 128, 129, 132, 75, 145, 178, 206, 239, 254, 254,
+    ],
+    [
+        164, 128, 204, 170, 119, 235, 140, 230, 228, 128, 130, 130, 74, 148, 180, 203, 236, 254,
+        254,
+    ],
+];
