@@ -1,0 +1,59 @@
+#!/usr/bin/env python3
+"""Compares key frames of random prediction modes with what vpxdec and ffmpeg show, sample for sample.
+
+Run by hand, not in the gate. It needs the built program (see README.md), vpxdec (Debian's vpx-tools) and
+ffmpeg, and the long tables of RFC 6386 as a file of 3,012 bytes. The program has flat tables, so the same
+modes are written twice: with flat tables for the program, with the RFC's for the others.
+"""
+
+import pathlib
+import random
+import subprocess
+import sys
+import tempfile
+
+from bits import B_PRED, FLAT, ivf, key_packet, tables_of
+from run import PROGRAM, frames_of, run
+
+
+def random_mode(source, share):
+    """A macroblock of mode B with a probability of `share`, and of any whole-block mode else."""
+    luma = B_PRED if source.random() < share else source.randrange(4)
+    subs = [source.randrange(10) for _ in range(16)] if luma == B_PRED else [0] * 16
+    return luma, subs, source.randrange(4)
+
+
+def compare(room, tables, width, height, modes):
+    size = width * height + 2 * ((width + 1) // 2) * ((height + 1) // 2)
+    (room / "flat.ivf").write_bytes(ivf(width, height, [key_packet(FLAT, width, height, modes)]))
+    (room / "rfc.ivf").write_bytes(ivf(width, height, [key_packet(tables, width, height, modes)]))
+    (room / "requests").write_text("frame 0\n")
+    run([PROGRAM, room / "flat.ivf", room / "requests", room / "out.y4m"])
+    run(["vpxdec", "--codec=vp8", "--i420", "-o", room / "vpxdec.yuv", room / "rfc.ivf"])
+    run(["ffmpeg", "-y", "-v", "error", "-i", room / "rfc.ivf", "-pix_fmt", "yuv420p", "-f", "rawvideo", room / "ffmpeg.yuv"])
+    served = frames_of((room / "out.y4m").read_bytes(), size)
+    return len(served) == size, [served == (room / f"{name}.yuv").read_bytes() for name in ("vpxdec", "ffmpeg")]
+
+
+def main():
+    if len(sys.argv) < 2:
+        sys.exit("modes.py TABLES [FRAMES]")
+    tables = tables_of(pathlib.Path(sys.argv[1]).read_bytes())
+    frames = int(sys.argv[2]) if len(sys.argv) > 2 else 100
+    source, differing = random.Random(6386), 0
+    with tempfile.TemporaryDirectory() as name:
+        for frame in range(frames):
+            width, height = source.randrange(1, 100), source.randrange(1, 100)
+            count = (width + 15) // 16 * ((height + 15) // 16)
+            share = source.choice([0, 0.5, 1])
+            modes = [random_mode(source, share) for _ in range(count)]
+            whole, same = compare(pathlib.Path(name), tables, width, height, modes)
+            if not whole or not all(same):
+                differing += 1
+                print(f"frame {frame}, {width}x{height}: served {whole}, vpxdec same {same[0]}, ffmpeg same {same[1]}")
+    print(f"{frames} frames, {differing} differ")
+    return 1 if differing else 0
+
+
+if __name__ == "__main__":
+    sys.exit(main())
