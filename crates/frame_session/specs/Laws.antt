@@ -1,5 +1,5 @@
 -- What the definitions of decoding and of a request list come to, as laws over them.
-use Rattle.std.specs.Prelude.{◌≡◌, ℕ, ◌<◌, ◌≤◌, true, List, [], ◌∷◌, length, Option, Some, None, Err, slice_get}
+use Rattle.std.specs.Prelude.{◌≡◌, ℕ, ◌<◌, ◌≤◌, true, List, [], ◌∷◌, length, Some, None, Err, slice_get}
 use Rattle.vp8_tables.specs.declared.tables.Tables.{Tables}
 use Rattle.frame_header.specs.Tags.{has_key_tag, is_shown}
 use Rattle.reference_frames.specs.Steps.{step_of}
