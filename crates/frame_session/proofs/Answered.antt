@@ -25,7 +25,7 @@ wanted_given : (size : Option Size) (o : Option Outcome) → Gives (frame_from s
 wanted_given size None = refl
 wanted_given size (Some (Err broken)) = refl
 wanted_given None (Some (Ok decoded)) = refl
-wanted_given (Some size) (Some (Ok decoded)) = chosen_given decoded.picture (has_size decoded.picture size)
+wanted_given (Some size) (Some (Ok decoded)) = chosen_given decoded.1 (has_size decoded.1 size)
 
 -- and then its reply does not tell of want of memory
 refusal_told : (refusal : Refusal) → (refusal ≡ refusals.NoMemory → ⊥) → refused_line refusal ≡ refused_line refusals.NoMemory → ⊥
@@ -54,7 +54,7 @@ wanted_some : (size : Option Size) (o : Option Outcome) → frame_from size o �
 wanted_some size None e = cc
 wanted_some size (Some (Err broken)) e = cc
 wanted_some None (Some (Ok decoded)) e = cc
-wanted_some (Some size) (Some (Ok decoded)) e = not_lacking decoded.picture (has_size decoded.picture size) e
+wanted_some (Some size) (Some (Ok decoded)) e = not_lacking decoded.1 (has_size decoded.1 size) e
 
 -- an edit may be answered as it is wanted, and its reply does not tell of want of memory
 record IsTold (answer : Result ℕ Refusal) : Type 0 where

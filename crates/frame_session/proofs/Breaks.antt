@@ -3,9 +3,10 @@ use Rattle.std.proofs.Common.{◌≡◌, ℕ, suc, zero, ◌+◌, ◌≤◌, ◌
 use Rattle.vp8_tables.specs.declared.tables.Tables.{Tables}
 use Rattle.frame_header.specs.declared.cause.Cause.{Cause}
 use Rattle.frame_header.specs.Tags.{has_key_tag}
-use Rattle.frame_session.specs.declared.step.Decoded.{Decoded}
+use Rattle.pixel_planes.specs.Pictures.{PictureSamples}
+use Rattle.reference_frames.specs.declared.steps.State.{State}
+use Rattle.reference_frames.specs.Steps.{step_of}
 use Rattle.frame_session.specs.declared.decoding.Broken.{Broken}
-use Rattle.frame_session.specs.Steps.{step_of}
 use Rattle.frame_session.specs.Decoding.{Outcome, Standing, behind, left_by, outcome, outcomes, outcomes_from, told_at}
 
 length-outcomes_from : (tables : Tables) (place : ℕ) (standing : Standing) (xs : List (List ℕ)) → length (outcomes_from tables place standing xs) ≡ length xs
@@ -16,7 +17,7 @@ pub each_outcome : (tables : Tables) (packets : List (List ℕ)) → length (out
 each_outcome tables packets = length-outcomes_from tables 0 (Ok None) packets
 
 -- a step that is refused breaks the stream at its own place
-told_here : (place : ℕ) (answer : Result Decoded Cause) (broken : Broken) → told_at place answer ≡ Err broken → broken.place ≡ place
+told_here : (place : ℕ) (answer : Result (State × PictureSamples) Cause) (broken : Broken) → told_at place answer ≡ Err broken → broken.place ≡ place
 told_here place (Ok decoded) broken e = cc
 told_here place (Err cause) broken e = let same : record { place = place; cause = cause } ≡ broken = cc in ap (λ (b : Broken). b.place) (sym same)
 

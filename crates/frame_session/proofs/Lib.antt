@@ -1,7 +1,3 @@
-pub mod Blocks
-pub mod Sides
-pub mod Flat
-pub mod FlatFrames
 pub mod Outcomes
 pub mod Breaks
 pub mod Splits

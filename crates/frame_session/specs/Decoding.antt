@@ -3,23 +3,23 @@ use Rattle.std.specs.Prelude.{ℕ, ◌+◌, List, [], ◌∷◌, Option, Some, N
 use Rattle.vp8_tables.specs.declared.tables.Tables.{Tables}
 use Rattle.frame_header.specs.declared.cause.Cause.{Cause}
 use Rattle.frame_header.specs.Tags.{has_key_tag, is_shown}
-use Rattle.frame_session.specs.declared.step.State.{State}
-use Rattle.frame_session.specs.declared.step.Decoded.{Decoded}
+use Rattle.pixel_planes.specs.Pictures.{PictureSamples}
+use Rattle.reference_frames.specs.declared.steps.State.{State}
+use Rattle.reference_frames.specs.Steps.{step_of}
 use Rattle.frame_session.specs.declared.decoding.Broken.{Broken}
 use Rattle.frame_session.specs.declared.decoding.DecodeFault.{DecodeFault}
 use Rattle.frame_session.specs.declared.decoding.DecodeFault.TheVariants.{Refused, NoMemory}
-use Rattle.frame_session.specs.Steps.{step_of}
 
 -- the outcome at a packet: good, with its state and picture, or broken at a place with its cause
 abbrev pub Outcome : Type 0
-Outcome = Result Decoded Broken
+Outcome = Result (State × PictureSamples) Broken
 
 -- what stands before a packet: no state yet, a state, or that the stream is broken
 abbrev pub Standing : Type 0
 Standing = Result (Option State) Broken
 
 -- a step's answer at a place
-abbrev pub told_at : ℕ → Result Decoded Cause → Outcome
+abbrev pub told_at : ℕ → Result (State × PictureSamples) Cause → Outcome
 told_at place (Ok decoded) = Ok decoded
 told_at place (Err cause) = Err (record { place = place; cause = cause })
 
@@ -34,7 +34,7 @@ outcome tables place standing packet =
     if has_key_tag packet then told_at place (step_of tables None packet) else behind tables place standing packet
 
 abbrev pub left_by : Outcome → Standing
-left_by (Ok decoded) = Ok (Some decoded.state)
+left_by (Ok decoded) = Ok (Some decoded.0)
 left_by (Err broken) = Err broken
 
 -- what stands behind packets of which the first has this place
@@ -64,7 +64,7 @@ abbrev pub shown_places : List (List ℕ) → List ℕ
 shown_places packets = shown_from 0 packets
 
 -- the answer is this outcome, or that there was no memory
-abbrev pub OutcomeAnswers : Outcome → Result Decoded DecodeFault → Type 0
+abbrev pub OutcomeAnswers : Outcome → Result (State × PictureSamples) DecodeFault → Type 0
 OutcomeAnswers want (Ok decoded) = want ≡ Ok decoded
 OutcomeAnswers want (Err (Refused broken)) = want ≡ Err broken
 OutcomeAnswers want (Err NoMemory) = Unit {0}

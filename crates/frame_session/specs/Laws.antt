@@ -1,14 +1,13 @@
 -- What the definitions of decoding and of a request list come to, as laws over them.
-use Rattle.std.specs.Prelude.{◌≡◌, ℕ, ◌<◌, ◌≤◌, true, List, [], ◌∷◌, length, Option, Some, None, Err, slice_get}
+use Rattle.std.specs.Prelude.{◌≡◌, ℕ, ◌<◌, ◌≤◌, true, List, [], ◌∷◌, length, Some, None, Err, slice_get}
 use Rattle.vp8_tables.specs.declared.tables.Tables.{Tables}
 use Rattle.frame_header.specs.Tags.{has_key_tag, is_shown}
-use Rattle.frame_session.specs.declared.step.State.{State}
+use Rattle.reference_frames.specs.Steps.{step_of}
 use Rattle.frame_session.specs.declared.decoding.Broken.{Broken}
 use Rattle.frame_session.specs.declared.lines.Line.{Line}
 use Rattle.frame_session.specs.declared.lines.Line.TheVariants.{Stats}
 use Rattle.frame_session.specs.declared.refusal.Refusal.{Refusal}
 use Rattle.frame_session.specs.declared.refusal.Refusal.TheVariants as refusals
-use Rattle.frame_session.specs.Steps.{step_of}
 use Rattle.frame_session.specs.Decoding.{outcomes, shown_places, told_at}
 use Rattle.frame_session.specs.Replies.{refused_line, stats_line}
 use Rattle.frame_session.specs.Sessions.{Now}
@@ -28,10 +27,6 @@ BreaksAreNamed = (tables : Tables) (packets : List (List ℕ)) (i : ℕ) (broken
 abbrev pub KeysBeginAnew : Type 0
 KeysBeginAnew = (tables : Tables) (packets : List (List ℕ)) (i : ℕ) (packet : List ℕ) → slice_get packets i ≡ Some packet → has_key_tag packet ≡ true
     → slice_get (outcomes tables packets) i ≡ Some (told_at i (step_of tables None packet))
-
--- a step of a packet with a key tag is the same from any state as from none
-abbrev pub KeysStepFromNone : Type 0
-KeysStepFromNone = (tables : Tables) (state : Option State) (packet : List ℕ) → has_key_tag packet ≡ true → step_of tables state packet ≡ step_of tables None packet
 
 -- the shown list has the places of the shown packets, of each of them and of no other, in their order
 pub record IsShownList : Type 0 where

@@ -1,6 +1,3 @@
-pub mod Unfiltered
-pub mod UnfilteredLaws
-pub mod Steps
 pub mod Decoding
 pub mod Gives
 pub mod Edits

@@ -52,7 +52,7 @@ fitted (Some size) picture = if has_size picture size then Ok picture else Err r
 abbrev pub frame_from : Option Size → Option Outcome → Result PictureSamples Refusal
 frame_from size None = Err refusals.NoSuchFrame
 frame_from size (Some (Err broken)) = Err (refusals.Packet broken.place broken.cause)
-frame_from size (Some (Ok decoded)) = fitted size decoded.picture
+frame_from size (Some (Ok decoded)) = fitted size decoded.1
 
 -- frame n of the stream as it stands: its picture, or the first refusal
 abbrev pub frame_of : Now → ℕ → Result PictureSamples Refusal

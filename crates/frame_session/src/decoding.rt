@@ -2,9 +2,9 @@ ghost use Rattle.std.specs.Prelude.{◌≡◌, ◌≤◌, ◌<◌, map, length, 
 ghost use Rattle.frame_session.specs.Decoding.{Outcome, OutcomeAnswers, outcome, outcomes, shown_places, standing_after};
 
 use crate::entry::Entry;
-use crate::step::{Decoded, State, StepFault, step};
 use frame_header::{Cause, has_key_tag, is_shown};
-use pixel_planes::NoMemory;
+use pixel_planes::{NoMemory, Picture};
+use reference_frames::{State, StepFault, step};
 use std::alloc::Global;
 use vp8_tables::Tables;
 
@@ -33,7 +33,7 @@ fn outcome(
     standing: &Before,
     packet: &[u8],
     steps: &mut u64,
-) -> Result<Decoded, DecodeFault>
+) -> Result<(State, Picture), DecodeFault>
     ensures answers { OutcomeAnswers (outcome tables.now place standing.now packet.now) result }
     ensures counted { steps.old ≤ steps.new }
 {
@@ -73,7 +73,7 @@ fn standing_behind(
             packet.bytes.as_slice(),
             steps,
         ) {
-            Ok(decoded) => Ok(Some(decoded.state)),
+            Ok((state, _)) => Ok(Some(state)),
             Err(DecodeFault::Refused(broken)) => Err(broken),
             Err(DecodeFault::NoMemory) => return Err(NoMemory),
         };
@@ -89,7 +89,7 @@ pub fn decode(
     packets: &[Entry],
     place: usize,
     steps: &mut u64,
-) -> Result<Decoded, DecodeFault>
+) -> Result<(State, Picture), DecodeFault>
     requires { place < length packets.now }
     ensures answers { (want : Outcome) × (slice_get (outcomes tables.now (map (λ p. p.bytes) packets.now)) place ≡ Some want) × OutcomeAnswers want result }
     ensures counted { steps.old ≤ steps.new }

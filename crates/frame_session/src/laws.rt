@@ -7,8 +7,7 @@ ghost use Rattle.frame_session.specs.declared.refusal.Refusal.TheVariants as ref
 ghost use Rattle.frame_session.specs.EditLaws.{IdsStayOwn, packet, three};
 ghost use Rattle.frame_session.specs.Edits.{edited, edit_of};
 ghost use Rattle.frame_session.specs.Requests.{asked_by};
-ghost use Rattle.frame_session.specs.UnfilteredLaws.{AreFlat, WritesOneBlock};
-ghost use Rattle.frame_session.specs.Laws.{AnswersAreOne, AnswersExist, BreaksAreNamed, EachHasOutcome, IsShownList, KeysBeginAnew, KeysStepFromNone, RefusedLinesChangeNothing, StepsNeverFall};
+ghost use Rattle.frame_session.specs.Laws.{AnswersAreOne, AnswersExist, BreaksAreNamed, EachHasOutcome, IsShownList, KeysBeginAnew, RefusedLinesChangeNothing, StepsNeverFall};
 
 /// Each packet of a stream has one outcome.
 pub fn each_has_outcome()
@@ -24,13 +23,6 @@ pub fn breaks_are_named()
 pub fn keys_begin_anew()
     ensures { KeysBeginAnew }
 {}
-
-/// A step of a packet with a key tag is the same from any state as from none.
-pub fn keys_step_from_none()
-    ensures { KeysStepFromNone }
-{
-    frame_header::laws::keys_take_no_context();
-}
 
 /// The shown list has the places of the shown packets and no other, in their order.
 pub fn shown_list_is_of_shown_packets()
@@ -89,15 +81,4 @@ pub fn worked_lines()
     ensures odd { asked_by (codes "insert 0 0 1") ≡ requests.Unknown }
     ensures wide { asked_by (codes "delete 18446744073709551616") ≡ requests.Unknown }
     ensures long { asked_by (codes "delete 000000000000000000001") ≡ requests.Unknown }
-{}
-
-/// A block that is written has its samples, and every other sample is as it was.
-pub fn block_write_is_local()
-    ensures { WritesOneBlock }
-{}
-
-/// In the planes of a blank picture luma is 128 in the first four rows and 129 below them,
-/// and chroma is 128.
-pub fn blank_planes_are_flat()
-    ensures { AreFlat }
 {}

@@ -9,13 +9,11 @@ mod hex_text;
 pub mod laws;
 mod lines;
 mod packet_list;
-mod prediction;
 mod refusal;
 mod replies;
 mod serving;
 mod session;
 mod size;
-mod step;
 
 pub use edit::Edit;
 pub use refusal::Refusal;

@@ -9,7 +9,6 @@ use crate::hex_text::Hex;
 use crate::packet_list::PacketList;
 use crate::refusal::Refusal;
 use crate::size::Size;
-use crate::step::Decoded;
 use pixel_planes::{NoMemory, Picture};
 use std::alloc::Global;
 use std::marker::Model;
@@ -61,7 +60,6 @@ impl Session {
     }
 
     /// Frame `n` of the stream as it stands, counted from 0 over the shown packets.
-    #[tactic(auto, unfolding(crate::specs::Steps::step_of))]
     pub fn frame(&mut self, n: u64) -> Result<Picture, Refusal>
         ensures gives { Gives (frame_of self.old n) result }
         ensures after { IsAfterFrame self.old result self.new }
@@ -79,7 +77,7 @@ impl Session {
         );
         self.decoded = steps;
         let picture = match answer {
-            Ok(Decoded { state: _, picture }) => picture,
+            Ok((_, picture)) => picture,
             Err(DecodeFault::Refused(broken)) => {
                 return Err(Refusal::Packet {
                     place: broken.place,

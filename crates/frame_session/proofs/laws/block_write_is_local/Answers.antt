@@ -1,5 +1,0 @@
-use Rattle.frame_session.proofs.Flat.{block_write_local}
-use Rattle.frame_session.proofs.laws.block_write_is_local.Goals as goal
-
-pub returns : goal.returns
-returns c = block_write_local

@@ -1,7 +1,0 @@
-use Rattle.std.proofs.Common.{refl}
-use Rattle.frame_session.specs.Unfiltered.{predicted_macroblock}
-use Rattle.frame_session.proofs.prediction.predict_macroblock.Goals as goal
-
-pub returns-clause-value : goal.returns-clause-value
-unfolding predicted_macroblock
-returns-clause-value c = rw (c.predict_luma.ensures.value, c.predict_chroma.ensures.value, c.predict_chroma-2.ensures.value) refl

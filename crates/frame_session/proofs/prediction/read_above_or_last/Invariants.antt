@@ -1,7 +1,0 @@
-use Rattle.std.proofs.Common.{◌≡◌, ℕ, ◌+◌, ◌-◌, ◌<◌}
-use Rattle.std.specs.Prelude.{slice_index, min}
-use Rattle.frame_session.specs.Unfiltered.{above}
-use Rattle.frame_session.proofs.prediction.read_above_or_last.Given as goal
-
-abbrev pub invariant-loop-k : goal.invariant-loop-k
-invariant-loop-k l = (k : ℕ) → k < l.k → slice_index l.out k ≡ above l.plane (min (l.x + k) (l.plane.width - 1)) l.y

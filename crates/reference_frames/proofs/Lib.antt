@@ -1,0 +1,4 @@
+pub mod Blocks
+pub mod Sides
+pub mod Flat
+pub mod FlatFrames

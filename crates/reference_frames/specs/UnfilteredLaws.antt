@@ -1,0 +1,25 @@
+-- What the definitions of the unfiltered picture come to, sample by sample.
+use Rattle.std.specs.Prelude.{◌≡◌, ℕ, ◌+◌, ◌-◌, ◌*◌, ◌<◌, ◌≤◌, nat_lt, if◌then◌else◌}
+use Rattle.pixel_planes.specs.Samples.{Samples, IsWhole, sample_at}
+use Rattle.reference_frames.specs.Unfiltered.{HoldsSquare, with_block, unfiltered}
+
+-- column i of row j is in the square of this side that begins in column x of row y
+abbrev pub IsInSquare : ℕ → ℕ → ℕ → ℕ → ℕ → Type 0
+IsInSquare x y side i j = (x ≤ i) × (i < x + side) × (y ≤ j) × (j < y + side)
+
+-- a block that is written has its samples, and every other sample is as it was
+abbrev pub WritesOneBlock : Type 0
+WritesOneBlock =
+    (p : Samples) (x y side : ℕ) (sample : ℕ → ℕ → ℕ) (i j : ℕ) → IsWhole p → HoldsSquare p x y side → i < p.width → j < p.height →
+    (IsInSquare x y side i j → sample_at (with_block p x y side sample) i j ≡ sample (i - x) (j - y)) × ((IsInSquare x y side i j → ⊥) → sample_at (with_block p x y side sample) i j ≡ sample_at p i j)
+
+-- the luma sample in each column of row y
+abbrev pub luma_of_row : ℕ → ℕ
+luma_of_row y = if nat_lt y 4 then 128 else 129
+
+-- luma is 128 in the first four rows and 129 below them, and chroma is 128
+abbrev pub AreFlat : Type 0
+AreFlat =
+    (columns rows x y : ℕ) →
+    (x < 16 * columns → y < 16 * rows → sample_at (unfiltered columns rows).luma x y ≡ luma_of_row y)
+    × (x < 8 * columns → y < 8 * rows → (sample_at (unfiltered columns rows).cb x y ≡ 128) × (sample_at (unfiltered columns rows).cr x y ≡ 128))

@@ -1,0 +1,9 @@
+//! One step of decoding: what a packet leaves for the packets behind it, and its picture, predicted
+//! macroblock by macroblock (RFC 6386, sections 9 and 12).
+#![tactic(auto)]
+
+pub mod laws;
+mod prediction;
+mod steps;
+
+pub use steps::{State, StepFault, step};
