@@ -1,3 +1,4 @@
 pub mod Samples
 pub mod Lending
 pub mod Pictures
+pub mod PlaneSamples

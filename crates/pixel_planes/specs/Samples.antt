@@ -1,5 +1,5 @@
--- What is seen of a plane: its sides and its samples.
-use Rattle.std.specs.Prelude.{◌≡◌, ℕ, ◌+◌, ◌*◌, ◌<◌, ◌≤◌, ◌==◌, if◌then◌else◌, List, length, replicate, slice_index, slice_range}
+-- Samples in rows, and what is seen of a plane.
+use Rattle.std.specs.Prelude.{◌≡◌, ℕ, Bool, true, false, ◌+◌, ◌*◌, ◌<◌, ◌≤◌, ◌==◌, if◌then◌else◌, List, length, replicate, slice_index, slice_range}
 use Rattle.std.specs.Simd.Lanes.{put_chunk}
 
 -- a plane of `height` rows of `width` samples, one row after another
@@ -27,6 +27,24 @@ row_of p y = slice_range p.samples (y * p.width) (y * p.width + p.width)
 -- the plane with `row` written over row y
 abbrev pub with_row : Samples → ℕ → List ℕ → Samples
 with_row p y row = record p { samples = put_chunk (y * p.width) p.samples row }
+
+-- a plane: its shown samples, how many rows and columns of border stand round them, and whether the border repeats the edges of the shown samples as they are now
+pub record PlaneValue : Type 0 where
+  pub shown : Samples
+  pub border : ℕ
+  pub is_current : Bool
+
+-- the plane of these samples with no border
+abbrev pub without_border : Samples → PlaneValue
+without_border samples = record { shown = samples; border = 0; is_current = true }
+
+-- the plane with `row` written over shown row y, which puts the border out of date
+abbrev pub with_row_written : PlaneValue → ℕ → List ℕ → PlaneValue
+with_row_written plane y row = record plane { shown = with_row plane.shown y row; is_current = false }
+
+-- the plane with its border up to date
+abbrev pub brought_up_to_date : PlaneValue → PlaneValue
+brought_up_to_date plane = record plane { is_current = true }
 
 -- a row that is written holds what was written, and every other row is as it was
 abbrev pub WritesOneRow : Type 0

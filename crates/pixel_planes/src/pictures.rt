@@ -1,5 +1,6 @@
 ghost use Rattle.std.specs.Prelude.{◌≡◌, ◌<◌, ◌≤◌, length, IfOk};
 ghost use Rattle.pixel_planes.specs.Pictures.{IsWholePicture, AreCoded, shown_height, shown_width, shown_row_of};
+ghost use Rattle.pixel_planes.specs.PlaneSamples.{shown_of, picture_of};
 
 use crate::NoMemory;
 use crate::planes::Plane;
@@ -33,7 +34,8 @@ pub struct Planes {
 /// A finished picture, whose planes may be shared with other pictures.
 ///
 /// The shown size is 1 to 16,383 each way. The planes have the coded size: luma is as many whole
-/// macroblocks of 16 by 16 samples as cover the shown size, and chroma has half its sides.
+/// macroblocks of 16 by 16 samples as cover the shown size, and chroma has half its sides. Their
+/// borders are up to date.
 #[derive(Debug, Drop)]
 pub struct Picture {
     width: u16,
@@ -44,20 +46,21 @@ pub struct Picture {
 }
 
 impl Model for Picture {
+    ghost use Rattle.std.specs.Prelude.{IsTrue};
     ghost use Rattle.pixel_planes.specs.Pictures.{PictureSamples, IsWholePicture};
 
     ghost Value = { PictureSamples };
 
-    ghost view = { λ p. record { width = p.width; height = p.height; luma = p.luma.value; cb = p.cb.value; cr = p.cr.value } };
+    ghost view = { λ p. record { width = p.width; height = p.height; luma = p.luma.value.shown; cb = p.cb.value.shown; cr = p.cr.value.shown } };
 
-    ghost invariant = { λ p. IsWholePicture (record { width = p.width; height = p.height; luma = p.luma.value; cb = p.cb.value; cr = p.cr.value }) };
+    ghost invariant = { λ p. IsWholePicture (record { width = p.width; height = p.height; luma = p.luma.value.shown; cb = p.cb.value.shown; cr = p.cr.value.shown }) × IsTrue p.luma.value.is_current × IsTrue p.cb.value.is_current × IsTrue p.cr.value.is_current };
 }
 
 impl Picture {
     /// Makes a picture of these planes, to be shown at `width` by `height`, 1 to 16,383 each.
     ///
-    /// The planes have the coded size of that picture. `NoMemory` where a plane's shared block is
-    /// refused; the planes are dropped then.
+    /// The planes have the coded size of that picture. Their borders are brought up to date.
+    /// `NoMemory` where a plane's shared block is refused; the planes are dropped then.
     pub fn share(
         alloc: Global,
         planes: Planes,
@@ -66,11 +69,18 @@ impl Picture {
     ) -> Result<Picture, NoMemory>
         requires wide { (0 < width) × (width ≤ 16383) }
         requires high { (0 < height) × (height ≤ 16383) }
-        requires coded { AreCoded width height planes.luma planes.cb planes.cr }
-        ensures { IfOk result (λ p. p ≡ record { width = width; height = height; luma = planes.luma; cb = planes.cb; cr = planes.cr }) }
+        requires coded { AreCoded width height planes.luma.shown planes.cb.shown planes.cr.shown }
+        ensures { IfOk result (λ p. p ≡ picture_of width height (shown_of planes)) }
     {
-        let Planes { luma, cb, cr } = planes;
+        let Planes {
+            mut luma,
+            mut cb,
+            mut cr,
+        } = planes;
         let _sides = (luma.width(), cb.width(), cr.width());
+        luma.refill();
+        cb.refill();
+        cr.refill();
         Ok(Picture {
             width,
             height,
