@@ -8,10 +8,6 @@ use Rattle.frame_header.specs.declared.fields.Filter.{Filter}
 use Rattle.frame_header.specs.declared.fields.Colors.{Colors}
 use Rattle.frame_header.specs.declared.fields.Fields.{Fields}
 
--- four zeros
-abbrev pub no_numbers : List ℤ
-no_numbers = pos 0 ∷ pos 0 ∷ pos 0 ∷ pos 0 ∷ []
-
 -- four flagged numbers, where an absent one is 0
 unfoldable pub four_signed : ℕ → Reading (List ℤ)
 four_signed count = do
@@ -112,12 +108,12 @@ partition_count = do
   log2 ← literal 2
   give (2 ^ log2)
 
--- the fields of the first partition, in order, up to the number of token partitions (RFC 6386, section 19.2)
-unfoldable pub fields : Bool → Context → Reading Fields
+-- the fields of the first partition, in order, up to the number of token partitions, and the context with what they change of it (RFC 6386, section 19.2)
+unfoldable pub fields : Bool → Context → Reading (Fields × Context)
 fields is_key before = do
   color ← (if is_key then colors else give (record { color_space = false; clamping_type = false }))
   segments ← segmentation before.segments
   loop ← filter
   adjusted ← adjustment before.deltas
   count ← partition_count
-  give (record { colors = color; segmentation = segments.0; filter = loop; adjusts_level = adjusted.0; partition_count = count; context = record { segments = segments.1; deltas = adjusted.1 } })
+  give (record { colors = color; segmentation = segments.0; filter = loop; adjusts_level = adjusted.0; partition_count = count }, record before { segments = segments.1; deltas = adjusted.1 })

@@ -1,18 +1,21 @@
-use Rattle.std.specs.Prelude.{ℕ, ◌+◌, ◌-◌, Bool, ◌&&◌, List, length, drop, slice_range, nat_lt, ◌==◌, Option, Result, Ok, Err, if◌then◌else◌}
+use Rattle.std.specs.Prelude.{ℕ, ◌+◌, ◌-◌, Bool, not, ◌&&◌, List, length, slice_range, nat_lt, ◌==◌, Option, Result, Ok, Err, if◌then◌else◌}
 use Rattle.std.specs.List.{list_all}
 use Rattle.arrayvec.specs.ArrayVec.{ArrayVec}
 use Rattle.vp8_tables.specs.Tables.{TableEntries}
 use Rattle.bool_coder.specs.Reader.{Reader, started}
 use Rattle.frame_header.specs.Tags.{has_key_tag}
+use Rattle.frame_header.specs.Contexts.{first_context}
 use Rattle.frame_header.specs.Fields.{fields}
 use Rattle.frame_header.specs.Places.{token_places}
 use Rattle.frame_header.specs.Start.{start_of}
+use Rattle.frame_header.specs.TrailingFields.{trailing_fields}
 use Rattle.frame_header.specs.declared.cause.Cause.{Cause}
 use Rattle.frame_header.specs.declared.cause.Cause.TheVariants.{FirstPartition, NotYet}
 use Rattle.frame_header.specs.declared.context.Context.{Context}
 use Rattle.frame_header.specs.declared.fields.Fields.{Fields}
 use Rattle.frame_header.specs.declared.places.Place.{Place}
 use Rattle.frame_header.specs.declared.start.Start.{Start}
+use Rattle.frame_header.specs.declared.trailing_fields.TrailingFields.{TrailingFields}
 use Rattle.frame_header.specs.declared.header.Header.{Header}
 
 -- one step, then the next; the first cause stands
@@ -27,43 +30,49 @@ first_end start packet =
     if nat_lt (length packet - start.place) start.tag.first_partition then Err FirstPartition
     else Ok (start.place + start.tag.first_partition)
 
--- a packet with only 0 behind place 9
-abbrev pub is_zero_behind_size : List ℕ → Bool
-is_zero_behind_size packet = list_all (λ byte. byte == 0) (drop 10 packet)
+-- a partition that holds only 0
+abbrev pub is_zero : List ℕ → Place → Bool
+is_zero packet place = list_all (λ byte. byte == 0) (slice_range packet place.start (place.start + place.length))
 
--- a packet of a key frame with only 0 behind its size
-abbrev pub is_plain : List ℕ → Bool
-is_plain packet = has_key_tag packet && is_zero_behind_size packet
+-- what is decoded so far: a key frame without segments and without a filter, whose token partitions hold only 0
+abbrev pub is_decoded : List ℕ → Fields → List Place → Bool
+is_decoded packet fields partitions =
+    has_key_tag packet && not fields.segmentation.is_enabled && fields.filter.level == 0 && list_all (is_zero packet) partitions
 
 -- a header of these parts
-abbrev pub header_in : Start → Fields × Reader → ArrayVec Place → Header
-header_in start read partitions = record {
+abbrev pub header_in : Start → Fields → ArrayVec Place → (TrailingFields × Context) × Reader → Header
+header_in start fields partitions read = record {
   is_key = start.tag.key;
   version = start.tag.version;
   is_shown = start.tag.shown;
   width = start.width;
   height = start.height;
-  colors = read.0.colors;
-  segmentation = read.0.segmentation;
-  filter = read.0.filter;
-  adjusts_level = read.0.adjusts_level;
+  colors = fields.colors;
+  segmentation = fields.segmentation;
+  filter = fields.filter;
+  adjusts_level = fields.adjusts_level;
+  quantizers = read.0.0.quantizers;
+  refreshes_entropy = read.0.0.refreshes_entropy;
+  skip_probability = read.0.0.skip_probability;
   partitions = partitions;
-  context = read.0.context;
-  context_after = read.0.context;
+  context = read.0.1;
+  context_after = read.0.0.context_after;
   reader = read.1;
 }
 
--- the header of a frame behind its start, or the first cause against it: the first partition, its fields, the token
--- partitions (RFC 6386, sections 9.2 to 9.5)
-abbrev pub header_behind : List ℕ → Start → Result Header Cause
-header_behind packet start = do
+-- the header of a frame behind its start, with the context that it begins with, or the first cause against it: the
+-- first partition and its fields up to the number of token partitions, those partitions, and the fields behind
+-- (RFC 6386, sections 9.2 to 9.11)
+abbrev pub header_behind : TableEntries → Context → List ℕ → Start → Result Header Cause
+header_behind tables context packet start = do
   end ← first_end start packet
-  let read = fields start.tag.key start.context (started (slice_range packet start.place end))
-  partitions ← token_places packet end read.0.partition_count
-  if is_plain packet then Ok (header_in start read partitions) else Err NotYet
+  let read = fields start.tag.key context (started (slice_range packet start.place end))
+  partitions ← token_places packet end read.0.0.partition_count
+  if is_decoded packet read.0.0 partitions.items
+    then Ok (header_in start read.0.0 partitions (trailing_fields tables.updates read.0.1 read.1)) else Err NotYet
 
 -- the header of a packet behind a context or none, or the first cause against it (RFC 6386, sections 9 and 19)
 unfoldable pub header_of : TableEntries → Option Context → List ℕ → Result Header Cause
 header_of tables before packet = do
   start ← start_of before packet
-  header_behind packet start
+  header_behind tables (first_context tables (has_key_tag packet) before) packet start

@@ -1,8 +1,10 @@
 pub mod Cause
+pub mod Contexts
 pub mod Fields
 pub mod Header
 pub mod Places
 pub mod Start
 pub mod Tags
+pub mod TrailingFields
 pub mod Worked
 pub mod KeyFrames

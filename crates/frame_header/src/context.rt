@@ -1,3 +1,9 @@
+ghost use Rattle.std.specs.Prelude.{◌≡◌};
+ghost use Rattle.std.specs.Option.{option_copied};
+ghost use Rattle.frame_header.specs.Contexts.{default_context, first_context};
+
+use vp8_tables::{DEFAULT_UV_PROBABILITIES, DEFAULT_VECTOR_PROBABILITIES, DEFAULT_Y_PROBABILITIES, Tables};
+
 /// Segment mode and data (RFC 6386, section 9.3): `is_absolute` says that the values stand for
 /// themselves, else they are added to those of the frame.
 #[derive(Clone, Copy, Debug, PartialEq, Eq)]
@@ -19,11 +25,74 @@ pub struct FilterDeltas {
     pub mode: [i8; 4],
 }
 
+/// The probabilities that frames change (RFC 6386, sections 13.5, 16.2 and 17.2).
+#[derive(Clone, Copy, Debug, PartialEq, Eq)]
+pub struct Probabilities {
+    /// Those of the token nodes, of 4 kinds, 8 bands, 3 contexts and 11 nodes in index order.
+    pub coefficients: [u8; 1056],
+    /// Those of a vector's row, then of its column.
+    pub vectors: [[u8; 19]; 2],
+    /// Those of the luma mode tree of frames that are no key frames.
+    pub y_modes: [u8; 4],
+    /// Those of the chroma mode tree of such frames.
+    pub uv_modes: [u8; 3],
+}
+
+/// Which references have their vectors negated (RFC 6386, section 9.7).
+#[derive(Clone, Copy, Debug, PartialEq, Eq)]
+pub struct SignBiases {
+    /// The golden frame.
+    pub golden: bool,
+    /// The altref frame.
+    pub altref: bool,
+}
+
 /// What a frame takes over from the frames before it.
 #[derive(Clone, Copy, Debug, PartialEq, Eq)]
 pub struct Context {
+    /// The four sets of probabilities.
+    pub probabilities: Probabilities,
     /// The segment mode and data.
     pub segments: Segments,
     /// The changes of the loop filter level.
     pub deltas: FilterDeltas,
+    /// The sign biases of the references.
+    pub sign_biases: SignBiases,
+}
+
+/// The context with which a key frame begins: the default probabilities, and all else 0.
+fn default_context(tables: &Tables) -> Context
+    ensures { result ≡ default_context tables.now }
+{
+    Context {
+        probabilities: Probabilities {
+            coefficients: *tables.coefficients(),
+            vectors: DEFAULT_VECTOR_PROBABILITIES,
+            y_modes: DEFAULT_Y_PROBABILITIES,
+            uv_modes: DEFAULT_UV_PROBABILITIES,
+        },
+        segments: Segments {
+            is_absolute: false,
+            quantizers: [0; 4],
+            levels: [0; 4],
+        },
+        deltas: FilterDeltas {
+            reference: [0; 4],
+            mode: [0; 4],
+        },
+        sign_biases: SignBiases {
+            golden: false,
+            altref: false,
+        },
+    }
+}
+
+/// The context with which a frame begins: the default one of a key frame, else that before it.
+pub(crate) fn first_context(tables: &Tables, is_key: bool, before: Option<&Context>) -> Context
+    ensures { result ≡ first_context tables.now is_key (option_copied before.entry) }
+{
+    match before {
+        Some(before) if !is_key => *before,
+        _ => default_context(tables),
+    }
 }

@@ -49,10 +49,9 @@ pub(crate) struct Fields {
     pub(crate) filter: Filter,
     pub(crate) adjusts_level: bool,
     pub(crate) partition_count: usize,
-    pub(crate) context: Context,
 }
 
-fn read_signed(reader: &mut Decoder, count: u32) -> i8
+pub(crate) fn read_signed(reader: &mut Decoder, count: u32) -> i8
     requires { count ≤ 7 }
     ensures { signed count reader.old ≡ (result, reader.new) }
 {
@@ -119,44 +118,40 @@ fn read_map_probabilities(reader: &mut Decoder) -> [u8; 3]
 }
 
 #[tactic(auto, unfolding(crate::specs::Fields::segment_updates))]
-fn read_segment_updates(reader: &mut Decoder, before: Segments) -> (Segmentation, Segments)
-    ensures { segment_updates before reader.old ≡ (result, reader.new) }
+fn read_segment_updates(reader: &mut Decoder, segments: &mut Segments) -> Segmentation
+    ensures { segment_updates segments.old reader.old ≡ ((result, segments.new), reader.new) }
 {
     let updates_map = reader.flag();
     let updates_data = reader.flag();
-    let segments = if updates_data {
-        read_segment_data(reader)
-    } else {
-        before
-    };
+    if updates_data {
+        *segments = read_segment_data(reader);
+    }
     let map_probabilities = if updates_map {
         read_map_probabilities(reader)
     } else {
         [255; 3]
     };
-    let segmentation = Segmentation {
+    Segmentation {
         is_enabled: true,
         updates_map,
         updates_data,
         map_probabilities,
-    };
-    (segmentation, segments)
+    }
 }
 
 #[tactic(auto, unfolding(crate::specs::Fields::segmentation))]
-fn read_segmentation(reader: &mut Decoder, before: Segments) -> (Segmentation, Segments)
-    ensures { segmentation before reader.old ≡ (result, reader.new) }
+fn read_segmentation(reader: &mut Decoder, segments: &mut Segments) -> Segmentation
+    ensures { segmentation segments.old reader.old ≡ ((result, segments.new), reader.new) }
 {
     if reader.flag() {
-        return read_segment_updates(reader, before);
+        return read_segment_updates(reader, segments);
     }
-    let segmentation = Segmentation {
+    Segmentation {
         is_enabled: false,
         updates_map: false,
         updates_data: false,
         map_probabilities: [255; 3],
-    };
-    (segmentation, before)
+    }
 }
 
 #[tactic(auto, unfolding(crate::specs::Fields::filter))]
@@ -196,26 +191,24 @@ fn four_deltas(reader: &mut Decoder, before: [i8; 4]) -> [i8; 4]
 }
 
 #[tactic(auto, unfolding(crate::specs::Fields::deltas))]
-fn read_deltas(reader: &mut Decoder, before: FilterDeltas) -> FilterDeltas
-    ensures { deltas before reader.old ≡ (result, reader.new) }
+fn read_deltas(reader: &mut Decoder, kept: &mut FilterDeltas)
+    ensures { deltas kept.old reader.old ≡ (kept.new, reader.new) }
 {
-    if !reader.flag() {
-        return before;
+    if reader.flag() {
+        kept.reference = four_deltas(reader, kept.reference);
+        kept.mode = four_deltas(reader, kept.mode);
     }
-    let reference = four_deltas(reader, before.reference);
-    let mode = four_deltas(reader, before.mode);
-    FilterDeltas { reference, mode }
 }
 
 #[tactic(auto, unfolding(crate::specs::Fields::adjustment))]
-fn read_adjustment(reader: &mut Decoder, before: FilterDeltas) -> (bool, FilterDeltas)
-    ensures { adjustment before reader.old ≡ (result, reader.new) }
+fn read_adjustment(reader: &mut Decoder, kept: &mut FilterDeltas) -> bool
+    ensures { adjustment kept.old reader.old ≡ ((result, kept.new), reader.new) }
 {
-    if reader.flag() {
-        (true, read_deltas(reader, before))
-    } else {
-        (false, before)
+    let is_enabled = reader.flag();
+    if is_enabled {
+        read_deltas(reader, kept);
     }
+    is_enabled
 }
 
 #[tactic(auto, unfolding(crate::specs::Fields::partition_count))]
@@ -229,10 +222,10 @@ fn read_partition_count(reader: &mut Decoder) -> usize
 }
 
 /// The fields of the first partition up to the number of token partitions, for a key frame or
-/// another, where `before` is the context that the frame takes over.
+/// another, with what they change of the context with which the frame begins.
 #[tactic(auto, unfolding(crate::specs::Fields::fields))]
-pub(crate) fn read_fields(reader: &mut Decoder, is_key: bool, before: Context) -> Fields
-    ensures read { fields is_key before reader.old ≡ (result, reader.new) }
+pub(crate) fn read_fields(reader: &mut Decoder, is_key: bool, context: &mut Context) -> Fields
+    ensures read { fields is_key context.old reader.old ≡ ((result, context.new), reader.new) }
     ensures some { 0 < result.partition_count }
     ensures few { result.partition_count ≤ 8 }
 {
@@ -244,9 +237,9 @@ pub(crate) fn read_fields(reader: &mut Decoder, is_key: bool, before: Context) -
             clamping_type: false,
         }
     };
-    let (segmentation, segments) = read_segmentation(reader, before.segments);
+    let segmentation = read_segmentation(reader, &mut context.segments);
     let filter = read_filter(reader);
-    let (adjusts_level, deltas) = read_adjustment(reader, before.deltas);
+    let adjusts_level = read_adjustment(reader, &mut context.deltas);
     let partition_count = read_partition_count(reader);
     Fields {
         colors,
@@ -254,6 +247,5 @@ pub(crate) fn read_fields(reader: &mut Decoder, is_key: bool, before: Context) -
         filter,
         adjusts_level,
         partition_count,
-        context: Context { segments, deltas },
     }
 }

@@ -1,14 +1,16 @@
 ghost use Rattle.std.specs.Prelude.{◌≡◌, ◌≤◌, ◌+◌, length, IsTrue, IfOk, All};
+ghost use Rattle.std.specs.List.{list_all};
 ghost use Rattle.std.specs.Option.{option_copied};
-ghost use Rattle.frame_header.specs.Header.{first_end, is_zero_behind_size, is_plain, header_of};
+ghost use Rattle.frame_header.specs.Header.{first_end, is_zero, is_decoded, header_of};
 ghost use Rattle.frame_header.specs.Tags.{has_key_tag};
 
 use crate::cause::Cause;
-use crate::context::Context;
-use crate::fields::{Colors, Filter, Segmentation, read_fields};
+use crate::context::{Context, first_context};
+use crate::fields::{Colors, Fields, Filter, Segmentation, read_fields};
 use crate::places::{Place, token_places};
 use crate::start::{Start, start_of};
 use crate::tags::has_key_tag;
+use crate::trailing_fields::{Quantizers, read_trailing_fields};
 use arrayvec::ArrayVec;
 use bool_coder::Decoder;
 use vp8_tables::Tables;
@@ -34,6 +36,12 @@ pub struct Header<'a> {
     pub filter: Filter,
     /// The level of the loop filter is changed by reference and mode.
     pub adjusts_level: bool,
+    /// The quantizer index and its changes.
+    pub quantizers: Quantizers,
+    /// The probabilities of the frame are kept for the next one.
+    pub refreshes_entropy: bool,
+    /// The probability that a macroblock is not skipped; `None` where none is.
+    pub skip_probability: Option<u8>,
     /// The places of the 1 to 8 token partitions in the packet.
     pub partitions: ArrayVec<Place, 8>,
     /// The context for this frame.
@@ -41,7 +49,7 @@ pub struct Header<'a> {
     /// The context that the frame leaves for the next.
     pub context_after: Context,
     /// The reader of the first partition behind these fields.
-    pub(crate) reader: Decoder<'a>,
+    pub reader: Decoder<'a>,
 }
 
 /// The place behind the first partition; `FirstPartition` where the packet ends before it.
@@ -58,23 +66,38 @@ fn first_end(start: &Start, packet: &[u8]) -> Result<usize, Cause>
     Ok(start.place + size)
 }
 
-fn is_zero_behind_size(packet: &[u8]) -> bool
-    ensures { result ≡ is_zero_behind_size packet.now }
+/// Whether a partition holds only 0.
+fn is_zero(packet: &[u8], place: Place) -> bool
+    requires { place.start + place.length ≤ length packet.now }
+    ensures { result ≡ is_zero packet.now place }
 {
-    packet.iter().skip(10).all(|byte| *byte == 0)
+    let end = place.start + place.length;
+    packet[place.start..end].iter().all(|byte| *byte == 0)
 }
 
-/// Whether a packet has a key tag and only 0 behind place 9.
-fn is_plain(packet: &[u8]) -> bool
-    ensures { result ≡ is_plain packet.now }
+/// Whether all partitions hold only 0.
+fn are_zero(packet: &[u8], partitions: &[Place]) -> bool
+    requires { All (λ place. place.start + place.length ≤ length packet.now) partitions.now }
+    ensures { result ≡ list_all (is_zero packet.now) partitions.now }
 {
-    has_key_tag(packet) && is_zero_behind_size(packet)
+    partitions.iter().all(|place| is_zero(packet, *place))
+}
+
+/// Whether a frame is of the kind that is decoded so far.
+fn is_decoded(packet: &[u8], fields: &Fields, partitions: &[Place]) -> bool
+    requires { All (λ place. place.start + place.length ≤ length packet.now) partitions.now }
+    ensures { result ≡ is_decoded packet.now fields.now partitions.now }
+{
+    has_key_tag(packet)
+        && !fields.segmentation.is_enabled
+        && fields.filter.level == 0
+        && are_zero(packet, partitions)
 }
 
 /// The header of a packet behind a context, or none where no key frame came before. An `Err` is
 /// the first cause, in the order of `Cause`, whose condition holds; `NotYet` is that of a packet
-/// without a key tag, or with a byte behind place 9 that is not 0. The fields that need the tables
-/// are not read yet.
+/// without a key tag, with segments, with a filter level above 0, or with a token partition that
+/// has a byte above 0.
 #[tactic(auto, unfolding(crate::specs::Header::header_of))]
 pub fn read_header<'a>(
     tables: &Tables,
@@ -87,16 +110,17 @@ pub fn read_header<'a>(
     ensures inside { IfOk result (λ header. All (λ place. place.start + place.length ≤ length packet.now) header.partitions.items) }
     ensures key { IfOk result (λ header. IsTrue header.is_key × IsTrue (has_key_tag packet.now)) }
     ensures whole { IfOk result (λ _. 10 ≤ length packet.now) }
-    ensures zero { IfOk result (λ _. IsTrue (is_zero_behind_size packet.now)) }
 {
     let start = start_of(context, packet)?;
     let end = first_end(&start, packet)?;
     let mut reader = Decoder::new(&packet[start.place..end]);
-    let fields = read_fields(&mut reader, start.tag.key, start.context);
+    let mut context = first_context(tables, start.tag.key, context);
+    let fields = read_fields(&mut reader, start.tag.key, &mut context);
     let partitions = token_places(packet, end, fields.partition_count)?;
-    if !is_plain(packet) {
+    if !is_decoded(packet, &fields, &partitions) {
         return Err(Cause::NotYet);
     }
+    let trailing = read_trailing_fields(&mut reader, tables.updates(), &mut context);
     Ok(Header {
         is_key: start.tag.key,
         version: start.tag.version,
@@ -107,9 +131,12 @@ pub fn read_header<'a>(
         segmentation: fields.segmentation,
         filter: fields.filter,
         adjusts_level: fields.adjusts_level,
+        quantizers: trailing.quantizers,
+        refreshes_entropy: trailing.refreshes_entropy,
+        skip_probability: trailing.skip_probability,
         partitions,
-        context: fields.context,
-        context_after: fields.context,
+        context,
+        context_after: trailing.context_after,
         reader,
     })
 }

@@ -3,18 +3,18 @@
 ghost use Rattle.std.specs.Prelude.{◌≡◌, true, [], ◌∷◌, ◌++◌, None, Some, Err, IsOkAnd};
 ghost use Rattle.bool_coder.specs.Reader.{started};
 ghost use Rattle.frame_header.specs.Fields.{fields};
-ghost use Rattle.frame_header.specs.Start.{no_context};
+ghost use Rattle.frame_header.specs.Contexts.{default_context};
 ghost use Rattle.frame_header.specs.Header.{header_of};
 ghost use Rattle.frame_header.specs.KeyFrames.{KeysTakeNoContext};
-ghost use Rattle.frame_header.specs.Worked.{behind_tag, written_fields, fields_written};
+ghost use Rattle.frame_header.specs.Worked.{behind_tag, written_fields, fields_written, context_written};
 ghost use Rattle.frame_header.specs.declared.cause.Cause.TheVariants.{ShortPacket, Version, StartCode, Size, NoKeyFrame, FirstPartition, TokenSizes, TokenPartition, NotYet};
 
 use crate::context::Context;
 use vp8_tables::Tables;
 
 /// The fields of a first partition that an encoder wrote.
-pub fn worked_fields()
-    ensures { (fields true no_context (started written_fields)).0 ≡ fields_written }
+pub fn worked_fields(tables: &Tables)
+    ensures { (fields true (default_context tables.now) (started written_fields)).0 ≡ (fields_written, context_written tables.now) }
 {}
 
 /// A packet of 16 by 16 samples with empty partitions is accepted.

@@ -11,11 +11,13 @@ mod places;
 mod start;
 mod tag_fields;
 mod tags;
+mod trailing_fields;
 
 pub use cause::Cause;
-pub use context::{Context, FilterDeltas, Segments};
+pub use context::{Context, FilterDeltas, Probabilities, Segments, SignBiases};
 pub use fields::{Colors, Filter, Segmentation};
 pub use header::{Header, read_header};
 pub use places::Place;
 pub use tag_fields::Tag;
 pub use tags::{has_key_tag, is_shown, key_size, tag};
+pub use trailing_fields::Quantizers;

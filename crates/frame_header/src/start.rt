@@ -4,7 +4,7 @@ ghost use Rattle.frame_header.specs.Start.{key_start, later_start, start_of};
 ghost use Rattle.frame_header.specs.Tags.{has_key_tag};
 
 use crate::cause::Cause;
-use crate::context::{Context, FilterDeltas, Segments};
+use crate::context::Context;
 use crate::tag_fields::Tag;
 use crate::tags::{has_start_code, size_of, tag};
 
@@ -15,21 +15,7 @@ pub(crate) struct Start {
     pub(crate) place: usize,
     pub(crate) width: u16,
     pub(crate) height: u16,
-    pub(crate) context: Context,
 }
-
-/// The context with which a key frame begins.
-const NO_CONTEXT: Context = Context {
-    segments: Segments {
-        is_absolute: false,
-        quantizers: [0; 4],
-        levels: [0; 4],
-    },
-    deltas: FilterDeltas {
-        reference: [0; 4],
-        mode: [0; 4],
-    },
-};
 
 fn key_start(tag: Tag, packet: &[u8]) -> Result<Start, Cause>
     requires { 10 ≤ length packet.now }
@@ -51,7 +37,6 @@ fn key_start(tag: Tag, packet: &[u8]) -> Result<Start, Cause>
         place: 10,
         width,
         height,
-        context: NO_CONTEXT,
     })
 }
 
@@ -60,13 +45,14 @@ fn later_start(tag: Tag, context: Option<&Context>) -> Result<Start, Cause>
     ensures place { IfOk result (λ start. start.place ≡ 3) }
     ensures tag { IfOk result (λ start. start.tag ≡ tag) }
 {
-    let context = context.ok_or(Cause::NoKeyFrame)?;
+    if context.is_none() {
+        return Err(Cause::NoKeyFrame);
+    }
     Ok(Start {
         tag,
         place: 3,
         width: 0,
         height: 0,
-        context: *context,
     })
 }
 

@@ -1,0 +1,114 @@
+//! The fields of the first partition of a key frame behind the number of token partitions
+//! (RFC 6386, sections 9.6, 9.9, 9.11 and 19.2).
+
+ghost use Rattle.std.specs.Prelude.{◌≡◌};
+ghost use Rattle.frame_header.specs.TrailingFields.{quantizers, updated, first_updated, skip_probability, trailing_fields};
+
+use crate::context::Context;
+use crate::fields::read_signed;
+use bool_coder::Decoder;
+
+/// The quantizer index and what is added to it for each kind of coefficient
+/// (RFC 6386, section 9.6). Each change is -15 to 15.
+#[derive(Clone, Copy, Debug, PartialEq, Eq)]
+pub struct Quantizers {
+    /// The index itself, 0 to 127, which is that of luma AC.
+    pub y_ac_index: u8,
+    /// The change for luma DC.
+    pub y_dc_delta: i8,
+    /// The change for Y2 DC.
+    pub y2_dc_delta: i8,
+    /// The change for Y2 AC.
+    pub y2_ac_delta: i8,
+    /// The change for chroma DC.
+    pub uv_dc_delta: i8,
+    /// The change for chroma AC.
+    pub uv_ac_delta: i8,
+}
+
+/// The fields behind the number of token partitions, and the context that the frame leaves.
+#[derive(Clone, Copy)]
+pub(crate) struct TrailingFields {
+    pub(crate) quantizers: Quantizers,
+    pub(crate) refreshes_entropy: bool,
+    pub(crate) skip_probability: Option<u8>,
+    pub(crate) context_after: Context,
+}
+
+#[tactic(auto, unfolding(crate::specs::TrailingFields::quantizers))]
+fn read_quantizers(reader: &mut Decoder) -> Quantizers
+    ensures { quantizers reader.old ≡ (result, reader.new) }
+{
+    let y_ac_index = reader.literal(7) as u8;
+    let y_dc_delta = read_signed(reader, 4);
+    let y2_dc_delta = read_signed(reader, 4);
+    let y2_ac_delta = read_signed(reader, 4);
+    let uv_dc_delta = read_signed(reader, 4);
+    let uv_ac_delta = read_signed(reader, 4);
+    Quantizers {
+        y_ac_index,
+        y_dc_delta,
+        y2_dc_delta,
+        y2_ac_delta,
+        uv_dc_delta,
+        uv_ac_delta,
+    }
+}
+
+/// A probability whose update has a probability of `update`.
+#[inline]
+#[tactic(auto, unfolding(crate::specs::TrailingFields::updated))]
+fn read_updated(reader: &mut Decoder, update: u8, before: u8) -> u8
+    ensures { updated update before reader.old ≡ (result, reader.new) }
+{
+    if reader.bit(update) {
+        reader.literal(8) as u8
+    } else {
+        before
+    }
+}
+
+fn read_updates(reader: &mut Decoder, updates: &[u8; 1056], probabilities: &mut [u8; 1056])
+    ensures { first_updated 1056 updates.now probabilities.old reader.old ≡ (probabilities.new, reader.new) }
+{
+    let mut local = reader.copied();
+    for place in 0..1056 {
+        probabilities[place] = read_updated(&mut local, updates[place], probabilities[place]);
+    }
+    *reader = local;
+}
+
+#[tactic(auto, unfolding(crate::specs::TrailingFields::skip_probability))]
+fn read_skip_probability(reader: &mut Decoder) -> Option<u8>
+    ensures { skip_probability reader.old ≡ (result, reader.new) }
+{
+    if reader.flag() {
+        Some(reader.literal(8) as u8)
+    } else {
+        None
+    }
+}
+
+/// The fields of a key frame behind the number of token partitions, with what they change of its
+/// context; `updates` has the probability of each update.
+#[tactic(auto, unfolding(crate::specs::TrailingFields::trailing_fields))]
+pub(crate) fn read_trailing_fields(
+    reader: &mut Decoder,
+    updates: &[u8; 1056],
+    context: &mut Context,
+) -> TrailingFields
+    ensures { trailing_fields updates.now context.old reader.old ≡ ((result, context.new), reader.new) }
+{
+    let quantizers = read_quantizers(reader);
+    let refreshes_entropy = reader.flag();
+    let before = *context;
+    read_updates(reader, updates, &mut context.probabilities.coefficients);
+    let skip_probability = read_skip_probability(reader);
+    let context_after = if refreshes_entropy { *context } else { before };
+    TrailingFields {
+        quantizers,
+        refreshes_entropy,
+        skip_probability,
+        context_after,
+    }
+}
