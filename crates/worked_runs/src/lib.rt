@@ -10,6 +10,10 @@ mod fixtures;
 #[cfg(test)]
 mod frames;
 #[cfg(test)]
+mod modes;
+#[cfg(test)]
+mod packets;
+#[cfg(test)]
 mod refusals;
 #[cfg(test)]
 mod sessions;

@@ -1,4 +1,6 @@
 use crate::fixtures::{INTER, KEY, run_packets};
+use crate::packets::{packet_of, write_bits};
+use bool_coder::Encoder;
 use std::alloc::Global;
 use std::process::Abort;
 use std::test::Fail;
@@ -62,8 +64,22 @@ fn not_yet(rt: HostRuntime) -> Result<(), Fail> {
         ran.replies.as_slice(),
         b"refused packet 1 NotYet\n".as_slice()
     );
-    let filled = [0x30, 0, 0, 0x9D, 1, 0x2A, 0x10, 0, 0x10, 0, 0x80];
-    refuses(&rt, rt.alloc(), &filled, "refused packet 0 NotYet\n")
+    let tokens = [0x10, 0, 0, 0x9D, 1, 0x2A, 0x10, 0, 0x10, 0, 0, 1];
+    refuses(&rt, rt.alloc(), &tokens, "refused packet 0 NotYet\n")?;
+    // The third bit turns segments on; the sixth to the tenth are the low bits of the filter level.
+    for fields in ["001", "0000000001"] {
+        let mut encoder = Encoder::new(rt.alloc());
+        write_bits(&mut encoder, fields.as_bytes())?;
+        let first = encoder.finish()?;
+        let packet = packet_of(rt.alloc(), 16, 16, first.as_slice(), &[0])?;
+        refuses(
+            &rt,
+            rt.alloc(),
+            packet.as_slice(),
+            "refused packet 0 NotYet\n",
+        )?;
+    }
+    Ok(())
 }
 
 // A packet that is refused breaks the stream at its place up to the next key tag; what does not

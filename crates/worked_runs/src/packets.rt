@@ -1,0 +1,106 @@
+//! Key packets written with an encoder, from the modes of their macroblocks. All of them have flat
+//! tables in mind, skip each macroblock, and leave each field of the header 0 that is not said.
+
+use bool_coder::Encoder;
+use std::alloc::{AllocError, Global};
+
+/// The pairs of bit and probability of each luma mode of a key frame: DC, V, H, TM, B.
+const LUMA: [&[(bool, u8)]; 5] = [
+    &[(true, 145), (false, 156), (false, 163)],
+    &[(true, 145), (false, 156), (true, 163)],
+    &[(true, 145), (true, 156), (false, 128)],
+    &[(true, 145), (true, 156), (true, 128)],
+    &[(false, 145)],
+];
+
+/// The same of each chroma mode: DC, V, H, TM.
+const CHROMA: [&[(bool, u8)]; 4] = [
+    &[(false, 142)],
+    &[(true, 142), (false, 114)],
+    &[(true, 142), (true, 114), (false, 183)],
+    &[(true, 142), (true, 114), (true, 183)],
+];
+
+/// The bits of each sub block mode, all at 128 with flat tables: DC, TM, VE, HE, LD, RD, VR, VL,
+/// HD, HU.
+const SUB: [&[u8]; 10] = [
+    b"0", b"10", b"110", b"11100", b"11110", b"111010", b"111011", b"111110", b"1111110",
+    b"1111111",
+];
+
+/// The place of mode B among the luma modes.
+pub const B: usize = 4;
+
+/// The modes of a macroblock, by their places in the lists above.
+#[derive(Clone, Copy)]
+pub struct Macroblock {
+    pub luma: usize,
+    pub subs: [usize; 16],
+    pub chroma: usize,
+}
+
+/// Writes bits at even odds, each a digit.
+pub fn write_bits(encoder: &mut Encoder, digits: &[u8]) -> Result<(), AllocError> {
+    for digit in digits {
+        encoder.bit(*digit == b'1', 128)?;
+    }
+    Ok(())
+}
+
+fn write_pairs(encoder: &mut Encoder, pairs: &[(bool, u8)]) -> Result<(), AllocError> {
+    for (bit, prob) in pairs {
+        encoder.bit(*bit, *prob)?;
+    }
+    Ok(())
+}
+
+fn write_macroblock(encoder: &mut Encoder, macroblock: &Macroblock) -> Result<(), AllocError> {
+    encoder.bit(true, 1)?;
+    write_pairs(encoder, LUMA[macroblock.luma % 5])?;
+    if macroblock.luma == B {
+        for sub in macroblock.subs {
+            write_bits(encoder, SUB[sub % 10])?;
+        }
+    }
+    write_pairs(encoder, CHROMA[macroblock.chroma % 4])
+}
+
+/// A key packet with this first partition and these bytes behind it.
+pub fn packet_of(
+    alloc: Global,
+    width: u16,
+    height: u16,
+    first: &[u8],
+    behind: &[u8],
+) -> Result<Vec<u8>, AllocError> {
+    let size = first.len() as u64 % 524_288;
+    let mut packet = Vec::new(alloc);
+    packet.push((0x10 + size % 8 * 32) as u8)?;
+    packet.push((size / 8 % 256) as u8)?;
+    packet.push((size / 2048) as u8)?;
+    packet.extend_from_slice(&[0x9D, 1, 0x2A])?;
+    packet.extend_from_slice(&width.to_le_bytes())?;
+    packet.extend_from_slice(&height.to_le_bytes())?;
+    packet.extend_from_slice(first)?;
+    packet.extend_from_slice(behind)?;
+    Ok(packet)
+}
+
+/// A key packet of these macroblocks in raster order, with an empty token partition.
+pub fn key_packet(
+    alloc: Global,
+    width: u16,
+    height: u16,
+    macroblocks: &[Macroblock],
+) -> Result<Vec<u8>, AllocError> {
+    let mut encoder = Encoder::new(alloc);
+    for _ in 0..29 + 1056 {
+        encoder.bit(false, 128)?;
+    }
+    write_bits(&mut encoder, b"100000001")?;
+    for macroblock in macroblocks {
+        write_macroblock(&mut encoder, macroblock)?;
+    }
+    let first = encoder.finish()?;
+    packet_of(alloc, width, height, first.as_slice(), &[])
+}
