@@ -1,4 +1,5 @@
 pub mod Directions
+pub mod HeldLanes
 pub mod MeanLemmas
 pub mod Places
 pub mod Rows

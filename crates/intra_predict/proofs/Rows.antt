@@ -1,11 +1,10 @@
 -- Blocks that are written row by row.
-use Rattle.std.proofs.Common.{◌≡◌, ℕ, ◌+◌, ◌-◌, ◌*◌, ◌<◌, ◌≤◌, inl, inr, List, ◌++◌, length, take, drop, ◌∙◌, arith}
+use Rattle.std.proofs.Common.{◌≡◌, ℕ, ◌+◌, ◌*◌, ◌<◌, ◌≤◌, inl, inr, List, length, ◌∙◌, arith}
 use Rattle.std.specs.Prelude.{slice_index}
 use Rattle.std.specs.Simd.Lanes.{put_chunk}
 use Rattle.std.proofs.Math.Nat.{mul-le-mul_left}
 use Rattle.std.proofs.lemmas.Bool.{cases_lt}
-use Rattle.std.proofs.lemmas.List.{length-take-le, length-drop}
-use Rattle.std.proofs.lemmas.Simd.{put_chunk_is, length-put_chunk, get_or-put_chunk_below, get_or-put_chunk_at}
+use Rattle.std.proofs.lemmas.Simd.{length-put_chunk, get_or-put_chunk_below, get_or-put_chunk_at}
 use Rattle.intra_predict.specs.Blocks.{IsBlock}
 
 -- the first n rows are those of the block
@@ -26,7 +25,7 @@ pub no_rows : (side : ℕ) (sample : ℕ → ℕ → ℕ) (samples : List ℕ) �
 no_rows side sample samples whole = record { whole = whole; each = λ column row inside below. absurd (omega arith) }
 
 -- one more row
-row_put : (side n : ℕ) (sample : ℕ → ℕ → ℕ) (samples line : List ℕ) → HasRows side sample n samples → n < side → length line ≡ side → ((column : ℕ) → column < side → slice_index line column ≡ sample column n) → HasRows side sample (n + 1) (put_chunk (n * side) samples line)
+pub row_put : (side n : ℕ) (sample : ℕ → ℕ → ℕ) (samples line : List ℕ) → HasRows side sample n samples → n < side → length line ≡ side → ((column : ℕ) → column < side → slice_index line column ≡ sample column n) → HasRows side sample (n + 1) (put_chunk (n * side) samples line)
 row_put side n sample samples line before below long right =
     let fits : n * side + side ≤ side * side = row_fits side n below in
     let room : n * side + length line ≤ length samples = omega (arith, before.whole) in
@@ -41,20 +40,6 @@ row_put side n sample samples line before below long right =
           ];
     }
 
--- the same, as a part of a slice that was lent
-pub row_written : (side n : ℕ) (sample : ℕ → ℕ → ℕ) (samples line : List ℕ) → HasRows side sample n samples → n < side → length line ≡ side → ((column : ℕ) → column < side → slice_index line column ≡ sample column n) → HasRows side sample (n + 1) (take (n * side) samples ++ (line ++ drop (n * side + side - n * side) (drop (n * side) samples)))
-row_written side n sample samples line before below long right =
-    let fits : n * side + side ≤ side * side = row_fits side n below in
-    let room : n * side + length line ≤ length samples = omega (arith, before.whole) in
-    let size : n * side + side - n * side ≡ length line = omega arith in
-    rw (size, ← put_chunk_is (n * side) samples line room) (row_put side n sample samples line before below long right)
-
 -- all rows
 pub rows_done : (side : ℕ) (sample : ℕ → ℕ → ℕ) (samples : List ℕ) → HasRows side sample side samples → IsBlock side sample samples
 rows_done side sample samples rows = record { whole = rows.whole; each = rows.each }
-
--- how long a part of a list is
-pub part_length : (samples : List ℕ) (start side : ℕ) → start + side ≤ length samples → length (take (start + side - start) (drop start samples)) ≡ side
-part_length samples start side within =
-    let fits : start + side - start ≤ length (drop start samples) = omega (arith, length-drop start samples) in
-    length-take-le (start + side - start) (drop start samples) fits ∙ omega arith

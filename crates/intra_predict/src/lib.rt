@@ -1,7 +1,7 @@
 //! Intra prediction of VP8 (RFC 6386, section 12).
 #![tactic(auto)]
 
-mod fills;
+mod lanes;
 pub mod laws;
 mod means;
 mod modes;

@@ -2,9 +2,10 @@ ghost use Rattle.std.specs.Prelude.{ℕ, List};
 ghost use Rattle.intra_predict.specs.Blocks.{IsBlock};
 ghost use Rattle.intra_predict.specs.SubSample.{sub_sample};
 
-use crate::fills::fill_gradients;
-use crate::means::{avg2, avg3, sum_of};
+use crate::lanes::{fill_gradients, sum_of};
+use crate::means::{avg2, avg3};
 use crate::modes::SubMode;
+use std::simd::u8x4;
 
 /// Predicts a sub block of 4 by 4 samples from the samples round it (RFC 6386, section 12.3).
 ///
@@ -34,7 +35,7 @@ pub fn sub(mode: SubMode, left: [u8; 4], corner: u8, above: [u8; 8]) -> [u8; 16]
 fn mean_of_sides(left: [u8; 4], above: [u8; 8]) -> [u8; 16]
     ensures { (corner : ℕ) → IsBlock 4 (sub_sample SubMode.Dc left corner above) result }
 {
-    let sum = sum_of(&above[..4]) + sum_of(&left);
+    let sum = sum_of::<4>(&above[..4]) + sum_of::<4>(&left);
     [((sum + 4) >> 3) as u8; 16]
 }
 
@@ -43,7 +44,7 @@ fn true_motion(left: [u8; 4], corner: u8, above: [u8; 8]) -> [u8; 16]
     ensures { IsBlock 4 (sub_sample SubMode.Tm left corner above) result }
 {
     let mut block = [0; 16];
-    fill_gradients(4, &above[..4], &left, corner, &mut block);
+    fill_gradients(u8x4::from_slice(&above), &left, corner, &mut block);
     block
 }
 

@@ -4,12 +4,12 @@ ghost use Rattle.intra_predict.specs.Blocks.{IsBlock};
 ghost use Rattle.intra_predict.specs.Means.{mean_of};
 ghost use Rattle.intra_predict.specs.WholeSample.{side_of, inside, above_at, left_at, whole_sample};
 
-use crate::fills::{fill_columns, fill_gradients, fill_rows};
-use crate::means::sum_of;
+use crate::lanes::{fill_columns, fill_gradients, fill_rows, sum_of};
 use crate::modes::{BlockSize, WholeMode};
+use std::simd::Simd;
 
-/// What stands above a block that has nothing of the frame above it.
-const ABOVE_FRAME: [u8; 16] = [127; 16];
+/// What stands above a block that has nothing of the frame above it, in each column.
+const ABOVE_FRAME: u8 = 127;
 
 /// What stands to the left of a block that has nothing of the frame to its left.
 const LEFT_OF_FRAME: [u8; 16] = [129; 16];
@@ -33,63 +33,79 @@ pub fn whole(
     requires out { length out.old ≡ side_of size * side_of size }
     ensures { IsBlock (side_of size) (whole_sample mode (option_copied above.entry) (option_copied left.entry) corner) out.new }
 {
-    let side = size.side();
-    match mode {
-        WholeMode::Dc => out.fill(mean_inside(above, left)),
-        WholeMode::V => fill_rows(side, row_above(above, side), out),
-        WholeMode::H => fill_columns(side, column_left(left, side), out),
-        WholeMode::Tm => {
-            let above = row_above(above, side);
-            let left = column_left(left, side);
-            fill_gradients(side, above, left, corner, out);
-        }
+    match size {
+        BlockSize::Sixteen => predict::<16>(mode, above, left, corner, out),
+        BlockSize::Eight => predict::<8>(mode, above, left, corner, out),
     }
 }
 
-/// The row above a block of `side` by `side` samples, 127 each above the frame.
-fn row_above(above: Option<&[u8]>, side: usize) -> &[u8]
-    requires small { side ≤ 16 }
-    requires inside { ForSome above (λ samples. length samples.now ≡ side) }
-    ensures len { length result.now ≡ side }
-    ensures value { (column : ℕ) → column < side → slice_index result.now column ≡ above_at (option_copied above.entry) column }
+/// Predicts a block of `N` by `N` samples, in lanes of a row each.
+#[inline]
+fn predict<const N: usize>(
+    mode: WholeMode,
+    above: Option<&[u8]>,
+    left: Option<&[u8]>,
+    corner: u8,
+    out: &mut [u8],
+)
+    requires lanes { (0 < N) × (N ≤ 16) }
+    requires above { ForSome above (λ samples. length samples.now ≡ N) }
+    requires left { ForSome left (λ samples. length samples.now ≡ N) }
+    requires out { length out.old ≡ N * N }
+    ensures { IsBlock N (whole_sample mode (option_copied above.entry) (option_copied left.entry) corner) out.new }
+{
+    match mode {
+        WholeMode::Dc => fill_rows(Simd::<u8, N>::splat(mean_inside::<N>(above, left)), out),
+        WholeMode::V => fill_rows(row_above::<N>(above), out),
+        WholeMode::H => fill_columns::<N>(column_left::<N>(left), out),
+        WholeMode::Tm => fill_gradients(row_above::<N>(above), column_left::<N>(left), corner, out),
+    }
+}
+
+/// The row above a block of `N` by `N` samples, 127 each above the frame.
+#[inline]
+fn row_above<const N: usize>(above: Option<&[u8]>) -> Simd<u8, N>
+    requires inside { ForSome above (λ samples. length samples.now ≡ N) }
+    ensures { (column : ℕ) → column < N → slice_index result column ≡ above_at (option_copied above.entry) column }
 {
     match above {
-        Some(above) => above,
-        None => &ABOVE_FRAME[..side],
+        Some(above) => Simd::<u8, N>::from_slice(above),
+        None => Simd::<u8, N>::splat(ABOVE_FRAME),
     }
 }
 
-/// The column to the left of a block of `side` by `side` samples, 129 each left of the frame.
-fn column_left(left: Option<&[u8]>, side: usize) -> &[u8]
-    requires small { side ≤ 16 }
-    requires inside { ForSome left (λ samples. length samples.now ≡ side) }
-    ensures len { length result.now ≡ side }
-    ensures value { (row : ℕ) → row < side → slice_index result.now row ≡ left_at (option_copied left.entry) row }
+/// The column to the left of a block of `N` by `N` samples, 129 each left of the frame.
+#[inline]
+fn column_left<const N: usize>(left: Option<&[u8]>) -> &[u8]
+    requires small { N ≤ 16 }
+    requires inside { ForSome left (λ samples. length samples.now ≡ N) }
+    ensures len { length result.now ≡ N }
+    ensures value { (row : ℕ) → row < N → slice_index result.now row ≡ left_at (option_copied left.entry) row }
 {
     match left {
         Some(left) => left,
-        None => &LEFT_OF_FRAME[..side],
+        None => &LEFT_OF_FRAME[..N],
     }
 }
 
-/// The mean of the sides that are inside the frame, at most 16 samples each; 128 with none.
-fn mean_inside(above: Option<&[u8]>, left: Option<&[u8]>) -> u8
-    requires above { ForSome above (λ samples. (0 < length samples.now) × (length samples.now ≤ 16)) }
-    requires left { ForSome left (λ samples. (0 < length samples.now) × (length samples.now ≤ 16)) }
+/// The mean of the sides that are inside the frame, `N` samples each; 128 with none.
+#[inline]
+fn mean_inside<const N: usize>(above: Option<&[u8]>, left: Option<&[u8]>) -> u8
+    requires lanes { (0 < N) × (N ≤ 16) }
+    requires above { ForSome above (λ samples. length samples.now ≡ N) }
+    requires left { ForSome left (λ samples. length samples.now ≡ N) }
     ensures { result ≡ mean_of (inside (option_copied above.entry) ++ inside (option_copied left.entry)) }
 {
     match (above, left) {
         (None, None) => 128,
-        (Some(above), None) => mean_of_sum(sum_of(above), above.len()),
-        (None, Some(left)) => mean_of_sum(sum_of(left), left.len()),
-        (Some(above), Some(left)) => mean_of_sum(
-            sum_of(above) + sum_of(left),
-            above.len() + left.len(),
-        ),
+        (Some(above), None) => mean_of_sum(sum_of::<N>(above), N),
+        (None, Some(left)) => mean_of_sum(sum_of::<N>(left), N),
+        (Some(above), Some(left)) => mean_of_sum(sum_of::<N>(above) + sum_of::<N>(left), 2 * N),
     }
 }
 
 /// The mean of `count` samples, 1 to 32, rounded.
+#[inline]
 fn mean_of_sum(sum: u16, count: usize) -> u8
     requires some { (0 < count) × (count ≤ 32) }
     requires bound { sum ≤ 255 * count }

@@ -1,6 +1,0 @@
-use Rattle.std.specs.Prelude.{slice_index}
-use Rattle.intra_predict.proofs.Rows.{HasRows}
-use Rattle.intra_predict.proofs.fills.fill_columns.Given as goal
-
-abbrev pub invariant-loop-row : goal.invariant-loop-row
-invariant-loop-row l = HasRows l.side (λ column row. slice_index l.left row) l.row l.out

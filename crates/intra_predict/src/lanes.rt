@@ -1,0 +1,81 @@
+ghost use Rattle.std.specs.Prelude.{◌≡◌, ℕ, ◌+◌, ◌-◌, ◌*◌, ◌<◌, ◌≤◌, length, sum, min, slice_index};
+ghost use Rattle.std.specs.Simd.Lanes.{zip2};
+ghost use Rattle.intra_predict.specs.Blocks.{IsBlock};
+ghost use Rattle.intra_predict.specs.Means.{gradient as gradient_of};
+
+use std::simd::Simd;
+use std::simd::prelude::*;
+
+/// The sum of `N` samples, in lanes of 16 bits.
+#[inline]
+pub fn sum_of<const N: usize>(samples: &[u8]) -> u16
+    requires lanes { N ≤ 16 }
+    requires whole { length samples.now ≡ N }
+    ensures value { result ≡ sum samples.now }
+    ensures bound { result ≤ 255 * N }
+{
+    Simd::<u8, N>::from_slice(samples)
+        .cast::<u16>()
+        .reduce_sum()
+}
+
+/// Sets each row of a block of `N` by `N` samples to `line`.
+#[inline]
+pub fn fill_rows<const N: usize>(line: Simd<u8, N>, out: &mut [u8])
+    requires lanes { N ≤ 16 }
+    requires out { length out.old ≡ N * N }
+    ensures { IsBlock N (λ column row. slice_index line.entry column) out.new }
+{
+    for row in 0..N {
+        line.copy_to_slice(&mut out[row * N..]);
+    }
+}
+
+/// Sets each row of a block of `N` by `N` samples to the sample to its left.
+#[inline]
+pub fn fill_columns<const N: usize>(left: &[u8], out: &mut [u8])
+    requires lanes { N ≤ 16 }
+    requires left { length left.now ≡ N }
+    requires out { length out.old ≡ N * N }
+    ensures { IsBlock N (λ column row. slice_index left.now row) out.new }
+{
+    for row in 0..N {
+        Simd::<u8, N>::splat(left[row]).copy_to_slice(&mut out[row * N..]);
+    }
+}
+
+/// The lanes of both added, held at 255.
+#[inline]
+fn held_sums<const N: usize>(first: Simd<u8, N>, second: Simd<u8, N>) -> Simd<u8, N>
+    ensures { result ≡ zip2 (λ a b. min (a + b) 255) first.entry second.entry }
+{
+    first.saturating_add(second)
+}
+
+/// The lanes of `first` less those of `second`, held at 0.
+#[inline]
+fn held_rests<const N: usize>(first: Simd<u8, N>, second: Simd<u8, N>) -> Simd<u8, N>
+    ensures { result ≡ zip2 (λ a b. a - b) first.entry second.entry }
+{
+    first.saturating_sub(second)
+}
+
+/// Sets each sample of a block of `N` by `N` samples to its gradient.
+///
+/// What stands above lies `more` above the corner, or `less` below it, and a row differs from the
+/// sample to its left by just that: no sum needs more than 8 bits.
+#[inline]
+pub fn fill_gradients<const N: usize>(above: Simd<u8, N>, left: &[u8], corner: u8, out: &mut [u8])
+    requires lanes { N ≤ 16 }
+    requires left { length left.now ≡ N }
+    requires out { length out.old ≡ N * N }
+    ensures { IsBlock N (λ column row. gradient_of (slice_index left.now row) (slice_index above.entry column) corner) out.new }
+{
+    let corner = Simd::<u8, N>::splat(corner);
+    let more = held_rests(above, corner);
+    let less = held_rests(corner, above);
+    for row in 0..N {
+        let line = held_rests(held_sums(Simd::<u8, N>::splat(left[row]), more), less);
+        line.copy_to_slice(&mut out[row * N..]);
+    }
+}
