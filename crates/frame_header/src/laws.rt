@@ -6,7 +6,7 @@ ghost use Rattle.frame_header.specs.Fields.{fields};
 ghost use Rattle.frame_header.specs.Contexts.{default_context};
 ghost use Rattle.frame_header.specs.Header.{header_of};
 ghost use Rattle.frame_header.specs.KeyFrames.{KeysTakeNoContext};
-ghost use Rattle.frame_header.specs.Worked.{behind_tag, written_fields, fields_written, context_written};
+ghost use Rattle.frame_header.specs.Worked.{behind_tag, written_fields, fields_written, context_written, trailing_read, trailing_written, trailing_context};
 ghost use Rattle.frame_header.specs.declared.cause.Cause.TheVariants.{ShortPacket, Version, StartCode, Size, NoKeyFrame, FirstPartition, TokenSizes, TokenPartition, NotYet};
 
 use crate::context::Context;
@@ -14,7 +14,8 @@ use vp8_tables::Tables;
 
 /// The fields of a first partition that an encoder wrote.
 pub fn worked_fields(tables: &Tables)
-    ensures { (fields true (default_context tables.now) (started written_fields)).0 ≡ (fields_written, context_written tables.now) }
+    ensures first { (fields true (default_context tables.now) (started written_fields)).0 ≡ (fields_written, context_written tables.now) }
+    ensures trailing { trailing_read ≡ (trailing_written, trailing_context) }
 {}
 
 /// A packet of 16 by 16 samples with empty partitions is accepted.
