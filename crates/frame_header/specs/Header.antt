@@ -69,7 +69,7 @@ header_behind tables context packet start = do
   let read = fields start.tag.key context (started (slice_range packet start.place end))
   partitions ← token_places packet end read.0.0.partition_count
   if is_decoded packet read.0.0 partitions.items
-    then Ok (header_in start read.0 partitions (trailing_fields tables.updates read.0.1 read.1)) else Err NotYet
+      then Ok (header_in start read.0 partitions (trailing_fields tables.updates read.0.1 read.1)) else Err NotYet
 
 -- the header of a packet behind a context or none, or the first cause against it (RFC 6386, sections 9 and 19)
 unfoldable pub header_of : TableEntries → Option Context → List ℕ → Result Header Cause

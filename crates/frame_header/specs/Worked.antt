@@ -1,4 +1,4 @@
-use Rattle.std.specs.Prelude.{ℕ, true, false, pos, negsuc, List, [], ◌∷◌, Some, replicate, slice_set}
+use Rattle.std.specs.Prelude.{◌≡◌, ℕ, true, false, pos, negsuc, List, [], ◌∷◌, ◌++◌, Some, None, replicate, slice_set}
 use Rattle.vp8_tables.specs.Tables.{TableEntries}
 use Rattle.bool_coder.specs.Reader.{started}
 use Rattle.frame_header.specs.Contexts.{default_context}
@@ -7,6 +7,7 @@ use Rattle.frame_header.specs.TrailingFields.{trailing_fields}
 use Rattle.frame_header.specs.declared.trailing_fields.TrailingFields.{TrailingFields}
 use Rattle.frame_header.specs.declared.context.Context.{Context}
 use Rattle.frame_header.specs.declared.fields.Fields.{Fields}
+use Rattle.frame_header.specs.declared.header.Header.{Header}
 
 -- what stands behind the tag of a key frame of 16 by 16 samples
 abbrev pub behind_tag : List ℕ
@@ -66,3 +67,27 @@ abbrev pub trailing_read : TrailingFields × Context
 trailing_read =
     let read = fields true (default_context worked_tables) (started written_fields) in
     (trailing_fields worked_tables.updates read.0.1 read.1).0
+
+-- the first partition of a key frame of the kind that is decoded, which keeps what it changes, as that encoder wrote it
+abbrev pub written_key_frame : List ℕ
+written_key_frame = 0x80 ∷ 0x19 ∷ 0x94 ∷ 0xFF ∷ 0x6E ∷ 0xDE ∷ 0x0E ∷ 0x00 ∷ 0x00 ∷ []
+
+-- its packet: two token partitions, of which the first has one byte and the second has two
+abbrev pub key_frame_packet : List ℕ
+key_frame_packet = 0x30 ∷ 1 ∷ 0 ∷ behind_tag ++ written_key_frame ++ 1 ∷ 0 ∷ 0 ∷ 0 ∷ 0 ∷ 0 ∷ []
+
+-- its context, of which the first coefficient probability is new
+abbrev pub key_frame_context : Context
+key_frame_context =
+    let before = default_context worked_tables in
+    record before { probabilities = record before.probabilities { coefficients = slice_set (replicate 1056 128) 0 7 } }
+
+-- the header that it was made of, but for the reader behind it
+abbrev pub IsKeyFrameWritten : Header → Type 0
+IsKeyFrameWritten header =
+    (header.width ≡ 16) × (header.height ≡ 16) × (header.is_shown ≡ true) × (header.colors ≡ record { color_space = true; clamping_type = false })
+    × (header.filter ≡ record { is_simple = false; level = 0; sharpness = 3 })
+    × (header.quantizers ≡ record { y_ac_index = 100; y_dc_delta = pos 0; y2_dc_delta = pos 2; y2_ac_delta = pos 0; uv_dc_delta = pos 0; uv_ac_delta = negsuc 0 })
+    × (header.refreshes_entropy ≡ true) × (header.skip_probability ≡ None)
+    × (header.partitions.items ≡ record { start = 22; length = 1 } ∷ record { start = 23; length = 2 } ∷ [])
+    × (header.context ≡ key_frame_context) × (header.context_after ≡ key_frame_context)

@@ -2,7 +2,9 @@ ghost use Rattle.std.specs.Prelude.{◌≡◌};
 ghost use Rattle.std.specs.Option.{option_copied};
 ghost use Rattle.frame_header.specs.Contexts.{default_context, first_context, left_context};
 
-use vp8_tables::{DEFAULT_UV_PROBABILITIES, DEFAULT_VECTOR_PROBABILITIES, DEFAULT_Y_PROBABILITIES, Tables};
+use vp8_tables::{
+    DEFAULT_UV_PROBABILITIES, DEFAULT_VECTOR_PROBABILITIES, DEFAULT_Y_PROBABILITIES, Tables,
+};
 
 /// Segment mode and data (RFC 6386, section 9.3): `is_absolute` says that the values stand for
 /// themselves, else they are added to those of the frame.
