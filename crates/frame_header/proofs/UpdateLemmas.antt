@@ -1,5 +1,5 @@
 -- One more probability is updated.
-use Rattle.std.proofs.Common.{◌≡◌, ℕ, suc, ◌+◌, List, get_or, set, refl, ◌∙◌, add-one}
+use Rattle.std.proofs.Common.{◌≡◌, ℕ, suc, ◌+◌, List, get_or, set, refl, add-one}
 use Rattle.bool_coder.specs.Reader.{Reader}
 use Rattle.frame_header.specs.TrailingFields.{updated, first_updated}
 

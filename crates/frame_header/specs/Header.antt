@@ -4,7 +4,7 @@ use Rattle.arrayvec.specs.ArrayVec.{ArrayVec}
 use Rattle.vp8_tables.specs.Tables.{TableEntries}
 use Rattle.bool_coder.specs.Reader.{Reader, started}
 use Rattle.frame_header.specs.Tags.{has_key_tag}
-use Rattle.frame_header.specs.Contexts.{first_context}
+use Rattle.frame_header.specs.Contexts.{first_context, left_context}
 use Rattle.frame_header.specs.Fields.{fields}
 use Rattle.frame_header.specs.Places.{token_places}
 use Rattle.frame_header.specs.Start.{start_of}
@@ -40,8 +40,8 @@ is_decoded packet fields partitions =
     has_key_tag packet && not fields.segmentation.is_enabled && fields.filter.level == 0 && list_all (is_zero packet) partitions
 
 -- a header of these parts
-abbrev pub header_in : Start → Fields → ArrayVec Place → (TrailingFields × Context) × Reader → Header
-header_in start fields partitions read = record {
+abbrev pub header_in : Start → Fields × Context → ArrayVec Place → (TrailingFields × Context) × Reader → Header
+header_in start (fields, before) partitions ((trailing, context), reader) = record {
   is_key = start.tag.key;
   version = start.tag.version;
   is_shown = start.tag.shown;
@@ -51,13 +51,13 @@ header_in start fields partitions read = record {
   segmentation = fields.segmentation;
   filter = fields.filter;
   adjusts_level = fields.adjusts_level;
-  quantizers = read.0.0.quantizers;
-  refreshes_entropy = read.0.0.refreshes_entropy;
-  skip_probability = read.0.0.skip_probability;
+  quantizers = trailing.quantizers;
+  refreshes_entropy = trailing.refreshes_entropy;
+  skip_probability = trailing.skip_probability;
   partitions = partitions;
-  context = read.0.1;
-  context_after = read.0.0.context_after;
-  reader = read.1;
+  context = context;
+  context_after = left_context trailing.refreshes_entropy before.probabilities context;
+  reader = reader;
 }
 
 -- the header of a frame behind its start, with the context that it begins with, or the first cause against it: the
@@ -69,7 +69,7 @@ header_behind tables context packet start = do
   let read = fields start.tag.key context (started (slice_range packet start.place end))
   partitions ← token_places packet end read.0.0.partition_count
   if is_decoded packet read.0.0 partitions.items
-    then Ok (header_in start read.0.0 partitions (trailing_fields tables.updates read.0.1 read.1)) else Err NotYet
+      then Ok (header_in start read.0 partitions (trailing_fields tables.updates read.0.1 read.1)) else Err NotYet
 
 -- the header of a packet behind a context or none, or the first cause against it (RFC 6386, sections 9 and 19)
 unfoldable pub header_of : TableEntries → Option Context → List ℕ → Result Header Cause

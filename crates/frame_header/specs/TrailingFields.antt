@@ -39,13 +39,11 @@ skip_probability = do
     prob ← literal 8
     give (Some prob)) else give None
 
--- the fields in order, and the context of the frame. The context behind the frame is that one, or the one that stood when
--- refresh_entropy was read as 0 (RFC 6386, sections 9.9 and 19.2)
+-- the fields in order, and the context with what they change of it (RFC 6386, section 19.2)
 unfoldable pub trailing_fields : List ℕ → Context → Reading (TrailingFields × Context)
 trailing_fields updates before = do
   quantizers ← quantizers
   refreshes ← flag
   coefficients ← first_updated 1056 updates before.probabilities.coefficients
   skip ← skip_probability
-  let context = record before { probabilities = record before.probabilities { coefficients = coefficients } }
-  give (record { quantizers = quantizers; refreshes_entropy = refreshes; skip_probability = skip; context_after = if refreshes then context else before }, context)
+  give (record { quantizers = quantizers; refreshes_entropy = refreshes; skip_probability = skip }, record before { probabilities = record before.probabilities { coefficients = coefficients } })

@@ -5,8 +5,8 @@ ghost use Rattle.bool_coder.specs.Reader.{started};
 ghost use Rattle.frame_header.specs.Fields.{fields};
 ghost use Rattle.frame_header.specs.Contexts.{default_context};
 ghost use Rattle.frame_header.specs.Header.{header_of};
-ghost use Rattle.frame_header.specs.KeyFrames.{KeysTakeNoContext};
-ghost use Rattle.frame_header.specs.Worked.{behind_tag, written_fields, fields_written, context_written};
+ghost use Rattle.frame_header.specs.KeyFrames.{KeysLeaveDefaults, KeysTakeNoContext};
+ghost use Rattle.frame_header.specs.Worked.{IsKeyFrameWritten, behind_tag, key_frame_packet, worked_tables, written_fields, fields_written, context_written, trailing_read, trailing_written, trailing_context};
 ghost use Rattle.frame_header.specs.declared.cause.Cause.TheVariants.{ShortPacket, Version, StartCode, Size, NoKeyFrame, FirstPartition, TokenSizes, TokenPartition, NotYet};
 
 use crate::context::Context;
@@ -14,12 +14,18 @@ use vp8_tables::Tables;
 
 /// The fields of a first partition that an encoder wrote.
 pub fn worked_fields(tables: &Tables)
-    ensures { (fields true (default_context tables.now) (started written_fields)).0 ≡ (fields_written, context_written tables.now) }
+    ensures first { (fields true (default_context tables.now) (started written_fields)).0 ≡ (fields_written, context_written tables.now) }
+    ensures trailing { trailing_read ≡ (trailing_written, trailing_context) }
 {}
 
 /// A packet of 16 by 16 samples with empty partitions is accepted.
 pub fn smallest_key_frame(tables: &Tables)
     ensures { IsOkAnd (header_of tables.now None (0x10 ∷ 0 ∷ 0 ∷ behind_tag)) (λ header. (header.width ≡ 16) × (header.height ≡ 16) × (header.partitions.items ≡ record { start = 10; length = 0 } ∷ [])) }
+{}
+
+/// A key frame of the kind that is decoded is read to the end of its header.
+pub fn worked_key_frame()
+    ensures { IsOkAnd (header_of worked_tables None key_frame_packet) IsKeyFrameWritten }
 {}
 
 /// Each cause of a packet.
@@ -34,7 +40,14 @@ pub fn worked_causes(tables: &Tables, context: &Context)
     ensures first_partition { header_of tables.now None (0x30 ∷ 0 ∷ 0 ∷ behind_tag) ≡ Err FirstPartition }
     ensures token_sizes { header_of tables.now None (0x50 ∷ 0 ∷ 0 ∷ behind_tag ++ 0 ∷ 1 ∷ []) ≡ Err TokenSizes }
     ensures token_partition { header_of tables.now None (0x50 ∷ 0 ∷ 0 ∷ behind_tag ++ 0 ∷ 1 ∷ 5 ∷ 0 ∷ 0 ∷ []) ≡ Err (TokenPartition 0) }
-    ensures later_byte { header_of tables.now None (0x10 ∷ 0 ∷ 0 ∷ behind_tag ++ 1 ∷ []) ≡ Err NotYet }
+    ensures segments { header_of tables.now None (0x30 ∷ 0 ∷ 0 ∷ behind_tag ++ 0x20 ∷ []) ≡ Err NotYet }
+    ensures level { header_of tables.now None (0x50 ∷ 0 ∷ 0 ∷ behind_tag ++ 0 ∷ 0x40 ∷ []) ≡ Err NotYet }
+    ensures token_byte { header_of tables.now None (0x30 ∷ 0 ∷ 0 ∷ behind_tag ++ 0x80 ∷ 1 ∷ []) ≡ Err NotYet }
+{}
+
+/// A key frame leaves its own context, but without `refreshes_entropy` the default probabilities.
+pub fn keys_leave_defaults()
+    ensures { KeysLeaveDefaults }
 {}
 
 /// A key frame takes no context over: its header is the same whatever came before.

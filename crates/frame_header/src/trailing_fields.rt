@@ -26,13 +26,12 @@ pub struct Quantizers {
     pub uv_ac_delta: i8,
 }
 
-/// The fields behind the number of token partitions, and the context that the frame leaves.
+/// The fields behind the number of token partitions.
 #[derive(Clone, Copy)]
 pub(crate) struct TrailingFields {
     pub(crate) quantizers: Quantizers,
     pub(crate) refreshes_entropy: bool,
     pub(crate) skip_probability: Option<u8>,
-    pub(crate) context_after: Context,
 }
 
 #[tactic(auto, unfolding(crate::specs::TrailingFields::quantizers))]
@@ -101,14 +100,11 @@ pub(crate) fn read_trailing_fields(
 {
     let quantizers = read_quantizers(reader);
     let refreshes_entropy = reader.flag();
-    let before = *context;
     read_updates(reader, updates, &mut context.probabilities.coefficients);
     let skip_probability = read_skip_probability(reader);
-    let context_after = if refreshes_entropy { *context } else { before };
     TrailingFields {
         quantizers,
         refreshes_entropy,
         skip_probability,
-        context_after,
     }
 }

@@ -1,4 +1,4 @@
-use Rattle.std.proofs.Common.{◌≡◌, sym, refl, ap}
+use Rattle.std.proofs.Common.{refl}
 use Rattle.frame_header.specs.TrailingFields.{first_updated}
 use Rattle.frame_header.proofs.UpdateLemmas.{first_updated-next}
 use Rattle.frame_header.proofs.trailing_fields.read_updates.Goals as goal
