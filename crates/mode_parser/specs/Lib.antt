@@ -1,0 +1,3 @@
+pub mod SubModes
+pub mod Records
+pub mod FrameModes

@@ -1,0 +1,132 @@
+//! The modes of a macroblock's sub blocks in a key frame.
+
+ghost use Rattle.std.specs.Prelude.{◌≡◌, ◌<◌, take};
+ghost use Rattle.std.specs.Option.{option_copied};
+ghost use Rattle.mode_parser.specs.SubModes.{number_of, sub_mode_of, counterpart, context_in, mode_above, mode_left, key_sub_mode, first_sub_modes};
+
+use crate::records::{MbMode, YMode};
+use bool_coder::Decoder;
+use intra_predict::{SubMode, WholeMode};
+use vp8_tables::{SUB_TREE, Tables};
+
+/// The number of a mode in the tables of a key frame.
+#[inline]
+fn number_of(mode: SubMode) -> usize
+    ensures value { result ≡ number_of mode }
+    ensures small { result < 10 }
+{
+    match mode {
+        SubMode::Dc => 0,
+        SubMode::Tm => 1,
+        SubMode::Ve => 2,
+        SubMode::He => 3,
+        SubMode::Ld => 4,
+        SubMode::Rd => 5,
+        SubMode::Vr => 6,
+        SubMode::Vl => 7,
+        SubMode::Hd => 8,
+        SubMode::Hu => 9,
+    }
+}
+
+/// The mode with a number of 0 to 9.
+#[inline]
+fn sub_mode_of(number: u8) -> SubMode
+    ensures { result ≡ sub_mode_of number }
+{
+    match number {
+        0 => SubMode::Dc,
+        1 => SubMode::Tm,
+        2 => SubMode::Ve,
+        3 => SubMode::He,
+        4 => SubMode::Ld,
+        5 => SubMode::Rd,
+        6 => SubMode::Vr,
+        7 => SubMode::Vl,
+        8 => SubMode::Hd,
+        _ => SubMode::Hu,
+    }
+}
+
+/// The sub block mode as which a whole block's mode counts (RFC 6386, section 11.3).
+#[inline]
+fn counterpart(mode: WholeMode) -> SubMode
+    ensures { result ≡ counterpart mode }
+{
+    match mode {
+        WholeMode::Dc => SubMode::Dc,
+        WholeMode::V => SubMode::Ve,
+        WholeMode::H => SubMode::He,
+        WholeMode::Tm => SubMode::Tm,
+    }
+}
+
+/// The mode of sub block `n` of a macroblock, as its neighbours take it; DC outside the frame.
+#[inline]
+fn context_in(macroblock: Option<&MbMode>, n: usize) -> SubMode
+    requires { n < 16 }
+    ensures { result ≡ context_in (option_copied macroblock.entry) n }
+{
+    match macroblock {
+        None => SubMode::Dc,
+        Some(macroblock) => match macroblock.y_mode {
+            YMode::Whole(mode) => counterpart(mode),
+            YMode::B => macroblock.sub_modes[n],
+        },
+    }
+}
+
+/// The mode above sub block `n`, in its own macroblock or in the one above.
+#[inline]
+fn mode_above(above: Option<&MbMode>, modes: &[SubMode; 16], n: usize) -> SubMode
+    requires { n < 16 }
+    ensures { result ≡ mode_above (option_copied above.entry) (take n modes.now) n }
+{
+    if n < 4 {
+        context_in(above, n + 12)
+    } else {
+        modes[n - 4]
+    }
+}
+
+/// The mode to the left of sub block `n`, in its own macroblock or in the one to the left.
+#[inline]
+fn mode_left(left: Option<&MbMode>, modes: &[SubMode; 16], n: usize) -> SubMode
+    requires { n < 16 }
+    ensures { result ≡ mode_left (option_copied left.entry) (take n modes.now) n }
+{
+    if n % 4 == 0 {
+        context_in(left, n + 3)
+    } else {
+        modes[n - 1]
+    }
+}
+
+/// The mode of a sub block below and to the right of these.
+#[inline]
+#[tactic(auto, unfolding(crate::specs::SubModes::key_sub_mode))]
+fn read_sub_mode(reader: &mut Decoder, tables: &Tables, above: SubMode, left: SubMode) -> SubMode
+    ensures { key_sub_mode tables.now above left reader.old ≡ (result, reader.new) }
+{
+    let nodes = tables.key_sub_nodes(number_of(above), number_of(left));
+    sub_mode_of(reader.tree(&SUB_TREE, nodes))
+}
+
+/// The modes of all sub blocks of a macroblock below and to the right of these.
+#[inline]
+pub(crate) fn read_sub_modes(
+    reader: &mut Decoder,
+    tables: &Tables,
+    above: Option<&MbMode>,
+    left: Option<&MbMode>,
+) -> [SubMode; 16]
+    ensures { first_sub_modes 16 tables.now (option_copied above.entry) (option_copied left.entry) reader.old ≡ (result, reader.new) }
+{
+    let mut modes = [SubMode::Dc; 16];
+    for n in 0..16usize {
+        let over = mode_above(above, &modes, n);
+        let beside = mode_left(left, &modes, n);
+        modes[n] = read_sub_mode(reader, tables, over, beside);
+    }
+    modes
+}
