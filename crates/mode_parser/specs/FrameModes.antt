@@ -2,6 +2,7 @@
 use Rattle.std.specs.Prelude.{ℕ, zero, suc, ◌-◌, ◌*◌, ◌%◌, ◌==◌, nat_lt, Option, None, List, [], ◌∷◌, ◌++◌, map, slice_get, if◌then◌else◌}
 use Rattle.bool_coder.specs.Reading.{Reading, ◌>>=◌, give}
 use Rattle.vp8_tables.specs.Tables.{TableEntries}
+use Rattle.frame_header.specs.declared.header.Header.{Header}
 use Rattle.mode_parser.specs.declared.records.MbMode.{MbMode}
 use Rattle.mode_parser.specs.Records.{key_mode}
 
@@ -27,3 +28,7 @@ pub record FrameModes : Type 0 where
 
 abbrev pub frame_of : List MbMode → FrameModes
 frame_of records = record { records = records; segment_map = map (λ m. m.segment) records }
+
+-- the modes of a key frame without segments, of so many macroblocks each way (section 19.3)
+abbrev pub modes_of : TableEntries → Header → ℕ → ℕ → FrameModes
+modes_of tables header columns rows = frame_of (first_modes (columns * rows) tables header.skip_probability columns header.reader).0

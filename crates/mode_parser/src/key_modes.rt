@@ -10,7 +10,7 @@ use crate::records::{MbMode, YMode};
 use bool_coder::{Decoder, NoMemory};
 use intra_predict::{SubMode, WholeMode};
 use std::alloc::Global;
-use vp8_tables::{KEY_UV_PROBABILITIES, KEY_Y_PROBABILITIES, KEY_Y_TREE, Tables, UV_TREE};
+use vp8_tables::{KEY_UV_PROBABILITIES, KEY_Y_PROBABILITIES, Tables};
 
 #[inline]
 #[tactic(auto, unfolding(crate::specs::Records::skip))]
@@ -23,31 +23,33 @@ fn read_skip(reader: &mut Decoder, probability: Option<u8>) -> bool
     }
 }
 
+/// The luma mode: the leaf of its tree.
 #[inline]
-#[tactic(auto, unfolding(crate::specs::Records::key_y_mode))]
 fn read_y_mode(reader: &mut Decoder) -> YMode
     ensures { key_y_mode reader.old ≡ (result, reader.new) }
 {
-    match reader.tree(&KEY_Y_TREE, &KEY_Y_PROBABILITIES) {
-        0 => YMode::Whole(WholeMode::Dc),
-        1 => YMode::Whole(WholeMode::V),
-        2 => YMode::Whole(WholeMode::H),
-        3 => YMode::Whole(WholeMode::Tm),
-        _ => YMode::B,
+    if !reader.bit(KEY_Y_PROBABILITIES[0]) {
+        return YMode::B;
     }
+    YMode::Whole(if !reader.bit(KEY_Y_PROBABILITIES[1]) {
+        if reader.bit(KEY_Y_PROBABILITIES[2]) { WholeMode::V } else { WholeMode::Dc }
+    } else {
+        if reader.bit(KEY_Y_PROBABILITIES[3]) { WholeMode::Tm } else { WholeMode::H }
+    })
 }
 
+/// The chroma mode: the leaf of its tree.
 #[inline]
-#[tactic(auto, unfolding(crate::specs::Records::key_uv_mode))]
 fn read_uv_mode(reader: &mut Decoder) -> WholeMode
     ensures { key_uv_mode reader.old ≡ (result, reader.new) }
 {
-    match reader.tree(&UV_TREE, &KEY_UV_PROBABILITIES) {
-        0 => WholeMode::Dc,
-        1 => WholeMode::V,
-        2 => WholeMode::H,
-        _ => WholeMode::Tm,
+    if !reader.bit(KEY_UV_PROBABILITIES[0]) {
+        return WholeMode::Dc;
     }
+    if !reader.bit(KEY_UV_PROBABILITIES[1]) {
+        return WholeMode::V;
+    }
+    if reader.bit(KEY_UV_PROBABILITIES[2]) { WholeMode::Tm } else { WholeMode::H }
 }
 
 /// The record of a macroblock below and to the right of these.
@@ -103,10 +105,10 @@ fn record_left(records: &[MbMode], columns: usize, place: usize) -> Option<&MbMo
     }
 }
 
-/// The records of a key frame of 1 to 1,024 macroblocks each way.
+/// The records of a key frame of 1 to 1,024 macroblocks each way, which stand behind `start`.
 pub(crate) fn read_records(
     alloc: Global,
-    reader: &mut Decoder,
+    start: &Decoder,
     tables: &Tables,
     skip_probability: Option<u8>,
     columns: usize,
@@ -115,13 +117,15 @@ pub(crate) fn read_records(
     requires some { 1 ≤ columns }
     requires wide { columns ≤ 1024 }
     requires high { rows ≤ 1024 }
-    ensures value { IfOk result (λ records. first_modes (columns * rows) tables.now skip_probability columns reader.old ≡ (records.items, reader.new)) }
+    ensures value { IfOk result (λ records. records.items ≡ (first_modes (columns * rows) tables.now skip_probability columns start.now).0) }
+    ensures count { IfOk result (λ records. length records.items ≡ columns * rows) }
 {
+    let mut reader = start.copied();
     let mut records = Vec::with_capacity(alloc, columns * rows)?;
     for place in 0..columns * rows {
         let above = record_above(&records, columns, place);
         let left = record_left(&records, columns, place);
-        let record = read_mode(reader, tables, skip_probability, above, left);
+        let record = read_mode(&mut reader, tables, skip_probability, above, left);
         records.push(record)?;
     }
     Ok(records)

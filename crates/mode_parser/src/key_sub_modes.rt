@@ -2,12 +2,12 @@
 
 ghost use Rattle.std.specs.Prelude.{◌≡◌, ◌<◌, take};
 ghost use Rattle.std.specs.Option.{option_copied};
-ghost use Rattle.mode_parser.specs.SubModes.{number_of, sub_mode_of, counterpart, context_in, mode_above, mode_left, key_sub_mode, first_sub_modes};
+ghost use Rattle.mode_parser.specs.SubModes.{number_of, counterpart, context_in, mode_above, mode_left, key_sub_mode, first_sub_modes};
 
 use crate::records::{MbMode, YMode};
 use bool_coder::Decoder;
 use intra_predict::{SubMode, WholeMode};
-use vp8_tables::{SUB_TREE, Tables};
+use vp8_tables::Tables;
 
 /// The number of a mode in the tables of a key frame.
 #[inline]
@@ -26,25 +26,6 @@ fn number_of(mode: SubMode) -> usize
         SubMode::Vl => 7,
         SubMode::Hd => 8,
         SubMode::Hu => 9,
-    }
-}
-
-/// The mode with a number of 0 to 9.
-#[inline]
-fn sub_mode_of(number: u8) -> SubMode
-    ensures { result ≡ sub_mode_of number }
-{
-    match number {
-        0 => SubMode::Dc,
-        1 => SubMode::Tm,
-        2 => SubMode::Ve,
-        3 => SubMode::He,
-        4 => SubMode::Ld,
-        5 => SubMode::Rd,
-        6 => SubMode::Vr,
-        7 => SubMode::Vl,
-        8 => SubMode::Hd,
-        _ => SubMode::Hu,
     }
 }
 
@@ -102,14 +83,35 @@ fn mode_left(left: Option<&MbMode>, modes: &[SubMode; 16], n: usize) -> SubMode
     }
 }
 
-/// The mode of a sub block below and to the right of these.
+/// The mode of a sub block below and to the right of these: the leaf of the sub mode tree, whose
+/// nodes are numbered from 0.
 #[inline]
-#[tactic(auto, unfolding(crate::specs::SubModes::key_sub_mode))]
 fn read_sub_mode(reader: &mut Decoder, tables: &Tables, above: SubMode, left: SubMode) -> SubMode
     ensures { key_sub_mode tables.now above left reader.old ≡ (result, reader.new) }
 {
     let nodes = tables.key_sub_nodes(number_of(above), number_of(left));
-    sub_mode_of(reader.tree(&SUB_TREE, nodes))
+    if !reader.bit(nodes[0]) {
+        return SubMode::Dc;
+    }
+    if !reader.bit(nodes[1]) {
+        return SubMode::Tm;
+    }
+    if !reader.bit(nodes[2]) {
+        return SubMode::Ve;
+    }
+    if !reader.bit(nodes[3]) {
+        if !reader.bit(nodes[4]) {
+            return SubMode::He;
+        }
+        return if reader.bit(nodes[5]) { SubMode::Vr } else { SubMode::Rd };
+    }
+    if !reader.bit(nodes[6]) {
+        return SubMode::Ld;
+    }
+    if !reader.bit(nodes[7]) {
+        return SubMode::Vl;
+    }
+    if reader.bit(nodes[8]) { SubMode::Hu } else { SubMode::Hd }
 }
 
 /// The modes of all sub blocks of a macroblock below and to the right of these.

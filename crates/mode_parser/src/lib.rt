@@ -1,8 +1,10 @@
 //! The prediction modes of a key frame's macroblocks (RFC 6386, sections 8.2, 11 and 19.3).
 #![tactic(auto)]
 
+mod frame_modes;
 mod key_modes;
 mod key_sub_modes;
 mod records;
 
-pub use records::{MbMode, Modes, YMode};
+pub use frame_modes::{Modes, read_modes};
+pub use records::{MbMode, YMode};

@@ -1,7 +1,4 @@
-ghost use Rattle.std.specs.Prelude.{◌≡◌};
-
 use intra_predict::{SubMode, WholeMode};
-use std::marker::Model;
 
 /// How the luma of a macroblock is predicted (RFC 6386, section 8.2).
 #[derive(Clone, Copy, Debug, PartialEq, Eq)]
@@ -25,35 +22,4 @@ pub struct MbMode {
     pub sub_modes: [SubMode; 16],
     /// How each of its chroma blocks is predicted.
     pub uv_mode: WholeMode,
-}
-
-/// The modes of a frame.
-#[derive(Drop)]
-pub struct Modes {
-    records: Vec<MbMode>,
-    segment_map: Vec<u8>,
-}
-
-impl Model for Modes {
-    ghost use Rattle.mode_parser.specs.FrameModes.{FrameModes};
-
-    ghost Value = { FrameModes };
-
-    ghost view = { λ m. record { records = m.records.items; segment_map = m.segment_map.items } };
-}
-
-impl Modes {
-    /// One record for each macroblock, in raster order.
-    pub fn records(&self) -> &[MbMode]
-        ensures { result.now ≡ self.now.records }
-    {
-        &self.records
-    }
-
-    /// The segment of each macroblock, in raster order.
-    pub fn segment_map(&self) -> &[u8]
-        ensures { result.now ≡ self.now.segment_map }
-    {
-        &self.segment_map
-    }
 }

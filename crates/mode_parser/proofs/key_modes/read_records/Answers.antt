@@ -1,14 +1,20 @@
-use Rattle.std.proofs.Common.{◌≡◌}
+use Rattle.std.proofs.Common.{◌≡◌, length, ap, arith, length-append}
 use Rattle.std.specs.Option.{option_copied}
 use Rattle.mode_parser.specs.FrameModes.{record_above, record_left}
 use Rattle.mode_parser.proofs.Steps.{first_modes-none, first_modes-more}
 use Rattle.mode_parser.proofs.key_modes.read_records.Goals as goal
 
 pub loop-place-init : goal.loop-place-init
-loop-place-init c = rw c.in_ok-records.ensures.items (first_modes-none _ _ _ _)
+loop-place-init c = record {
+  same = rw c.in_ok-records.ensures.items (first_modes-none _ _ _ _);
+  count = ap length c.in_ok-records.ensures.items;
+}
 
 pub loop-place-preserved : goal.loop-place-preserved
 loop-place-preserved c =
     let above = rw c.deref.ensures.value at c.record_above-above.ensures in
     let left = rw c.deref-in-loop-place.ensures.value at c.record_left-left.ensures in
-    rw c.in_ok-push.ensures.items (first_modes-more _ _ _ _ _ _ _ _ _ c.loop-place.invariant (rw (← above, ← left) c.read_mode-record.ensures))
+    record {
+      same = rw c.in_ok-push.ensures.items (first_modes-more _ _ _ _ _ _ _ _ _ c.loop-place.invariant.same (rw (← above, ← left) c.read_mode-record.ensures));
+      count = rw (c.in_ok-push.ensures.items, length-append) (omega (arith, c.loop-place.invariant.count));
+    }
