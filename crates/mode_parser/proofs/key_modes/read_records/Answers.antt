@@ -6,7 +6,7 @@ use Rattle.mode_parser.proofs.key_modes.read_records.Goals as goal
 
 pub loop-place-init : goal.loop-place-init
 loop-place-init c = record {
-  same = rw c.in_ok-records.ensures.items (first_modes-none _ _ _ _);
+  same = rw (c.in_ok-records.ensures.items, c.copied-reader.ensures) (first_modes-none _ _ _ _);
   count = ap length c.in_ok-records.ensures.items;
 }
 
