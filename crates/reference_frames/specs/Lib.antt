@@ -1,4 +1,2 @@
 pub mod Unfiltered
 pub mod UnfilteredLaws
-pub mod Steps
-pub mod StepLaws
