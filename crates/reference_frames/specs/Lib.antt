@@ -1,2 +1,4 @@
 pub mod Unfiltered
 pub mod UnfilteredLaws
+pub mod Steps
+pub mod StepLaws

@@ -1,6 +1,14 @@
 //! Laws over the definitions of this crate: each is the contract of a function that does nothing.
 
+ghost use Rattle.reference_frames.specs.StepLaws.{KeysStepFromNone};
 ghost use Rattle.reference_frames.specs.UnfilteredLaws.{AreFlat, WritesOneBlock};
+
+/// A step of a packet with a key tag is the same from any state as from none.
+pub fn keys_step_from_none()
+    ensures { KeysStepFromNone }
+{
+    frame_header::laws::keys_take_no_context();
+}
 
 /// A block that is written has its samples, and every other sample is as it was.
 pub fn block_write_is_local()

@@ -3,7 +3,7 @@
 #![tactic(auto)]
 
 pub mod laws;
-pub mod prediction;
-//mod steps;
+mod prediction;
+mod steps;
 
-
+pub use steps::{State, StepFault, step};
