@@ -1,13 +1,17 @@
 -- A block that is written into a plane.
-use Rattle.std.specs.Prelude.{slice_index}
+use Rattle.std.specs.Prelude.{slice_index, ◌==◌, Option, None, Some}
 use Rattle.std.specs.Simd.Lanes.{put_chunk}
-use Rattle.std.proofs.Common.{refl, ◌≡◌, ℕ, zero, suc, ◌+◌, ◌-◌, ◌*◌, ◌<◌, ◌≤◌, List, ◌++◌, length, take, drop, ap, sym, ◌∙◌, arith}
+use Rattle.std.proofs.Common.{refl, ◌≡◌, ℕ, zero, suc, ◌+◌, ◌-◌, ◌*◌, ◌<◌, ◌≤◌, List, ◌++◌, length, take, drop, cond, ap, sym, ◌∙◌, arith}
 use Rattle.std.proofs.lemmas.Simd.{put_chunk_is}
 use Rattle.std.proofs.lemmas.List.{length-take-le, length-drop, get_or-take, get_or-drop}
 use Rattle.std.proofs.lemmas.List.FromFn.{fill_by_all, length-map-range_with_len, get_or-map-range_with_len}
 use Rattle.intra_predict.specs.Blocks.{IsBlock}
+use Rattle.intra_predict.specs.WholeSample.{side_of, whole_sample}
+use Rattle.intra_predict.specs.declared.modes.BlockSize.{BlockSize}
+use Rattle.intra_predict.specs.declared.modes.BlockSize.TheVariants.{Sixteen, Eight}
+use Rattle.intra_predict.specs.declared.modes.WholeMode.{WholeMode}
 use Rattle.pixel_planes.specs.Samples.{Samples}
-use Rattle.reference_frames.specs.Unfiltered.{block_row, with_block, with_block_rows, blank_picture}
+use Rattle.reference_frames.specs.Unfiltered.{above_row, left_column, corner, block_row, with_block, with_block_rows, whole_block_sample, predicted_whole}
 
 -- a part of a row that was written, put back into the row
 pub written_part : (row part span : List ℕ) (x side : ℕ) → part ≡ span → length span ≡ side → x + side ≤ length row → take x row ++ (part ++ drop (x + side - x) (drop x row)) ≡ put_chunk x row span
@@ -47,11 +51,21 @@ part_length row x side within =
     let fits : x + side - x ≤ length (drop x row) = omega (arith, length-drop x row) in
     length-take-le (x + side - x) (drop x row) fits ∙ omega arith
 
--- the shown size of a blank picture
-pub blank_picture-width : (width height : ℕ) → (blank_picture width height).width ≡ width
-unfolding blank_picture
-blank_picture-width width height = refl
+-- a whole block that was predicted between sides that were read
+pub whole_read : (p : Samples) (side size mx my n m edge : ℕ) (mode : WholeMode) (upper beside block : List ℕ) (above_it left_of_it : Option (List ℕ)) → side ≡ size → n ≡ size → m ≡ size →
+    upper ≡ above_row p (side * mx) (side * my) n → beside ≡ left_column p (side * mx) (side * my) m → edge ≡ corner p (side * mx) (side * my) →
+    above_it ≡ cond (side * my == 0) None (Some upper) → left_of_it ≡ cond (side * mx == 0) None (Some beside) → IsBlock size (whole_sample mode above_it left_of_it edge) block →
+    with_block p (side * mx) (side * my) side (λ column row. slice_index block (row * side + column)) ≡ predicted_whole p size mx my mode
+whole_read p side size mx my n m edge mode upper beside block above_it left_of_it sized wide high upper_is beside_is edge_is above_is left_is is =
+    let between : IsBlock size (whole_block_sample p (size * mx) (size * my) size mode) block = rw (above_is, left_is, upper_is, beside_is, edge_is, wide, high, sized) at is in
+    rw sized (written_block p (size * mx) (size * my) size block (whole_block_sample p (size * mx) (size * my) size mode) between)
 
-pub blank_picture-height : (width height : ℕ) → (blank_picture width height).height ≡ height
-unfolding blank_picture
-blank_picture-height width height = refl
+side_small : (size : BlockSize) → side_of size ≤ 16
+side_small Sixteen = omega arith
+side_small Eight = omega arith
+
+-- a part of sixteen samples as long as a side
+pub side_part : (side : ℕ) (size : BlockSize) (samples : List ℕ) → side ≡ side_of size → length samples ≡ 16 → length (take side samples) ≡ side_of size
+side_part side size samples is long =
+    let fits : side ≤ length samples = omega (arith, side_small size) in
+    length-take-le side samples fits ∙ is

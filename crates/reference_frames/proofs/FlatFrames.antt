@@ -1,16 +1,24 @@
 -- The planes of a blank picture, sample by sample.
-use Rattle.std.specs.Prelude.{replicate, Option, Some, None}
-use Rattle.std.proofs.Common.{◌≡◌, ℕ, zero, suc, ◌+◌, ◌-◌, ◌*◌, ◌/◌, ◌%◌, ◌<◌, ◌≤◌, ◌⊎◌, inl, inr, List, [], ◌++◌, take, refl, ap, sym, ◌∙◌, arith, eq-eqb}
+use Rattle.std.specs.Prelude.{replicate, slice_get, slice_index_or, Option, Some, None}
+use Rattle.std.proofs.Common.{◌≡◌, ℕ, zero, suc, ◌+◌, ◌-◌, ◌*◌, ◌/◌, ◌%◌, ◌<◌, ◌≤◌, ◌⊎◌, inl, inr, List, [], ◌++◌, false, length, get_or, take, refl, ap, sym, ◌∙◌, add-zero, zero-mul, arith, eq-eqb}
 use Rattle.std.proofs.lemmas.Bool.{cases_lt, cases_eq, ne_eqb, cond-true, cond-false}
 use Rattle.std.proofs.lemmas.Bool.Decides.{nat_tests}
-use Rattle.std.proofs.lemmas.List.{length-replicate}
+use Rattle.std.proofs.lemmas.List.{length-replicate, get_or-replicate}
+use Rattle.std.proofs.lemmas.Option.{slice_get-get_or}
 use Rattle.intra_predict.specs.Means.{mean_of}
+use Rattle.intra_predict.specs.declared.modes.SubMode.{SubMode}
+use Rattle.intra_predict.specs.declared.modes.SubMode.TheVariants.{Dc}
+use Rattle.intra_predict.specs.declared.modes.WholeMode.TheVariants.{Dc as WholeDc}
 use Rattle.intra_predict.specs.SubSample.{sub_sample}
 use Rattle.intra_predict.specs.WholeSample.{whole_sample, inside}
 use Rattle.pixel_planes.specs.Samples.{Samples, uniform}
-use Rattle.pixel_planes.specs.declared.pictures.Planes.{Planes}
-use Rattle.reference_frames.specs.Unfiltered.{above, left, left_column, above_eight, above_side, left_side, sub_column, sub_row, sub_block_sample, chroma_sample, with_block, predicted_sub_blocks, predicted_chroma, predicted_macroblock, predicted_row, predicted_rows, empty_planes}
-use Rattle.reference_frames.specs.UnfilteredLaws.{luma_of_row, AreFlat}
+use Rattle.pixel_planes.specs.PlaneSamples.{PlaneSamples}
+use Rattle.pixel_planes.proofs.Rows.{row_fits}
+use Rattle.mode_parser.specs.declared.records.MbMode.{MbMode}
+use Rattle.mode_parser.specs.declared.records.YMode.TheVariants.{B}
+use Rattle.reference_frames.specs.Unfiltered.{above, left, left_column, above_eight, above_side, left_side, sub_column, sub_row, sub_block_sample, whole_block_sample, with_block, predicted_sub_blocks, predicted_luma, predicted_whole, predicted_macroblock, predicted_macroblocks, empty_planes}
+use Rattle.reference_frames.specs.UnfilteredLaws.{luma_of_row, IsBlank, AreFlat}
+use Rattle.reference_frames.proofs.Frames.{predicted_more}
 use Rattle.reference_frames.proofs.Flat.{IsPlane, IsPlane-with_block_rows, IsDone, IsDone-less, block_kept, block_more, above_row_is, left_column_is, above_eight_is, above_edge, left_edge, above_done, left_done}
 
 -- ---- the values
@@ -55,7 +63,7 @@ unfolding mean_of
 mean_129_129 = refl
 
 -- what mode DC gives such a sub block
-dc_is : (p : Samples) (mx my n : ℕ) → sub_column mx n + 4 ≤ p.width → IsRound p (sub_column mx n) (sub_row my n) → (column row : ℕ) → sub_block_sample p mx my n column row ≡ luma_of_row (sub_row my n)
+dc_is : (p : Samples) (mx my n : ℕ) → sub_column mx n + 4 ≤ p.width → IsRound p (sub_column mx n) (sub_row my n) → (column row : ℕ) → sub_block_sample p mx my n Dc column row ≡ luma_of_row (sub_row my n)
 unfolding sub_sample
 dc_is p mx my n wide round column row =
     let upper : take 4 (above_eight p mx my n) ≡ replicate 4 round.top = above_eight_is p mx my n round.top wide round.above_is in
@@ -136,7 +144,7 @@ left_inside w h p x y n before wide high beside =
     cond-false _ _ _ (ne_eqb x 0 beside) ∙ ap Some (left_column_is p x y n 128 (λ k less. left_done grey w h p x y n k 128 before wide high beside refl less))
 
 -- what mode DC gives between two such sides
-grey_mean : (p : Samples) (x y : ℕ) (upper beside : Option (List ℕ)) → above_side p x y 8 ≡ upper → left_side p x y 8 ≡ beside → mean_of (inside upper ++ inside beside) ≡ 128 → (column row : ℕ) → chroma_sample p x y column row ≡ 128
+grey_mean : (p : Samples) (x y : ℕ) (upper beside : Option (List ℕ)) → above_side p x y 8 ≡ upper → left_side p x y 8 ≡ beside → mean_of (inside upper ++ inside beside) ≡ 128 → (column row : ℕ) → whole_block_sample p x y 8 WholeDc column row ≡ 128
 unfolding whole_sample
 grey_mean p x y upper beside upper_is beside_is mean column row =
     ap (λ side. mean_of (inside side ++ inside (left_side p x y 8))) upper_is ∙ ap (λ side. mean_of (inside upper ++ inside side)) beside_is ∙ mean
@@ -153,7 +161,7 @@ mean_sixteen : mean_of (replicate 8 128 ++ replicate 8 128) ≡ 128
 unfolding mean_of
 mean_sixteen = refl
 
-chroma_value : (w h : ℕ) (p : Samples) (x y : ℕ) → IsDone grey w h (x + 8) y p → IsDone grey w h x (y + 8) p → x + 8 ≤ w → y + 8 ≤ h → (column row : ℕ) → chroma_sample p x y column row ≡ 128
+chroma_value : (w h : ℕ) (p : Samples) (x y : ℕ) → IsDone grey w h (x + 8) y p → IsDone grey w h x (y + 8) p → x + 8 ≤ w → y + 8 ≤ h → (column row : ℕ) → whole_block_sample p x y 8 WholeDc column row ≡ 128
 chroma_value w h p x y upper before wide high =
     elim (cases_eq x 0) [
       | inl edge ↦ elim (cases_eq y 0) [
@@ -176,19 +184,23 @@ pub record IsBegun (of_row : ℕ → ℕ) (side columns rows my mx : ℕ) (p : S
   pub upper : IsDone of_row (side * columns) (side * rows) (side * columns) (side * my) p
   pub before : IsDone of_row (side * columns) (side * rows) (side * mx) (side * my + side) p
 
-chroma_step : (columns rows my mx : ℕ) (p : Samples) → mx < columns → my < rows → IsBegun grey 8 columns rows my mx p → IsBegun grey 8 columns rows my (suc mx) (predicted_chroma p mx my)
+chroma_step : (columns rows my mx : ℕ) (p : Samples) → mx < columns → my < rows → IsBegun grey 8 columns rows my mx p → IsBegun grey 8 columns rows my (suc mx) (predicted_whole p 8 mx my WholeDc)
 chroma_step columns rows my mx p in_row in_frame begun =
     let wide : 8 * mx + 8 ≤ 8 * columns = omega arith in
     let high : 8 * my + 8 ≤ 8 * rows = omega arith in
     let upper = IsDone-less grey (8 * columns) (8 * rows) (8 * columns) (8 * my) (8 * mx + 8) (8 * my) p (omega arith) (omega arith) begun.upper in
-    let value : (column row : ℕ) → chroma_sample p (8 * mx) (8 * my) column row ≡ 128 = chroma_value (8 * columns) (8 * rows) p (8 * mx) (8 * my) upper begun.before wide high in
+    let value : (column row : ℕ) → whole_block_sample p (8 * mx) (8 * my) 8 WholeDc column row ≡ 128 = chroma_value (8 * columns) (8 * rows) p (8 * mx) (8 * my) upper begun.before wide high in
     record {
-      shape = IsPlane-with_block_rows (8 * columns) (8 * rows) p (8 * mx) (8 * my) 8 (chroma_sample p (8 * mx) (8 * my)) 8 begun.shape;
-      upper = block_kept grey (8 * columns) (8 * rows) (8 * columns) (8 * my) p (8 * mx) (8 * my) 8 (chroma_sample p (8 * mx) (8 * my)) begun.shape wide high (λ column row less. value column row) begun.upper;
+      shape = IsPlane-with_block_rows (8 * columns) (8 * rows) p (8 * mx) (8 * my) 8 (whole_block_sample p (8 * mx) (8 * my) 8 WholeDc) 8 begun.shape;
+      upper = block_kept grey (8 * columns) (8 * rows) (8 * columns) (8 * my) p (8 * mx) (8 * my) 8 (whole_block_sample p (8 * mx) (8 * my) 8 WholeDc) begun.shape wide high (λ column row less. value column row) begun.upper;
       before =
-          IsDone-less grey (8 * columns) (8 * rows) (8 * mx + 8) (8 * my + 8) (8 * suc mx) (8 * my + 8) (predicted_chroma p mx my) (omega arith) (omega arith)
-          (block_more grey (8 * columns) (8 * rows) p (8 * mx) (8 * my) 8 (chroma_sample p (8 * mx) (8 * my)) begun.shape wide high (λ column row less. value column row) upper begun.before);
+          IsDone-less grey (8 * columns) (8 * rows) (8 * mx + 8) (8 * my + 8) (8 * suc mx) (8 * my + 8) (predicted_whole p 8 mx my WholeDc) (omega arith) (omega arith)
+          (block_more grey (8 * columns) (8 * rows) p (8 * mx) (8 * my) 8 (whole_block_sample p (8 * mx) (8 * my) 8 WholeDc) begun.shape wide high (λ column row less. value column row) upper begun.before);
     }
+
+-- the modes of the sub blocks of a blank macroblock
+abbrev pub dcs : List SubMode
+dcs = replicate 16 Dc
 
 -- n sub blocks of the macroblock in column mx of row my are done, and all before it
 pub record IsInside (columns rows my mx n : ℕ) (p : Samples) : Type 0 where
@@ -245,13 +257,13 @@ sub_block_at columns rows my mx n x y p sample x_is y_is in_row in_frame in_bloc
     ]
 
 -- what mode DC gives the n-th block
-sub_block_flat : (columns rows my mx n : ℕ) (p : Samples) → mx < columns → my < rows → n < 16 → IsInside columns rows my mx n p → (column row : ℕ) → sub_block_sample p mx my n column row ≡ luma_of_row (sub_row my n)
+sub_block_flat : (columns rows my mx n : ℕ) (p : Samples) → mx < columns → my < rows → n < 16 → IsInside columns rows my mx n p → (column row : ℕ) → sub_block_sample p mx my n Dc column row ≡ luma_of_row (sub_row my n)
 sub_block_flat columns rows my mx n p in_row in_frame in_block inside =
     let round = stands_round columns rows my mx n (sub_column mx n) (sub_row my n) p refl refl in_row in_frame in_block inside in
     let wide : sub_column mx n + 4 ≤ p.width = omega (arith, round.wide, inside.begun.shape.wide) in
     dc_is p mx my n wide (dc_round (16 * columns) (16 * rows) p (sub_column mx n) (sub_row my n) round.upper round.beside round.wide round.high round.aligned)
 
-sub_blocks_done : (columns rows my mx n : ℕ) (p : Samples) → mx < columns → my < rows → n ≤ 16 → IsBegun luma_of_row 16 columns rows my mx p → IsInside columns rows my mx n (predicted_sub_blocks p mx my n)
+sub_blocks_done : (columns rows my mx n : ℕ) (p : Samples) → mx < columns → my < rows → n ≤ 16 → IsBegun luma_of_row 16 columns rows my mx p → IsInside columns rows my mx n (predicted_sub_blocks p mx my dcs n)
 unfolding predicted_sub_blocks
 sub_blocks_done columns rows my mx zero p in_row in_frame in_block begun = record {
   begun = begun;
@@ -259,37 +271,61 @@ sub_blocks_done columns rows my mx zero p in_row in_frame in_block begun = recor
   line = λ more. IsDone-less luma_of_row (16 * columns) (16 * rows) (16 * mx) (16 * my + 16) (16 * mx + 4 * (0 % 4)) (16 * my + 4 * (0 / 4) + 4) p (omega arith) (omega arith) begun.before;
 }
 sub_blocks_done columns rows my mx (suc n) p in_row in_frame in_block begun =
-    let q = predicted_sub_blocks p mx my n in
-    let inside : IsInside columns rows my mx n (predicted_sub_blocks p mx my n) = sub_blocks_done columns rows my mx n p in_row in_frame (omega arith) begun in
-    sub_block_at columns rows my mx n (sub_column mx n) (sub_row my n) q (sub_block_sample q mx my n) refl refl in_row in_frame (omega arith) (sub_block_flat columns rows my mx n q in_row in_frame (omega arith) inside) inside
+    let q = predicted_sub_blocks p mx my dcs n in
+    let inside : IsInside columns rows my mx n (predicted_sub_blocks p mx my dcs n) = sub_blocks_done columns rows my mx n p in_row in_frame (omega arith) begun in
+    let mode : slice_index_or dcs n Dc ≡ Dc = get_or-replicate 16 n Dc Dc (omega arith) in
+    sub_block_at columns rows my mx n (sub_column mx n) (sub_row my n) q (sub_block_sample q mx my n (slice_index_or dcs n Dc)) refl refl in_row in_frame (omega arith)
+    (λ column row. ap (λ (m : SubMode). sub_block_sample q mx my n m column row) mode ∙ sub_block_flat columns rows my mx n q in_row in_frame (omega arith) inside column row) inside
 
-luma_step : (columns rows my mx : ℕ) (p : Samples) → mx < columns → my < rows → IsBegun luma_of_row 16 columns rows my mx p → IsBegun luma_of_row 16 columns rows my (suc mx) (predicted_sub_blocks p mx my 16)
+luma_step : (columns rows my mx : ℕ) (p : Samples) → mx < columns → my < rows → IsBegun luma_of_row 16 columns rows my mx p → IsBegun luma_of_row 16 columns rows my (suc mx) (predicted_sub_blocks p mx my dcs 16)
 luma_step columns rows my mx p in_row in_frame begun =
     let inside = sub_blocks_done columns rows my mx 16 p in_row in_frame (omega arith) begun in
     record {
       shape = inside.begun.shape;
       upper = inside.begun.upper;
-      before = IsDone-less luma_of_row (16 * columns) (16 * rows) (16 * mx + 16) (16 * my + 4 * (16 / 4)) (16 * suc mx) (16 * my + 16) (predicted_sub_blocks p mx my 16) (omega arith) (omega arith) inside.lines;
+      before = IsDone-less luma_of_row (16 * columns) (16 * rows) (16 * mx + 16) (16 * my + 4 * (16 / 4)) (16 * suc mx) (16 * my + 16) (predicted_sub_blocks p mx my dcs 16) (omega arith) (omega arith) inside.lines;
     }
 
 -- ---- frames
 
+-- a macroblock's place is one of the frame's
+place_within : (columns rows my mx : ℕ) → mx < columns → my < rows → my * columns + mx < columns * rows
+place_within columns rows my mx in_row in_frame = let fits = row_fits columns rows my in_frame in omega (arith, fits)
+
 -- what is done in each of the three planes
-pub record AreBegun (columns rows my mx : ℕ) (planes : Planes) : Type 0 where
+pub record AreBegun (columns rows my mx : ℕ) (planes : PlaneSamples) : Type 0 where
   pub luma : IsBegun luma_of_row 16 columns rows my mx planes.luma
   pub cb : IsBegun grey 8 columns rows my mx planes.cb
   pub cr : IsBegun grey 8 columns rows my mx planes.cr
 
-row_done : (columns rows my n : ℕ) (planes : Planes) → my < rows → n ≤ columns → AreBegun columns rows my 0 planes → AreBegun columns rows my n (predicted_row planes my n)
-unfolding predicted_row predicted_macroblock
-row_done columns rows my zero planes in_frame in_row begun = begun
-row_done columns rows my (suc n) planes in_frame in_row begun =
-    let before = row_done columns rows my n planes in_frame (omega arith) begun in
-    record {
-      luma = luma_step columns rows my n (predicted_row planes my n).luma (omega arith) in_frame before.luma;
-      cb = chroma_step columns rows my n (predicted_row planes my n).cb (omega arith) in_frame before.cb;
-      cr = chroma_step columns rows my n (predicted_row planes my n).cr (omega arith) in_frame before.cr;
-    }
+-- each record of a frame is there, and blank
+record AreBlank (columns rows : ℕ) (modes : List MbMode) : Type 0 where
+  pub count : length modes ≡ columns * rows
+  pub each : (n : ℕ) (mode : MbMode) → slice_get modes n ≡ Some mode → IsBlank mode
+
+abbrev blank : MbMode
+blank = record { segment = 0; is_skipped = false; y_mode = B; sub_modes = dcs; uv_mode = WholeDc }
+
+macroblock_done : (columns rows my mx : ℕ) (planes : PlaneSamples) (mode : MbMode) → IsBlank mode → mx < columns → my < rows → AreBegun columns rows my mx planes → AreBegun columns rows my (suc mx) (predicted_macroblock planes mx my mode)
+unfolding predicted_macroblock
+macroblock_done columns rows my mx planes mode is in_row in_frame begun =
+    let luma : IsBegun luma_of_row 16 columns rows my (suc mx) (predicted_luma planes.luma mx my mode.y_mode mode.sub_modes) = rw (is.0, is.1) (luma_step columns rows my mx planes.luma in_row in_frame begun.luma) in
+    let cb : IsBegun grey 8 columns rows my (suc mx) (predicted_whole planes.cb 8 mx my mode.uv_mode) = rw (is.2) (chroma_step columns rows my mx planes.cb in_row in_frame begun.cb) in
+    let cr : IsBegun grey 8 columns rows my (suc mx) (predicted_whole planes.cr 8 mx my mode.uv_mode) = rw (is.2) (chroma_step columns rows my mx planes.cr in_row in_frame begun.cr) in
+    record { luma = luma; cb = cb; cr = cr }
+
+row_done : (columns rows my n : ℕ) (planes : PlaneSamples) (modes : List MbMode) → AreBlank columns rows modes → my < rows → n ≤ columns → AreBegun columns rows my 0 (predicted_macroblocks planes columns modes (my * columns)) → AreBegun columns rows my n (predicted_macroblocks planes columns modes (my * columns + n))
+row_done columns rows my zero planes modes are in_frame in_row begun = rw add-zero begun
+row_done columns rows my (suc n) planes modes are in_frame in_row begun =
+    let place : ℕ = my * columns + n in
+    let before : AreBegun columns rows my n (predicted_macroblocks planes columns modes place) = row_done columns rows my n planes modes are in_frame (omega arith) begun in
+    let within : place < length modes = rw are.count (place_within columns rows my n (omega arith) in_frame) in
+    let mode : MbMode = get_or modes place blank in
+    let found : slice_get modes place ≡ Some mode = slice_get-get_or modes place blank within in
+    let after = macroblock_done columns rows my n (predicted_macroblocks planes columns modes place) mode (are.each place mode found) (omega arith) in_frame before in
+    let more = predicted_more planes (predicted_macroblocks planes columns modes place) (predicted_macroblock (predicted_macroblocks planes columns modes place) n my mode) columns n my place modes blank refl refl refl (omega arith) within in
+    let next : my * columns + suc n ≡ place + 1 = omega arith in
+    rw (next, ← more) after
 
 -- a row of macroblocks that is done, as rows of samples
 next_row : (of_row : ℕ → ℕ) (side columns rows my : ℕ) (p : Samples) → IsBegun of_row side columns rows my columns p → IsBegun of_row side columns rows (suc my) 0 p
@@ -299,16 +335,17 @@ next_row of_row side columns rows my p begun = record {
   before = record { at = λ i j a b c d. absurd (omega arith) };
 }
 
-rows_done : (columns rows n : ℕ) (planes : Planes) → n ≤ rows → AreBegun columns rows 0 0 planes → AreBegun columns rows n 0 (predicted_rows planes columns n)
-unfolding predicted_rows
-rows_done columns rows zero planes in_frame begun = begun
-rows_done columns rows (suc n) planes in_frame begun =
-    let before = row_done columns rows n columns (predicted_rows planes columns n) (omega arith) (omega arith) (rows_done columns rows n planes (omega arith) begun) in
-    record {
+rows_done : (columns rows n : ℕ) (planes : PlaneSamples) (modes : List MbMode) → AreBlank columns rows modes → n ≤ rows → AreBegun columns rows 0 0 planes → AreBegun columns rows n 0 (predicted_macroblocks planes columns modes (n * columns))
+unfolding predicted_macroblocks
+rows_done columns rows zero planes modes are in_frame begun = rw zero-mul begun
+rows_done columns rows (suc n) planes modes are in_frame begun =
+    let before = row_done columns rows n columns planes modes are (omega arith) (omega arith) (rows_done columns rows n planes modes are (omega arith) begun) in
+    let next : suc n * columns ≡ n * columns + columns = omega arith in
+    rw next (record {
       luma = next_row luma_of_row 16 columns rows n _ before.luma;
       cb = next_row grey 8 columns rows n _ before.cb;
       cr = next_row grey 8 columns rows n _ before.cr;
-    }
+    })
 
 none_begun : (of_row : ℕ → ℕ) (side columns rows : ℕ) → IsBegun of_row side columns rows 0 0 (uniform (side * columns) (side * rows) 0)
 none_begun of_row side columns rows = record {
@@ -318,7 +355,9 @@ none_begun of_row side columns rows = record {
 }
 
 pub planes_flat : AreFlat
-planes_flat columns rows x y =
+planes_flat columns rows modes x y count each =
     let start : AreBegun columns rows 0 0 (empty_planes columns rows) = record { luma = none_begun luma_of_row 16 columns rows; cb = none_begun grey 8 columns rows; cr = none_begun grey 8 columns rows } in
-    let done = rows_done columns rows rows (empty_planes columns rows) (omega arith) start in
+    let are : AreBlank columns rows modes = record { count = count; each = each } in
+    let all : length modes ≡ rows * columns = omega (arith, count) in
+    let done : AreBegun columns rows rows 0 (predicted_macroblocks (empty_planes columns rows) columns modes (length modes)) = rw all (rows_done columns rows rows (empty_planes columns rows) modes are (omega arith) start) in
     (λ in_row in_frame. done.luma.upper.at x y in_row in_frame in_row in_frame, λ in_row in_frame. (done.cb.upper.at x y in_row in_frame in_row in_frame, done.cr.upper.at x y in_row in_frame in_row in_frame))

@@ -1,4 +1,5 @@
 pub mod Blocks
 pub mod Sides
+pub mod Frames
 pub mod Flat
 pub mod FlatFrames

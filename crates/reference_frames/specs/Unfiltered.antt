@@ -1,14 +1,18 @@
--- The unfiltered picture of a frame in which every macroblock has sub block modes DC, chroma mode DC and no residual (RFC 6386, section 12).
-use Rattle.std.specs.Prelude.{◌≡◌, ℕ, zero, suc, ◌+◌, ◌-◌, ◌*◌, ◌/◌, ◌%◌, ◌≤◌, ◌==◌, nat_lt, min, if◌then◌else◌, List, map, Option, Some, None}
+-- The unfiltered picture of a frame of intra macroblocks with no residual: each is predicted by its record, in raster order (RFC 6386, section 12).
+use Rattle.std.specs.Prelude.{◌≡◌, ℕ, zero, suc, ◌+◌, ◌-◌, ◌*◌, ◌/◌, ◌%◌, ◌≤◌, ◌==◌, nat_lt, min, if◌then◌else◌, List, map, length, slice_get, slice_index_or, Option, Some, None}
 use Rattle.std.specs.List.{range_with_len}
 use Rattle.std.specs.Simd.Lanes.{put_chunk}
+use Rattle.intra_predict.specs.declared.modes.SubMode.{SubMode}
 use Rattle.intra_predict.specs.declared.modes.SubMode.TheVariants.{Dc}
-use Rattle.intra_predict.specs.declared.modes.WholeMode.TheVariants.{Dc as WholeDc}
+use Rattle.intra_predict.specs.declared.modes.WholeMode.{WholeMode}
 use Rattle.intra_predict.specs.SubSample.{sub_sample}
 use Rattle.intra_predict.specs.WholeSample.{whole_sample}
 use Rattle.pixel_planes.specs.Samples.{Samples, uniform, sample_at, row_of, with_row}
 use Rattle.pixel_planes.specs.Pictures.{PictureSamples, macroblocks}
-use Rattle.pixel_planes.specs.declared.pictures.Planes.{Planes}
+use Rattle.pixel_planes.specs.PlaneSamples.{PlaneSamples, picture_of}
+use Rattle.mode_parser.specs.declared.records.MbMode.{MbMode}
+use Rattle.mode_parser.specs.declared.records.YMode.{YMode}
+use Rattle.mode_parser.specs.declared.records.YMode.TheVariants.{Whole, B}
 
 -- a square of this side, with its first sample in column x of row y, lies in the plane, which has no side above 16,384
 abbrev pub HoldsSquare : Samples → ℕ → ℕ → ℕ → Type 0
@@ -19,11 +23,11 @@ abbrev pub SameSides : Samples → Samples → Type 0
 SameSides old new = (new.width ≡ old.width) × (new.height ≡ old.height)
 
 -- each plane keeps its sides
-abbrev pub SameShape : Planes → Planes → Type 0
+abbrev pub SameShape : PlaneSamples → PlaneSamples → Type 0
 SameShape old new = SameSides old.luma new.luma × SameSides old.cb new.cb × SameSides old.cr new.cr
 
 -- the macroblock in column mx of row my lies in the planes
-abbrev pub HoldsMacroblock : Planes → ℕ → ℕ → Type 0
+abbrev pub HoldsMacroblock : PlaneSamples → ℕ → ℕ → Type 0
 HoldsMacroblock planes mx my =
     HoldsSquare planes.luma (16 * mx) (16 * my) 16 × HoldsSquare planes.cb (8 * mx) (8 * my) 8 × HoldsSquare planes.cr (8 * mx) (8 * my) 8
 
@@ -32,7 +36,7 @@ abbrev pub HasRoomFor : Samples → ℕ → ℕ → ℕ → Type 0
 HasRoomFor p side columns rows = (side * columns ≤ p.width) × (side * rows ≤ p.height) × (p.width ≤ 16384) × (p.height ≤ 16384)
 
 -- the planes have this many macroblocks each way, or more
-abbrev pub HaveRoomFor : Planes → ℕ → ℕ → Type 0
+abbrev pub HaveRoomFor : PlaneSamples → ℕ → ℕ → Type 0
 HaveRoomFor planes columns rows = HasRoomFor planes.luma 16 columns rows × HasRoomFor planes.cb 8 columns rows × HasRoomFor planes.cr 8 columns rows
 
 -- the sample above column x of row y, 127 above the frame (section 12.2)
@@ -78,16 +82,16 @@ unfoldable pub above_eight : Samples → ℕ → ℕ → ℕ → List ℕ
 above_eight p mx my n =
     map (λ k. above p (min (sub_column mx n + k) (p.width - 1)) (if nat_lt k 4 then sub_row my n else right_row my n)) (range_with_len 0 8)
 
--- what mode DC gives each column and row of a sub block of 4 by 4 samples
-abbrev pub sub_block_sample : Samples → ℕ → ℕ → ℕ → ℕ → ℕ → ℕ
-sub_block_sample p mx my n =
+-- what a mode gives each column and row of a sub block of 4 by 4 samples (section 12.3)
+abbrev pub sub_block_sample : Samples → ℕ → ℕ → ℕ → SubMode → ℕ → ℕ → ℕ
+sub_block_sample p mx my n mode =
     let x = sub_column mx n in
     let y = sub_row my n in
-    sub_sample Dc (left_column p x y 4) (corner p x y) (above_eight p mx my n)
+    sub_sample mode (left_column p x y 4) (corner p x y) (above_eight p mx my n)
 
--- what mode DC gives each column and row of a chroma block of 8 by 8 samples
-abbrev pub chroma_sample : Samples → ℕ → ℕ → ℕ → ℕ → ℕ
-chroma_sample p x y = whole_sample WholeDc (above_side p x y 8) (left_side p x y 8) (corner p x y)
+-- what a mode gives each column and row of a whole block of this side (section 12.2)
+abbrev pub whole_block_sample : Samples → ℕ → ℕ → ℕ → WholeMode → ℕ → ℕ → ℕ
+whole_block_sample p x y side mode = whole_sample mode (above_side p x y side) (left_side p x y side) (corner p x y)
 
 -- the plane with these samples written from column x of row y on
 abbrev pub with_span : Samples → ℕ → ℕ → List ℕ → Samples
@@ -107,50 +111,53 @@ abbrev pub with_block : Samples → ℕ → ℕ → ℕ → (ℕ → ℕ → ℕ
 with_block p x y side sample = with_block_rows p x y side sample side
 
 -- a plane after the prediction of sub block n of a macroblock
-abbrev pub predicted_sub_block : Samples → ℕ → ℕ → ℕ → Samples
-predicted_sub_block p mx my n = with_block p (sub_column mx n) (sub_row my n) 4 (sub_block_sample p mx my n)
+abbrev pub predicted_sub_block : Samples → ℕ → ℕ → ℕ → SubMode → Samples
+predicted_sub_block p mx my n mode = with_block p (sub_column mx n) (sub_row my n) 4 (sub_block_sample p mx my n mode)
 
--- the luma plane after the first n of a macroblock's 16 sub blocks, in raster order
-unfoldable pub predicted_sub_blocks : Samples → ℕ → ℕ → ℕ → Samples
-predicted_sub_blocks p mx my zero = p
-predicted_sub_blocks p mx my (suc n) = predicted_sub_block (predicted_sub_blocks p mx my n) mx my n
+-- the luma plane after the first n of a macroblock's 16 sub blocks, in raster order, each by the mode at its place
+unfoldable pub predicted_sub_blocks : Samples → ℕ → ℕ → List SubMode → ℕ → Samples
+predicted_sub_blocks p mx my modes zero = p
+predicted_sub_blocks p mx my modes (suc n) = predicted_sub_block (predicted_sub_blocks p mx my modes n) mx my n (slice_index_or modes n Dc)
 
--- a chroma plane after a macroblock's block
-abbrev pub predicted_chroma : Samples → ℕ → ℕ → Samples
-predicted_chroma p mx my = with_block p (8 * mx) (8 * my) 8 (chroma_sample p (8 * mx) (8 * my))
+-- a plane after the prediction of a macroblock's block of this side
+abbrev pub predicted_whole : Samples → ℕ → ℕ → ℕ → WholeMode → Samples
+predicted_whole p side mx my mode = with_block p (side * mx) (side * my) side (whole_block_sample p (side * mx) (side * my) side mode)
 
--- the planes after the prediction of the macroblock in column mx of row my
-unfoldable pub predicted_macroblock : Planes → ℕ → ℕ → Planes
-predicted_macroblock planes mx my = record {
-  luma = predicted_sub_blocks planes.luma mx my 16;
-  cb = predicted_chroma planes.cb mx my;
-  cr = predicted_chroma planes.cr mx my;
+-- the luma plane after a macroblock of this mode: one block of 16 by 16 samples, or in mode B its sub blocks by their own modes
+abbrev pub predicted_luma : Samples → ℕ → ℕ → YMode → List SubMode → Samples
+predicted_luma p mx my (Whole mode) modes = predicted_whole p 16 mx my mode
+predicted_luma p mx my B modes = predicted_sub_blocks p mx my modes 16
+
+-- the planes after the prediction of the macroblock in column mx of row my by its record
+unfoldable pub predicted_macroblock : PlaneSamples → ℕ → ℕ → MbMode → PlaneSamples
+predicted_macroblock planes mx my mode = record {
+  luma = predicted_luma planes.luma mx my mode.y_mode mode.sub_modes;
+  cb = predicted_whole planes.cb 8 mx my mode.uv_mode;
+  cr = predicted_whole planes.cr 8 mx my mode.uv_mode;
 }
 
--- the planes after the first n macroblocks of row my
-unfoldable pub predicted_row : Planes → ℕ → ℕ → Planes
-predicted_row planes my zero = planes
-predicted_row planes my (suc n) = predicted_macroblock (predicted_row planes my n) n my
+-- the planes after the macroblock at this place of a frame of so many columns, if it has a record
+abbrev pub predicted_at : PlaneSamples → ℕ → ℕ → Option MbMode → PlaneSamples
+predicted_at planes columns place None = planes
+predicted_at planes columns place (Some mode) = predicted_macroblock planes (place % columns) (place / columns) mode
 
--- the planes after the first n rows of macroblocks
-unfoldable pub predicted_rows : Planes → ℕ → ℕ → Planes
-predicted_rows planes columns zero = planes
-predicted_rows planes columns (suc n) = predicted_row (predicted_rows planes columns n) n columns
+-- the planes after the first n macroblocks, in raster order
+unfoldable pub predicted_macroblocks : PlaneSamples → ℕ → List MbMode → ℕ → PlaneSamples
+predicted_macroblocks planes columns modes zero = planes
+predicted_macroblocks planes columns modes (suc n) = predicted_at (predicted_macroblocks planes columns modes n) columns n (slice_get modes n)
 
 -- the planes of a frame of this many macroblocks before any is predicted
-abbrev pub empty_planes : ℕ → ℕ → Planes
+abbrev pub empty_planes : ℕ → ℕ → PlaneSamples
 empty_planes columns rows = record {
   luma = uniform (16 * columns) (16 * rows) 0;
   cb = uniform (8 * columns) (8 * rows) 0;
   cr = uniform (8 * columns) (8 * rows) 0;
 }
 
--- the unfiltered planes of a frame of this many macroblocks
-abbrev pub unfiltered : ℕ → ℕ → Planes
-unfiltered columns rows = predicted_rows (empty_planes columns rows) columns rows
+-- the unfiltered planes of a frame of this many macroblocks, by their records
+abbrev pub unfiltered : ℕ → ℕ → List MbMode → PlaneSamples
+unfiltered columns rows modes = predicted_macroblocks (empty_planes columns rows) columns modes (length modes)
 
--- the picture of such a frame
-unfoldable pub blank_picture : ℕ → ℕ → PictureSamples
-blank_picture width height =
-    let planes = unfiltered (macroblocks width) (macroblocks height) in
-    record { width = width; height = height; luma = planes.luma; cb = planes.cb; cr = planes.cr }
+-- the picture of a frame of this shown size, by the records of its macroblocks
+unfoldable pub unfiltered_picture : ℕ → ℕ → List MbMode → PictureSamples
+unfiltered_picture width height modes = picture_of width height (unfiltered (macroblocks width) (macroblocks height) modes)

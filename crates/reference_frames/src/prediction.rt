@@ -1,11 +1,14 @@
 ghost use Rattle.std.specs.Prelude.{◌≡◌, ◌*◌, ◌+◌, ◌-◌, ◌<◌, ◌≤◌, IfOk, length, map, min, slice_index, if◌then◌else◌};
 ghost use Rattle.std.specs.List.{range_with_len};
 ghost use Rattle.std.specs.Option.{option_copied, ForSome};
-ghost use Rattle.reference_frames.specs.Unfiltered.{HoldsSquare, HoldsMacroblock, HaveRoomFor, SameSides, SameShape, above, left, corner, above_row, left_column, above_eight, with_block, predicted_sub_block, predicted_sub_blocks, predicted_chroma, predicted_macroblock, predicted_row, predicted_rows, blank_picture as blank_picture_of, empty_planes as empty_planes_of};
+ghost use Rattle.intra_predict.specs.WholeSample.{side_of};
 ghost use Rattle.pixel_planes.specs.Pictures.{macroblocks as macroblocks_of};
+ghost use Rattle.pixel_planes.specs.PlaneSamples.{shown_of};
 ghost use Rattle.pixel_planes.specs.Samples.{sample_at};
+ghost use Rattle.reference_frames.specs.Unfiltered.{HoldsSquare, HoldsMacroblock, HaveRoomFor, SameSides, SameShape, above, left, corner, above_row, left_column, above_eight, with_block, predicted_sub_block, predicted_sub_blocks, predicted_whole, predicted_luma, predicted_macroblock, predicted_macroblocks, unfiltered_picture as unfiltered_picture_of, empty_planes as empty_planes_of};
 
 use intra_predict::{BlockSize, SubMode, WholeMode, sub, whole};
+use mode_parser::{MbMode, YMode};
 use pixel_planes::{NoMemory, Picture, Plane, Planes};
 use std::alloc::Global;
 
@@ -18,8 +21,8 @@ const LEFT_OF_FRAME: u8 = 129;
 /// The sample above column `x` of row `y`, 127 above the frame (RFC 6386, section 12.2).
 #[inline]
 fn sample_above(plane: &Plane, x: usize, y: usize) -> u8
-    requires { (x < plane.now.width) × (y ≤ plane.now.height) }
-    ensures { result ≡ above plane.now x y }
+    requires { (x < plane.now.shown.width) × (y ≤ plane.now.shown.height) }
+    ensures { result ≡ above plane.now.shown x y }
 {
     if y == 0 {
         ABOVE_FRAME
@@ -31,8 +34,8 @@ fn sample_above(plane: &Plane, x: usize, y: usize) -> u8
 /// The sample to the left of column `x` of row `y`, 129 left of the frame (RFC 6386, section 12.2).
 #[inline]
 fn sample_left(plane: &Plane, x: usize, y: usize) -> u8
-    requires { (x ≤ plane.now.width) × (y < plane.now.height) }
-    ensures { result ≡ left plane.now x y }
+    requires { (x ≤ plane.now.shown.width) × (y < plane.now.shown.height) }
+    ensures { result ≡ left plane.now.shown x y }
 {
     if x == 0 {
         LEFT_OF_FRAME
@@ -44,8 +47,8 @@ fn sample_left(plane: &Plane, x: usize, y: usize) -> u8
 /// The sample above the column to the left of a block at column `x` of row `y` (RFC 6386, section 12.2).
 #[inline]
 fn sample_corner(plane: &Plane, x: usize, y: usize) -> u8
-    requires { (x ≤ plane.now.width) × (y ≤ plane.now.height) }
-    ensures { result ≡ corner plane.now x y }
+    requires { (x ≤ plane.now.shown.width) × (y ≤ plane.now.shown.height) }
+    ensures { result ≡ corner plane.now.shown x y }
 {
     if y == 0 {
         ABOVE_FRAME
@@ -58,9 +61,9 @@ fn sample_corner(plane: &Plane, x: usize, y: usize) -> u8
 /// (RFC 6386, section 12.2).
 #[inline(always)]
 fn read_above(plane: &Plane, x: usize, y: usize, out: &mut [u8])
-    requires within { (x + length out.old ≤ plane.now.width) × (y ≤ plane.now.height) }
-    requires small { plane.now.width ≤ 16384 }
-    ensures { out.new ≡ above_row plane.now x y (length out.old) }
+    requires within { (x + length out.old ≤ plane.now.shown.width) × (y ≤ plane.now.shown.height) }
+    requires small { plane.now.shown.width ≤ 16384 }
+    ensures { out.new ≡ above_row plane.now.shown x y (length out.old) }
 {
     if y == 0 {
         out.fill(ABOVE_FRAME);
@@ -74,9 +77,9 @@ fn read_above(plane: &Plane, x: usize, y: usize, out: &mut [u8])
 /// column, that column stands again.
 #[inline(always)]
 fn read_above_or_last(plane: &Plane, x: usize, y: usize, out: &mut [u8])
-    requires within { (x ≤ plane.now.width) × (y ≤ plane.now.height) }
-    requires small { (0 < plane.now.width) × (plane.now.width ≤ 16384) × (length out.old ≤ 16) }
-    ensures { out.new ≡ map (λ k. above plane.now (min (x + k) (plane.now.width - 1)) y) (range_with_len 0 (length out.old)) }
+    requires within { (x ≤ plane.now.shown.width) × (y ≤ plane.now.shown.height) }
+    requires small { (0 < plane.now.shown.width) × (plane.now.shown.width ≤ 16384) × (length out.old ≤ 16) }
+    ensures { out.new ≡ map (λ k. above plane.now.shown (min (x + k) (plane.now.shown.width - 1)) y) (range_with_len 0 (length out.old)) }
 {
     if x + out.len() <= plane.width() {
         read_above(plane, x, y, out);
@@ -92,9 +95,9 @@ fn read_above_or_last(plane: &Plane, x: usize, y: usize, out: &mut [u8])
 /// column of sub blocks stand above the macroblock, for each of its rows (RFC 6386, section 12.3).
 #[inline(always)]
 fn read_above_eight(plane: &Plane, mx: usize, my: usize, block: usize, out: &mut [u8; 8])
-    requires within { HoldsSquare plane.now (16 * mx) (16 * my) 16 }
+    requires within { HoldsSquare plane.now.shown (16 * mx) (16 * my) 16 }
     requires block { block < 16 }
-    ensures { out.new ≡ above_eight plane.now mx my block }
+    ensures { out.new ≡ above_eight plane.now.shown mx my block }
 {
     let x = 16 * mx + 4 * (block % 4);
     let y = 16 * my + 4 * (block / 4);
@@ -107,9 +110,9 @@ fn read_above_eight(plane: &Plane, mx: usize, my: usize, block: usize, out: &mut
 /// Reads the samples of column `x` from row `y` on into `out`.
 #[inline(always)]
 fn read_column(plane: &Plane, x: usize, y: usize, out: &mut [u8])
-    requires within { (x < plane.now.width) × (y + length out.old ≤ plane.now.height) }
-    requires small { plane.now.height ≤ 16384 }
-    ensures { out.new ≡ map (λ k. sample_at plane.now x (y + k)) (range_with_len 0 (length out.old)) }
+    requires within { (x < plane.now.shown.width) × (y + length out.old ≤ plane.now.shown.height) }
+    requires small { plane.now.shown.height ≤ 16384 }
+    ensures { out.new ≡ map (λ k. sample_at plane.now.shown x (y + k)) (range_with_len 0 (length out.old)) }
 {
     for k in 0..out.len() {
         out[k] = plane.row(y + k)[x];
@@ -120,9 +123,9 @@ fn read_column(plane: &Plane, x: usize, y: usize, out: &mut [u8])
 /// frame (RFC 6386, section 12.2).
 #[inline(always)]
 fn read_left(plane: &Plane, x: usize, y: usize, out: &mut [u8])
-    requires within { (x ≤ plane.now.width) × (y + length out.old ≤ plane.now.height) }
-    requires small { plane.now.height ≤ 16384 }
-    ensures { out.new ≡ left_column plane.now x y (length out.old) }
+    requires within { (x ≤ plane.now.shown.width) × (y + length out.old ≤ plane.now.shown.height) }
+    requires small { plane.now.shown.height ≤ 16384 }
+    ensures { out.new ≡ left_column plane.now.shown x y (length out.old) }
 {
     if x == 0 {
         out.fill(LEFT_OF_FRAME);
@@ -134,11 +137,11 @@ fn read_left(plane: &Plane, x: usize, y: usize, out: &mut [u8])
 /// Writes a block of `side` by `side` samples at column `x` of row `y`.
 #[inline(always)]
 fn write_block(plane: &mut Plane, x: usize, y: usize, side: usize, block: &[u8])
-    requires within { HoldsSquare plane.old x y side }
+    requires within { HoldsSquare plane.old.shown x y side }
     requires small { side ≤ 16 }
     requires whole { length block.now ≡ side * side }
-    ensures value { plane.new ≡ with_block plane.old x y side (λ column row. slice_index block.now (row * side + column)) }
-    ensures sides { SameSides plane.old plane.new }
+    ensures value { plane.new.shown ≡ with_block plane.old.shown x y side (λ column row. slice_index block.now (row * side + column)) }
+    ensures sides { SameSides plane.old.shown plane.new.shown }
 {
     for row in 0..side {
         let start = row * side;
@@ -147,29 +150,29 @@ fn write_block(plane: &mut Plane, x: usize, y: usize, side: usize, block: &[u8])
 }
 
 /// Predicts a sub block of a macroblock from what stands round it by then.
-fn predict_sub_block(plane: &mut Plane, mx: usize, my: usize, block: usize)
-    requires within { HoldsSquare plane.old (16 * mx) (16 * my) 16 }
+fn predict_sub_block(plane: &mut Plane, mx: usize, my: usize, block: usize, mode: SubMode)
+    requires within { HoldsSquare plane.old.shown (16 * mx) (16 * my) 16 }
     requires block { block < 16 }
-    ensures value { plane.new ≡ predicted_sub_block plane.old mx my block }
-    ensures sides { SameSides plane.old plane.new }
+    ensures value { plane.new.shown ≡ predicted_sub_block plane.old.shown mx my block mode }
+    ensures sides { SameSides plane.old.shown plane.new.shown }
 {
     let (x, y) = (16 * mx + 4 * (block % 4), 16 * my + 4 * (block / 4));
     let mut left = [0; 4];
     read_left(plane, x, y, &mut left);
     let mut above = [0; 8];
     read_above_eight(plane, mx, my, block, &mut above);
-    let samples = sub(SubMode::Dc, left, sample_corner(plane, x, y), above);
+    let samples = sub(mode, left, sample_corner(plane, x, y), above);
     write_block(plane, x, y, 4, &samples);
 }
 
-/// Predicts the 16 sub blocks of a macroblock, each from what stands round it by then.
-fn predict_luma(plane: &mut Plane, mx: usize, my: usize)
-    requires { HoldsSquare plane.old (16 * mx) (16 * my) 16 }
-    ensures value { plane.new ≡ predicted_sub_blocks plane.old mx my 16 }
-    ensures sides { SameSides plane.old plane.new }
+/// Predicts the 16 sub blocks of a macroblock by their modes, each from what stands round it by then.
+fn predict_sub_blocks(plane: &mut Plane, mx: usize, my: usize, modes: &[SubMode; 16])
+    requires { HoldsSquare plane.old.shown (16 * mx) (16 * my) 16 }
+    ensures value { plane.new.shown ≡ predicted_sub_blocks plane.old.shown mx my modes.now 16 }
+    ensures sides { SameSides plane.old.shown plane.new.shown }
 {
     for block in 0..16 {
-        predict_sub_block(plane, mx, my, block);
+        predict_sub_block(plane, mx, my, block, modes[block]);
     }
 }
 
@@ -181,67 +184,69 @@ fn side_inside(is_outside: bool, samples: &[u8]) -> Option<&[u8]>
     if is_outside { None } else { Some(samples) }
 }
 
-/// Predicts the block of a macroblock in a chroma plane.
+/// Predicts the whole block of a macroblock in a plane where it has this size.
 #[inline(always)]
-fn predict_chroma(plane: &mut Plane, mx: usize, my: usize)
-    requires { HoldsSquare plane.old (8 * mx) (8 * my) 8 }
-    ensures value { plane.new ≡ predicted_chroma plane.old mx my }
-    ensures sides { SameSides plane.old plane.new }
+fn predict_whole(plane: &mut Plane, size: BlockSize, mx: usize, my: usize, mode: WholeMode)
+    requires { HoldsSquare plane.old.shown (side_of size * mx) (side_of size * my) (side_of size) }
+    ensures value { plane.new.shown ≡ predicted_whole plane.old.shown (side_of size) mx my mode }
+    ensures sides { SameSides plane.old.shown plane.new.shown }
 {
-    let (x, y) = (8 * mx, 8 * my);
-    let mut above = [0; 8];
-    read_above(plane, x, y, &mut above);
-    let mut left = [0; 8];
-    read_left(plane, x, y, &mut left);
-    let above = side_inside(y == 0, &above);
-    let left = side_inside(x == 0, &left);
-    let mut block = [0; 64];
-    whole(
-        WholeMode::Dc,
-        BlockSize::Eight,
-        above,
-        left,
-        sample_corner(plane, x, y),
-        &mut block,
-    );
-    write_block(plane, x, y, 8, &block);
+    let side = size.side();
+    let (x, y) = (side * mx, side * my);
+    let (mut above, mut left, mut block) = ([0; 16], [0; 16], [0; 256]);
+    let (above, left, block) = (&mut above[..side], &mut left[..side], &mut block[..side * side]);
+    read_above(plane, x, y, above);
+    read_left(plane, x, y, left);
+    let above = side_inside(y == 0, above);
+    let left = side_inside(x == 0, left);
+    whole(mode, size, above, left, sample_corner(plane, x, y), block);
+    write_block(plane, x, y, side, block);
 }
 
-/// Predicts the macroblock in column `mx` of row `my` from what stands round it.
-fn predict_macroblock(planes: &mut Planes, mx: usize, my: usize)
-    requires { HoldsMacroblock planes.old mx my }
-    ensures value { planes.new ≡ predicted_macroblock planes.old mx my }
-    ensures sides { SameShape planes.old planes.new }
+/// Predicts the luma of a macroblock, as one block or by sub blocks.
+fn predict_luma(plane: &mut Plane, mx: usize, my: usize, mode: &MbMode)
+    requires { HoldsSquare plane.old.shown (16 * mx) (16 * my) 16 }
+    ensures value { plane.new.shown ≡ predicted_luma plane.old.shown mx my mode.now.y_mode mode.now.sub_modes }
+    ensures sides { SameSides plane.old.shown plane.new.shown }
 {
-    predict_luma(&mut planes.luma, mx, my);
-    predict_chroma(&mut planes.cb, mx, my);
-    predict_chroma(&mut planes.cr, mx, my);
-}
-
-/// Predicts row `my` of macroblocks, from the left.
-fn predict_row(planes: &mut Planes, my: usize, columns: usize)
-    requires { HaveRoomFor planes.old columns (my + 1) }
-    ensures value { planes.new ≡ predicted_row planes.old my columns }
-    ensures sides { SameShape planes.old planes.new }
-{
-    for mx in 0..columns {
-        predict_macroblock(planes, mx, my);
+    match mode.y_mode {
+        YMode::Whole(whole) => predict_whole(plane, BlockSize::Sixteen, mx, my, whole),
+        YMode::B => predict_sub_blocks(plane, mx, my, &mode.sub_modes),
     }
 }
 
-/// Predicts all macroblocks in raster order.
-fn predict_rows(planes: &mut Planes, columns: usize, rows: usize)
-    requires { HaveRoomFor planes.old columns rows }
-    ensures value { planes.new ≡ predicted_rows planes.old columns rows }
-    ensures sides { SameShape planes.old planes.new }
+/// Predicts the macroblock in column `mx` of row `my` from what stands round it.
+fn predict_macroblock(planes: &mut Planes, mx: usize, my: usize, mode: &MbMode)
+    requires { HoldsMacroblock (shown_of planes.old) mx my }
+    ensures value { shown_of planes.new ≡ predicted_macroblock (shown_of planes.old) mx my mode.now }
+    ensures sides { SameShape (shown_of planes.old) (shown_of planes.new) }
 {
-    for my in 0..rows {
-        predict_row(planes, my, columns);
+    predict_luma(&mut planes.luma, mx, my, mode);
+    predict_whole(&mut planes.cb, BlockSize::Eight, mx, my, mode.uv_mode);
+    predict_whole(&mut planes.cr, BlockSize::Eight, mx, my, mode.uv_mode);
+}
+
+/// Predicts the macroblocks of a frame in raster order, each by its record.
+fn predict_macroblocks(planes: &mut Planes, columns: usize, rows: usize, modes: &[MbMode])
+    requires room { HaveRoomFor (shown_of planes.old) columns rows }
+    requires each { length modes.now ≡ columns * rows }
+    ensures value { shown_of planes.new ≡ predicted_macroblocks (shown_of planes.old) columns modes.now (length modes.now) }
+    ensures sides { SameShape (shown_of planes.old) (shown_of planes.new) }
+{
+    let mut mx = 0;
+    let mut my = 0;
+    for mode in modes {
+        predict_macroblock(planes, mx, my, mode);
+        mx += 1;
+        if mx == columns {
+            mx = 0;
+            my += 1;
+        }
     }
 }
 
 /// How many macroblocks cover a shown side of at most 16,383 samples.
-fn macroblocks(side: u16) -> usize
+pub(crate) fn macroblocks(side: u16) -> usize
     requires { side ≤ 16383 }
     ensures value { result ≡ macroblocks_of side }
     ensures bound { result ≤ 1024 }
@@ -254,7 +259,7 @@ fn macroblocks(side: u16) -> usize
 fn empty_planes(alloc: Global, columns: usize, rows: usize) -> Result<Planes, NoMemory>
     requires wide { (0 < columns) × (columns ≤ 1024) }
     requires high { (0 < rows) × (rows ≤ 1024) }
-    ensures { IfOk result (λ planes. planes ≡ empty_planes_of columns rows) }
+    ensures { IfOk result (λ planes. shown_of planes ≡ empty_planes_of columns rows) }
 {
     Ok(Planes {
         luma: Plane::make(alloc, 16 * columns, 16 * rows, 0)?,
@@ -263,18 +268,25 @@ fn empty_planes(alloc: Global, columns: usize, rows: usize) -> Result<Planes, No
     })
 }
 
-/// Makes the picture of a frame of `width` by `height` samples, 1 to 16,383 each, in which each
-/// macroblock is predicted by mode DC, luma by sub blocks, and nothing is added to it.
+/// Makes the picture of a frame of `width` by `height` samples, 1 to 16,383 each: each macroblock
+/// is predicted by its record, of which there is one for each in raster order, and nothing is added
+/// to it (RFC 6386, section 12).
 ///
-/// `NoMemory` where a plane or its shared block is refused (RFC 6386, section 12).
-pub fn blank_picture(alloc: Global, width: u16, height: u16) -> Result<Picture, NoMemory>
+/// `NoMemory` where a plane or its shared block is refused.
+pub fn unfiltered_picture(
+    alloc: Global,
+    width: u16,
+    height: u16,
+    modes: &[MbMode],
+) -> Result<Picture, NoMemory>
     requires wide { (0 < width) × (width ≤ 16383) }
     requires high { (0 < height) × (height ≤ 16383) }
-    ensures { IfOk result (λ p. p ≡ blank_picture_of width height) }
+    requires each { length modes.now ≡ macroblocks_of width * macroblocks_of height }
+    ensures { IfOk result (λ p. p ≡ unfiltered_picture_of width height modes.now) }
 {
     let columns = macroblocks(width);
     let rows = macroblocks(height);
     let mut planes = empty_planes(alloc, columns, rows)?;
-    predict_rows(&mut planes, columns, rows);
+    predict_macroblocks(&mut planes, columns, rows, modes);
     Picture::share(alloc, planes, width, height)
 }

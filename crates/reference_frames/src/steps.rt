@@ -1,9 +1,11 @@
+ghost use Rattle.std.specs.Prelude.{◌≡◌, ◌<◌, ◌≤◌, ◌*◌, IfOk, IsTrue};
 ghost use Rattle.std.specs.Option.{option_copied};
-ghost use Rattle.reference_frames.specs.Steps.{StepAnswers, step_of};
+ghost use Rattle.reference_frames.specs.Steps.{StepAnswers, key_picture, step_of};
 
-use crate::prediction::blank_picture;
-use frame_header::{Cause, Context, read_header};
-use pixel_planes::Picture;
+use crate::prediction::{macroblocks, unfiltered_picture};
+use frame_header::{Cause, Context, Header, read_header};
+use mode_parser::read_modes;
+use pixel_planes::{NoMemory, Picture};
 use std::alloc::Global;
 use vp8_tables::Tables;
 
@@ -23,11 +25,24 @@ pub enum StepFault {
     NoMemory,
 }
 
+/// Reads the modes of a key frame behind its header, and makes its picture.
+fn read_picture(alloc: Global, tables: &Tables, header: &Header) -> Result<Picture, NoMemory>
+    requires key { IsTrue header.now.is_key }
+    requires wide { (0 < header.now.width) × (header.now.width ≤ 16383) }
+    requires high { (0 < header.now.height) × (header.now.height ≤ 16383) }
+    ensures { IfOk result (λ p. p ≡ key_picture tables.now header.now) }
+{
+    let columns = macroblocks(header.width);
+    let rows = macroblocks(header.height);
+    let modes = read_modes(alloc, tables, header, columns, rows, None)?;
+    unfiltered_picture(alloc, header.width, header.height, modes.records())
+}
+
 /// One step of decoding (RFC 6386, section 9): the state behind `packet` and its picture, from the
 /// state before it, or from none.
 ///
-/// `Refused` with the first cause against the packet; `NoMemory` where a plane or its shared block
-/// is refused.
+/// `Refused` with the first cause against the packet; `NoMemory` where the modes, a plane or its
+/// shared block find no room.
 #[tactic(auto, unfolding(crate::specs::Steps::step_of))]
 pub fn step(
     alloc: Global,
@@ -45,7 +60,7 @@ pub fn step(
         Ok(header) => header,
         Err(cause) => return Err(StepFault::Refused(cause)),
     };
-    let Ok(picture) = blank_picture(alloc, header.width, header.height) else {
+    let Ok(picture) = read_picture(alloc, tables, &header) else {
         return Err(StepFault::NoMemory);
     };
     let state = State {

@@ -1,4 +1,4 @@
-use Rattle.std.proofs.Common.{◌∙◌}
+use Rattle.std.proofs.Common.{◌∙◌, ℕ}
 use Rattle.intra_predict.specs.Blocks.{IsBlock}
 use Rattle.reference_frames.specs.Unfiltered.{sub_block_sample, sub_column, sub_row}
 use Rattle.reference_frames.proofs.Blocks.{written_block}
@@ -6,5 +6,6 @@ use Rattle.reference_frames.proofs.prediction.predict_sub_block.Goals as goal
 
 pub returns-clause-value : goal.returns-clause-value
 returns-clause-value c =
-    let is : IsBlock 4 (sub_block_sample c.args.plane.now c.args.mx c.args.my c.args.block) c.sub-samples.result = rw (← c.read_left.ensures, ← c.sample_corner.ensures, ← c.read_above_eight.ensures) c.sub-samples.ensures in
-    c.write_block.ensures.value ∙ written_block c.args.plane.now (sub_column c.args.mx c.args.block) (sub_row c.args.my c.args.block) 4 c.sub-samples.result (sub_block_sample c.args.plane.now c.args.mx c.args.my c.args.block) is
+    let sample : ℕ → ℕ → ℕ = sub_block_sample c.args.plane.now.shown c.args.mx c.args.my c.args.block c.args.mode in
+    let is : IsBlock 4 sample c.sub-samples.result = rw (← c.read_left.ensures, ← c.sample_corner.ensures, ← c.read_above_eight.ensures) c.sub-samples.ensures in
+    c.write_block.ensures.value ∙ written_block c.args.plane.now.shown (sub_column c.args.mx c.args.block) (sub_row c.args.my c.args.block) 4 c.sub-samples.result sample is

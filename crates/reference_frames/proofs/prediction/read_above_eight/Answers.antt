@@ -12,6 +12,6 @@ returns c =
       | else-block-eq3 w ↦ w.right_y-is ∙ sym (cond-false _ _ _ (ne_eqb _ _ w.if-block-eq3.false))
     ] in
     let eight : length c.args.out.now ≡ 8 = search rules in
-    let within : sub_column c.args.mx c.args.block + 4 ≤ c.args.plane.now.width = omega arith in
-    above_eight_read c.args.plane.now c.args.mx c.args.my c.args.block c.if-block-eq3.right_y (length c.split_at_mut-above.result.0.now) (length c.split_at_mut-above.result.1.now) c.read_above.new.out c.read_above_or_last.new.out
+    let within : sub_column c.args.mx c.args.block + 4 ≤ c.args.plane.now.shown.width = omega arith in
+    above_eight_read c.args.plane.now.shown c.args.mx c.args.my c.args.block c.if-block-eq3.right_y (length c.split_at_mut-above.result.0.now) (length c.split_at_mut-above.result.1.now) c.read_above.new.out c.read_above_or_last.new.out
     right within c.split_at_mut-above.ensures.front_len (omega (arith, c.split_at_mut-above.ensures.front_len, c.split_at_mut-above.ensures.back_len, eight)) c.read_above.ensures c.read_above_or_last.ensures

@@ -22,4 +22,4 @@ loop-row-preserved c =
     let inside : c.loop-row.row * c.args.side + c.args.side ≤ length c.args.block.now = omega (arith, c.requires.whole) in
     let part_is : c.copy_from_slice.new.self ≡ span = c.copy_from_slice.ensures.after ∙ part_row c.args.block.now c.args.side c.loop-row.row inside in
     let written = written_part c.row_mut.result.now c.copy_from_slice.new.self span c.args.x c.args.side part_is (length-map-range_with_len (λ column. sample column c.loop-row.row) 0 c.args.side) within ∙ ap (λ (row : List ℕ). put_chunk c.args.x row span) c.row_mut.ensures.value in
-    (rw (add-one, ← c.loop-row.invariant.0) (ap (λ (row : List ℕ). with_row c.loop-row.plane (c.args.y + c.loop-row.row) row) written), search rules)
+    (rw (add-one, ← c.loop-row.invariant.0) (ap (λ (row : List ℕ). with_row c.loop-row.plane.shown (c.args.y + c.loop-row.row) row) written), search rules)

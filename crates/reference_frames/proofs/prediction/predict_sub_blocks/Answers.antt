@@ -1,6 +1,6 @@
 use Rattle.std.proofs.Common.{rules, refl, add-one}
 use Rattle.reference_frames.specs.Unfiltered.{predicted_sub_blocks}
-use Rattle.reference_frames.proofs.prediction.predict_luma.Goals as goal
+use Rattle.reference_frames.proofs.prediction.predict_sub_blocks.Goals as goal
 
 pub loop-block-init : goal.loop-block-init
 unfolding predicted_sub_blocks

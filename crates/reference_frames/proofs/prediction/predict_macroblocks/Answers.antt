@@ -1,0 +1,38 @@
+use Rattle.std.proofs.Common.{◌≡◌, ◌+◌, ◌*◌, ◌<◌, ℕ, refl, rules, arith}
+use Rattle.pixel_planes.specs.PlaneSamples.{shown_of}
+use Rattle.reference_frames.specs.Unfiltered.{predicted_macroblocks}
+use Rattle.reference_frames.proofs.Frames.{predicted_more}
+use Rattle.reference_frames.proofs.prediction.predict_macroblocks.Goals as goal
+use Rattle.reference_frames.proofs.prediction.predict_macroblocks.Goals.{then-mx-columns, else-mx-columns}
+
+some_columns : (columns rows : ℕ) → 0 < columns * rows → 0 < columns
+some_columns columns rows some = grind arith
+
+-- the first place of the next row, and the next place of this row
+next_row : (columns my mx my' mx' n : ℕ) → my * columns + mx ≡ n → mx + 1 ≡ columns → my' ≡ my + 1 → mx' ≡ 0 → my' * columns + mx' ≡ n + 1
+next_row columns my mx my' mx' n place last row column = rw (row, column) (omega arith)
+
+next_column : (columns my mx my' mx' n : ℕ) → my * columns + mx ≡ n → my' ≡ my → mx' ≡ mx + 1 → my' * columns + mx' ≡ n + 1
+next_column columns my mx my' mx' n place row column = rw (row, column) (omega arith)
+
+pub loop-mode-init : goal.loop-mode-init
+unfolding predicted_macroblocks
+loop-mode-init c = record {
+  value = refl;
+  sides = search rules;
+  place = omega arith;
+  column = λ some. some_columns c.args.columns c.args.rows (rw c.requires.each at some);
+}
+
+pub loop-mode-preserved : goal.loop-mode-preserved
+loop-mode-preserved c =
+    let column = c.loop-mode.invariant.column c.loop-mode-test.true in
+    record {
+      value = predicted_more (shown_of c.args.planes.now) (shown_of c.loop-mode.planes) (shown_of c.predict_macroblock.new.planes) c.args.columns c.loop-mode.mx c.loop-mode.my c.loop-mode.mode-index c.args.modes.now _ c.loop-mode.invariant.value c.predict_macroblock.ensures.value c.loop-mode.invariant.place column c.loop-mode-test.true;
+      sides = search rules;
+      place = elim c.if-mx-columns.branch [
+        | then-mx-columns w ↦ next_row c.args.columns c.loop-mode.my c.loop-mode.mx _ _ c.loop-mode.mode-index c.loop-mode.invariant.place w.if-mx-columns.true w.my-is w.mx-is
+        | else-mx-columns w ↦ next_column c.args.columns c.loop-mode.my c.loop-mode.mx _ _ c.loop-mode.mode-index c.loop-mode.invariant.place w.my-is w.mx-is
+      ];
+      column = λ some. elim c.if-mx-columns.branch [ then-mx-columns w ↦ omega arith | else-mx-columns w ↦ omega arith ];
+    }
