@@ -9,3 +9,4 @@ pub mod CodeFits
 pub mod Windows
 pub mod Shifts
 pub mod Leaves
+pub mod Level

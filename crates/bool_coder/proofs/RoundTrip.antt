@@ -5,10 +5,11 @@ use Rattle.std.proofs.lemmas.Nat.{shr-shr, div_below, pow_pos}
 use Rattle.std.specs.Prelude.{nat_le}
 use Rattle.std.proofs.lemmas.List.Elements.{All-head, All-tail}
 use Rattle.std.specs.List.{All}
-use Rattle.bool_coder.specs.Reader.{Reader, bits_of, doubled, renewed, read, split_of, started}
+use Rattle.bool_coder.specs.Reader.{Reader, bits_of, doubled, renewed, read, split_of, text_start, started}
 use Rattle.bool_coder.specs.Uncut.{bits_read}
 use Rattle.bool_coder.specs.CodeText.{Code, no_code, code_doubled, code_renewed, narrowed, written, all_written, bytes_of, padding, code_text}
 use Rattle.bool_coder.proofs.ByteBits.{both, bit_string-bytes_of}
+use Rattle.bool_coder.proofs.Level.{bits_read-level}
 
 -- the reader that has `value` in its window and in the `left` bits behind it
 abbrev pub reader_at : ℕ → ℕ → ℕ → Reader
@@ -200,7 +201,7 @@ StandsAt-end c pad some =
     record { left = pad; shifted = refl; above = omega arith; below = omega arith; same = refl }
 
 -- the reader at its start
-StandsAt-started : (whole count : ℕ) (r : Reader) → StandsAt no_code whole (8 * count) r → r ≡ started (bytes_of (suc count) whole)
+StandsAt-started : (whole count : ℕ) (r : Reader) → StandsAt no_code whole (8 * count) r → r ≡ text_start (bytes_of (suc count) whole)
 StandsAt-started whole count r standing =
     let places : standing.left ≡ 8 * count = (let shifted : standing.left + 0 ≡ 8 * count = standing.shifted in omega arith) in
     let none : whole - 0 * 2 ^ standing.left ≡ whole = omega arith in
@@ -220,8 +221,8 @@ text-read pairs c pad count is probable places =
     let end : StandsAt c whole (8 * count) last = subst (λ (n : ℕ). StandsAt c whole n last) places (StandsAt-end c pad (omega arith)) in
     let end' : StandsAt (all_written pairs no_code) whole (8 * count) last = subst (λ (e : Code). StandsAt e whole (8 * count) last) (sym is) end in
     let back = all_written-back pairs no_code whole (8 * count) last probable (omega arith) (omega arith) end' in
-    let start : back.0 ≡ started (bytes_of (suc count) whole) = StandsAt-started whole count back.0 back.1 in
-    rw (← start) back.2
+    let start : back.0 ≡ text_start (bytes_of (suc count) whole) = StandsAt-started whole count back.0 back.1 in
+    bits_read-level (map (λ p. p.1) pairs) (text_start (bytes_of (suc count) whole)) ∙ rw (← start) back.2
 
 -- what is written is read back
 pub code_text-read : (pairs : List (Bool × ℕ)) → All (λ p. p.1 ≤ 255) pairs → bits_read read (map (λ p. p.1) pairs) (started (code_text pairs)) ≡ map (λ p. p.0) pairs

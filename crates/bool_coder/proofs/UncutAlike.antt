@@ -1,8 +1,9 @@
-use Rattle.std.proofs.Common.{◌≡◌, ℕ, zero, suc, ◌-◌, ◌*◌, ◌<◌, ◌≤◌, min, true, false, List, [], ◌∷◌, get_or, refl, ap, ◌∙◌, arith, inl, inr}
+use Rattle.std.proofs.Common.{◌≡◌, ℕ, zero, suc, ◌-◌, ◌*◌, ◌<◌, ◌≤◌, min, Bool, true, false, List, [], ◌∷◌, get_or, refl, ap, ◌∙◌, arith, inl, inr}
 use Rattle.std.proofs.Math.Nat.{mul-le-mul_left}
 use Rattle.std.proofs.lemmas.Bool.{lt-ltb, le-ltb, le-leb, lt-leb, cases_lt}
-use Rattle.bool_coder.specs.Reader.{Reader, doubled, renewed, read, split_of, started}
-use Rattle.bool_coder.specs.Uncut.{uncut_doubled, uncut_renewed, uncut_read, held, bits_read}
+use Rattle.bool_coder.specs.Reader.{Reader, doubled, renewed, read, split_of, text_start, started, level}
+use Rattle.bool_coder.specs.Uncut.{uncut_doubled, uncut_renewed, uncut_read, held, settled, bits_read}
+use Rattle.bool_coder.proofs.Level.{read-level, bits_read-level}
 
 -- the window and the range of a reader decide it
 reader_same : (rest : List ℕ) (range d e : ℕ) → d ≡ e → ◌≡◌ {A = Reader} (record { rest = rest; d = d; range = range }) (record { rest = rest; d = e; range = range })
@@ -70,11 +71,21 @@ bits_read-held (prob ∷ probs) r probable some =
     let here : read prob (held r) ≡ ((uncut_read prob r).0, held (uncut_read prob r).1) = read-held prob r (probable 0) some in
     rw here (ap (λ bits. (uncut_read prob r).0 ∷ bits) (bits_read-held probs (uncut_read prob r).1 (λ k. probable (suc k)) (uncut_read-range prob r (probable 0) some)))
 
--- the window at the start is one byte, which the range holds
-pub started-held : (bytes : List ℕ) → ((k : ℕ) → get_or bytes k 0 ≤ 255) → held (started bytes) ≡ started bytes
-started-held [] small = refl
-started-held (byte ∷ bytes) small = reader_same _ _ _ _ (let fits : byte ≤ 255 = small 0 in omega arith)
+-- so is one bit of a settled reader
+pub read-settled : (prob : ℕ) (r : Reader) → prob ≤ 255 → 2 ≤ r.range → read prob (settled r) ≡ ((uncut_read prob r).0, settled (uncut_read prob r).1)
+read-settled prob r probable some = read-level prob (held r) ∙ ap (λ (s : Bool × Reader). (s.0, level s.1)) (read-held prob r probable some)
 
-pub started-range : (bytes : List ℕ) → 2 ≤ (started bytes).range
-started-range [] = omega arith
-started-range (byte ∷ bytes) = omega arith
+pub bits_read-settled : (probs : List ℕ) (r : Reader) → ((k : ℕ) → get_or probs k 0 ≤ 255) → 2 ≤ r.range → bits_read read probs (settled r) ≡ bits_read uncut_read probs r
+bits_read-settled probs r probable some = bits_read-level probs (held r) ∙ bits_read-held probs r probable some
+
+-- the window at the start is one byte, which the range holds
+start-held : (bytes : List ℕ) → ((k : ℕ) → get_or bytes k 0 ≤ 255) → held (text_start bytes) ≡ text_start bytes
+start-held [] small = refl
+start-held (byte ∷ bytes) small = reader_same _ _ _ _ (let fits : byte ≤ 255 = small 0 in omega arith)
+
+pub started-settled : (bytes : List ℕ) → ((k : ℕ) → get_or bytes k 0 ≤ 255) → settled (text_start bytes) ≡ started bytes
+started-settled bytes small = ap level (start-held bytes small)
+
+pub start-range : (bytes : List ℕ) → 2 ≤ (text_start bytes).range
+start-range [] = omega arith
+start-range (byte ∷ bytes) = omega arith

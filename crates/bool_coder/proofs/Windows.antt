@@ -1,10 +1,11 @@
-use Rattle.std.proofs.Common.{◌≡◌, ℕ, zero, suc, ◌+◌, ◌-◌, ◌*◌, ◌/◌, ◌%◌, ◌^◌, ◌<◌, ◌≤◌, min, true, false, List, [], ◌∷◌, ◌++◌, refl, ap, sym, ◌∙◌, arith, append_assoc, zero-add}
+use Rattle.std.proofs.Common.{◌≡◌, ℕ, zero, suc, ◌+◌, ◌-◌, ◌*◌, ◌/◌, ◌%◌, ◌^◌, ◌<◌, ◌≤◌, min, Bool, true, false, List, [], ◌∷◌, ◌++◌, refl, ap, sym, ◌∙◌, arith, append_assoc}
 use Rattle.std.proofs.Math.Dec.{leb}
 use Rattle.std.proofs.Math.Nat.{pow-suc, add-mul-div_right, mul-le-mul_left, mul-le-mul_right, div-mul-le_self, div-lt_iff_lt-mul, le-div_iff_mul-le, lt-div-mul-add, mod-eq_of_lt, pow-le-pow_right}
 use Rattle.std.proofs.lemmas.Bool.{le-leb, lt-leb}
 use Rattle.std.proofs.lemmas.Nat.{pow_pos, pow-add, shr-shr}
-use Rattle.bool_coder.specs.Reader.{Reader, bits_of, bit_string, doubled, renewed, read, split_of}
+use Rattle.bool_coder.specs.Reader.{Reader, bits_of, bit_string, doubled, level, renewed, read, split_of}
 use Rattle.bool_coder.specs.Window.{reader_of, doublings}
+use Rattle.bool_coder.proofs.Level.{level-padded, read-level}
 use Rattle.bool_coder.proofs.Renewal.{renewed_large, renewed_small, split_of-small}
 
 -- the bits that are left and d decide a reader of a range
@@ -64,35 +65,6 @@ doublings-window (suc count) left value bytes range =
     let power : 2 ^ suc count ≡ 2 ^ count * 2 = pow-suc 2 count in
     let product : range * 2 ^ suc count ≡ 2 * range * 2 ^ count = rw power (omega arith) in
     rw (next, product) (doublings-suc count (reader_of value (suc (count + left)) bytes range) ∙ ap (doublings count) (doubled-window value (count + left) bytes range) ∙ doublings-window count left value bytes (2 * range))
-
--- behind the last byte zeros move up
-doubled-end : (value range : ℕ) → doubled (reader_of value 0 [] range) ≡ reader_of (2 * value) 0 [] (2 * range)
-doubled-end value range = reader_same _ _ _ _ _ refl (omega arith)
-
-doublings-end : (count value range : ℕ) → doublings count (reader_of value 0 [] range) ≡ reader_of (value * 2 ^ count) 0 [] (range * 2 ^ count)
-doublings-end zero value range =
-    let number : value * 1 ≡ value = omega arith in
-    let product : range * 1 ≡ range = omega arith in
-    rw (number, product) (doublings-zero (reader_of value 0 [] range))
-doublings-end (suc count) value range =
-    let power : 2 ^ suc count ≡ 2 ^ count * 2 = pow-suc 2 count in
-    let product : range * 2 ^ suc count ≡ 2 * range * 2 ^ count = rw power (omega arith) in
-    let number : value * 2 ^ suc count ≡ 2 * value * 2 ^ count = rw power (omega arith) in
-    rw (product, number) (doublings-suc count (reader_of value 0 [] range) ∙ ap (doublings count) (doubled-end value range) ∙ doublings-end count (2 * value) (2 * range))
-
-doublings-add : (first second : ℕ) (r : Reader) → doublings (first + second) r ≡ doublings second (doublings first r)
-doublings-add zero second r = rw (zero-add second, doublings-zero) refl
-doublings-add (suc first) second r =
-    let next : suc first + second ≡ suc (first + second) = omega arith in
-    rw next (doublings-suc (first + second) r ∙ doublings-add first second (doubled r) ∙ ap (doublings second) (sym (doublings-suc first r)))
-
-pub doublings-past_end : (left more value range : ℕ) → doublings (left + more) (reader_of value left [] range) ≡ reader_of (value * 2 ^ more) 0 [] (range * 2 ^ (left + more))
-doublings-past_end left more value range =
-    let none : left + 0 ≡ left = omega arith in
-    let whole : doublings left (reader_of value left [] range) ≡ reader_of value 0 [] (range * 2 ^ left) = rw none at (doublings-window left 0 value [] range) in
-    let power : 2 ^ (left + more) ≡ 2 ^ left * 2 ^ more = pow-add 2 left more in
-    let product : range * 2 ^ (left + more) ≡ range * 2 ^ left * 2 ^ more = rw power (omega arith) in
-    rw product (doublings-add left more (reader_of value left [] range) ∙ ap (doublings more) whole ∙ doublings-end more value (range * 2 ^ left))
 
 -- a byte behind the low bits
 div-byte : (left value byte : ℕ) → byte < 256 → (value * 256 + byte) / 2 ^ (left + 8) ≡ value / 2 ^ left
@@ -204,22 +176,19 @@ refill-enough count left value bytes range enough =
     let whole : count + (left - count) ≡ left = omega arith in
     sym (rw whole at (doublings-window count (left - count) value bytes range))
 
-refill-end_parts : (left more value range : ℕ) → left + more ≤ 7 → value < 2 ^ (left + 8) → reader_of (value * 2 ^ more % 2 ^ 64) 0 [] (range * 2 ^ (left + more)) ≡ doublings (left + more) (reader_of value left [] range)
-refill-end_parts left more value range few small =
-    let power : 2 ^ (left + 8 + more) ≡ 2 ^ (left + 8) * 2 ^ more = pow-add 2 (left + 8) more in
-    let least : 0 < 2 ^ more = pow_pos more in
+pub refill-end : (left value : ℕ) (bytes : List ℕ) (range : ℕ) → left < 7 → value < 2 ^ (left + 8) → bytes ≡ [] → level (reader_of (value * 2 ^ (7 - left) % 2 ^ 64) 7 bytes range) ≡ level (reader_of value left bytes range)
+refill-end left value bytes range short small ended =
+    let pad : ℕ = 7 - left in
+    let power : 2 ^ (left + 8 + pad) ≡ 2 ^ (left + 8) * 2 ^ pad = pow-add 2 (left + 8) pad in
+    let least : 0 < 2 ^ pad = pow_pos pad in
     let two_pos : 0 < 2 = omega arith in
-    let more_powers : left + 8 + more ≤ 15 = omega arith in
-    let most : 2 ^ (left + 8 + more) ≤ 2 ^ 15 = pow-le-pow_right two_pos more_powers in
-    let product : value * 2 ^ more ≤ 2 ^ (left + 8) * 2 ^ more = mul-le-mul_right (2 ^ more) (omega arith) in
-    let same : value * 2 ^ more % 2 ^ 64 ≡ value * 2 ^ more = mod-eq_of_lt (omega arith) in
-    rw same (sym (doublings-past_end left more value range))
-
-pub refill-end : (count left value : ℕ) (bytes : List ℕ) (range : ℕ) → left < count → count ≤ 7 → value < 2 ^ (left + 8) → bytes ≡ [] → reader_of (value * 2 ^ (count - left) % 2 ^ 64) (count - count) bytes (range * 2 ^ count) ≡ doublings count (reader_of value left bytes range)
-refill-end count left value bytes range short few small ended =
-    let none : count - count ≡ 0 = omega arith in
-    let whole : left + (count - left) ≡ count = omega arith in
-    rw (none, ended) (rw whole at (refill-end_parts left (count - left) value range (omega arith) small))
+    let more_powers : left + 8 + pad ≤ 15 = omega arith in
+    let most : 2 ^ (left + 8 + pad) ≤ 2 ^ 15 = pow-le-pow_right two_pos more_powers in
+    let product : value * 2 ^ pad ≤ 2 ^ (left + 8) * 2 ^ pad = mul-le-mul_right (2 ^ pad) (omega arith) in
+    let same : value * 2 ^ pad % 2 ^ 64 ≡ value * 2 ^ pad = mod-eq_of_lt (omega arith) in
+    let whole : 7 ≡ left + pad = omega arith in
+    let left_is : level (reader_of (value * 2 ^ pad) (left + pad) [] range) ≡ level (reader_of value left [] range) = level-padded left pad value range in
+    rw (same, ended) (rw (← whole) at left_is)
 
 pub take-same : (value left byte : ℕ) (bytes rest : List ℕ) (range : ℕ) → byte < 256 → bytes ≡ byte ∷ rest → reader_of (256 * value + byte) (left + 8) rest range ≡ reader_of value left bytes range
 take-same value left byte bytes rest range fits next =
@@ -235,12 +204,20 @@ split-fits prob range left probable large most room =
     let product : split_of prob range * 2 ^ left ≤ 255 * 2 ^ left = mul-le-mul_right (2 ^ left) (omega arith) in
     mod-eq_of_lt (omega arith)
 
-pub bit-one : (prob range value left count : ℕ) (bytes : List ℕ) → prob ≤ 255 → 128 ≤ range → range ≤ 255 → left ≤ 56 → split_of prob range * 2 ^ left % 2 ^ 64 ≤ value → count ≤ 7 → 128 ≤ (range - split_of prob range) * 2 ^ count → (range - split_of prob range) * 2 ^ count < 256 → read prob (reader_of value left bytes range) ≡ (leb (split_of prob range * 2 ^ left % 2 ^ 64) value, doublings count (reader_of (value - split_of prob range * 2 ^ left % 2 ^ 64) left bytes (range - split_of prob range)))
-bit-one prob range value left count bytes probable large most room reached few enough small =
+-- a bit of the level reader of a window that has seven unread bits
+pub bit-one : (prob range value left count : ℕ) (bytes : List ℕ) → prob ≤ 255 → 128 ≤ range → range ≤ 255 → 7 ≤ left → left ≤ 56 → split_of prob range ≤ value / 2 ^ left → count ≤ 7 → 128 ≤ (range - split_of prob range) * 2 ^ count → (range - split_of prob range) * 2 ^ count < 256 → read prob (level (reader_of value left bytes range)) ≡ (leb (split_of prob range) (value / 2 ^ left), level (reader_of (value - split_of prob range * 2 ^ left % 2 ^ 64) (left - count) bytes ((range - split_of prob range) * 2 ^ count)))
+bit-one prob range value left count bytes probable large most ready room reached few enough small =
     let whole : split_of prob range * 2 ^ left % 2 ^ 64 ≡ split_of prob range * 2 ^ left = split-fits prob range left probable large most room in
-    rw (le-leb _ _ reached, whole) (read-window_one prob range value left count bytes probable large most (rw whole at reached) few enough small)
+    let power : 0 < 2 ^ left = pow_pos left in
+    let least : split_of prob range * 2 ^ left ≤ value = (le-div_iff_mul-le power).0 reached in
+    let bit : read prob (reader_of value left bytes range) ≡ (true, doublings count (reader_of (value - split_of prob range * 2 ^ left) left bytes (range - split_of prob range))) = read-window_one prob range value left count bytes probable large most least few enough small in
+    let enough_bits : count ≤ left = omega arith in
+    rw (le-leb _ _ reached, whole) (read-level prob (reader_of value left bytes range) ∙ ap (λ (s : Bool × Reader). (s.0, level s.1)) bit ∙ ap (λ (s : Reader). (true, level s)) (sym (refill-enough count left (value - split_of prob range * 2 ^ left) bytes (range - split_of prob range) enough_bits)))
 
-pub bit-zero : (prob range value left count : ℕ) (bytes : List ℕ) → prob ≤ 255 → 128 ≤ range → range ≤ 255 → left ≤ 56 → value < split_of prob range * 2 ^ left % 2 ^ 64 → count ≤ 7 → 128 ≤ split_of prob range * 2 ^ count → split_of prob range * 2 ^ count < 256 → read prob (reader_of value left bytes range) ≡ (leb (split_of prob range * 2 ^ left % 2 ^ 64) value, doublings count (reader_of value left bytes (split_of prob range)))
-bit-zero prob range value left count bytes probable large most room below few enough small =
-    let whole : split_of prob range * 2 ^ left % 2 ^ 64 ≡ split_of prob range * 2 ^ left = split-fits prob range left probable large most room in
-    rw (lt-leb _ _ below) (read-window_zero prob range value left count bytes probable large most (rw whole at below) few enough small)
+pub bit-zero : (prob range value left count : ℕ) (bytes : List ℕ) → prob ≤ 255 → 128 ≤ range → range ≤ 255 → 7 ≤ left → value / 2 ^ left < split_of prob range → count ≤ 7 → 128 ≤ split_of prob range * 2 ^ count → split_of prob range * 2 ^ count < 256 → read prob (level (reader_of value left bytes range)) ≡ (leb (split_of prob range) (value / 2 ^ left), level (reader_of value (left - count) bytes (split_of prob range * 2 ^ count)))
+bit-zero prob range value left count bytes probable large most ready below few enough small =
+    let power : 0 < 2 ^ left = pow_pos left in
+    let least : value < split_of prob range * 2 ^ left = (div-lt_iff_lt-mul power).0 below in
+    let bit : read prob (reader_of value left bytes range) ≡ (false, doublings count (reader_of value left bytes (split_of prob range))) = read-window_zero prob range value left count bytes probable large most least few enough small in
+    let enough_bits : count ≤ left = omega arith in
+    rw (lt-leb _ _ below) (read-level prob (reader_of value left bytes range) ∙ ap (λ (s : Bool × Reader). (s.0, level s.1)) bit ∙ ap (λ (s : Reader). (false, level s)) (sym (refill-enough count left value bytes (split_of prob range) enough_bits)))

@@ -26,9 +26,27 @@ pub record Reader : Type 0 where
   pub range : ℕ
 
 -- a reader at the start of a partition has its first eight bits in the window
+abbrev pub text_start : List ℕ → Reader
+text_start [] = record { rest = []; d = 0; range = 255 }
+text_start (byte ∷ bytes) = record { rest = bit_string bytes; d = byte; range = 255 }
+
+-- a bit string without the zeros at its end, which are read behind its end as well
+abbrev pub before : ℕ → List ℕ → List ℕ
+before zero [] = []
+before zero (bit ∷ rest) = zero ∷ bit ∷ rest
+before (suc more) rest = suc more ∷ rest
+
+unfoldable pub trimmed : List ℕ → List ℕ
+trimmed [] = []
+trimmed (bit ∷ rest) = before bit (trimmed rest)
+
+-- readers that give the same bits for good are one reader
+abbrev pub level : Reader → Reader
+level r = record r { rest = trimmed r.rest }
+
+-- the reader with which a decoder starts
 abbrev pub started : List ℕ → Reader
-started [] = record { rest = []; d = 0; range = 255 }
-started (byte ∷ bytes) = record { rest = bit_string bytes; d = byte; range = 255 }
+started bytes = level (text_start bytes)
 
 -- one bit moves into the window; a window above the range reads alike for good, so it is held there
 abbrev pub doubled : Reader → Reader

@@ -1,5 +1,5 @@
 use Rattle.std.specs.Prelude.{ℕ, ◌+◌, ◌-◌, ◌*◌, min, zero, suc, Bool, true, false, List, [], ◌∷◌, nat_le, nat_lt, if◌then◌else◌}
-use Rattle.bool_coder.specs.Reader.{Reader, next_bit, after_bit, split_of}
+use Rattle.bool_coder.specs.Reader.{Reader, next_bit, after_bit, level, split_of}
 use Rattle.bool_coder.specs.Reading.{Reading}
 
 -- the same reading where the window is never held at the range, as RFC 6386, section 7.3 has it
@@ -21,6 +21,10 @@ uncut_read prob r =
 -- a reader with its window held at the range
 abbrev pub held : Reader → Reader
 held r = record { rest = r.rest; d = min r.d r.range; range = r.range }
+
+-- the same without the zeros at the end of its bits: what a decoder is seen as
+abbrev pub settled : Reader → Reader
+settled r = level (held r)
 
 -- the bits that a way of reading gives for a list of probabilities
 abbrev pub bits_read : (ℕ → Reading Bool) → List ℕ → Reader → List Bool

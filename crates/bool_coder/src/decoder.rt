@@ -18,12 +18,12 @@ pub struct Decoder<'a> {
 
 impl<'a> Model for Decoder<'a> {
     ghost use Rattle.std.specs.Prelude.{◌≤◌};
-    ghost use Rattle.bool_coder.specs.Reader.{Reader};
+    ghost use Rattle.bool_coder.specs.Reader.{Reader, level};
     ghost use Rattle.bool_coder.specs.Window.{reader_of};
 
     ghost Value = { Reader };
 
-    ghost view = { λ s. reader_of s.window.value s.window.left s.window.bytes.now s.range };
+    ghost view = { λ s. level (reader_of s.window.value s.window.left s.window.bytes.now s.range) };
 
     ghost invariant = { λ s. (128 ≤ s.range) × (s.range ≤ 255) × (s.window.left ≤ 56) };
 }
@@ -56,17 +56,17 @@ impl<'a> Decoder<'a> {
     pub fn bit(&mut self, prob: u8) -> bool
         ensures { read prob self.old ≡ (result, self.new) }
     {
+        self.window.ready(self.range);
         let split = 1 + (((self.range - 1) * prob as u32) >> 8);
-        let least = (split as u64) << self.window.left;
-        let bit = self.window.value >= least;
+        let bit = self.window.value >> self.window.left >= split as u64;
         let range = if bit {
-            self.window.value -= least;
+            self.window.value -= (split as u64) << self.window.left;
             self.range - split
         } else {
             split
         };
         let count = shift_of(range);
-        self.window.shift(count, range);
+        self.window.left -= count;
         self.range = range << count;
         bit
     }

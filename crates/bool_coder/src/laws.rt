@@ -1,19 +1,20 @@
 //! Laws that show that the definitions mean what they are to mean.
 
 ghost use Rattle.std.specs.Prelude.{◌≡◌, ◌≤◌, ◌+◌, ℕ, length, pos, negsuc, neg_ℤ, true, false, [], ◌∷◌, replicate, IsTrue};
-ghost use Rattle.bool_coder.specs.Reader.{Reader, started, read};
+ghost use Rattle.bool_coder.specs.Reader.{Reader, text_start, started, read};
 ghost use Rattle.bool_coder.specs.Reading.{literal, signed};
 ghost use Rattle.bool_coder.specs.Trees.{is_tree, leaf_below, leaf};
-ghost use Rattle.bool_coder.specs.Uncut.{uncut_read, held, bits_read};
+ghost use Rattle.bool_coder.specs.Uncut.{uncut_read, settled, bits_read};
 ghost use Rattle.bool_coder.specs.Worked.{steps};
 
-/// A window that is held at the range reads the same bits as one that is not, for every byte text
-/// and all probabilities (RFC 6386, section 7). So does each single read, which leaves a held
+/// The reader of a decoder, whose window is held at the range and whose bits end with the last 1,
+/// reads the same bits as one that is not held and has the whole bit string, for every byte text
+/// and all probabilities (RFC 6386, section 7). So does each single read, which leaves a settled
 /// reader again: what is folded from reads is the same with either.
 pub fn uncut_reads_alike(bytes: &[u8], probs: &[u8])
-    ensures bits { bits_read read probs.now (started bytes.now) ≡ bits_read uncut_read probs.now (started bytes.now) }
-    ensures start { held (started bytes.now) ≡ started bytes.now }
-    ensures step { (prob : ℕ) → (r : Reader) → prob ≤ 255 → 2 ≤ r.range → read prob (held r) ≡ ((uncut_read prob r).0, held (uncut_read prob r).1) }
+    ensures bits { bits_read read probs.now (started bytes.now) ≡ bits_read uncut_read probs.now (text_start bytes.now) }
+    ensures start { settled (text_start bytes.now) ≡ started bytes.now }
+    ensures step { (prob : ℕ) → (r : Reader) → prob ≤ 255 → 2 ≤ r.range → read prob (settled r) ≡ ((uncut_read prob r).0, settled (uncut_read prob r).1) }
     ensures range { (prob : ℕ) → (r : Reader) → prob ≤ 255 → 2 ≤ r.range → 2 ≤ (uncut_read prob r).1.range }
 {}
 

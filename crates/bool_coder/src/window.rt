@@ -1,8 +1,8 @@
 //! The 64-bit window through which a decoder reads its bytes.
 
 ghost use Rattle.std.specs.Prelude.{◌≡◌, ◌+◌, ◌-◌, ◌*◌, ◌<◌, ◌≤◌, ◌^◌, ℕ, [], ◌∷◌};
-ghost use Rattle.bool_coder.specs.Reader.{started};
-ghost use Rattle.bool_coder.specs.Window.{reader_of, doublings};
+ghost use Rattle.bool_coder.specs.Reader.{text_start, level};
+ghost use Rattle.bool_coder.specs.Window.{reader_of};
 
 /// What a decoder has in hand of its bytes: a number whose low `left` bits are not yet read and
 /// whose higher bits are the d of RFC 6386, section 7.3, and the bytes behind them.
@@ -19,7 +19,7 @@ pub struct Window<'a> {
 impl<'a> Window<'a> {
     /// The window at the start of a partition.
     pub fn new(bytes: &'a [u8]) -> Window<'a>
-        ensures same { reader_of result.value result.left result.bytes.now 255 ≡ started bytes.now }
+        ensures same { reader_of result.value result.left result.bytes.now 255 ≡ text_start bytes.now }
         ensures room { result.left ≤ 56 }
     {
         match bytes {
@@ -36,39 +36,37 @@ impl<'a> Window<'a> {
         }
     }
 
-    /// Moves `count` bits, at most 7, up into d, before the range is shifted by as many.
+    /// Takes in bytes where fewer than 7 bits are unread, the most by which a bit shifts the range.
     #[inline]
-    pub fn shift(&mut self, count: u32, range: u32)
-        requires few { count ≤ 7 }
+    pub fn ready(&mut self, range: u32)
         requires range { range ≤ 255 }
         requires room { self.old.left ≤ 56 }
-        ensures same { reader_of self.new.value self.new.left self.new.bytes.now (range * 2 ^ count) ≡ doublings count (reader_of self.old.value self.old.left self.old.bytes.now range) }
+        ensures same { level (reader_of self.new.value self.new.left self.new.bytes.now range) ≡ level (reader_of self.old.value self.old.left self.old.bytes.now range) }
+        ensures enough { 7 ≤ self.new.left }
         ensures room { self.new.left ≤ 56 }
     {
-        if self.left < count {
-            *self = self.refilled(count, range);
+        if self.left < 7 {
+            *self = self.refilled(range);
         }
-        self.left -= count;
     }
 
-    /// This window with at least `count` unread bits, with zeros behind the last byte. It is taken
-    /// and given by value, so that what reads bits one after another keeps it in registers.
+    /// This window with at least 7 unread bits, with zeros behind the last byte. It is taken and
+    /// given by value, so that what reads bits one after another keeps it in registers.
     #[cold]
     #[inline(never)]
-    fn refilled(self, count: u32, range: u32) -> Window<'a>
-        requires few { count ≤ 7 }
+    fn refilled(self, range: u32) -> Window<'a>
         requires range { range ≤ 255 }
-        requires short { self.left < count }
-        ensures same { reader_of result.value (result.left - count) result.bytes.now (range * 2 ^ count) ≡ doublings count (reader_of self.entry.value self.entry.left self.entry.bytes.now range) }
-        ensures enough { count ≤ result.left }
+        requires short { self.left < 7 }
+        ensures same { level (reader_of result.value result.left result.bytes.now range) ≡ level (reader_of self.entry.value self.entry.left self.entry.bytes.now range) }
+        ensures enough { 7 ≤ result.left }
         ensures room { result.left ≤ 56 }
     {
         let mut window = self;
         window.hold(range);
         window.pull();
-        if window.left < count {
-            window.value <<= count - window.left;
-            window.left = count;
+        if window.left < 7 {
+            window.value <<= 7 - window.left;
+            window.left = 7;
         }
         window
     }

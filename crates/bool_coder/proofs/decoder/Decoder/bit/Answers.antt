@@ -1,6 +1,6 @@
-use Rattle.std.proofs.Common.{◌≡◌, ◌<◌, ◌*◌, ◌%◌, ◌^◌, arith}
+use Rattle.std.proofs.Common.{◌≡◌, ◌<◌, ◌*◌, ◌%◌, ◌^◌, ap, sym, ◌∙◌, arith}
 use Rattle.std.proofs.Math.Nat.{mod-eq_of_lt}
-use Rattle.bool_coder.specs.Reader.{split_of}
+use Rattle.bool_coder.specs.Reader.{read, split_of}
 use Rattle.bool_coder.proofs.Renewal.{split_of-small}
 use Rattle.bool_coder.proofs.Windows.{bit-one, bit-zero}
 use Rattle.bool_coder.proofs.decoder.Decoder.bit.Goals as goal
@@ -17,8 +17,8 @@ returns c =
     let large = c.shift_of-count.ensures.large in
     let small = c.shift_of-count.ensures.small in
     let whole : c.if-bit.range * 2 ^ c.shift_of-count.result % 2 ^ 32 ≡ c.if-bit.range * 2 ^ c.shift_of-count.result = mod-eq_of_lt (omega arith) in
-    rw (← c.self.view_is, whole, c.shift.ensures.same)
-    (elim c.if-bit.branch [
-      | then-bit w ↦ rw (w.range-is, w.self-inside-is) (bit-one _ _ _ _ _ _ (omega arith) c.self.invariant.0 c.self.invariant.1 c.self.invariant.2 w.if-bit.true few (rw w.range-is at large) (rw w.range-is at small))
-      | else-bit w ↦ rw (w.range-is, w.self-inside-is) (bit-zero _ _ _ _ _ _ (omega arith) c.self.invariant.0 c.self.invariant.1 c.self.invariant.2 w.if-bit.false few (rw w.range-is at large) (rw w.range-is at small))
+    rw (← c.self.view_is, whole)
+    (ap (read c.args.prob) (sym c.ready.ensures.same) ∙ elim c.if-bit.branch [
+      | then-bit w ↦ rw (w.range-is, w.self-inside-is) (bit-one _ _ _ _ _ _ (omega arith) c.self.invariant.0 c.self.invariant.1 c.ready.ensures.enough c.ready.ensures.room w.if-bit.true few (rw w.range-is at large) (rw w.range-is at small))
+      | else-bit w ↦ rw (w.range-is, w.self-inside-is) (bit-zero _ _ _ _ _ _ (omega arith) c.self.invariant.0 c.self.invariant.1 c.ready.ensures.enough w.if-bit.false few (rw w.range-is at large) (rw w.range-is at small))
     ])
