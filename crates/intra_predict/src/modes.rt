@@ -1,3 +1,6 @@
+ghost use Rattle.std.specs.Prelude.{◌≡◌};
+ghost use Rattle.intra_predict.specs.WholeSample.{side_of};
+
 /// How a whole block is predicted (RFC 6386, sections 8.2 and 12.2).
 #[derive(Clone, Copy, Debug, PartialEq, Eq)]
 pub enum WholeMode {
@@ -45,4 +48,16 @@ pub enum BlockSize {
     Sixteen,
     /// 8 by 8 samples, as a macroblock has in each chroma plane.
     Eight,
+}
+
+impl BlockSize {
+    /// How many samples a row of the block has, and how many rows there are.
+    pub fn side(self) -> usize
+        ensures { result ≡ side_of self }
+    {
+        match self {
+            BlockSize::Sixteen => 16,
+            BlockSize::Eight => 8,
+        }
+    }
 }
