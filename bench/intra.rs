@@ -8,20 +8,8 @@ const ROUNDS: usize = 1_000;
 const RUNS: usize = 9;
 
 unsafe extern "C" {
-    fn predict_luma(
-        mode: u32,
-        above: *const u8,
-        left: *const u8,
-        corner: u8,
-        out: *mut u8,
-    );
-    fn predict_chroma(
-        mode: u32,
-        above: *const u8,
-        left: *const u8,
-        corner: u8,
-        out: *mut u8,
-    );
+    fn predict_luma(mode: u32, above: *const u8, left: *const u8, corner: u8, out: *mut u8);
+    fn predict_chroma(mode: u32, above: *const u8, left: *const u8, corner: u8, out: *mut u8);
 }
 
 /// One of libvpx's predictors: the block, its stride, the row above it behind the corner, and the
@@ -112,16 +100,55 @@ fn edges() -> Vec<Edge> {
 fn main() {
     let edges = edges();
     let cases: [(&str, u32, usize, Predictor, Predictor); 8] = [
-        ("DC 16", 0, 16, vpx_dc_predictor_16x16_sse2, vpx_dc_predictor_16x16_c),
-        ("V 16", 1, 16, vpx_v_predictor_16x16_sse2, vpx_v_predictor_16x16_c),
-        ("H 16", 2, 16, vpx_h_predictor_16x16_sse2, vpx_h_predictor_16x16_c),
-        ("TM 16", 3, 16, vpx_tm_predictor_16x16_sse2, vpx_tm_predictor_16x16_c),
-        ("DC 8", 0, 8, vpx_dc_predictor_8x8_sse2, vpx_dc_predictor_8x8_c),
+        (
+            "DC 16",
+            0,
+            16,
+            vpx_dc_predictor_16x16_sse2,
+            vpx_dc_predictor_16x16_c,
+        ),
+        (
+            "V 16",
+            1,
+            16,
+            vpx_v_predictor_16x16_sse2,
+            vpx_v_predictor_16x16_c,
+        ),
+        (
+            "H 16",
+            2,
+            16,
+            vpx_h_predictor_16x16_sse2,
+            vpx_h_predictor_16x16_c,
+        ),
+        (
+            "TM 16",
+            3,
+            16,
+            vpx_tm_predictor_16x16_sse2,
+            vpx_tm_predictor_16x16_c,
+        ),
+        (
+            "DC 8",
+            0,
+            8,
+            vpx_dc_predictor_8x8_sse2,
+            vpx_dc_predictor_8x8_c,
+        ),
         ("V 8", 1, 8, vpx_v_predictor_8x8_sse2, vpx_v_predictor_8x8_c),
         ("H 8", 2, 8, vpx_h_predictor_8x8_sse2, vpx_h_predictor_8x8_c),
-        ("TM 8", 3, 8, vpx_tm_predictor_8x8_sse2, vpx_tm_predictor_8x8_c),
+        (
+            "TM 8",
+            3,
+            8,
+            vpx_tm_predictor_8x8_sse2,
+            vpx_tm_predictor_8x8_c,
+        ),
     ];
-    println!("{:8}{:>10}{:>10}{:>10}{:>8}", "ns", "proved", "sse2", "c", "ratio");
+    println!(
+        "{:8}{:>10}{:>10}{:>10}{:>8}",
+        "ns", "proved", "sse2", "c", "ratio"
+    );
     for (name, mode, side, lanes, plain) in cases {
         for edge in &edges {
             let mut ours = Block([0; 256]);
@@ -132,9 +159,9 @@ fn main() {
         }
         let mut best = [f64::MAX; 3];
         for _ in 0..RUNS {
-            for (best, way) in best
-                .iter_mut()
-                .zip([Way::Proved, Way::Libvpx(lanes), Way::Libvpx(plain)])
+            for (best, way) in
+                best.iter_mut()
+                    .zip([Way::Proved, Way::Libvpx(lanes), Way::Libvpx(plain)])
             {
                 *best = best.min(time(way, mode, side, &edges));
             }
