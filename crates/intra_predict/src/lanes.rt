@@ -33,12 +33,12 @@ pub fn fill_rows<const N: usize>(line: Simd<u8, N>, out: &mut [u8])
 
 /// Sets each row of a block of `N` by `N` samples to the sample to its left.
 #[inline]
-pub fn fill_columns<const N: usize>(left: &[u8], out: &mut [u8])
+pub fn fill_columns<const N: usize>(left: Simd<u8, N>, out: &mut [u8])
     requires lanes { N ≤ 16 }
-    requires left { length left.now ≡ N }
     requires out { length out.old ≡ N * N }
-    ensures { IsBlock N (λ column row. slice_index left.now row) out.new }
+    ensures { IsBlock N (λ column row. slice_index left.entry row) out.new }
 {
+    let left = left.to_array();
     for row in 0..N {
         Simd::<u8, N>::splat(left[row]).copy_to_slice(&mut out[row * N..]);
     }
@@ -65,12 +65,17 @@ fn held_rests<const N: usize>(first: Simd<u8, N>, second: Simd<u8, N>) -> Simd<u
 /// What stands above lies `more` above the corner, or `less` below it, and a row differs from the
 /// sample to its left by just that: no sum needs more than 8 bits.
 #[inline]
-pub fn fill_gradients<const N: usize>(above: Simd<u8, N>, left: &[u8], corner: u8, out: &mut [u8])
+pub fn fill_gradients<const N: usize>(
+    above: Simd<u8, N>,
+    left: Simd<u8, N>,
+    corner: u8,
+    out: &mut [u8],
+)
     requires lanes { N ≤ 16 }
-    requires left { length left.now ≡ N }
     requires out { length out.old ≡ N * N }
-    ensures { IsBlock N (λ column row. gradient_of (slice_index left.now row) (slice_index above.entry column) corner) out.new }
+    ensures { IsBlock N (λ column row. gradient_of (slice_index left.entry row) (slice_index above.entry column) corner) out.new }
 {
+    let left = left.to_array();
     let corner = Simd::<u8, N>::splat(corner);
     let more = held_rests(above, corner);
     let less = held_rests(corner, above);

@@ -44,7 +44,12 @@ fn true_motion(left: [u8; 4], corner: u8, above: [u8; 8]) -> [u8; 16]
     ensures { IsBlock 4 (sub_sample SubMode.Tm left corner above) result }
 {
     let mut block = [0; 16];
-    fill_gradients(u8x4::from_slice(&above), &left, corner, &mut block);
+    fill_gradients(
+        u8x4::from_slice(&above),
+        u8x4::from_array(left),
+        corner,
+        &mut block,
+    );
     block
 }
 

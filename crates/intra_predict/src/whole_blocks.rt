@@ -11,8 +11,8 @@ use std::simd::Simd;
 /// What stands above a block that has nothing of the frame above it, in each column.
 const ABOVE_FRAME: u8 = 127;
 
-/// What stands to the left of a block that has nothing of the frame to its left.
-const LEFT_OF_FRAME: [u8; 16] = [129; 16];
+/// What stands to the left of a block that has nothing of the frame to its left, in each row.
+const LEFT_OF_FRAME: u8 = 129;
 
 /// Predicts a whole block from the samples round it into `out` (RFC 6386, section 12.2).
 ///
@@ -76,15 +76,13 @@ fn row_above<const N: usize>(above: Option<&[u8]>) -> Simd<u8, N>
 
 /// The column to the left of a block of `N` by `N` samples, 129 each left of the frame.
 #[inline]
-fn column_left<const N: usize>(left: Option<&[u8]>) -> &[u8]
-    requires small { N ≤ 16 }
+fn column_left<const N: usize>(left: Option<&[u8]>) -> Simd<u8, N>
     requires inside { ForSome left (λ samples. length samples.now ≡ N) }
-    ensures len { length result.now ≡ N }
-    ensures value { (row : ℕ) → row < N → slice_index result.now row ≡ left_at (option_copied left.entry) row }
+    ensures { (row : ℕ) → row < N → slice_index result row ≡ left_at (option_copied left.entry) row }
 {
     match left {
-        Some(left) => left,
-        None => &LEFT_OF_FRAME[..N],
+        Some(left) => Simd::<u8, N>::from_slice(left),
+        None => Simd::<u8, N>::splat(LEFT_OF_FRAME),
     }
 }
 

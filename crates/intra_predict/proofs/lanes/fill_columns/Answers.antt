@@ -5,6 +5,6 @@ use Rattle.intra_predict.proofs.lanes.fill_columns.Goals as goal
 
 pub loop-row-preserved : goal.loop-row-preserved
 loop-row-preserved g c =
-    let sample = slice_index c.args.left.now c.loop-row.row in
-    row_put g.row.N c.loop-row.row (λ column row. slice_index c.args.left.now row) c.loop-row.out (replicate g.row.N sample) c.loop-row.invariant c.loop-row-test.true (length-replicate g.row.N sample)
+    let sample = slice_index c.args.left c.loop-row.row in
+    row_put g.row.N c.loop-row.row (λ column row. slice_index c.args.left row) c.loop-row.out (replicate g.row.N sample) c.loop-row.invariant c.loop-row-test.true (length-replicate g.row.N sample)
     (λ column inside. get_or-replicate g.row.N column sample 0 inside)

@@ -18,7 +18,7 @@ returns-in-V g c = rw (c.in-V.is) (IsBlock-same g.row.N _ _ c.fill_rows-in-V.new
 
 pub returns-in-H : goal.returns-in-H
 unfolding whole_sample
-returns-in-H g c = rw (c.in-H.is) (IsBlock-same g.row.N _ _ c.fill_columns.new.out c.fill_columns.ensures (λ column row inside below. c.column_left.ensures.value row below))
+returns-in-H g c = rw (c.in-H.is) (IsBlock-same g.row.N _ _ c.fill_columns.new.out c.fill_columns.ensures (λ column row inside below. c.column_left.ensures row below))
 
 pub returns-in-Tm : goal.returns-in-Tm
 unfolding whole_sample
@@ -26,5 +26,5 @@ returns-in-Tm g c =
     rw (c.in-Tm.is)
     (IsBlock-same g.row.N _ _ c.fill_gradients.new.out c.fill_gradients.ensures
     (λ column row inside below.
-    ap (λ l. gradient l (slice_index c.row_above-in-Tm.result column) c.args.corner) (c.column_left-in-Tm.ensures.value row below)
+    ap (λ l. gradient l (slice_index c.row_above-in-Tm.result column) c.args.corner) (c.column_left-in-Tm.ensures row below)
     ∙ ap (λ a. gradient (left_at (option_copied c.args.left) row) a c.args.corner) (c.row_above-in-Tm.ensures column inside)))
