@@ -6,6 +6,7 @@ use Rattle.frame_header.specs.Tags.{has_key_tag, tag_of}
 use Rattle.frame_header.specs.Contexts.{default_context, first_context}
 use Rattle.frame_header.specs.Start.{start_of, tagged_start}
 use Rattle.frame_header.specs.Fields.{fields}
+use Rattle.frame_header.specs.TrailingFields.{trailing_fields}
 use Rattle.frame_header.specs.Places.{token_places}
 use Rattle.frame_header.specs.KeyFrames.{key_context_after}
 use Rattle.frame_header.specs.Header.{◌>>=◌, first_end, header_behind, header_of}
@@ -45,7 +46,7 @@ IfOk-if P true x cause holds = holds
 IfOk-if P false x cause holds = tt
 
 leaves_default : (tables : TableEntries) (packet : List ℕ) (first : Result Start Cause) → IfOk (first >>= header_behind tables (default_context tables) packet) (λ header. header.context_after ≡ key_context_after tables header)
-unfolding fields
+unfolding fields trailing_fields
 leaves_default tables packet first =
     let P : Header → Type 0 = λ header. header.context_after ≡ key_context_after tables header in
     IfOk-then P first _ (λ start. IfOk-then P (first_end start packet) _ (λ end. IfOk-then P (token_places packet end _) _ (λ partitions. IfOk-if P _ _ NotYet refl)))

@@ -27,11 +27,6 @@ default_context tables = record {
   sign_biases = record { golden = false; altref = false };
 }
 
--- the context that a frame leaves: its own, but without refresh_entropy with the probabilities that stood when that was
--- read (RFC 6386, section 19.2)
-abbrev pub left_context : Bool → Probabilities → Context → Context
-left_context refreshes before context = if refreshes then context else record context { probabilities = before }
-
 -- the context with which a frame begins: a key frame's is the default one, any other takes over that before it
 abbrev pub first_context : TableEntries → Bool → Option Context → Context
 first_context tables is_key before = if is_key then default_context tables else unwrap_or before (default_context tables)

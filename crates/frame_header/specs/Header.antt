@@ -4,7 +4,7 @@ use Rattle.arrayvec.specs.ArrayVec.{ArrayVec}
 use Rattle.vp8_tables.specs.Tables.{TableEntries}
 use Rattle.bool_coder.specs.Reader.{Reader, started}
 use Rattle.frame_header.specs.Tags.{has_key_tag}
-use Rattle.frame_header.specs.Contexts.{first_context, left_context}
+use Rattle.frame_header.specs.Contexts.{first_context}
 use Rattle.frame_header.specs.Fields.{fields}
 use Rattle.frame_header.specs.Places.{token_places}
 use Rattle.frame_header.specs.Start.{start_of}
@@ -39,7 +39,8 @@ abbrev pub is_decoded : List ℕ → Fields → List Place → Bool
 is_decoded packet fields partitions =
     has_key_tag packet && not fields.segmentation.is_enabled && fields.filter.level == 0 && list_all (is_zero packet) partitions
 
--- a header of these parts
+-- a header of these parts. The frame leaves its context to the next, or, where refresh_entropy is 0, the context that
+-- stood when that was read (RFC 6386, section 19.2)
 abbrev pub header_in : Start → Fields × Context → ArrayVec Place → (TrailingFields × Context) × Reader → Header
 header_in start (fields, before) partitions ((trailing, context), reader) = record {
   is_key = start.tag.key;
@@ -56,7 +57,7 @@ header_in start (fields, before) partitions ((trailing, context), reader) = reco
   skip_probability = trailing.skip_probability;
   partitions = partitions;
   context = context;
-  context_after = left_context trailing.refreshes_entropy before.probabilities context;
+  context_after = if trailing.refreshes_entropy then context else before;
   reader = reader;
 }
 

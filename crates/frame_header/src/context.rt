@@ -1,6 +1,6 @@
 ghost use Rattle.std.specs.Prelude.{◌≡◌};
 ghost use Rattle.std.specs.Option.{option_copied};
-ghost use Rattle.frame_header.specs.Contexts.{default_context, first_context, left_context};
+ghost use Rattle.frame_header.specs.Contexts.{default_context, first_context};
 
 use vp8_tables::{
     DEFAULT_UV_PROBABILITIES, DEFAULT_VECTOR_PROBABILITIES, DEFAULT_Y_PROBABILITIES, Tables,
@@ -86,20 +86,6 @@ fn default_context(tables: &Tables) -> Context
             golden: false,
             altref: false,
         },
-    }
-}
-
-/// The context that a frame leaves: its own, but where the entropy is not refreshed with the
-/// probabilities that stood before.
-pub(crate) fn left_context(refreshes: bool, before: &Probabilities, context: &Context) -> Context
-    ensures { result ≡ left_context refreshes before.now context.now }
-{
-    if refreshes {
-        return *context;
-    }
-    Context {
-        probabilities: *before,
-        ..*context
     }
 }
 

@@ -5,7 +5,7 @@ ghost use Rattle.frame_header.specs.Header.{first_end, is_zero, is_decoded, head
 ghost use Rattle.frame_header.specs.Tags.{has_key_tag};
 
 use crate::cause::Cause;
-use crate::context::{Context, first_context, left_context};
+use crate::context::{Context, first_context};
 use crate::fields::{Colors, Fields, Filter, Segmentation, read_fields};
 use crate::places::{Place, token_places};
 use crate::start::{Start, start_of};
@@ -120,8 +120,11 @@ pub fn read_header<'a>(
     if !is_decoded(packet, &fields, &partitions) {
         return Err(Cause::NotYet);
     }
-    let before = context.probabilities;
+    let mut context_after = context;
     let trailing = read_trailing_fields(&mut reader, tables.updates(), &mut context);
+    if trailing.refreshes_entropy {
+        context_after = context;
+    }
     Ok(Header {
         is_key: start.tag.key,
         version: start.tag.version,
@@ -136,8 +139,8 @@ pub fn read_header<'a>(
         refreshes_entropy: trailing.refreshes_entropy,
         skip_probability: trailing.skip_probability,
         partitions,
-        context_after: left_context(trailing.refreshes_entropy, &before, &context),
         context,
+        context_after,
         reader,
     })
 }
