@@ -4,6 +4,7 @@
 mod frame_modes;
 mod key_modes;
 mod key_sub_modes;
+pub mod laws;
 mod records;
 
 pub use frame_modes::{Modes, read_modes};
