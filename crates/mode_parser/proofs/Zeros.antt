@@ -1,13 +1,12 @@
 -- What a reader with only zeros before it gives
-use Rattle.std.proofs.Common.{◌≡◌, ℕ, zero, suc, ◌+◌, ◌*◌, ◌≤◌, Bool, true, false, List, [], ◌∷◌, ◌++◌, replicate, slice_index_or, refl, sym, ◌∙◌, arith}
-use Rattle.std.specs.Prelude.{min, nat_le, nat_lt, ◌==◌, Option, Some, None, slice_index, if◌then◌else◌}
+use Rattle.std.proofs.Common.{◌≡◌, ℕ, zero, suc, true, false, List, [], ◌∷◌, replicate, refl, arith}
+use Rattle.std.specs.Prelude.{nat_le, nat_lt, ◌==◌, Option, Some, None, slice_index, if◌then◌else◌}
 use Rattle.std.specs.List.{list_all}
 use Rattle.std.proofs.lemmas.Bool.{and_parts, eqb-true}
 use Rattle.std.proofs.lemmas.Bool.Decides.{nat_tests}
 use Rattle.bool_coder.specs.Reader.{Reader, next_bit, after_bit, doubled, renewed, split_of, read}
 use Rattle.vp8_tables.specs.Tables.{TableEntries, key_sub_nodes_of}
 use Rattle.vp8_tables.specs.declared.modes.TheConstants.{SUB_TREE, KEY_Y_TREE, KEY_Y_PROBABILITIES, UV_TREE, KEY_UV_PROBABILITIES}
-use Rattle.intra_predict.specs.declared.modes.WholeMode.{WholeMode}
 use Rattle.intra_predict.specs.declared.modes.WholeMode.TheVariants.{Dc as WholeDc}
 use Rattle.intra_predict.specs.declared.modes.SubMode.{SubMode}
 use Rattle.intra_predict.specs.declared.modes.SubMode.TheVariants.{Dc}

@@ -1,5 +1,5 @@
 -- What every record of a key frame without segments has in common, and the record that zeros give.
-use Rattle.std.specs.Prelude.{◌≡◌, ◌==◌, ℕ, true, false, List, length}
+use Rattle.std.specs.Prelude.{◌≡◌, ◌==◌, true, false, length}
 use Rattle.std.specs.List.{list_all}
 use Rattle.bool_coder.specs.Reader.{Reader}
 use Rattle.intra_predict.specs.declared.modes.WholeMode.{WholeMode}

@@ -6,6 +6,8 @@ mod key_modes;
 mod key_sub_modes;
 pub mod laws;
 mod records;
+#[cfg(test)]
+mod tests;
 
 pub use frame_modes::{Modes, read_modes};
 pub use records::{MbMode, YMode};
