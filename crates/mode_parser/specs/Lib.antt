@@ -1,3 +1,4 @@
 pub mod SubModes
 pub mod Records
 pub mod FrameModes
+pub mod KeyShape

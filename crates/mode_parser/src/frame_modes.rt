@@ -11,7 +11,7 @@ use std::alloc::Global;
 use std::marker::Model;
 use vp8_tables::Tables;
 
-/// The modes of a frame.
+/// The modes of a frame: a record for each macroblock, and the segment map behind the frame.
 #[derive(Drop)]
 pub struct Modes {
     records: Vec<MbMode>,
@@ -50,15 +50,16 @@ fn segment_map(alloc: Global, records: &[MbMode]) -> Result<Vec<u8>, NoMemory>
 }
 
 /// The modes of a key frame without segments that has `columns` by `rows` macroblocks, each 1 to
-/// 1,024. The segment map of the frame before is not looked at. `NoMemory` where room for the
-/// records or for the segment map is refused.
+/// 1,024 (RFC 6386, section 19.3): one record for each, in raster order, and a segment map of
+/// zeros. No key frame looks at `_map`, the segment map before it. `NoMemory` where room for the
+/// records or for the map is refused.
 pub fn read_modes(
     alloc: Global,
     tables: &Tables,
     header: &Header,
     columns: usize,
     rows: usize,
-    map: Option<&[u8]>,
+    _map: Option<&[u8]>,
 ) -> Result<Modes, NoMemory>
     requires key { IsTrue header.now.is_key }
     requires wide { (1 ≤ columns) × (columns ≤ 1024) }
@@ -66,7 +67,6 @@ pub fn read_modes(
     ensures value { IfOk result (λ modes. modes ≡ modes_of tables.now header.now columns rows) }
     ensures count { IfOk result (λ modes. length modes.records ≡ columns * rows) }
 {
-    let _map = map;
     let probability = header.skip_probability;
     let records = read_records(alloc, &header.reader, tables, probability, columns, rows)?;
     let segment_map = segment_map(alloc, &records)?;

@@ -31,11 +31,18 @@ fn read_y_mode(reader: &mut Decoder) -> YMode
     if !reader.bit(KEY_Y_PROBABILITIES[0]) {
         return YMode::B;
     }
-    YMode::Whole(if !reader.bit(KEY_Y_PROBABILITIES[1]) {
-        if reader.bit(KEY_Y_PROBABILITIES[2]) { WholeMode::V } else { WholeMode::Dc }
+    if !reader.bit(KEY_Y_PROBABILITIES[1]) {
+        return if reader.bit(KEY_Y_PROBABILITIES[2]) {
+            YMode::Whole(WholeMode::V)
+        } else {
+            YMode::Whole(WholeMode::Dc)
+        };
+    }
+    if reader.bit(KEY_Y_PROBABILITIES[3]) {
+        YMode::Whole(WholeMode::Tm)
     } else {
-        if reader.bit(KEY_Y_PROBABILITIES[3]) { WholeMode::Tm } else { WholeMode::H }
-    })
+        YMode::Whole(WholeMode::H)
+    }
 }
 
 /// The chroma mode: the leaf of its tree.
@@ -49,7 +56,11 @@ fn read_uv_mode(reader: &mut Decoder) -> WholeMode
     if !reader.bit(KEY_UV_PROBABILITIES[1]) {
         return WholeMode::V;
     }
-    if reader.bit(KEY_UV_PROBABILITIES[2]) { WholeMode::Tm } else { WholeMode::H }
+    if reader.bit(KEY_UV_PROBABILITIES[2]) {
+        WholeMode::Tm
+    } else {
+        WholeMode::H
+    }
 }
 
 /// The record of a macroblock below and to the right of these.

@@ -103,7 +103,11 @@ fn read_sub_mode(reader: &mut Decoder, tables: &Tables, above: SubMode, left: Su
         if !reader.bit(nodes[4]) {
             return SubMode::He;
         }
-        return if reader.bit(nodes[5]) { SubMode::Vr } else { SubMode::Rd };
+        return if reader.bit(nodes[5]) {
+            SubMode::Vr
+        } else {
+            SubMode::Rd
+        };
     }
     if !reader.bit(nodes[6]) {
         return SubMode::Ld;
@@ -111,7 +115,11 @@ fn read_sub_mode(reader: &mut Decoder, tables: &Tables, above: SubMode, left: Su
     if !reader.bit(nodes[7]) {
         return SubMode::Vl;
     }
-    if reader.bit(nodes[8]) { SubMode::Hu } else { SubMode::Hd }
+    if reader.bit(nodes[8]) {
+        SubMode::Hu
+    } else {
+        SubMode::Hd
+    }
 }
 
 /// The modes of all sub blocks of a macroblock below and to the right of these.

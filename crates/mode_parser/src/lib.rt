@@ -4,7 +4,10 @@
 mod frame_modes;
 mod key_modes;
 mod key_sub_modes;
+pub mod laws;
 mod records;
+#[cfg(test)]
+mod tests;
 
 pub use frame_modes::{Modes, read_modes};
 pub use records::{MbMode, YMode};

@@ -1,6 +1,4 @@
-use Rattle.std.proofs.Common.{◌≡◌, length, ap, arith, length-append}
-use Rattle.std.specs.Option.{option_copied}
-use Rattle.mode_parser.specs.FrameModes.{record_above, record_left}
+use Rattle.std.proofs.Common.{length, ap, arith, length-append}
 use Rattle.mode_parser.proofs.Steps.{first_modes-none, first_modes-more}
 use Rattle.mode_parser.proofs.key_modes.read_records.Goals as goal
 

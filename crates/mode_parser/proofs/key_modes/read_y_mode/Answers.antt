@@ -14,7 +14,7 @@ pub returns-else-bit : goal.returns-else-bit
 returns-else-bit c = key_y_mode-leaf _ _ _ (leaf_below-on 7 KEY_Y_TREE KEY_Y_PROBABILITIES 0 _ _ _ true c.bit.ensures c.if-not-bit.false refl ∙ leaf_below-on 6 KEY_Y_TREE KEY_Y_PROBABILITIES 2 _ _ _ false c.bit-2.ensures c.if-not-bit-2.true refl ∙ leaf_below-end 5 KEY_Y_TREE KEY_Y_PROBABILITIES 4 _ _ _ false c.bit-then-not-bit-2.ensures c.if-bit.false refl)
 
 pub returns-then-bit-2 : goal.returns-then-bit-2
-returns-then-bit-2 c = key_y_mode-leaf _ _ _ (leaf_below-on 7 KEY_Y_TREE KEY_Y_PROBABILITIES 0 _ _ _ true c.bit.ensures c.if-not-bit.false refl ∙ leaf_below-on 6 KEY_Y_TREE KEY_Y_PROBABILITIES 2 _ _ _ true c.bit-2.ensures c.if-not-bit-2.false refl ∙ leaf_below-end 5 KEY_Y_TREE KEY_Y_PROBABILITIES 6 _ _ _ true c.bit-else-not-bit-2.ensures c.if-bit-2.true refl)
+returns-then-bit-2 c = key_y_mode-leaf _ _ _ (leaf_below-on 7 KEY_Y_TREE KEY_Y_PROBABILITIES 0 _ _ _ true c.bit.ensures c.if-not-bit.false refl ∙ leaf_below-on 6 KEY_Y_TREE KEY_Y_PROBABILITIES 2 _ _ _ true c.bit-2.ensures c.if-not-bit-2.false refl ∙ leaf_below-end 5 KEY_Y_TREE KEY_Y_PROBABILITIES 6 _ _ _ true c.bit-3.ensures c.if-bit-2.true refl)
 
 pub returns-else-bit-2 : goal.returns-else-bit-2
-returns-else-bit-2 c = key_y_mode-leaf _ _ _ (leaf_below-on 7 KEY_Y_TREE KEY_Y_PROBABILITIES 0 _ _ _ true c.bit.ensures c.if-not-bit.false refl ∙ leaf_below-on 6 KEY_Y_TREE KEY_Y_PROBABILITIES 2 _ _ _ true c.bit-2.ensures c.if-not-bit-2.false refl ∙ leaf_below-end 5 KEY_Y_TREE KEY_Y_PROBABILITIES 6 _ _ _ false c.bit-else-not-bit-2.ensures c.if-bit-2.false refl)
+returns-else-bit-2 c = key_y_mode-leaf _ _ _ (leaf_below-on 7 KEY_Y_TREE KEY_Y_PROBABILITIES 0 _ _ _ true c.bit.ensures c.if-not-bit.false refl ∙ leaf_below-on 6 KEY_Y_TREE KEY_Y_PROBABILITIES 2 _ _ _ true c.bit-2.ensures c.if-not-bit-2.false refl ∙ leaf_below-end 5 KEY_Y_TREE KEY_Y_PROBABILITIES 6 _ _ _ false c.bit-3.ensures c.if-bit-2.false refl)

@@ -1,0 +1,5 @@
+use Rattle.mode_parser.proofs.Zeros.{first_modes-zeros}
+use Rattle.mode_parser.proofs.laws.zeros_are_dc.Goals as goal
+
+pub returns : goal.returns
+returns c = (first_modes-zeros _ _ _ _ _ c.requires).same

@@ -1,0 +1,258 @@
+use crate::{MbMode, YMode, read_modes};
+use bool_coder::Encoder;
+use frame_header::read_header;
+use intra_predict::{SubMode, WholeMode};
+use std::alloc::{AllocError, Global};
+use std::test::Fail;
+use vp8_tables::Tables;
+
+const WHOLE: [WholeMode; 4] = [WholeMode::Dc, WholeMode::V, WholeMode::H, WholeMode::Tm];
+
+const SUB: [SubMode; 10] = [
+    SubMode::Dc,
+    SubMode::Tm,
+    SubMode::Ve,
+    SubMode::He,
+    SubMode::Ld,
+    SubMode::Rd,
+    SubMode::Vr,
+    SubMode::Vl,
+    SubMode::Hd,
+    SubMode::Hu,
+];
+
+/// The bits of each luma mode, DC, V, H, TM, B, with their probabilities (RFC 6386, section 11.2).
+const LUMA_BITS: [&[(bool, u8)]; 5] = [
+    &[(true, 145), (false, 156), (false, 163)],
+    &[(true, 145), (false, 156), (true, 163)],
+    &[(true, 145), (true, 156), (false, 128)],
+    &[(true, 145), (true, 156), (true, 128)],
+    &[(false, 145)],
+];
+
+/// The same of each chroma mode (section 11.4).
+const CHROMA_BITS: [&[(bool, u8)]; 4] = [
+    &[(false, 142)],
+    &[(true, 142), (false, 114)],
+    &[(true, 142), (true, 114), (false, 183)],
+    &[(true, 142), (true, 114), (true, 183)],
+];
+
+/// The bits of each sub mode, in the order of `SUB`, and the node of each bit (section 11.2).
+const SUB_BITS: [(&[u8], &[u8]); 10] = [
+    (b"0", b"0"),
+    (b"10", b"01"),
+    (b"110", b"012"),
+    (b"11100", b"01234"),
+    (b"11110", b"01236"),
+    (b"111010", b"012345"),
+    (b"111011", b"012345"),
+    (b"111110", b"012367"),
+    (b"1111110", b"0123678"),
+    (b"1111111", b"0123678"),
+];
+
+/// The sub modes of the macroblocks of `frame` that have such, row by row. A sub mode is the last
+/// of three digits, behind the modes above and to its left.
+const SUBS: [[&[u8]; 4]; 4] = [
+    [
+        b"024 045 056 067",
+        b"428 589 690 701",
+        b"822 923 034 149",
+        b"225 357 478 986",
+    ],
+    [
+        b"201 213 230 209",
+        b"100 300 002 922",
+        b"006 061 218 285",
+        b"607 174 849 593",
+    ],
+    [
+        b"590 700 800 600",
+        b"021 011 011 011",
+        b"159 198 187 176",
+        b"932 822 722 622",
+    ],
+    [
+        b"103 133 133 133",
+        b"303 333 333 333",
+        b"303 333 333 333",
+        b"303 333 333 333",
+    ],
+];
+
+/// A macroblock by the places of its modes in the lists above; without sub modes its rows are
+/// empty.
+#[derive(Clone, Copy)]
+struct Written {
+    is_skipped: bool,
+    luma: usize,
+    subs: [&'static [u8]; 4],
+    chroma: usize,
+}
+
+fn whole(is_skipped: bool, luma: usize, chroma: usize) -> Written {
+    Written {
+        is_skipped,
+        luma,
+        subs: [&[]; 4],
+        chroma,
+    }
+}
+
+fn split(subs: [&'static [u8]; 4], chroma: usize) -> Written {
+    Written {
+        is_skipped: false,
+        luma: 4,
+        subs,
+        chroma,
+    }
+}
+
+/// Four by two macroblocks: V, sub blocks, H, TM, and below them sub blocks twice, DC, sub blocks.
+/// They have each mode of each kind, and sub blocks beside the end of the frame, whole blocks and
+/// sub blocks.
+fn frame() -> [Written; 8] {
+    [
+        whole(true, 1, 0),
+        split(SUBS[0], 1),
+        whole(false, 2, 2),
+        whole(true, 3, 3),
+        split(SUBS[1], 3),
+        split(SUBS[2], 2),
+        whole(false, 0, 1),
+        split(SUBS[3], 0),
+    ]
+}
+
+/// The number that a digit stands for.
+fn number(digit: u8) -> usize {
+    (digit % 16 % 10) as usize
+}
+
+/// Tables in which byte i is 37 i + i div 256, modulo 256, so that hardly two neighbours are alike.
+fn counted_tables() -> Option<Tables> {
+    let mut text = [0u8; 3012];
+    for (i, byte) in text.iter_mut().enumerate() {
+        *byte = ((i % 256 * 37 + i / 256) % 256) as u8;
+    }
+    Tables::read(&text).ok()
+}
+
+fn write_pairs(encoder: &mut Encoder, pairs: &[(bool, u8)]) -> Result<(), AllocError> {
+    for (bit, prob) in pairs {
+        encoder.bit(*bit, *prob)?;
+    }
+    Ok(())
+}
+
+/// A header whose fields are 0 but for a probability of skipping of 200, where one is asked for.
+fn write_header(encoder: &mut Encoder, tables: &Tables, skips: bool) -> Result<(), AllocError> {
+    for _field in 0..29 {
+        encoder.bit(false, 128)?;
+    }
+    for prob in tables.updates() {
+        encoder.bit(false, *prob)?;
+    }
+    encoder.bit(skips, 128)?;
+    if skips {
+        for bit in [true, true, false, false, true, false, false, false] {
+            encoder.bit(bit, 128)?;
+        }
+    }
+    Ok(())
+}
+
+fn write_sub_mode(
+    encoder: &mut Encoder,
+    tables: &Tables,
+    above: usize,
+    left: usize,
+    mode: usize,
+) -> Result<(), AllocError> {
+    let (bits, nodes) = SUB_BITS[mode % 10];
+    for (bit, node) in bits.iter().zip(nodes) {
+        let prob = tables.key_sub(above % 10, left % 10, number(*node) % 9);
+        encoder.bit(*bit == b'1', prob)?;
+    }
+    Ok(())
+}
+
+fn write_macroblock(
+    encoder: &mut Encoder,
+    tables: &Tables,
+    skips: bool,
+    macroblock: &Written,
+) -> Result<(), AllocError> {
+    if skips {
+        encoder.bit(macroblock.is_skipped, 200)?;
+    }
+    write_pairs(encoder, LUMA_BITS[macroblock.luma % 5])?;
+    for row in macroblock.subs {
+        for sub in row.chunks(4) {
+            if let [above, left, mode, ..] = sub {
+                write_sub_mode(
+                    encoder,
+                    tables,
+                    number(*above),
+                    number(*left),
+                    number(*mode),
+                )?;
+            }
+        }
+    }
+    write_pairs(encoder, CHROMA_BITS[macroblock.chroma % 4])
+}
+
+/// A key packet of 64 by 32 samples with the modes of `frame`.
+fn packet_of(alloc: Global, tables: &Tables, skips: bool) -> Result<Vec<u8>, AllocError> {
+    let mut encoder = Encoder::new(alloc);
+    write_header(&mut encoder, tables, skips)?;
+    for macroblock in &frame() {
+        write_macroblock(&mut encoder, tables, skips, macroblock)?;
+    }
+    let first = encoder.finish()?;
+    let size = 0x10 + 32 * (first.len() % 524_288) as u32;
+    let mut packet = Vec::new(alloc);
+    packet.extend_from_slice(&size.to_le_bytes()[..3])?;
+    packet.extend_from_slice(&[0x9D, 1, 0x2A, 64, 0, 32, 0])?;
+    packet.extend_from_slice(first.as_slice())?;
+    Ok(packet)
+}
+
+fn record_of(macroblock: &Written, skips: bool) -> MbMode {
+    let mut sub_modes = [SubMode::Dc; 16];
+    let rows = sub_modes.chunks_mut(4).zip(macroblock.subs);
+    for (modes, row) in rows {
+        for (mode, sub) in modes.iter_mut().zip(row.chunks(4)) {
+            *mode = SUB[number(sub.get(2).copied().unwrap_or(0)) % 10];
+        }
+    }
+    MbMode {
+        segment: 0,
+        is_skipped: skips && macroblock.is_skipped,
+        y_mode: if macroblock.luma == 4 {
+            YMode::B
+        } else {
+            YMode::Whole(WHOLE[macroblock.luma % 4])
+        },
+        sub_modes,
+        uv_mode: WHOLE[macroblock.chroma % 4],
+    }
+}
+
+#[test]
+fn reads_what_was_written(rt: HostRuntime) -> Result<(), Fail> {
+    let tables = counted_tables().expect(&rt, "3012 bytes");
+    for skips in [true, false] {
+        let packet = packet_of(rt.alloc(), &tables, skips)?;
+        let header = read_header(&tables, None, packet.as_slice()).expect(&rt, "a key packet");
+        let modes = read_modes(rt.alloc(), &tables, &header, 4, 2, None)?;
+        assert_eq!(rt; modes.records().len(), 8);
+        for (record, macroblock) in modes.records().iter().zip(&frame()) {
+            assert_eq!(rt; *record, record_of(macroblock, skips));
+        }
+        assert_eq!(rt; modes.segment_map(), [0; 8].as_slice());
+    }
+    Ok(())
+}
