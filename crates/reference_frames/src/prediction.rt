@@ -194,7 +194,11 @@ fn predict_whole(plane: &mut Plane, size: BlockSize, mx: usize, my: usize, mode:
     let side = size.side();
     let (x, y) = (side * mx, side * my);
     let (mut above, mut left, mut block) = ([0; 16], [0; 16], [0; 256]);
-    let (above, left, block) = (&mut above[..side], &mut left[..side], &mut block[..side * side]);
+    let (above, left, block) = (
+        &mut above[..side],
+        &mut left[..side],
+        &mut block[..side * side],
+    );
     read_above(plane, x, y, above);
     read_left(plane, x, y, left);
     let above = side_inside(y == 0, above);
