@@ -17,13 +17,13 @@ quantizers = do
   uv_ac ← signed 4
   give (record { y_ac_index = y_ac; y_dc_delta = y_dc; y2_dc_delta = y2_dc; y2_ac_delta = y2_ac; uv_dc_delta = uv_dc; uv_ac_delta = uv_ac })
 
--- a probability, with the one that its update has: a new one, or the one before (RFC 6386, section 13.4)
+-- a probability: a new one where a bit read with its update probability is set, else the one before (RFC 6386, section 13.4)
 unfoldable pub updated : ℕ → ℕ → Reading ℕ
 updated update before = do
   is_updated ← read update
   if is_updated then literal 8 else give before
 
--- probabilities of which the first ones are updated, in their order (RFC 6386, section 13.4)
+-- the probabilities where so many of them, in index order, had their update (RFC 6386, section 13.4)
 unfoldable pub first_updated : ℕ → List ℕ → List ℕ → Reading (List ℕ)
 first_updated zero updates before = give before
 first_updated (suc place) updates before = do

@@ -44,11 +44,11 @@ context_written tables = record (default_context tables) {
   };
 }
 
--- tables of which an update has the probability 255
+-- tables whose update probabilities are all 255
 abbrev pub worked_tables : TableEntries
 worked_tables = record { coefficients = replicate 1056 128; updates = replicate 1056 255; key_subs = [] }
 
--- the fields behind
+-- the fields behind the number of token partitions
 abbrev pub trailing_written : TrailingFields
 trailing_written = record {
   quantizers = record { y_ac_index = 53; y_dc_delta = negsuc 2; y2_dc_delta = pos 0; y2_ac_delta = pos 15; uv_dc_delta = negsuc 14; uv_ac_delta = pos 7 };
@@ -62,13 +62,13 @@ trailing_context =
     let before = context_written worked_tables in
     record before { probabilities = record before.probabilities { coefficients = slice_set (slice_set (replicate 1056 128) 1 200) 1055 3 } }
 
--- the two groups of fields, one behind the other
+-- what is read behind the number of token partitions
 abbrev pub trailing_read : TrailingFields × Context
 trailing_read =
     let read = fields true (default_context worked_tables) (started written_fields) in
     (trailing_fields worked_tables.updates read.0.1 read.1).0
 
--- the first partition of a key frame of the kind that is decoded, which keeps what it changes, as that encoder wrote it
+-- the first partition of a key frame of the kind that is decoded, with refresh_entropy, as that encoder wrote it
 abbrev pub written_key_frame : List ℕ
 written_key_frame = 0x80 ∷ 0x19 ∷ 0x94 ∷ 0xFF ∷ 0x6E ∷ 0xDE ∷ 0x0E ∷ 0x00 ∷ 0x00 ∷ []
 

@@ -54,7 +54,7 @@ fn read_quantizers(reader: &mut Decoder) -> Quantizers
     }
 }
 
-/// A probability whose update has a probability of `update`.
+/// A probability behind its update, of which `update` is the probability.
 #[inline]
 #[tactic(auto, unfolding(crate::specs::TrailingFields::updated))]
 fn read_updated(reader: &mut Decoder, update: u8, before: u8) -> u8
@@ -70,6 +70,7 @@ fn read_updated(reader: &mut Decoder, update: u8, before: u8) -> u8
 fn read_updates(reader: &mut Decoder, updates: &[u8; 1056], probabilities: &mut [u8; 1056])
     ensures { first_updated 1056 updates.now probabilities.old reader.old ≡ (probabilities.new, reader.new) }
 {
+    // A copy of its own keeps the reader in registers.
     let mut local = reader.copied();
     for place in 0..1056 {
         probabilities[place] = read_updated(&mut local, updates[place], probabilities[place]);
