@@ -4,6 +4,7 @@
 
 mod fault;
 mod modes;
+mod rfc;
 mod tables;
 mod vectors;
 
