@@ -1,0 +1,4 @@
+pub mod Leaves
+pub mod ExtraBits
+pub mod SizeWalks
+pub mod Steps

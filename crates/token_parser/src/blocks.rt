@@ -1,0 +1,182 @@
+//! The blocks of a macroblock.
+
+ghost use Rattle.std.specs.Prelude.{◌≡◌, ◌-◌, ◌<◌, ◌≤◌, false};
+ghost use Rattle.token_parser.specs.Tokens.{signed_size, tokens_from};
+ghost use Rattle.token_parser.specs.Blocks.{place_of, block, macroblock, no_flags, skipped};
+
+use crate::places::{ZIGZAG, nodes_at};
+use crate::sizes::read_size;
+use crate::tokens::Tokens;
+use bool_coder::Decoder;
+
+/// The coefficient of a size, whose sign is the next bit.
+#[inline]
+#[tactic(auto, unfolding(crate::specs::Tokens::signed_size))]
+fn read_sign(reader: &mut Decoder, size: u16) -> i16
+    requires { size ≤ 2114 }
+    ensures { signed_size size reader.old ≡ (result, reader.new) }
+{
+    let value = size as i16;
+    if reader.flag() { -value } else { value }
+}
+
+/// The coefficients of a block that stand behind the place `first`, and the place behind its last
+/// token. Others stay as they are.
+#[inline]
+fn read_tokens<'a>(
+    decoder: Decoder<'a>,
+    probs: &[u8; 1056],
+    kind: usize,
+    first: usize,
+    flags: usize,
+    coefficients: &mut [i16; 16],
+) -> (Decoder<'a>, usize)
+    requires kind { kind < 4 }
+    requires first { first ≤ 16 }
+    requires context { flags < 3 }
+    ensures value { tokens_from (16 - first) probs.now kind first flags false coefficients.old decoder.entry ≡ ((coefficients.new, result.1), result.0) }
+    ensures least { first ≤ result.1 }
+    ensures most { result.1 ≤ 16 }
+{
+    let mut reader = decoder;
+    let mut place = first;
+    let mut context = flags;
+    while place < 16 {
+        let nodes = nodes_at(probs, kind, place, context);
+        if !reader.bit(nodes[0]) {
+            return (reader, place);
+        }
+        'zeros: loop {
+            let nodes = nodes_at(probs, kind, place, context);
+            if reader.bit(nodes[1]) {
+                let size = read_size(&mut reader, nodes);
+                coefficients[ZIGZAG[place]] = read_sign(&mut reader, size);
+                context = if size > 1 { 2 } else { 1 };
+                place += 1;
+                break 'zeros;
+            }
+            context = 0;
+            place += 1;
+            if place == 16 {
+                return (reader, 16);
+            }
+        }
+    }
+    (reader, 16)
+}
+
+/// Where a block stands: its kind (RFC 6386, section 13.3), the place of its first token, its
+/// number, and the numbers of the flags above it and to its left.
+#[derive(Clone, Copy)]
+pub struct BlockPlace {
+    kind: usize,
+    first: usize,
+    index: usize,
+    above: usize,
+    left: usize,
+    ghost kind_fits: { kind < 4 },
+    ghost first_fits: { first ≤ 1 },
+    ghost index_fits: { index < 25 },
+    ghost above_fits: { above < 9 },
+    ghost left_fits: { left < 9 },
+}
+
+/// The place of the block whose tokens come behind those of `k` others.
+#[inline]
+fn place_of(has_y2: bool, k: usize) -> BlockPlace
+    requires { k < 25 }
+    ensures { result ≡ place_of has_y2 k }
+{
+    if k == 0 {
+        return BlockPlace {
+            kind: 1,
+            first: 0,
+            index: 24,
+            above: 8,
+            left: 8,
+        };
+    }
+    if k < 17 {
+        let n = k - 1;
+        return BlockPlace {
+            kind: if has_y2 { 0 } else { 3 },
+            first: has_y2 as usize,
+            index: n,
+            above: n % 4,
+            left: n / 4,
+        };
+    }
+    let (blocks, flags, n) = if k < 21 {
+        (16, 4, k - 17)
+    } else {
+        (20, 6, k - 21)
+    };
+    BlockPlace {
+        kind: 2,
+        first: 0,
+        index: blocks + n,
+        above: flags + n % 2,
+        left: flags + n / 2,
+    }
+}
+
+/// One block.
+#[inline]
+fn read_block<'a>(
+    decoder: Decoder<'a>,
+    probs: &[u8; 1056],
+    at: BlockPlace,
+    tokens: &mut Tokens,
+) -> Decoder<'a>
+    ensures { block probs.now at tokens.old decoder.entry ≡ (tokens.new, result) }
+{
+    let flags = tokens.left[at.left] as usize + tokens.above[at.above] as usize;
+    let coefficients = &mut tokens.coefficients[at.index];
+    let (reader, end) = read_tokens(decoder, probs, at.kind, at.first, flags, coefficients);
+    let has_token = end > at.first;
+    tokens.above[at.above] = has_token;
+    tokens.left[at.left] = has_token;
+    tokens.ends[at.index] = end as u8;
+    reader
+}
+
+/// Reads the tokens of a macroblock: of Y2 where it has one, of 16 blocks of luma, 4 of U and 4 of V
+/// (RFC 6386, section 13). `probabilities` has 4 kinds by 8 bands by 3 contexts by 11 nodes.
+///
+/// `tokens.above` and `tokens.left` are the flags of the macroblocks above and to the left, and
+/// become its own. Each coefficient that is not 0 is written over what stood there, and nothing else
+/// is: the caller hands in lists of zeros.
+pub fn read_macroblock(
+    decoder: &mut Decoder,
+    probabilities: &[u8; 1056],
+    has_y2: bool,
+    tokens: &mut Tokens,
+)
+    ensures { macroblock probabilities.now has_y2 tokens.old decoder.old ≡ (tokens.new, decoder.new) }
+{
+    let mut reader = decoder.copied();
+    for k in 0..25usize {
+        if k > 0 || has_y2 {
+            reader = read_block(reader, probabilities, place_of(has_y2, k), tokens);
+        }
+    }
+    *decoder = reader;
+}
+
+/// The flags of a macroblock without tokens.
+#[inline]
+fn no_flags(has_y2: bool, flags: &[bool; 9]) -> [bool; 9]
+    ensures { result ≡ no_flags has_y2 flags.now }
+{
+    let y2 = !has_y2 && flags[8];
+    [false, false, false, false, false, false, false, false, y2]
+}
+
+/// Takes the flags of a macroblock without tokens away: all 9 where it has Y2, else those of luma and
+/// chroma (RFC 6386, section 13.3). Coefficients and ends stay as they are.
+pub fn skip_macroblock(has_y2: bool, tokens: &mut Tokens)
+    ensures { tokens.new ≡ skipped has_y2 tokens.old }
+{
+    tokens.above = no_flags(has_y2, &tokens.above);
+    tokens.left = no_flags(has_y2, &tokens.left);
+}
