@@ -2,3 +2,5 @@ pub mod Leaves
 pub mod ExtraBits
 pub mod SizeWalks
 pub mod Steps
+pub mod Zigzag
+pub mod BlockSteps

@@ -1,9 +1,9 @@
 -- The tokens of a macroblock (RFC 6386, sections 13.1 to 13.3).
-use Rattle.std.specs.Prelude.{ℕ, zero, suc, ◌+◌, ◌-◌, ◌/◌, ◌%◌, ◌==◌, ◌||◌, Bool, false, nat_lt, List, [], ◌∷◌, ◌++◌, replicate, slice_index_or, slice_set, if◌then◌else◌}
+use Rattle.std.specs.Prelude.{ℕ, zero, suc, ◌+◌, ◌-◌, ◌/◌, ◌%◌, ◌==◌, ◌||◌, ◌<◌, ◌≤◌, Bool, false, nat_lt, List, [], ◌∷◌, ◌++◌, replicate, slice_index_or, slice_set, if◌then◌else◌}
 use Rattle.std.specs.Int.{from_bool}
 use Rattle.bool_coder.specs.Reading.{Reading, ◌>>=◌, give}
 use Rattle.token_parser.specs.declared.tokens.Tokens.{Tokens}
-use Rattle.token_parser.specs.declared.blocks.BlockPlace.{BlockPlace}
+use Rattle.token_parser.specs.declared.block_place.BlockPlace.{BlockPlace}
 use Rattle.token_parser.specs.Tokens.{tokens_from}
 
 -- where a block stands: its kind, the place of its first token, its number, and the numbers of the flags above it and
@@ -20,6 +20,14 @@ chroma_place blocks flags n = record { kind = 2; first = 0; index = blocks + n; 
 -- the blocks in the order of their tokens: Y2, 16 of luma, 4 of U, 4 of V (section 13)
 abbrev pub place_of : Bool → ℕ → BlockPlace
 place_of has_y2 k = if k == 0 then y2_place else if nat_lt k 17 then luma_place has_y2 (k - 1) else if nat_lt k 21 then chroma_place 16 4 (k - 17) else chroma_place 20 6 (k - 21)
+
+-- a place of one of the 25 blocks
+pub record IsInside (at : BlockPlace) : Type 0 where
+  pub kind : at.kind < 4
+  pub first : at.first ≤ 1
+  pub index : at.index < 25
+  pub above : at.above < 9
+  pub left : at.left < 9
 
 -- a block is read in the context of the flags above and to the left, and leaves both telling whether it has a token,
 -- whatever the values are (section 13.3)

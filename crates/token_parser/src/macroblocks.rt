@@ -1,91 +1,19 @@
-//! The blocks of a macroblock.
+//! The blocks of a macroblock, in the order of their tokens.
 
-ghost use Rattle.std.specs.Prelude.{◌≡◌, ◌-◌, ◌<◌, ◌≤◌, false};
-ghost use Rattle.token_parser.specs.Tokens.{signed_size, tokens_from};
-ghost use Rattle.token_parser.specs.Blocks.{place_of, block, macroblock, no_flags, skipped};
+ghost use Rattle.std.specs.Prelude.{◌≡◌, ◌<◌};
+ghost use Rattle.token_parser.specs.Blocks.{place_of, IsInside, block, macroblock, no_flags, skipped};
 
-use crate::places::{ZIGZAG, nodes_at};
-use crate::sizes::read_size;
+use crate::block_place::BlockPlace;
+use crate::block_tokens::read_tokens;
 use crate::tokens::Tokens;
 use bool_coder::Decoder;
-
-/// The coefficient of a size, whose sign is the next bit.
-#[inline]
-#[tactic(auto, unfolding(crate::specs::Tokens::signed_size))]
-fn read_sign(reader: &mut Decoder, size: u16) -> i16
-    requires { size ≤ 2114 }
-    ensures { signed_size size reader.old ≡ (result, reader.new) }
-{
-    let value = size as i16;
-    if reader.flag() { -value } else { value }
-}
-
-/// The coefficients of a block that stand behind the place `first`, and the place behind its last
-/// token. Others stay as they are.
-#[inline]
-fn read_tokens<'a>(
-    decoder: Decoder<'a>,
-    probs: &[u8; 1056],
-    kind: usize,
-    first: usize,
-    flags: usize,
-    coefficients: &mut [i16; 16],
-) -> (Decoder<'a>, usize)
-    requires kind { kind < 4 }
-    requires first { first ≤ 16 }
-    requires context { flags < 3 }
-    ensures value { tokens_from (16 - first) probs.now kind first flags false coefficients.old decoder.entry ≡ ((coefficients.new, result.1), result.0) }
-    ensures least { first ≤ result.1 }
-    ensures most { result.1 ≤ 16 }
-{
-    let mut reader = decoder;
-    let mut place = first;
-    let mut context = flags;
-    while place < 16 {
-        let nodes = nodes_at(probs, kind, place, context);
-        if !reader.bit(nodes[0]) {
-            return (reader, place);
-        }
-        'zeros: loop {
-            let nodes = nodes_at(probs, kind, place, context);
-            if reader.bit(nodes[1]) {
-                let size = read_size(&mut reader, nodes);
-                coefficients[ZIGZAG[place]] = read_sign(&mut reader, size);
-                context = if size > 1 { 2 } else { 1 };
-                place += 1;
-                break 'zeros;
-            }
-            context = 0;
-            place += 1;
-            if place == 16 {
-                return (reader, 16);
-            }
-        }
-    }
-    (reader, 16)
-}
-
-/// Where a block stands: its kind (RFC 6386, section 13.3), the place of its first token, its
-/// number, and the numbers of the flags above it and to its left.
-#[derive(Clone, Copy)]
-pub struct BlockPlace {
-    kind: usize,
-    first: usize,
-    index: usize,
-    above: usize,
-    left: usize,
-    ghost kind_fits: { kind < 4 },
-    ghost first_fits: { first ≤ 1 },
-    ghost index_fits: { index < 25 },
-    ghost above_fits: { above < 9 },
-    ghost left_fits: { left < 9 },
-}
 
 /// The place of the block whose tokens come behind those of `k` others.
 #[inline]
 fn place_of(has_y2: bool, k: usize) -> BlockPlace
     requires { k < 25 }
-    ensures { result ≡ place_of has_y2 k }
+    ensures value { result ≡ place_of has_y2 k }
+    ensures inside { IsInside result }
 {
     if k == 0 {
         return BlockPlace {
@@ -122,12 +50,14 @@ fn place_of(has_y2: bool, k: usize) -> BlockPlace
 
 /// One block.
 #[inline]
+#[tactic(auto, unfolding(crate::specs::Blocks::block))]
 fn read_block<'a>(
     decoder: Decoder<'a>,
     probs: &[u8; 1056],
     at: BlockPlace,
     tokens: &mut Tokens,
 ) -> Decoder<'a>
+    requires { IsInside at }
     ensures { block probs.now at tokens.old decoder.entry ≡ (tokens.new, result) }
 {
     let flags = tokens.left[at.left] as usize + tokens.above[at.above] as usize;
