@@ -1,5 +1,5 @@
 -- One block more of a macroblock
-use Rattle.std.proofs.Common.{◌≡◌, ℕ, zero, suc, ◌+◌, Bool, true, false, List, refl, add-one}
+use Rattle.std.proofs.Common.{◌≡◌, ℕ, suc, ◌+◌, Bool, true, false, List, refl, add-one}
 use Rattle.std.specs.Prelude.{nat_lt, ◌||◌}
 use Rattle.bool_coder.specs.Reader.{Reader}
 use Rattle.token_parser.specs.declared.tokens.Tokens.{Tokens}

@@ -1,9 +1,9 @@
 -- One token more of a block
-use Rattle.std.proofs.Common.{◌≡◌, ℕ, zero, suc, ◌+◌, ◌-◌, ◌<◌, ◌≤◌, Bool, true, false, List, slice_index_or, length, refl, sym, ◌∙◌, add-one, arith}
-use Rattle.std.specs.Prelude.{ℤ, pos, unsigned_abs, slice_index, slice_set, nat_eq, ◌==◌, ◌&&◌, not, min}
+use Rattle.std.proofs.Common.{◌≡◌, ℕ, suc, ◌+◌, ◌-◌, ◌<◌, ◌≤◌, Bool, true, false, List, refl, sym, ◌∙◌, arith}
+use Rattle.std.specs.Prelude.{ℤ, slice_index, slice_set, ◌==◌, ◌&&◌, not, min}
 use Rattle.std.proofs.lemmas.Bool.{and_parts}
 use Rattle.bool_coder.specs.Reader.{Reader, read}
-use Rattle.bool_coder.specs.Trees.{is_node, leaf_below}
+use Rattle.bool_coder.specs.Trees.{leaf_below}
 use Rattle.token_parser.specs.declared.places.TheConstants.{ZIGZAG}
 use Rattle.token_parser.specs.TokenTree.{token_tree, end_of_block, token, size_of}
 use Rattle.token_parser.specs.Walks.{size_below}

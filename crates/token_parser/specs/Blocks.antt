@@ -1,5 +1,5 @@
 -- The tokens of a macroblock (RFC 6386, sections 13.1 to 13.3).
-use Rattle.std.specs.Prelude.{ℕ, zero, suc, ◌+◌, ◌-◌, ◌/◌, ◌%◌, ◌==◌, ◌||◌, ◌<◌, ◌≤◌, Bool, false, nat_lt, List, [], ◌∷◌, ◌++◌, replicate, slice_index_or, slice_set, if◌then◌else◌}
+use Rattle.std.specs.Prelude.{ℕ, zero, suc, ◌+◌, ◌-◌, ◌/◌, ◌%◌, ◌==◌, ◌||◌, ◌<◌, ◌≤◌, Bool, false, nat_lt, ℤ, pos, List, [], ◌∷◌, ◌++◌, replicate, slice_index_or, slice_set, if◌then◌else◌}
 use Rattle.std.specs.Int.{from_bool}
 use Rattle.bool_coder.specs.Reading.{Reading, ◌>>=◌, give}
 use Rattle.token_parser.specs.declared.tokens.Tokens.{Tokens}
@@ -55,3 +55,15 @@ no_flags has_y2 flags = replicate 8 false ++ (if has_y2 then false else slice_in
 
 abbrev pub skipped : Bool → Tokens → Tokens
 skipped has_y2 before = record before { above = no_flags has_y2 before.above; left = no_flags has_y2 before.left }
+
+-- blocks without coefficients
+abbrev pub no_coefficients : List (List ℤ)
+no_coefficients = replicate 25 (replicate 16 (pos 0))
+
+-- the state at the start of a frame, outside which no block has a token
+abbrev pub no_tokens : Tokens
+no_tokens = record { above = replicate 9 false; left = replicate 9 false; coefficients = no_coefficients; ends = replicate 25 0 }
+
+-- the same flags, and blocks without coefficients
+abbrev pub cleared : Tokens → Tokens
+cleared before = record before { coefficients = no_coefficients; ends = replicate 25 0 }

@@ -1,12 +1,35 @@
 //! The blocks of a macroblock, in the order of their tokens.
 
 ghost use Rattle.std.specs.Prelude.{◌≡◌, ◌<◌};
-ghost use Rattle.token_parser.specs.Blocks.{place_of, IsInside, block, macroblock, no_flags, skipped};
+ghost use Rattle.token_parser.specs.Blocks.{place_of, IsInside, block, macroblock, no_flags, skipped, no_tokens, cleared};
 
 use crate::block_place::BlockPlace;
 use crate::block_tokens::read_tokens;
 use crate::tokens::Tokens;
 use bool_coder::Decoder;
+
+impl Tokens {
+    /// No block has a token or a coefficient: what a frame starts with.
+    pub fn new() -> Tokens
+        ensures { result ≡ no_tokens }
+    {
+        Tokens {
+            above: [false; 9],
+            left: [false; 9],
+            coefficients: [[0; 16]; 25],
+            ends: [0; 25],
+        }
+    }
+
+    /// Makes all coefficients and ends 0, and leaves the flags as they are.
+    #[inline]
+    pub fn clear(&mut self)
+        ensures { self.new ≡ cleared self.old }
+    {
+        self.coefficients = [[0; 16]; 25];
+        self.ends = [0; 25];
+    }
+}
 
 /// The place of the block whose tokens come behind those of `k` others.
 #[inline]

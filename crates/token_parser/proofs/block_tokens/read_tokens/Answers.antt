@@ -1,4 +1,4 @@
-use Rattle.std.proofs.Common.{◌≡◌, ◌+◌, ◌-◌, ◌<◌, ◌≤◌, ℕ, true, false, sym, ◌∙◌, refl, SFits, w16, rules, arith}
+use Rattle.std.proofs.Common.{◌≡◌, ◌+◌, ◌-◌, ◌≤◌, true, sym, ◌∙◌, refl, SFits, w16, rules, arith}
 use Rattle.std.specs.Prelude.{min}
 use Rattle.std.proofs.lemmas.Int.{to_z-of_z}
 use Rattle.token_parser.specs.Tokens.{tokens_from}

@@ -1,6 +1,5 @@
 use Rattle.std.proofs.Common.{true, false, refl, ◌∙◌}
-use Rattle.token_parser.proofs.Leaves.{leaf_below-more, leaf_below-test}
-use Rattle.token_parser.proofs.SizeWalks.{size_below-on, size_below-small, size_below-in}
+use Rattle.token_parser.proofs.SizeWalks.{size_below-on, size_below-small}
 use Rattle.token_parser.proofs.sizes.read_size.Goals as goal
 
 pub returns-then-bit-clause-value : goal.returns-then-bit-clause-value

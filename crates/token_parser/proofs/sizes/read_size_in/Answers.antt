@@ -1,5 +1,5 @@
-use Rattle.std.proofs.Common.{arith, sym, ◌∙◌, ◌<◌, ◌≤◌, refl}
-use Rattle.token_parser.proofs.ExtraBits.{more_extra_bits-step, more_extra_bits-end, size_in-extra, with_bit-small, extra-small, extra-smaller}
+use Rattle.std.proofs.Common.{arith, sym, ◌∙◌, ◌<◌}
+use Rattle.token_parser.proofs.ExtraBits.{more_extra_bits-step, more_extra_bits-end, size_in-extra, with_bit-small, extra-smaller}
 use Rattle.token_parser.proofs.sizes.read_size_in.Goals as goal
 
 pub overflow_mul-extra : goal.overflow_mul-extra
