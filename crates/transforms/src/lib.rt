@@ -3,5 +3,7 @@
 
 mod blocks;
 mod dct;
+mod walsh;
 
 pub use dct::{dct_add, dct_add_first};
+pub use walsh::wht;
