@@ -1,0 +1,9 @@
+//! Dequantisation and inverse transforms of VP8 (RFC 6386, sections 9.6 and 14).
+#![tactic(auto)]
+
+mod blocks;
+mod dct;
+mod walsh;
+
+pub use dct::{dct_add, dct_add_first};
+pub use walsh::wht;
