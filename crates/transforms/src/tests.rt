@@ -2,10 +2,9 @@ use super::*;
 use frame_header::{Quantizers, read_header};
 use vp8_tables::Tables;
 
-/// 100 at place 1: the first row of the first pass is 0, 100, 0, 0, each row of the second has
-/// 100 + (100 * 20091 >> 16) = 130 and 100 * 35468 >> 16 = 54, so that (130 + 4) >> 3 = 16,
-/// (54 + 4) >> 3 = 7, (-54 + 4) >> 3 = -7 and (-130 + 4) >> 3 = -16 are added; but its other rows
-/// get theirs through the first pass, which gives each row 100 at place 1.
+/// 100 at place 1 stands alone in its column, and the first pass leaves 100 in each row of it. In
+/// each row 100 + (100 * 20091 >> 16) = 130 and 100 * 35468 >> 16 = 54, so that the residuals are
+/// (130 + 4) >> 3 = 16, (54 + 4) >> 3 = 7, (-54 + 4) >> 3 = -7 and (-130 + 4) >> 3 = -16.
 #[test]
 fn a_lone_coefficient_is_as_worked_by_hand(rt: HostRuntime) {
     let mut coefficients = [0; 16];
@@ -51,17 +50,13 @@ fn a_lone_second_order_coefficient_is_shared(rt: HostRuntime) {
 fn products_keep_sixteen_bits(rt: HostRuntime) {
     let mut tokens = [2048; 16];
     tokens[1] = -2;
-    let mut expected = [-8192; 16];
-    expected[0] = -6144;
-    expected[1] = -440 * 2;
-    expected[15] = -16384;
     tokens[15] = 1117;
-    expected[15] = 32728;
     // 2048 * 157 = 321536 = 4 * 65536 + 59392, which stands for -6144; 2048 * 440 = 901120 =
     // 13 * 65536 + 49152, which stands for -16384; 1117 * 440 = 491480 = 7 * 65536 + 32728.
-    for place in 2..15 {
-        expected[place] = -16384;
-    }
+    let mut expected = [-16384; 16];
+    expected[0] = -6144;
+    expected[1] = -880;
+    expected[15] = 32728;
     assert_eq!(rt; dequantise(&tokens, 157, 440), expected);
 }
 
@@ -81,7 +76,7 @@ fn factors_are_held(rt: HostRuntime) {
         uv_ac: 4,
     };
     assert_eq!(rt; factors(&header, 0), least);
-    let quantizers = Quantizers {
+    header.quantizers = Quantizers {
         y_ac_index: 127,
         y_dc_delta: 0,
         y2_dc_delta: 0,
@@ -89,7 +84,6 @@ fn factors_are_held(rt: HostRuntime) {
         uv_dc_delta: 0,
         uv_ac_delta: 0,
     };
-    header.quantizers = quantizers;
     let greatest = Factors {
         y_dc: 157,
         y_ac: 284,
@@ -227,16 +221,27 @@ fn transforms_are_those_of_plain_formulas(rt: HostRuntime) {
     }
 }
 
+/// The next number of a linear congruential generator.
+fn mixed(state: u64) -> u64 {
+    state
+        .wrapping_mul(6364136223846793005)
+        .wrapping_add(1442695040888963407)
+}
+
+/// A number of 16 bits down to 5, by the turn.
+fn narrowed(state: u64, turn: u32) -> i16 {
+    let value = i64::from((state >> 48) as u16) - 32768;
+    (value >> (turn % 12)) as i16
+}
+
 #[test]
 fn transforms_of_mixed_numbers_are_those_of_plain_formulas(rt: HostRuntime) {
-    let mut state: u64 = 1;
+    let mut state = 1;
     for turn in 0..2000 {
         let mut coefficients = [0; 16];
         for coefficient in &mut coefficients {
-            state = state
-                .wrapping_mul(6364136223846793005)
-                .wrapping_add(1442695040888963407);
-            *coefficient = (i64::from((state >> 48) as u16) - 32768 >> (turn % 12)) as i16;
+            state = mixed(state);
+            *coefficient = narrowed(state, turn);
         }
         assert!(rt; is_plain(&coefficients, (state >> 56) as u8));
     }
