@@ -3,7 +3,14 @@
 
 mod blocks;
 mod dct;
+mod factor_set;
+pub mod laws;
+mod quantisation;
+#[cfg(test)]
+mod tests;
 mod walsh;
 
 pub use dct::{dct_add, dct_add_first};
+pub use factor_set::Factors;
+pub use quantisation::{dequantise, factors};
 pub use walsh::wht;

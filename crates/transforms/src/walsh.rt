@@ -65,7 +65,12 @@ fn row_pass(i0: i16, i1: i16, i2: i16, i3: i16) -> (i16, i16, i16, i16)
     ensures fourth { (result.3 ≡ int_shr (wht_pass 3 i0 i1 i2 i3 +ℤ pos 3) 3) × IsWithin 16384 result.3 }
 {
     let (column0, column1, column2, column3) = pass(i0, i1, i2, i3);
-    (eighth(column0), eighth(column1), eighth(column2), eighth(column3))
+    (
+        eighth(column0),
+        eighth(column1),
+        eighth(column2),
+        eighth(column3),
+    )
 }
 
 /// The first coefficients of the 16 luma blocks, in raster order, that the inverse WHT makes of
