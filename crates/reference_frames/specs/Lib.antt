@@ -2,4 +2,3 @@ pub mod Unfiltered
 pub mod UnfilteredLaws
 pub mod Steps
 pub mod StepLaws
-pub mod FrameTokens

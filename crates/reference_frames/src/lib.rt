@@ -2,7 +2,6 @@
 //! macroblock by macroblock (RFC 6386, sections 9 and 12).
 #![tactic(auto)]
 
-mod frame_tokens;
 pub mod laws;
 mod prediction;
 mod steps;
