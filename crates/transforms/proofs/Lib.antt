@@ -1,0 +1,3 @@
+pub mod Wrap
+pub mod Rows
+pub mod Passes

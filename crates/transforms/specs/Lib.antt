@@ -1,0 +1,3 @@
+pub mod Transforms
+pub mod Residuals
+pub mod Bounds

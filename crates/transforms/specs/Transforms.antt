@@ -1,0 +1,41 @@
+-- The inverse transforms (RFC 6386, section 14). Numbers are whole; a number of 16 bits is what `reduced` leaves of it.
+use Rattle.std.specs.Prelude.{ℕ, zero, suc, ◌+◌, ◌*◌, List, slice_index_or, ℤ, pos, ◌+ℤ◌, ◌-ℤ◌, ◌*ℤ◌}
+use Rattle.std.specs.Int.{int_shr, int_wrap, w16}
+
+-- the low 16 bits of a number, in two's complement
+abbrev pub reduced : ℤ → ℤ
+reduced x = int_wrap w16 x
+
+-- the coefficient in a column of a row of four
+abbrev pub coefficient : List ℤ → ℕ → ℕ → ℤ
+coefficient coefficients column row = slice_index_or coefficients (4 * row + column) (pos 0)
+
+-- sqrt 2 times the sine of pi / 8 times x, and the same with the cosine, in 65,536ths rounded down (section 14.3)
+unfoldable pub by_sine : ℤ → ℤ
+by_sine x = int_shr (x *ℤ pos 35468) 16
+
+unfoldable pub by_cosine : ℤ → ℤ
+by_cosine x = x +ℤ int_shr (x *ℤ pos 20091) 16
+
+-- number n of the four that one pass of the inverse DCT makes of four (section 14.3)
+unfoldable pub dct_pass : ℕ → ℤ → ℤ → ℤ → ℤ → ℤ
+dct_pass zero i0 i1 i2 i3 = (i0 +ℤ i2) +ℤ (by_cosine i1 +ℤ by_sine i3)
+dct_pass (suc zero) i0 i1 i2 i3 = (i0 -ℤ i2) +ℤ (by_sine i1 -ℤ by_cosine i3)
+dct_pass (suc (suc zero)) i0 i1 i2 i3 = (i0 -ℤ i2) -ℤ (by_sine i1 -ℤ by_cosine i3)
+dct_pass (suc (suc (suc n))) i0 i1 i2 i3 = (i0 +ℤ i2) -ℤ (by_cosine i1 +ℤ by_sine i3)
+
+-- what the first pass, over a column, leaves in a row of it
+unfoldable pub dct_column : List ℤ → ℕ → ℕ → ℤ
+dct_column coefficients column row =
+    let at = coefficient coefficients column in
+    reduced (dct_pass row (at 0) (at 1) (at 2) (at 3))
+
+-- an eighth of a number, rounded to the nearest
+unfoldable pub eighth : ℤ → ℤ
+eighth x = int_shr (x +ℤ pos 4) 3
+
+-- the residual in a column of a row: the second pass, over the row (section 14.3)
+unfoldable pub inverse_dct : List ℤ → ℕ → ℕ → ℤ
+inverse_dct coefficients column row =
+    let at = λ (k : ℕ). dct_column coefficients k row in
+    eighth (dct_pass column (at 0) (at 1) (at 2) (at 3))
