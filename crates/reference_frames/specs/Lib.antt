@@ -1,3 +1,5 @@
+pub mod Restored
+pub mod AddedBlocks
 pub mod Unfiltered
 pub mod UnfilteredLaws
 pub mod Steps

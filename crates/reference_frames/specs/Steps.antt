@@ -8,14 +8,14 @@ use Rattle.frame_header.specs.declared.header.Header.{Header}
 use Rattle.frame_header.specs.Header.{header_of}
 use Rattle.mode_parser.specs.FrameModes.{modes_of}
 use Rattle.pixel_planes.specs.Pictures.{PictureSamples, macroblocks}
-use Rattle.reference_frames.specs.Unfiltered.{unfiltered_picture}
+use Rattle.reference_frames.specs.Unfiltered.{unfiltered_picture, without_residual}
 use Rattle.reference_frames.specs.declared.steps.State.{State}
 use Rattle.reference_frames.specs.declared.steps.StepFault.{StepFault}
 use Rattle.reference_frames.specs.declared.steps.StepFault.TheVariants.{Refused, NoMemory}
 
 -- the picture of a key frame: it has the size that its header tells, and is predicted by the modes behind that
 abbrev pub key_picture : TableEntries → Header → PictureSamples
-key_picture tables header = unfiltered_picture header.width header.height (modes_of tables header (macroblocks header.width) (macroblocks header.height)).records
+key_picture tables header = unfiltered_picture header.width header.height (modes_of tables header (macroblocks header.width) (macroblocks header.height)).records without_residual
 
 -- what a header that is accepted gives; it is that of a key frame whose token partitions hold nothing but 0
 abbrev pub decoded_by : TableEntries → Result Header Cause → Result (State × PictureSamples) Cause

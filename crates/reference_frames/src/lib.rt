@@ -4,6 +4,7 @@
 
 pub mod laws;
 mod prediction;
+mod residuals;
 mod steps;
 
 pub use steps::{State, StepFault, step};

@@ -1,6 +1,6 @@
 use Rattle.std.proofs.Common.{◌≡◌, ◌+◌, ◌*◌, ◌<◌, ℕ, refl, rules, arith}
 use Rattle.pixel_planes.specs.PlaneSamples.{shown_of}
-use Rattle.reference_frames.specs.Unfiltered.{predicted_macroblocks}
+use Rattle.reference_frames.specs.Unfiltered.{predicted_macroblocks, without_residual}
 use Rattle.reference_frames.proofs.Frames.{predicted_more}
 use Rattle.reference_frames.proofs.prediction.predict_macroblocks.Goals as goal
 use Rattle.reference_frames.proofs.prediction.predict_macroblocks.Goals.{then-mx-columns, else-mx-columns}
@@ -28,7 +28,7 @@ pub loop-mode-preserved : goal.loop-mode-preserved
 loop-mode-preserved c =
     let column = c.loop-mode.invariant.column c.loop-mode-test.true in
     record {
-      value = predicted_more (shown_of c.args.planes.now) (shown_of c.loop-mode.planes) (shown_of c.predict_macroblock.new.planes) c.args.columns c.loop-mode.mx c.loop-mode.my c.loop-mode.mode-index c.args.modes.now _ c.loop-mode.invariant.value c.predict_macroblock.ensures.value c.loop-mode.invariant.place column c.loop-mode-test.true;
+      value = predicted_more (shown_of c.args.planes.now) (shown_of c.loop-mode.planes) (shown_of c.predict_macroblock.new.planes) c.args.columns c.loop-mode.mx c.loop-mode.my c.loop-mode.mode-index c.args.modes.now without_residual _ c.loop-mode.invariant.value c.predict_macroblock.ensures.value c.loop-mode.invariant.place column c.loop-mode-test.true;
       sides = search rules;
       place = elim c.if-mx-columns.branch [
         | then-mx-columns w ↦ next_row c.args.columns c.loop-mode.my c.loop-mode.mx _ _ c.loop-mode.mode-index c.loop-mode.invariant.place w.if-mx-columns.true w.my-is w.mx-is
