@@ -1,3 +1,4 @@
 pub mod Wrap
 pub mod Rows
 pub mod Passes
+pub mod Products

@@ -1,5 +1,5 @@
 -- The low 16 bits of a number, by shifts.
-use Rattle.std.proofs.Common.{◌≡◌, ℕ, zero, suc, ◌+◌, ◌-◌, ◌*◌, ◌/◌, ◌%◌, ◌<◌, ◌≤◌, inl, inr, refl, ap, ◌∙◌, sym, arith, ℤ, pos, negsuc, w16, w32, SFits, to_z, of_z}
+use Rattle.std.proofs.Common.{◌≡◌, ℕ, zero, suc, ◌+◌, ◌-◌, ◌*◌, ◌/◌, ◌%◌, ◌<◌, ◌≤◌, inl, inr, refl, ap, ◌∙◌, sym, arith, ℤ, pos, negsuc, ◌+ℤ◌, ◌-ℤ◌, w16, w32, SFits, to_z, of_z}
 use Rattle.std.proofs.lemmas.Bool.{cases_lt}
 use Rattle.std.proofs.lemmas.Bool.Decides.{nat_tests}
 use Rattle.std.proofs.lemmas.Int.{ints, to_z-of_z, to_z_pos, SFits-int_wrap}
@@ -59,3 +59,22 @@ kept {n} z x fits is within = rw (to_z-of_z w32 z fits) (is, within)
 pub residual_fits : (z : ℤ) → IsWithin 15761 z → SFits w32 z
 residual_fits (pos n) within = record { sfits = omega (arith, ints, within.0, within.1) }
 residual_fits (negsuc n) within = record { sfits = omega (arith, ints, within.0, within.1) }
+
+-- nor do the numbers of the inverse WHT
+pub wht_fits : (z : ℤ) → IsWithin 131072 z → SFits w32 z
+wht_fits (pos n) within = record { sfits = omega (arith, ints, within.0, within.1) }
+wht_fits (negsuc n) within = record { sfits = omega (arith, ints, within.0, within.1) }
+
+pub number_fits : (z : ℤ) → IsWithin 16384 z → SFits w16 z
+number_fits (pos n) within = record { sfits = omega (arith, ints, within.0, within.1) }
+number_fits (negsuc n) within = record { sfits = omega (arith, ints, within.0, within.1) }
+
+-- sums and differences of two numbers that go through 32 bits
+pub sum_kept : (a b x y : ℤ) → (a ≡ x) × IsWithin 65536 a → (b ≡ y) × IsWithin 65536 b → (to_z w32 (of_z w32 (to_z w32 (of_z w32 a) +ℤ to_z w32 (of_z w32 b))) ≡ x +ℤ y) × IsWithin 131072 (to_z w32 (of_z w32 (to_z w32 (of_z w32 a) +ℤ to_z w32 (of_z w32 b))))
+sum_kept a b x y (isa, ina) (isb, inb) = rw (← isa, ← isb) (omega (arith, ints))
+
+pub difference_kept : (a b x y : ℤ) → (a ≡ x) × IsWithin 65536 a → (b ≡ y) × IsWithin 65536 b → (to_z w32 (of_z w32 (to_z w32 (of_z w32 a) -ℤ to_z w32 (of_z w32 b))) ≡ x -ℤ y) × IsWithin 131072 (to_z w32 (of_z w32 (to_z w32 (of_z w32 a) -ℤ to_z w32 (of_z w32 b))))
+difference_kept a b x y (isa, ina) (isb, inb) = rw (← isa, ← isb) (omega (arith, ints))
+
+pub number_kept : (z x : ℤ) → z ≡ x → IsWithin 16384 z → (to_z w16 (of_z w16 z) ≡ x) × IsWithin 16384 (to_z w16 (of_z w16 z))
+number_kept z x is within = rw (to_z-of_z w16 z (number_fits z within)) (is, within)

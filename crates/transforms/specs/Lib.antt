@@ -1,3 +1,4 @@
 pub mod Transforms
 pub mod Residuals
 pub mod Bounds
+pub mod Factors

@@ -105,7 +105,12 @@ fn row_pass(i0: i16, i1: i16, i2: i16, i3: i16) -> (i32, i32, i32, i32)
     ensures fourth { (result.3 ≡ eighth (dct_pass 3 i0 i1 i2 i3)) × IsWithin 15761 result.3 }
 {
     let (column0, column1, column2, column3) = pass(i0, i1, i2, i3);
-    (eighth(column0), eighth(column1), eighth(column2), eighth(column3))
+    (
+        eighth(column0),
+        eighth(column1),
+        eighth(column2),
+        eighth(column3),
+    )
 }
 
 /// Adds the residuals of a row, from what the first pass left in it, to the four samples from

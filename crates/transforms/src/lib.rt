@@ -3,5 +3,11 @@
 
 mod blocks;
 mod dct;
+mod factor_set;
+mod quantisation;
+mod walsh;
 
 pub use dct::{dct_add, dct_add_first};
+pub use factor_set::Factors;
+pub use quantisation::{dequantise, factors};
+pub use walsh::wht;

@@ -4,6 +4,7 @@
 
 mod fault;
 mod modes;
+mod quantizers;
 mod tables;
 mod vectors;
 
@@ -12,6 +13,7 @@ pub use modes::{
     DEFAULT_UV_PROBABILITIES, DEFAULT_Y_PROBABILITIES, KEY_UV_PROBABILITIES, KEY_Y_PROBABILITIES,
     KEY_Y_TREE, SUB_TREE, UV_TREE,
 };
+pub use quantizers::{AC_QUANTIZERS, DC_QUANTIZERS};
 pub use tables::Tables;
 pub use vectors::DEFAULT_VECTOR_PROBABILITIES;
 

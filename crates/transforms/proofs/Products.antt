@@ -1,0 +1,26 @@
+-- Products with factors.
+use Rattle.std.proofs.Common.{◌≡◌, ℕ, zero, suc, ◌+◌, ◌*◌, ◌%◌, ◌<◌, ◌≤◌, Bool, true, false, ◌&&◌, leb, List, [], ◌∷◌, map, length, get_or, refl, ap, sym, ◌∙◌, arith, ℤ, pos, ◌*ℤ◌, w16, SFits, to_z, of_z}
+use Rattle.std.proofs.lemmas.Bool.Decides.{nat_tests}
+use Rattle.std.proofs.lemmas.Int.{to_z-of_z, SFits-int_wrap}
+use Rattle.transforms.specs.Transforms.{reduced}
+use Rattle.vp8_tables.specs.declared.quantizers.TheConstants.{AC_QUANTIZERS}
+
+-- no number of a list is above n
+none_above : List ℕ → ℕ → Bool
+none_above [] n = true
+none_above (x ∷ xs) n = leb x n && none_above xs n
+
+none_above-at : (xs : List ℕ) (n i : ℕ) → none_above xs n ≡ true → get_or xs i 0 ≤ n
+unfolding none_above
+none_above-at [] n i all = omega arith
+none_above-at (x ∷ xs) n zero all = grind (arith, nat_tests)
+none_above-at (x ∷ xs) n (suc i) all = none_above-at xs n i (grind (arith, nat_tests))
+
+-- no factor of other coefficients is above 284
+pub ac_small : (i : ℕ) → get_or AC_QUANTIZERS i 0 ≤ 284
+unfolding none_above
+ac_small i = none_above-at AC_QUANTIZERS 284 i refl
+
+-- a product that goes through 16 bits is as it was
+pub product_kept : (z x : ℤ) → z ≡ reduced x → to_z w16 (of_z w16 z) ≡ reduced x
+product_kept z x is = ap (λ (y : ℤ). to_z w16 (of_z w16 y)) is ∙ to_z-of_z w16 _ (SFits-int_wrap w16 x)
