@@ -1,0 +1,6 @@
+pub mod Leaves
+pub mod ExtraBits
+pub mod SizeWalks
+pub mod Steps
+pub mod Zigzag
+pub mod BlockSteps

@@ -1,0 +1,69 @@
+-- The tokens of a macroblock (RFC 6386, sections 13.1 to 13.3).
+use Rattle.std.specs.Prelude.{ℕ, zero, suc, ◌+◌, ◌-◌, ◌/◌, ◌%◌, ◌==◌, ◌||◌, ◌<◌, ◌≤◌, Bool, false, nat_lt, ℤ, pos, List, [], ◌∷◌, ◌++◌, replicate, slice_index_or, slice_set, if◌then◌else◌}
+use Rattle.std.specs.Int.{from_bool}
+use Rattle.bool_coder.specs.Reading.{Reading, ◌>>=◌, give}
+use Rattle.token_parser.specs.declared.tokens.Tokens.{Tokens}
+use Rattle.token_parser.specs.declared.block_place.BlockPlace.{BlockPlace}
+use Rattle.token_parser.specs.Tokens.{tokens_from}
+
+-- where a block stands: its kind, the place of its first token, its number, and the numbers of the flags above it and
+-- to its left. Y2 has kind 1, chroma 2, luma 0 behind Y2, which has its first coefficients, and 3 without Y2
+abbrev pub y2_place : BlockPlace
+y2_place = record { kind = 1; first = 0; index = 24; above = 8; left = 8 }
+
+abbrev pub luma_place : Bool → ℕ → BlockPlace
+luma_place has_y2 n = record { kind = if has_y2 then 0 else 3; first = from_bool has_y2; index = n; above = n % 4; left = n / 4 }
+
+abbrev pub chroma_place : ℕ → ℕ → ℕ → BlockPlace
+chroma_place blocks flags n = record { kind = 2; first = 0; index = blocks + n; above = flags + n % 2; left = flags + n / 2 }
+
+-- the blocks in the order of their tokens: Y2, 16 of luma, 4 of U, 4 of V (section 13)
+abbrev pub place_of : Bool → ℕ → BlockPlace
+place_of has_y2 k = if k == 0 then y2_place else if nat_lt k 17 then luma_place has_y2 (k - 1) else if nat_lt k 21 then chroma_place 16 4 (k - 17) else chroma_place 20 6 (k - 21)
+
+-- a place of one of the 25 blocks
+pub record IsInside (at : BlockPlace) : Type 0 where
+  pub kind : at.kind < 4
+  pub first : at.first ≤ 1
+  pub index : at.index < 25
+  pub above : at.above < 9
+  pub left : at.left < 9
+
+-- a block is read in the context of the flags above and to the left, and leaves both telling whether it has a token,
+-- whatever the values are (section 13.3)
+unfoldable pub block : List ℕ → BlockPlace → Tokens → Reading Tokens
+block probs at before = do
+  let context = from_bool (slice_index_or before.left at.left false) + from_bool (slice_index_or before.above at.above false)
+  told ← tokens_from (16 - at.first) probs at.kind at.first context false (slice_index_or before.coefficients at.index [])
+  let has_token = nat_lt at.first told.1
+  give (record { above = slice_set before.above at.above has_token; left = slice_set before.left at.left has_token; coefficients = slice_set before.coefficients at.index told.0; ends = slice_set before.ends at.index told.1 })
+
+-- the first k blocks of a macroblock, of which the first is left out where it has no Y2
+unfoldable pub first_blocks : ℕ → List ℕ → Bool → Tokens → Reading Tokens
+first_blocks zero probs has_y2 before = give before
+first_blocks (suc k) probs has_y2 before = do
+  here ← first_blocks k probs has_y2 before
+  if nat_lt 0 k || has_y2 then block probs (place_of has_y2 k) here else give here
+
+-- the tokens of a macroblock
+abbrev pub macroblock : List ℕ → Bool → Tokens → Reading Tokens
+macroblock = first_blocks 25
+
+-- a macroblock without tokens takes its flags away; that of Y2 stays where it has no Y2 (section 13.3)
+abbrev pub no_flags : Bool → List Bool → List Bool
+no_flags has_y2 flags = replicate 8 false ++ (if has_y2 then false else slice_index_or flags 8 false) ∷ []
+
+abbrev pub skipped : Bool → Tokens → Tokens
+skipped has_y2 before = record before { above = no_flags has_y2 before.above; left = no_flags has_y2 before.left }
+
+-- blocks without coefficients
+abbrev pub no_coefficients : List (List ℤ)
+no_coefficients = replicate 25 (replicate 16 (pos 0))
+
+-- the state at the start of a frame, outside which no block has a token
+abbrev pub no_tokens : Tokens
+no_tokens = record { above = replicate 9 false; left = replicate 9 false; coefficients = no_coefficients; ends = replicate 25 0 }
+
+-- the same flags, and blocks without coefficients
+abbrev pub cleared : Tokens → Tokens
+cleared before = record before { coefficients = no_coefficients; ends = replicate 25 0 }

@@ -1,0 +1,4 @@
+pub mod TokenTree
+pub mod Walks
+pub mod Tokens
+pub mod Blocks

@@ -1,0 +1,12 @@
+//! Where the blocks of a macroblock stand.
+
+/// Where a block stands: its kind (RFC 6386, section 13.3), the place of its first token, its
+/// number, and the numbers of the flags above it and to its left.
+#[derive(Clone, Copy)]
+pub struct BlockPlace {
+    pub kind: usize,
+    pub first: usize,
+    pub index: usize,
+    pub above: usize,
+    pub left: usize,
+}

@@ -1,0 +1,64 @@
+//! The tokens of one block.
+
+ghost use Rattle.std.specs.Prelude.{◌≡◌, ◌-◌, ◌<◌, ◌≤◌, false};
+ghost use Rattle.token_parser.specs.Tokens.{signed_size, tokens_from};
+
+use crate::places::{ZIGZAG, nodes_at};
+use crate::sizes::read_size;
+use bool_coder::Decoder;
+
+/// The coefficient of a size, whose sign is the next bit.
+#[inline]
+#[tactic(auto, unfolding(crate::specs::Tokens::signed_size))]
+fn read_sign(reader: &mut Decoder, size: u16) -> i16
+    requires { size ≤ 2114 }
+    ensures { signed_size size reader.old ≡ (result, reader.new) }
+{
+    let value = size as i16;
+    if reader.flag() { -value } else { value }
+}
+
+/// The coefficients of a block that stand behind the place `first`, and the place behind its last
+/// token. Others stay as they are.
+#[inline]
+pub(crate) fn read_tokens<'a>(
+    decoder: Decoder<'a>,
+    probs: &[u8; 1056],
+    kind: usize,
+    first: usize,
+    flags: usize,
+    coefficients: &mut [i16; 16],
+) -> (Decoder<'a>, usize)
+    requires kind { kind < 4 }
+    requires first { first ≤ 16 }
+    requires context { flags < 3 }
+    ensures value { tokens_from (16 - first) probs.now kind first flags false coefficients.old decoder.entry ≡ ((coefficients.new, result.1), result.0) }
+    ensures least { first ≤ result.1 }
+    ensures most { result.1 ≤ 16 }
+{
+    let mut reader = decoder;
+    let mut place = first;
+    let mut context = flags;
+    'tokens: while place < 16 {
+        let nodes = nodes_at(probs, kind, place, context);
+        if !reader.bit(nodes[0]) {
+            return (reader, place);
+        }
+        'zeros: loop {
+            let nodes = nodes_at(probs, kind, place, context);
+            if reader.bit(nodes[1]) {
+                let size = read_size(&mut reader, nodes);
+                coefficients[ZIGZAG[place]] = read_sign(&mut reader, size);
+                context = if size > 1 { 2 } else { 1 };
+                place += 1;
+                break 'zeros;
+            }
+            context = 0;
+            place += 1;
+            if place == 16 {
+                return (reader, 16);
+            }
+        }
+    }
+    (reader, 16)
+}

@@ -1,0 +1,12 @@
+//! The coefficient tokens of a macroblock (RFC 6386, section 13).
+#![tactic(auto)]
+
+mod block_place;
+mod block_tokens;
+mod macroblocks;
+mod places;
+mod sizes;
+mod tokens;
+
+pub use macroblocks::{read_macroblock, skip_macroblock};
+pub use tokens::Tokens;
