@@ -2,6 +2,7 @@
 //! macroblock by macroblock (RFC 6386, sections 9 and 12).
 #![tactic(auto)]
 
+mod frame_tokens;
 pub mod laws;
 mod prediction;
 mod residuals;

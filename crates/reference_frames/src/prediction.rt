@@ -1,13 +1,18 @@
-ghost use Rattle.std.specs.Prelude.{◌≡◌, ◌*◌, ◌+◌, ◌-◌, ◌/◌, ◌<◌, ◌≤◌, IfOk, length, map, min, slice_index, if◌then◌else◌};
+ghost use Rattle.std.specs.Prelude.{◌≡◌, ◌*◌, ◌+◌, ◌-◌, ◌/◌, ◌<◌, ◌≤◌, All, IfOk, length, map, min, slice_index, if◌then◌else◌};
 ghost use Rattle.std.specs.List.{range_with_len};
 ghost use Rattle.std.specs.Option.{option_copied, ForSome};
 ghost use Rattle.intra_predict.specs.WholeSample.{side_of};
 ghost use Rattle.pixel_planes.specs.Pictures.{macroblocks as macroblocks_of};
 ghost use Rattle.pixel_planes.specs.PlaneSamples.{shown_of};
 ghost use Rattle.pixel_planes.specs.Samples.{sample_at};
-ghost use Rattle.reference_frames.specs.Unfiltered.{HoldsSquare, HoldsMacroblock, HaveRoomFor, SameSides, SameShape, above, left, corner, above_row, left_column, above_eight, with_block, predicted_sub_block, predicted_sub_blocks, predicted_whole, predicted_luma, predicted_macroblock, predicted_macroblocks, unfiltered_picture as unfiltered_picture_of, empty_planes as empty_planes_of, without_residual};
+ghost use Rattle.reference_frames.specs.FrameTokens.{residual_at};
+ghost use Rattle.reference_frames.specs.FrameTokenValue.{state_of};
+ghost use Rattle.reference_frames.specs.Steps.{decoded_picture};
+ghost use Rattle.reference_frames.specs.Unfiltered.{HoldsSquare, HoldsMacroblock, HaveRoomFor, SameSides, SameShape, above, left, corner, above_row, left_column, above_eight, with_block, predicted_sub_block, predicted_sub_blocks, predicted_whole, predicted_luma, predicted_macroblock, predicted_macroblocks, empty_planes as empty_planes_of};
 
+use crate::frame_tokens::FrameTokens;
 use crate::residuals::{Blocks, add_to_sub_block, add_to_whole};
+use frame_header::Header;
 use intra_predict::{BlockSize, SubMode, WholeMode, sub, whole};
 use mode_parser::{MbMode, YMode};
 use pixel_planes::{NoMemory, Picture, Plane, Planes};
@@ -280,17 +285,28 @@ fn predict_macroblock(
     );
 }
 
-/// Predicts the macroblocks of a frame in raster order, each by its record.
-fn predict_macroblocks(planes: &mut Planes, columns: usize, rows: usize, modes: &[MbMode])
+/// Predicts the macroblocks of a frame in raster order, each by its record, and adds the residual that
+/// its tokens give.
+fn predict_macroblocks(
+    planes: &mut Planes,
+    columns: usize,
+    rows: usize,
+    header: &Header,
+    modes: &[MbMode],
+    tokens: &mut FrameTokens,
+)
     requires room { HaveRoomFor (shown_of planes.old) columns rows }
     requires each { length modes.now ≡ columns * rows }
-    ensures value { shown_of planes.new ≡ predicted_macroblocks (shown_of planes.old) columns modes.now without_residual (length modes.now) }
+    requires some { 0 < length (state_of tokens.old).readers }
+    requires above { length (state_of tokens.old).above ≡ columns }
+    ensures value { shown_of planes.new ≡ predicted_macroblocks (shown_of planes.old) columns modes.now (residual_at header.now columns (state_of tokens.old) modes.now) (length modes.now) }
     ensures sides { SameShape (shown_of planes.old) (shown_of planes.new) }
 {
     let mut mx = 0;
     let mut my = 0;
     for mode in modes {
-        predict_macroblock(planes, mx, my, mode, None);
+        let residual = tokens.read(header, mx, my, mode);
+        predict_macroblock(planes, mx, my, mode, residual.as_ref());
         mx += 1;
         if mx == columns {
             mx = 0;
@@ -322,25 +338,28 @@ fn empty_planes(alloc: Global, columns: usize, rows: usize) -> Result<Planes, No
     })
 }
 
-/// Makes the picture of a frame of `width` by `height` samples, 1 to 16,383 each: each macroblock
-/// is predicted by its record, of which there is one for each in raster order, and nothing is added
-/// to it (RFC 6386, section 12).
+/// Makes the picture of a key frame from its packet, of which this is the header: each macroblock is
+/// predicted by its record, of which there is one for each in raster order, and the residual that its
+/// tokens give is added to it (RFC 6386, sections 12 to 14).
 ///
-/// `NoMemory` where a plane or its shared block is refused.
+/// `NoMemory` where a plane or its shared block, or what stands between macroblocks, is refused.
 pub fn unfiltered_picture(
     alloc: Global,
-    width: u16,
-    height: u16,
+    packet: &[u8],
+    header: &Header,
     modes: &[MbMode],
 ) -> Result<Picture, NoMemory>
-    requires wide { (0 < width) × (width ≤ 16383) }
-    requires high { (0 < height) × (height ≤ 16383) }
-    requires each { length modes.now ≡ macroblocks_of width * macroblocks_of height }
-    ensures { IfOk result (λ p. p ≡ unfiltered_picture_of width height modes.now without_residual) }
+    requires wide { (0 < header.now.width) × (header.now.width ≤ 16383) }
+    requires high { (0 < header.now.height) × (header.now.height ≤ 16383) }
+    requires each { length modes.now ≡ macroblocks_of header.now.width * macroblocks_of header.now.height }
+    requires some { 0 < length header.now.partitions.items }
+    requires inside { All (λ place. place.start + place.length ≤ length packet.now) header.now.partitions.items }
+    ensures { IfOk result (λ p. p ≡ decoded_picture packet.now header.now modes.now) }
 {
-    let columns = macroblocks(width);
-    let rows = macroblocks(height);
+    let columns = macroblocks(header.width);
+    let rows = macroblocks(header.height);
     let mut planes = empty_planes(alloc, columns, rows)?;
-    predict_macroblocks(&mut planes, columns, rows, modes);
-    Picture::share(alloc, planes, width, height)
+    let mut tokens = FrameTokens::new(alloc, packet, &header.partitions, columns)?;
+    predict_macroblocks(&mut planes, columns, rows, header, modes, &mut tokens);
+    Picture::share(alloc, planes, header.width, header.height)
 }
