@@ -1,5 +1,4 @@
 use Rattle.std.specs.Prelude.{ℕ, ◌+◌, ◌-◌, Bool, not, ◌&&◌, List, length, slice_range, nat_lt, ◌==◌, Option, Result, Ok, Err, if◌then◌else◌}
-use Rattle.std.specs.List.{list_all}
 use Rattle.arrayvec.specs.ArrayVec.{ArrayVec}
 use Rattle.vp8_tables.specs.Tables.{TableEntries}
 use Rattle.bool_coder.specs.Reader.{Reader, started}
@@ -30,14 +29,9 @@ first_end start packet =
     if nat_lt (length packet - start.place) start.tag.first_partition then Err FirstPartition
     else Ok (start.place + start.tag.first_partition)
 
--- a partition that holds only 0
-abbrev pub is_zero : List ℕ → Place → Bool
-is_zero packet place = list_all (λ byte. byte == 0) (slice_range packet place.start (place.start + place.length))
-
--- what is decoded so far: a key frame without segments and without a filter, whose token partitions hold only 0
-abbrev pub is_decoded : List ℕ → Fields → List Place → Bool
-is_decoded packet fields partitions =
-    has_key_tag packet && not fields.segmentation.is_enabled && fields.filter.level == 0 && list_all (is_zero packet) partitions
+-- what is decoded so far: a key frame without segments and without a filter
+abbrev pub is_decoded : List ℕ → Fields → Bool
+is_decoded packet fields = has_key_tag packet && not fields.segmentation.is_enabled && fields.filter.level == 0
 
 -- a header of these parts. The frame leaves its context to the next, or, where refresh_entropy is 0, the context that
 -- stood when that was read (RFC 6386, section 19.2)
@@ -69,7 +63,7 @@ header_behind tables context packet start = do
   end ← first_end start packet
   let read = fields start.tag.key context (started (slice_range packet start.place end))
   partitions ← token_places packet end read.0.0.partition_count
-  if is_decoded packet read.0.0 partitions.items
+  if is_decoded packet read.0.0
       then Ok (header_in start read.0 partitions (trailing_fields tables.updates read.0.1 read.1)) else Err NotYet
 
 -- the header of a packet behind a context or none, or the first cause against it (RFC 6386, sections 9 and 19)

@@ -1,7 +1,6 @@
-ghost use Rattle.std.specs.Prelude.{◌≡◌, ◌≤◌, ◌+◌, length, IsTrue, IfOk, All};
-ghost use Rattle.std.specs.List.{list_all};
+ghost use Rattle.std.specs.Prelude.{◌≡◌, ◌<◌, ◌≤◌, ◌+◌, length, IsTrue, IfOk, All};
 ghost use Rattle.std.specs.Option.{option_copied};
-ghost use Rattle.frame_header.specs.Header.{first_end, is_zero, is_decoded, header_of};
+ghost use Rattle.frame_header.specs.Header.{first_end, is_decoded, header_of};
 ghost use Rattle.frame_header.specs.Tags.{has_key_tag};
 
 use crate::cause::Cause;
@@ -66,38 +65,16 @@ fn first_end(start: &Start, packet: &[u8]) -> Result<usize, Cause>
     Ok(start.place + size)
 }
 
-/// Whether a partition holds only 0.
-fn is_zero(packet: &[u8], place: Place) -> bool
-    requires { place.start + place.length ≤ length packet.now }
-    ensures { result ≡ is_zero packet.now place }
-{
-    let end = place.start + place.length;
-    packet[place.start..end].iter().all(|byte| *byte == 0)
-}
-
-/// Whether all partitions hold only 0.
-fn are_zero(packet: &[u8], partitions: &[Place]) -> bool
-    requires { All (λ place. place.start + place.length ≤ length packet.now) partitions.now }
-    ensures { result ≡ list_all (is_zero packet.now) partitions.now }
-{
-    partitions.iter().all(|place| is_zero(packet, *place))
-}
-
 /// Whether a frame is of the kind that is decoded so far.
-fn is_decoded(packet: &[u8], fields: &Fields, partitions: &[Place]) -> bool
-    requires { All (λ place. place.start + place.length ≤ length packet.now) partitions.now }
-    ensures { result ≡ is_decoded packet.now fields.now partitions.now }
+fn is_decoded(packet: &[u8], fields: &Fields) -> bool
+    ensures { result ≡ is_decoded packet.now fields.now }
 {
-    has_key_tag(packet)
-        && !fields.segmentation.is_enabled
-        && fields.filter.level == 0
-        && are_zero(packet, partitions)
+    has_key_tag(packet) && !fields.segmentation.is_enabled && fields.filter.level == 0
 }
 
 /// The header of a packet behind a context, or none where no key frame came before. An `Err` is
 /// the first cause, in the order of `Cause`, whose condition holds; `NotYet` is that of a packet
-/// without a key tag, with segments, with a filter level above 0, or with a token partition that
-/// has a byte above 0.
+/// without a key tag, with segments, or with a filter level above 0.
 #[tactic(auto, unfolding(crate::specs::Header::header_of))]
 pub fn read_header<'a>(
     tables: &Tables,
@@ -108,6 +85,7 @@ pub fn read_header<'a>(
     ensures wide { IfOk result (λ header. IsTrue header.is_key → (1 ≤ header.width) × (header.width ≤ 16383)) }
     ensures high { IfOk result (λ header. IsTrue header.is_key → (1 ≤ header.height) × (header.height ≤ 16383)) }
     ensures inside { IfOk result (λ header. All (λ place. place.start + place.length ≤ length packet.now) header.partitions.items) }
+    ensures some { IfOk result (λ header. 0 < length header.partitions.items) }
     ensures key { IfOk result (λ header. IsTrue header.is_key × IsTrue (has_key_tag packet.now)) }
     ensures whole { IfOk result (λ _. 10 ≤ length packet.now) }
 {
@@ -117,7 +95,7 @@ pub fn read_header<'a>(
     let mut context = first_context(tables, start.tag.key, context);
     let fields = read_fields(&mut reader, start.tag.key, &mut context);
     let partitions = token_places(packet, end, fields.partition_count)?;
-    if !is_decoded(packet, &fields, &partitions) {
+    if !is_decoded(packet, &fields) {
         return Err(Cause::NotYet);
     }
     let mut context_after = context;

@@ -42,7 +42,6 @@ pub fn worked_causes(tables: &Tables, context: &Context)
     ensures token_partition { header_of tables.now None (0x50 ∷ 0 ∷ 0 ∷ behind_tag ++ 0 ∷ 1 ∷ 5 ∷ 0 ∷ 0 ∷ []) ≡ Err (TokenPartition 0) }
     ensures segments { header_of tables.now None (0x30 ∷ 0 ∷ 0 ∷ behind_tag ++ 0x20 ∷ []) ≡ Err NotYet }
     ensures level { header_of tables.now None (0x50 ∷ 0 ∷ 0 ∷ behind_tag ++ 0 ∷ 0x40 ∷ []) ≡ Err NotYet }
-    ensures token_byte { header_of tables.now None (0x30 ∷ 0 ∷ 0 ∷ behind_tag ++ 0x80 ∷ 1 ∷ []) ≡ Err NotYet }
 {}
 
 /// A key frame leaves its own context, but without `refreshes_entropy` the default probabilities.

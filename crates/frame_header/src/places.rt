@@ -24,6 +24,7 @@ pub(crate) fn token_places(
     requires few { count ≤ 8 }
     requires inside { at ≤ length packet.now }
     ensures value { result ≡ token_places packet.now at count }
+    ensures some { IfOk result (λ places. 0 < length places.items) }
     ensures inside { IfOk result (λ places. All (λ place. place.start + place.length ≤ length packet.now) places.items) }
 {
     let sizes = 3 * (count - 1);

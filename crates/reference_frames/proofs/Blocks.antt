@@ -1,7 +1,7 @@
 -- A block that is written into a plane.
-use Rattle.std.specs.Prelude.{slice_index, ◌==◌, Option, None, Some}
+use Rattle.std.specs.Prelude.{slice_index, slice_index_or, ◌==◌, Option, None, Some}
 use Rattle.std.specs.Simd.Lanes.{put_chunk}
-use Rattle.std.proofs.Common.{refl, ◌≡◌, ℕ, zero, suc, ◌+◌, ◌-◌, ◌*◌, ◌<◌, ◌≤◌, List, ◌++◌, length, take, drop, cond, ap, sym, ◌∙◌, arith}
+use Rattle.std.proofs.Common.{refl, ◌≡◌, ℕ, zero, suc, ◌+◌, ◌-◌, ◌*◌, ◌<◌, ◌≤◌, ◌%◌, List, [], pos, ◌+ℤ◌, ◌++◌, length, take, drop, cond, ap, sym, ◌∙◌, arith}
 use Rattle.std.proofs.lemmas.Simd.{put_chunk_is}
 use Rattle.std.proofs.lemmas.List.{length-take-le, length-drop, get_or-take, get_or-drop}
 use Rattle.std.proofs.lemmas.List.FromFn.{fill_by_all, length-map-range_with_len, get_or-map-range_with_len}
@@ -11,6 +11,9 @@ use Rattle.intra_predict.specs.declared.modes.BlockSize.{BlockSize}
 use Rattle.intra_predict.specs.declared.modes.BlockSize.TheVariants.{Sixteen, Eight}
 use Rattle.intra_predict.specs.declared.modes.WholeMode.{WholeMode}
 use Rattle.pixel_planes.specs.Samples.{Samples}
+use Rattle.reference_frames.specs.Restored.{Residual, block_at, restored}
+use Rattle.transforms.specs.Residuals.{held}
+use Rattle.transforms.specs.Transforms.{inverse_dct}
 use Rattle.reference_frames.specs.Unfiltered.{above_row, left_column, corner, block_row, with_block, with_block_rows, whole_block_sample, predicted_whole}
 
 -- a part of a row that was written, put back into the row
@@ -52,13 +55,13 @@ part_length row x side within =
     length-take-le (x + side - x) (drop x row) fits ∙ omega arith
 
 -- a whole block that was predicted between sides that were read
-pub whole_read : (p : Samples) (side size mx my n m edge : ℕ) (mode : WholeMode) (upper beside block : List ℕ) (above_it left_of_it : Option (List ℕ)) → side ≡ size → n ≡ size → m ≡ size →
+pub whole_read : (p : Samples) (side size mx my n m edge : ℕ) (mode : WholeMode) (residual : Residual) (first : ℕ) (upper beside block : List ℕ) (above_it left_of_it : Option (List ℕ)) → side ≡ size → n ≡ size → m ≡ size →
     upper ≡ above_row p (side * mx) (side * my) n → beside ≡ left_column p (side * mx) (side * my) m → edge ≡ corner p (side * mx) (side * my) →
-    above_it ≡ cond (side * my == 0) None (Some upper) → left_of_it ≡ cond (side * mx == 0) None (Some beside) → IsBlock size (whole_sample mode above_it left_of_it edge) block →
-    with_block p (side * mx) (side * my) side (λ column row. slice_index block (row * side + column)) ≡ predicted_whole p size mx my mode
-whole_read p side size mx my n m edge mode upper beside block above_it left_of_it sized wide high upper_is beside_is edge_is above_is left_is is =
-    let between : IsBlock size (whole_block_sample p (size * mx) (size * my) size mode) block = rw (above_is, left_is, upper_is, beside_is, edge_is, wide, high, sized) at is in
-    rw sized (written_block p (size * mx) (size * my) size block (whole_block_sample p (size * mx) (size * my) size mode) between)
+    above_it ≡ cond (side * my == 0) None (Some upper) → left_of_it ≡ cond (side * mx == 0) None (Some beside) → IsBlock size (restored size first residual (whole_sample mode above_it left_of_it edge)) block →
+    with_block p (side * mx) (side * my) side (λ column row. slice_index block (row * side + column)) ≡ predicted_whole p size mx my mode residual first
+whole_read p side size mx my n m edge mode residual first upper beside block above_it left_of_it sized wide high upper_is beside_is edge_is above_is left_is is =
+    let between : IsBlock size (restored size first residual (whole_block_sample p (size * mx) (size * my) size mode)) block = rw (above_is, left_is, upper_is, beside_is, edge_is, wide, high, sized) at is in
+    rw sized (written_block p (size * mx) (size * my) size block (restored size first residual (whole_block_sample p (size * mx) (size * my) size mode)) between)
 
 side_small : (size : BlockSize) → side_of size ≤ 16
 side_small Sixteen = omega arith
@@ -69,3 +72,11 @@ pub side_part : (side : ℕ) (size : BlockSize) (samples : List ℕ) → side �
 side_part side size samples is long =
     let fits : side ≤ length samples = omega (arith, side_small size) in
     length-take-le side samples fits ∙ is
+
+-- a residual that was added to what was predicted
+pub restored_block : (side first : ℕ) (residual : Residual) (sample : ℕ → ℕ → ℕ) (old new : List ℕ) → IsBlock side sample old → IsBlock side (restored side first residual (λ column row. slice_index old (row * side + column))) new → IsBlock side (restored side first residual sample) new
+restored_block side first None sample old new is added = record { whole = added.whole; each = λ column row a b. added.each column row a b ∙ is.each column row a b }
+restored_block side first (Some blocks) sample old new is added = record {
+  whole = added.whole;
+  each = λ column row a b. added.each column row a b ∙ ap (λ n. held (pos n +ℤ inverse_dct (slice_index_or blocks (block_at side first column row) []) (column % 4) (row % 4))) (is.each column row a b);
+}

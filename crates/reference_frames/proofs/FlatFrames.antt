@@ -16,7 +16,7 @@ use Rattle.pixel_planes.specs.PlaneSamples.{PlaneSamples}
 use Rattle.pixel_planes.proofs.Rows.{row_fits}
 use Rattle.mode_parser.specs.declared.records.MbMode.{MbMode}
 use Rattle.mode_parser.specs.declared.records.YMode.TheVariants.{B}
-use Rattle.reference_frames.specs.Unfiltered.{above, left, left_column, above_eight, above_side, left_side, sub_column, sub_row, sub_block_sample, whole_block_sample, with_block, predicted_sub_blocks, predicted_luma, predicted_whole, predicted_macroblock, predicted_macroblocks, empty_planes}
+use Rattle.reference_frames.specs.Unfiltered.{above, left, left_column, above_eight, above_side, left_side, sub_column, sub_row, sub_block_sample, whole_block_sample, with_block, predicted_sub_blocks, predicted_luma, predicted_whole, predicted_macroblock, predicted_macroblocks, empty_planes, without_residual}
 use Rattle.reference_frames.specs.UnfilteredLaws.{luma_of_row, IsBlank, AreFlat}
 use Rattle.reference_frames.proofs.Frames.{predicted_more}
 use Rattle.reference_frames.proofs.Flat.{IsPlane, IsPlane-with_block_rows, IsDone, IsDone-less, block_kept, block_more, above_row_is, left_column_is, above_eight_is, above_edge, left_edge, above_done, left_done}
@@ -184,7 +184,7 @@ pub record IsBegun (of_row : ℕ → ℕ) (side columns rows my mx : ℕ) (p : S
   pub upper : IsDone of_row (side * columns) (side * rows) (side * columns) (side * my) p
   pub before : IsDone of_row (side * columns) (side * rows) (side * mx) (side * my + side) p
 
-chroma_step : (columns rows my mx : ℕ) (p : Samples) → mx < columns → my < rows → IsBegun grey 8 columns rows my mx p → IsBegun grey 8 columns rows my (suc mx) (predicted_whole p 8 mx my WholeDc)
+chroma_step : (columns rows my mx : ℕ) (p : Samples) → mx < columns → my < rows → IsBegun grey 8 columns rows my mx p → IsBegun grey 8 columns rows my (suc mx) (predicted_whole p 8 mx my WholeDc None 16)
 chroma_step columns rows my mx p in_row in_frame begun =
     let wide : 8 * mx + 8 ≤ 8 * columns = omega arith in
     let high : 8 * my + 8 ≤ 8 * rows = omega arith in
@@ -194,7 +194,7 @@ chroma_step columns rows my mx p in_row in_frame begun =
       shape = IsPlane-with_block_rows (8 * columns) (8 * rows) p (8 * mx) (8 * my) 8 (whole_block_sample p (8 * mx) (8 * my) 8 WholeDc) 8 begun.shape;
       upper = block_kept grey (8 * columns) (8 * rows) (8 * columns) (8 * my) p (8 * mx) (8 * my) 8 (whole_block_sample p (8 * mx) (8 * my) 8 WholeDc) begun.shape wide high (λ column row less. value column row) begun.upper;
       before =
-          IsDone-less grey (8 * columns) (8 * rows) (8 * mx + 8) (8 * my + 8) (8 * suc mx) (8 * my + 8) (predicted_whole p 8 mx my WholeDc) (omega arith) (omega arith)
+          IsDone-less grey (8 * columns) (8 * rows) (8 * mx + 8) (8 * my + 8) (8 * suc mx) (8 * my + 8) (predicted_whole p 8 mx my WholeDc None 16) (omega arith) (omega arith)
           (block_more grey (8 * columns) (8 * rows) p (8 * mx) (8 * my) 8 (whole_block_sample p (8 * mx) (8 * my) 8 WholeDc) begun.shape wide high (λ column row less. value column row) upper begun.before);
     }
 
@@ -263,7 +263,7 @@ sub_block_flat columns rows my mx n p in_row in_frame in_block inside =
     let wide : sub_column mx n + 4 ≤ p.width = omega (arith, round.wide, inside.begun.shape.wide) in
     dc_is p mx my n wide (dc_round (16 * columns) (16 * rows) p (sub_column mx n) (sub_row my n) round.upper round.beside round.wide round.high round.aligned)
 
-sub_blocks_done : (columns rows my mx n : ℕ) (p : Samples) → mx < columns → my < rows → n ≤ 16 → IsBegun luma_of_row 16 columns rows my mx p → IsInside columns rows my mx n (predicted_sub_blocks p mx my dcs n)
+sub_blocks_done : (columns rows my mx n : ℕ) (p : Samples) → mx < columns → my < rows → n ≤ 16 → IsBegun luma_of_row 16 columns rows my mx p → IsInside columns rows my mx n (predicted_sub_blocks p mx my dcs None n)
 unfolding predicted_sub_blocks
 sub_blocks_done columns rows my mx zero p in_row in_frame in_block begun = record {
   begun = begun;
@@ -271,19 +271,19 @@ sub_blocks_done columns rows my mx zero p in_row in_frame in_block begun = recor
   line = λ more. IsDone-less luma_of_row (16 * columns) (16 * rows) (16 * mx) (16 * my + 16) (16 * mx + 4 * (0 % 4)) (16 * my + 4 * (0 / 4) + 4) p (omega arith) (omega arith) begun.before;
 }
 sub_blocks_done columns rows my mx (suc n) p in_row in_frame in_block begun =
-    let q = predicted_sub_blocks p mx my dcs n in
-    let inside : IsInside columns rows my mx n (predicted_sub_blocks p mx my dcs n) = sub_blocks_done columns rows my mx n p in_row in_frame (omega arith) begun in
+    let q = predicted_sub_blocks p mx my dcs None n in
+    let inside : IsInside columns rows my mx n (predicted_sub_blocks p mx my dcs None n) = sub_blocks_done columns rows my mx n p in_row in_frame (omega arith) begun in
     let mode : slice_index_or dcs n Dc ≡ Dc = get_or-replicate 16 n Dc Dc (omega arith) in
     sub_block_at columns rows my mx n (sub_column mx n) (sub_row my n) q (sub_block_sample q mx my n (slice_index_or dcs n Dc)) refl refl in_row in_frame (omega arith)
     (λ column row. ap (λ (m : SubMode). sub_block_sample q mx my n m column row) mode ∙ sub_block_flat columns rows my mx n q in_row in_frame (omega arith) inside column row) inside
 
-luma_step : (columns rows my mx : ℕ) (p : Samples) → mx < columns → my < rows → IsBegun luma_of_row 16 columns rows my mx p → IsBegun luma_of_row 16 columns rows my (suc mx) (predicted_sub_blocks p mx my dcs 16)
+luma_step : (columns rows my mx : ℕ) (p : Samples) → mx < columns → my < rows → IsBegun luma_of_row 16 columns rows my mx p → IsBegun luma_of_row 16 columns rows my (suc mx) (predicted_sub_blocks p mx my dcs None 16)
 luma_step columns rows my mx p in_row in_frame begun =
     let inside = sub_blocks_done columns rows my mx 16 p in_row in_frame (omega arith) begun in
     record {
       shape = inside.begun.shape;
       upper = inside.begun.upper;
-      before = IsDone-less luma_of_row (16 * columns) (16 * rows) (16 * mx + 16) (16 * my + 4 * (16 / 4)) (16 * suc mx) (16 * my + 16) (predicted_sub_blocks p mx my dcs 16) (omega arith) (omega arith) inside.lines;
+      before = IsDone-less luma_of_row (16 * columns) (16 * rows) (16 * mx + 16) (16 * my + 4 * (16 / 4)) (16 * suc mx) (16 * my + 16) (predicted_sub_blocks p mx my dcs None 16) (omega arith) (omega arith) inside.lines;
     }
 
 -- ---- frames
@@ -306,24 +306,24 @@ record AreBlank (columns rows : ℕ) (modes : List MbMode) : Type 0 where
 abbrev blank : MbMode
 blank = record { segment = 0; is_skipped = false; y_mode = B; sub_modes = dcs; uv_mode = WholeDc }
 
-macroblock_done : (columns rows my mx : ℕ) (planes : PlaneSamples) (mode : MbMode) → IsBlank mode → mx < columns → my < rows → AreBegun columns rows my mx planes → AreBegun columns rows my (suc mx) (predicted_macroblock planes mx my mode)
+macroblock_done : (columns rows my mx : ℕ) (planes : PlaneSamples) (mode : MbMode) → IsBlank mode → mx < columns → my < rows → AreBegun columns rows my mx planes → AreBegun columns rows my (suc mx) (predicted_macroblock planes mx my mode None)
 unfolding predicted_macroblock
 macroblock_done columns rows my mx planes mode is in_row in_frame begun =
-    let luma : IsBegun luma_of_row 16 columns rows my (suc mx) (predicted_luma planes.luma mx my mode.y_mode mode.sub_modes) = rw (is.0, is.1) (luma_step columns rows my mx planes.luma in_row in_frame begun.luma) in
-    let cb : IsBegun grey 8 columns rows my (suc mx) (predicted_whole planes.cb 8 mx my mode.uv_mode) = rw (is.2) (chroma_step columns rows my mx planes.cb in_row in_frame begun.cb) in
-    let cr : IsBegun grey 8 columns rows my (suc mx) (predicted_whole planes.cr 8 mx my mode.uv_mode) = rw (is.2) (chroma_step columns rows my mx planes.cr in_row in_frame begun.cr) in
+    let luma : IsBegun luma_of_row 16 columns rows my (suc mx) (predicted_luma planes.luma mx my mode.y_mode mode.sub_modes None) = rw (is.0, is.1) (luma_step columns rows my mx planes.luma in_row in_frame begun.luma) in
+    let cb : IsBegun grey 8 columns rows my (suc mx) (predicted_whole planes.cb 8 mx my mode.uv_mode None 16) = rw (is.2) (chroma_step columns rows my mx planes.cb in_row in_frame begun.cb) in
+    let cr : IsBegun grey 8 columns rows my (suc mx) (predicted_whole planes.cr 8 mx my mode.uv_mode None 20) = rw (is.2) (chroma_step columns rows my mx planes.cr in_row in_frame begun.cr) in
     record { luma = luma; cb = cb; cr = cr }
 
-row_done : (columns rows my n : ℕ) (planes : PlaneSamples) (modes : List MbMode) → AreBlank columns rows modes → my < rows → n ≤ columns → AreBegun columns rows my 0 (predicted_macroblocks planes columns modes (my * columns)) → AreBegun columns rows my n (predicted_macroblocks planes columns modes (my * columns + n))
+row_done : (columns rows my n : ℕ) (planes : PlaneSamples) (modes : List MbMode) → AreBlank columns rows modes → my < rows → n ≤ columns → AreBegun columns rows my 0 (predicted_macroblocks planes columns modes without_residual (my * columns)) → AreBegun columns rows my n (predicted_macroblocks planes columns modes without_residual (my * columns + n))
 row_done columns rows my zero planes modes are in_frame in_row begun = rw add-zero begun
 row_done columns rows my (suc n) planes modes are in_frame in_row begun =
     let place : ℕ = my * columns + n in
-    let before : AreBegun columns rows my n (predicted_macroblocks planes columns modes place) = row_done columns rows my n planes modes are in_frame (omega arith) begun in
+    let before : AreBegun columns rows my n (predicted_macroblocks planes columns modes without_residual place) = row_done columns rows my n planes modes are in_frame (omega arith) begun in
     let within : place < length modes = rw are.count (place_within columns rows my n (omega arith) in_frame) in
     let mode : MbMode = get_or modes place blank in
     let found : slice_get modes place ≡ Some mode = slice_get-get_or modes place blank within in
-    let after = macroblock_done columns rows my n (predicted_macroblocks planes columns modes place) mode (are.each place mode found) (omega arith) in_frame before in
-    let more = predicted_more planes (predicted_macroblocks planes columns modes place) (predicted_macroblock (predicted_macroblocks planes columns modes place) n my mode) columns n my place modes blank refl refl refl (omega arith) within in
+    let after = macroblock_done columns rows my n (predicted_macroblocks planes columns modes without_residual place) mode (are.each place mode found) (omega arith) in_frame before in
+    let more = predicted_more planes (predicted_macroblocks planes columns modes without_residual place) (predicted_macroblock (predicted_macroblocks planes columns modes without_residual place) n my mode None) columns n my place modes without_residual blank refl refl refl (omega arith) within in
     let next : my * columns + suc n ≡ place + 1 = omega arith in
     rw (next, ← more) after
 
@@ -335,7 +335,7 @@ next_row of_row side columns rows my p begun = record {
   before = record { at = λ i j a b c d. absurd (omega arith) };
 }
 
-rows_done : (columns rows n : ℕ) (planes : PlaneSamples) (modes : List MbMode) → AreBlank columns rows modes → n ≤ rows → AreBegun columns rows 0 0 planes → AreBegun columns rows n 0 (predicted_macroblocks planes columns modes (n * columns))
+rows_done : (columns rows n : ℕ) (planes : PlaneSamples) (modes : List MbMode) → AreBlank columns rows modes → n ≤ rows → AreBegun columns rows 0 0 planes → AreBegun columns rows n 0 (predicted_macroblocks planes columns modes without_residual (n * columns))
 unfolding predicted_macroblocks
 rows_done columns rows zero planes modes are in_frame begun = rw zero-mul begun
 rows_done columns rows (suc n) planes modes are in_frame begun =
@@ -359,5 +359,5 @@ planes_flat columns rows modes x y count each =
     let start : AreBegun columns rows 0 0 (empty_planes columns rows) = record { luma = none_begun luma_of_row 16 columns rows; cb = none_begun grey 8 columns rows; cr = none_begun grey 8 columns rows } in
     let are : AreBlank columns rows modes = record { count = count; each = each } in
     let all : length modes ≡ rows * columns = omega (arith, count) in
-    let done : AreBegun columns rows rows 0 (predicted_macroblocks (empty_planes columns rows) columns modes (length modes)) = rw all (rows_done columns rows rows (empty_planes columns rows) modes are (omega arith) start) in
+    let done : AreBegun columns rows rows 0 (predicted_macroblocks (empty_planes columns rows) columns modes without_residual (length modes)) = rw all (rows_done columns rows rows (empty_planes columns rows) modes are (omega arith) start) in
     (λ in_row in_frame. done.luma.upper.at x y in_row in_frame in_row in_frame, λ in_row in_frame. (done.cb.upper.at x y in_row in_frame in_row in_frame, done.cr.upper.at x y in_row in_frame in_row in_frame))

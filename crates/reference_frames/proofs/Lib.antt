@@ -1,3 +1,5 @@
+pub mod Added
+pub mod AddedFirst
 pub mod Blocks
 pub mod Sides
 pub mod Frames

@@ -1,3 +1,7 @@
+pub mod Restored
+pub mod AddedBlocks
+pub mod FrameTokens
+pub mod FrameTokenValue
 pub mod Unfiltered
 pub mod UnfilteredLaws
 pub mod Steps

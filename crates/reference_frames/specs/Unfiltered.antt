@@ -1,4 +1,4 @@
--- The unfiltered picture of a frame of intra macroblocks with no residual: each is predicted by its record, in raster order (RFC 6386, section 12).
+-- The unfiltered picture of a frame of intra macroblocks: each is predicted by its record, and its residual is added, in raster order (RFC 6386, sections 12 and 14.5).
 use Rattle.std.specs.Prelude.{◌≡◌, ℕ, zero, suc, ◌+◌, ◌-◌, ◌*◌, ◌/◌, ◌%◌, ◌≤◌, ◌==◌, nat_lt, min, if◌then◌else◌, List, map, length, slice_get, slice_index_or, Option, Some, None}
 use Rattle.std.specs.List.{range_with_len}
 use Rattle.std.specs.Simd.Lanes.{put_chunk}
@@ -13,6 +13,7 @@ use Rattle.pixel_planes.specs.PlaneSamples.{PlaneSamples, picture_of}
 use Rattle.mode_parser.specs.declared.records.MbMode.{MbMode}
 use Rattle.mode_parser.specs.declared.records.YMode.{YMode}
 use Rattle.mode_parser.specs.declared.records.YMode.TheVariants.{Whole, B}
+use Rattle.reference_frames.specs.Restored.{Residual, restored}
 
 -- a square of this side, with its first sample in column x of row y, lies in the plane, which has no side above 16,384
 abbrev pub HoldsSquare : Samples → ℕ → ℕ → ℕ → Type 0
@@ -110,41 +111,41 @@ with_block_rows p x y side sample (suc n) = with_span (with_block_rows p x y sid
 abbrev pub with_block : Samples → ℕ → ℕ → ℕ → (ℕ → ℕ → ℕ) → Samples
 with_block p x y side sample = with_block_rows p x y side sample side
 
--- a plane after the prediction of sub block n of a macroblock
-abbrev pub predicted_sub_block : Samples → ℕ → ℕ → ℕ → SubMode → Samples
-predicted_sub_block p mx my n mode = with_block p (sub_column mx n) (sub_row my n) 4 (sub_block_sample p mx my n mode)
+-- a plane after the prediction of sub block n of a macroblock, and its residual
+abbrev pub predicted_sub_block : Samples → ℕ → ℕ → ℕ → SubMode → Residual → Samples
+predicted_sub_block p mx my n mode residual = with_block p (sub_column mx n) (sub_row my n) 4 (restored 4 n residual (sub_block_sample p mx my n mode))
 
--- the luma plane after the first n of a macroblock's 16 sub blocks, in raster order, each by the mode at its place
-unfoldable pub predicted_sub_blocks : Samples → ℕ → ℕ → List SubMode → ℕ → Samples
-predicted_sub_blocks p mx my modes zero = p
-predicted_sub_blocks p mx my modes (suc n) = predicted_sub_block (predicted_sub_blocks p mx my modes n) mx my n (slice_index_or modes n Dc)
+-- the luma plane after the first n of a macroblock's 16 sub blocks, in raster order, each by the mode at its place, from what stands by then
+unfoldable pub predicted_sub_blocks : Samples → ℕ → ℕ → List SubMode → Residual → ℕ → Samples
+predicted_sub_blocks p mx my modes residual zero = p
+predicted_sub_blocks p mx my modes residual (suc n) = predicted_sub_block (predicted_sub_blocks p mx my modes residual n) mx my n (slice_index_or modes n Dc) residual
 
--- a plane after the prediction of a macroblock's block of this side
-abbrev pub predicted_whole : Samples → ℕ → ℕ → ℕ → WholeMode → Samples
-predicted_whole p side mx my mode = with_block p (side * mx) (side * my) side (whole_block_sample p (side * mx) (side * my) side mode)
+-- a plane after the prediction of a macroblock's block of this side, and its residual, whose blocks are numbered from `first` on
+abbrev pub predicted_whole : Samples → ℕ → ℕ → ℕ → WholeMode → Residual → ℕ → Samples
+predicted_whole p side mx my mode residual first = with_block p (side * mx) (side * my) side (restored side first residual (whole_block_sample p (side * mx) (side * my) side mode))
 
 -- the luma plane after a macroblock of this mode: one block of 16 by 16 samples, or in mode B its sub blocks by their own modes
-abbrev pub predicted_luma : Samples → ℕ → ℕ → YMode → List SubMode → Samples
-predicted_luma p mx my (Whole mode) modes = predicted_whole p 16 mx my mode
-predicted_luma p mx my B modes = predicted_sub_blocks p mx my modes 16
+abbrev pub predicted_luma : Samples → ℕ → ℕ → YMode → List SubMode → Residual → Samples
+predicted_luma p mx my (Whole mode) modes residual = predicted_whole p 16 mx my mode residual 0
+predicted_luma p mx my B modes residual = predicted_sub_blocks p mx my modes residual 16
 
--- the planes after the prediction of the macroblock in column mx of row my by its record
-unfoldable pub predicted_macroblock : PlaneSamples → ℕ → ℕ → MbMode → PlaneSamples
-predicted_macroblock planes mx my mode = record {
-  luma = predicted_luma planes.luma mx my mode.y_mode mode.sub_modes;
-  cb = predicted_whole planes.cb 8 mx my mode.uv_mode;
-  cr = predicted_whole planes.cr 8 mx my mode.uv_mode;
+-- the planes after the macroblock in column mx of row my, by its record and its residual
+unfoldable pub predicted_macroblock : PlaneSamples → ℕ → ℕ → MbMode → Residual → PlaneSamples
+predicted_macroblock planes mx my mode residual = record {
+  luma = predicted_luma planes.luma mx my mode.y_mode mode.sub_modes residual;
+  cb = predicted_whole planes.cb 8 mx my mode.uv_mode residual 16;
+  cr = predicted_whole planes.cr 8 mx my mode.uv_mode residual 20;
 }
 
 -- the planes after the macroblock at this place of a frame of so many columns, if it has a record
-abbrev pub predicted_at : PlaneSamples → ℕ → ℕ → Option MbMode → PlaneSamples
-predicted_at planes columns place None = planes
-predicted_at planes columns place (Some mode) = predicted_macroblock planes (place % columns) (place / columns) mode
+abbrev pub predicted_at : PlaneSamples → ℕ → ℕ → Option MbMode → Residual → PlaneSamples
+predicted_at planes columns place None residual = planes
+predicted_at planes columns place (Some mode) residual = predicted_macroblock planes (place % columns) (place / columns) mode residual
 
 -- the planes after the first n macroblocks, in raster order
-unfoldable pub predicted_macroblocks : PlaneSamples → ℕ → List MbMode → ℕ → PlaneSamples
-predicted_macroblocks planes columns modes zero = planes
-predicted_macroblocks planes columns modes (suc n) = predicted_at (predicted_macroblocks planes columns modes n) columns n (slice_get modes n)
+unfoldable pub predicted_macroblocks : PlaneSamples → ℕ → List MbMode → (ℕ → Residual) → ℕ → PlaneSamples
+predicted_macroblocks planes columns modes residuals zero = planes
+predicted_macroblocks planes columns modes residuals (suc n) = predicted_at (predicted_macroblocks planes columns modes residuals n) columns n (slice_get modes n) (residuals n)
 
 -- the planes of a frame of this many macroblocks before any is predicted
 abbrev pub empty_planes : ℕ → ℕ → PlaneSamples
@@ -154,10 +155,14 @@ empty_planes columns rows = record {
   cr = uniform (8 * columns) (8 * rows) 0;
 }
 
--- the unfiltered planes of a frame of this many macroblocks, by their records
-abbrev pub unfiltered : ℕ → ℕ → List MbMode → PlaneSamples
-unfiltered columns rows modes = predicted_macroblocks (empty_planes columns rows) columns modes (length modes)
+-- the unfiltered planes of a frame of this many macroblocks, by their records and the residual at each place
+abbrev pub unfiltered : ℕ → ℕ → List MbMode → (ℕ → Residual) → PlaneSamples
+unfiltered columns rows modes residuals = predicted_macroblocks (empty_planes columns rows) columns modes residuals (length modes)
 
--- the picture of a frame of this shown size, by the records of its macroblocks
-unfoldable pub unfiltered_picture : ℕ → ℕ → List MbMode → PictureSamples
-unfiltered_picture width height modes = picture_of width height (unfiltered (macroblocks width) (macroblocks height) modes)
+-- the picture of a frame of this shown size, by the records and residuals of its macroblocks
+unfoldable pub unfiltered_picture : ℕ → ℕ → List MbMode → (ℕ → Residual) → PictureSamples
+unfiltered_picture width height modes residuals = picture_of width height (unfiltered (macroblocks width) (macroblocks height) modes residuals)
+
+-- where no macroblock has a residual
+abbrev pub without_residual : ℕ → Residual
+without_residual place = None

@@ -5,7 +5,7 @@ use Rattle.intra_predict.specs.declared.modes.WholeMode.TheVariants.{Dc as Whole
 use Rattle.mode_parser.specs.declared.records.MbMode.{MbMode}
 use Rattle.mode_parser.specs.declared.records.YMode.TheVariants.{B}
 use Rattle.pixel_planes.specs.Samples.{Samples, IsWhole, sample_at}
-use Rattle.reference_frames.specs.Unfiltered.{HoldsSquare, with_block, unfiltered}
+use Rattle.reference_frames.specs.Unfiltered.{HoldsSquare, with_block, unfiltered, without_residual}
 
 -- column i of row j is in the square of this side that begins in column x of row y
 abbrev pub IsInSquare : ℕ → ℕ → ℕ → ℕ → ℕ → Type 0
@@ -25,9 +25,9 @@ luma_of_row y = if nat_lt y 4 then 128 else 129
 abbrev pub IsBlank : MbMode → Type 0
 IsBlank mode = (mode.y_mode ≡ B) × (mode.sub_modes ≡ replicate 16 Dc) × (mode.uv_mode ≡ WholeDc)
 
--- where each record is such, luma is 128 in the first four rows and 129 below them, and chroma is 128
+-- where each record is such and no macroblock has a residual, luma is 128 in the first four rows and 129 below them, and chroma is 128
 abbrev pub AreFlat : Type 0
 AreFlat =
     (columns rows : ℕ) (modes : List MbMode) (x y : ℕ) → length modes ≡ columns * rows → ((n : ℕ) (mode : MbMode) → slice_get modes n ≡ Some mode → IsBlank mode) →
-    (x < 16 * columns → y < 16 * rows → sample_at (unfiltered columns rows modes).luma x y ≡ luma_of_row y)
-    × (x < 8 * columns → y < 8 * rows → (sample_at (unfiltered columns rows modes).cb x y ≡ 128) × (sample_at (unfiltered columns rows modes).cr x y ≡ 128))
+    (x < 16 * columns → y < 16 * rows → sample_at (unfiltered columns rows modes without_residual).luma x y ≡ luma_of_row y)
+    × (x < 8 * columns → y < 8 * rows → (sample_at (unfiltered columns rows modes without_residual).cb x y ≡ 128) × (sample_at (unfiltered columns rows modes without_residual).cr x y ≡ 128))

@@ -1,12 +1,18 @@
-ghost use Rattle.std.specs.Prelude.{◌≡◌, ◌*◌, ◌+◌, ◌-◌, ◌<◌, ◌≤◌, IfOk, length, map, min, slice_index, if◌then◌else◌};
+ghost use Rattle.std.specs.Prelude.{◌≡◌, ◌*◌, ◌+◌, ◌-◌, ◌/◌, ◌<◌, ◌≤◌, All, IfOk, length, map, min, slice_index, if◌then◌else◌};
 ghost use Rattle.std.specs.List.{range_with_len};
 ghost use Rattle.std.specs.Option.{option_copied, ForSome};
 ghost use Rattle.intra_predict.specs.WholeSample.{side_of};
 ghost use Rattle.pixel_planes.specs.Pictures.{macroblocks as macroblocks_of};
 ghost use Rattle.pixel_planes.specs.PlaneSamples.{shown_of};
 ghost use Rattle.pixel_planes.specs.Samples.{sample_at};
-ghost use Rattle.reference_frames.specs.Unfiltered.{HoldsSquare, HoldsMacroblock, HaveRoomFor, SameSides, SameShape, above, left, corner, above_row, left_column, above_eight, with_block, predicted_sub_block, predicted_sub_blocks, predicted_whole, predicted_luma, predicted_macroblock, predicted_macroblocks, unfiltered_picture as unfiltered_picture_of, empty_planes as empty_planes_of};
+ghost use Rattle.reference_frames.specs.FrameTokens.{residual_at};
+ghost use Rattle.reference_frames.specs.FrameTokenValue.{state_of};
+ghost use Rattle.reference_frames.specs.Steps.{decoded_picture};
+ghost use Rattle.reference_frames.specs.Unfiltered.{HoldsSquare, HoldsMacroblock, HaveRoomFor, SameSides, SameShape, above, left, corner, above_row, left_column, above_eight, with_block, predicted_sub_block, predicted_sub_blocks, predicted_whole, predicted_luma, predicted_macroblock, predicted_macroblocks, empty_planes as empty_planes_of};
 
+use crate::frame_tokens::FrameTokens;
+use crate::residuals::{Blocks, add_to_sub_block, add_to_whole};
+use frame_header::Header;
 use intra_predict::{BlockSize, SubMode, WholeMode, sub, whole};
 use mode_parser::{MbMode, YMode};
 use pixel_planes::{NoMemory, Picture, Plane, Planes};
@@ -149,11 +155,18 @@ fn write_block(plane: &mut Plane, x: usize, y: usize, side: usize, block: &[u8])
     }
 }
 
-/// Predicts a sub block of a macroblock from what stands round it by then.
-fn predict_sub_block(plane: &mut Plane, mx: usize, my: usize, block: usize, mode: SubMode)
+/// Predicts a sub block of a macroblock from what stands round it by then, and adds its residual.
+fn predict_sub_block(
+    plane: &mut Plane,
+    mx: usize,
+    my: usize,
+    block: usize,
+    mode: SubMode,
+    residual: Option<&Blocks>,
+)
     requires within { HoldsSquare plane.old.shown (16 * mx) (16 * my) 16 }
     requires block { block < 16 }
-    ensures value { plane.new.shown ≡ predicted_sub_block plane.old.shown mx my block mode }
+    ensures value { plane.new.shown ≡ predicted_sub_block plane.old.shown mx my block mode (option_copied residual.entry) }
     ensures sides { SameSides plane.old.shown plane.new.shown }
 {
     let (x, y) = (16 * mx + 4 * (block % 4), 16 * my + 4 * (block / 4));
@@ -161,18 +174,26 @@ fn predict_sub_block(plane: &mut Plane, mx: usize, my: usize, block: usize, mode
     read_left(plane, x, y, &mut left);
     let mut above = [0; 8];
     read_above_eight(plane, mx, my, block, &mut above);
-    let samples = sub(mode, left, sample_corner(plane, x, y), above);
+    let mut samples = sub(mode, left, sample_corner(plane, x, y), above);
+    add_to_sub_block(residual, block, &mut samples);
     write_block(plane, x, y, 4, &samples);
 }
 
-/// Predicts the 16 sub blocks of a macroblock by their modes, each from what stands round it by then.
-fn predict_sub_blocks(plane: &mut Plane, mx: usize, my: usize, modes: &[SubMode; 16])
+/// Predicts the 16 sub blocks of a macroblock by their modes, each from what stands round it by then,
+/// and adds its residual before the next one.
+fn predict_sub_blocks(
+    plane: &mut Plane,
+    mx: usize,
+    my: usize,
+    modes: &[SubMode; 16],
+    residual: Option<&Blocks>,
+)
     requires { HoldsSquare plane.old.shown (16 * mx) (16 * my) 16 }
-    ensures value { plane.new.shown ≡ predicted_sub_blocks plane.old.shown mx my modes.now 16 }
+    ensures value { plane.new.shown ≡ predicted_sub_blocks plane.old.shown mx my modes.now (option_copied residual.entry) 16 }
     ensures sides { SameSides plane.old.shown plane.new.shown }
 {
     for block in 0..16 {
-        predict_sub_block(plane, mx, my, block, modes[block]);
+        predict_sub_block(plane, mx, my, block, modes[block], residual);
     }
 }
 
@@ -184,11 +205,21 @@ fn side_inside(is_outside: bool, samples: &[u8]) -> Option<&[u8]>
     if is_outside { None } else { Some(samples) }
 }
 
-/// Predicts the whole block of a macroblock in a plane where it has this size.
+/// Predicts the whole block of a macroblock in a plane where it has this size, and adds its residual,
+/// whose blocks are numbered from `first` on.
 #[inline(always)]
-fn predict_whole(plane: &mut Plane, size: BlockSize, mx: usize, my: usize, mode: WholeMode)
-    requires { HoldsSquare plane.old.shown (side_of size * mx) (side_of size * my) (side_of size) }
-    ensures value { plane.new.shown ≡ predicted_whole plane.old.shown (side_of size) mx my mode }
+fn predict_whole(
+    plane: &mut Plane,
+    size: BlockSize,
+    mx: usize,
+    my: usize,
+    mode: WholeMode,
+    residual: Option<&Blocks>,
+    first: usize,
+)
+    requires first { first + side_of size / 4 * (side_of size / 4) ≤ 24 }
+    requires within { HoldsSquare plane.old.shown (side_of size * mx) (side_of size * my) (side_of size) }
+    ensures value { plane.new.shown ≡ predicted_whole plane.old.shown (side_of size) mx my mode (option_copied residual.entry) first }
     ensures sides { SameSides plane.old.shown plane.new.shown }
 {
     let side = size.side();
@@ -204,43 +235,78 @@ fn predict_whole(plane: &mut Plane, size: BlockSize, mx: usize, my: usize, mode:
     let above = side_inside(y == 0, above);
     let left = side_inside(x == 0, left);
     whole(mode, size, above, left, sample_corner(plane, x, y), block);
+    add_to_whole(residual, first, size, block);
     write_block(plane, x, y, side, block);
 }
 
-/// Predicts the luma of a macroblock, as one block or by sub blocks.
-fn predict_luma(plane: &mut Plane, mx: usize, my: usize, mode: &MbMode)
+/// Predicts the luma of a macroblock, as one block or by sub blocks, and adds its residual.
+fn predict_luma(plane: &mut Plane, mx: usize, my: usize, mode: &MbMode, residual: Option<&Blocks>)
     requires { HoldsSquare plane.old.shown (16 * mx) (16 * my) 16 }
-    ensures value { plane.new.shown ≡ predicted_luma plane.old.shown mx my mode.now.y_mode mode.now.sub_modes }
+    ensures value { plane.new.shown ≡ predicted_luma plane.old.shown mx my mode.now.y_mode mode.now.sub_modes (option_copied residual.entry) }
     ensures sides { SameSides plane.old.shown plane.new.shown }
 {
     match mode.y_mode {
-        YMode::Whole(whole) => predict_whole(plane, BlockSize::Sixteen, mx, my, whole),
-        YMode::B => predict_sub_blocks(plane, mx, my, &mode.sub_modes),
+        YMode::Whole(whole) => predict_whole(plane, BlockSize::Sixteen, mx, my, whole, residual, 0),
+        YMode::B => predict_sub_blocks(plane, mx, my, &mode.sub_modes, residual),
     }
 }
 
-/// Predicts the macroblock in column `mx` of row `my` from what stands round it.
-fn predict_macroblock(planes: &mut Planes, mx: usize, my: usize, mode: &MbMode)
+/// Predicts the macroblock in column `mx` of row `my` from what stands round it, and adds its
+/// residual, if it has one.
+fn predict_macroblock(
+    planes: &mut Planes,
+    mx: usize,
+    my: usize,
+    mode: &MbMode,
+    residual: Option<&Blocks>,
+)
     requires { HoldsMacroblock (shown_of planes.old) mx my }
-    ensures value { shown_of planes.new ≡ predicted_macroblock (shown_of planes.old) mx my mode.now }
+    ensures value { shown_of planes.new ≡ predicted_macroblock (shown_of planes.old) mx my mode.now (option_copied residual.entry) }
     ensures sides { SameShape (shown_of planes.old) (shown_of planes.new) }
 {
-    predict_luma(&mut planes.luma, mx, my, mode);
-    predict_whole(&mut planes.cb, BlockSize::Eight, mx, my, mode.uv_mode);
-    predict_whole(&mut planes.cr, BlockSize::Eight, mx, my, mode.uv_mode);
+    predict_luma(&mut planes.luma, mx, my, mode, residual);
+    predict_whole(
+        &mut planes.cb,
+        BlockSize::Eight,
+        mx,
+        my,
+        mode.uv_mode,
+        residual,
+        16,
+    );
+    predict_whole(
+        &mut planes.cr,
+        BlockSize::Eight,
+        mx,
+        my,
+        mode.uv_mode,
+        residual,
+        20,
+    );
 }
 
-/// Predicts the macroblocks of a frame in raster order, each by its record.
-fn predict_macroblocks(planes: &mut Planes, columns: usize, rows: usize, modes: &[MbMode])
+/// Predicts the macroblocks of a frame in raster order, each by its record, and adds the residual that
+/// its tokens give.
+fn predict_macroblocks(
+    planes: &mut Planes,
+    columns: usize,
+    rows: usize,
+    header: &Header,
+    modes: &[MbMode],
+    tokens: &mut FrameTokens,
+)
     requires room { HaveRoomFor (shown_of planes.old) columns rows }
     requires each { length modes.now ≡ columns * rows }
-    ensures value { shown_of planes.new ≡ predicted_macroblocks (shown_of planes.old) columns modes.now (length modes.now) }
+    requires some { 0 < length (state_of tokens.old).readers }
+    requires above { length (state_of tokens.old).above ≡ columns }
+    ensures value { shown_of planes.new ≡ predicted_macroblocks (shown_of planes.old) columns modes.now (residual_at header.now columns (state_of tokens.old) modes.now) (length modes.now) }
     ensures sides { SameShape (shown_of planes.old) (shown_of planes.new) }
 {
     let mut mx = 0;
     let mut my = 0;
     for mode in modes {
-        predict_macroblock(planes, mx, my, mode);
+        let residual = tokens.read(header, mx, my, mode);
+        predict_macroblock(planes, mx, my, mode, residual.as_ref());
         mx += 1;
         if mx == columns {
             mx = 0;
@@ -272,25 +338,28 @@ fn empty_planes(alloc: Global, columns: usize, rows: usize) -> Result<Planes, No
     })
 }
 
-/// Makes the picture of a frame of `width` by `height` samples, 1 to 16,383 each: each macroblock
-/// is predicted by its record, of which there is one for each in raster order, and nothing is added
-/// to it (RFC 6386, section 12).
+/// Makes the picture of a key frame from its packet, of which this is the header: each macroblock is
+/// predicted by its record, of which there is one for each in raster order, and the residual that its
+/// tokens give is added to it (RFC 6386, sections 12 to 14).
 ///
-/// `NoMemory` where a plane or its shared block is refused.
+/// `NoMemory` where a plane or its shared block, or what stands between macroblocks, is refused.
 pub fn unfiltered_picture(
     alloc: Global,
-    width: u16,
-    height: u16,
+    packet: &[u8],
+    header: &Header,
     modes: &[MbMode],
 ) -> Result<Picture, NoMemory>
-    requires wide { (0 < width) × (width ≤ 16383) }
-    requires high { (0 < height) × (height ≤ 16383) }
-    requires each { length modes.now ≡ macroblocks_of width * macroblocks_of height }
-    ensures { IfOk result (λ p. p ≡ unfiltered_picture_of width height modes.now) }
+    requires wide { (0 < header.now.width) × (header.now.width ≤ 16383) }
+    requires high { (0 < header.now.height) × (header.now.height ≤ 16383) }
+    requires each { length modes.now ≡ macroblocks_of header.now.width * macroblocks_of header.now.height }
+    requires some { 0 < length header.now.partitions.items }
+    requires inside { All (λ place. place.start + place.length ≤ length packet.now) header.now.partitions.items }
+    ensures { IfOk result (λ p. p ≡ decoded_picture packet.now header.now modes.now) }
 {
-    let columns = macroblocks(width);
-    let rows = macroblocks(height);
+    let columns = macroblocks(header.width);
+    let rows = macroblocks(header.height);
     let mut planes = empty_planes(alloc, columns, rows)?;
-    predict_macroblocks(&mut planes, columns, rows, modes);
-    Picture::share(alloc, planes, width, height)
+    let mut tokens = FrameTokens::new(alloc, packet, &header.partitions, columns)?;
+    predict_macroblocks(&mut planes, columns, rows, header, modes, &mut tokens);
+    Picture::share(alloc, planes, header.width, header.height)
 }

@@ -25,7 +25,3 @@ returns-clause-segments c = refl
 pub returns-clause-level : goal.returns-clause-level
 unfolding header_of fields partition_count adjustment filter segmentation colors literal more_bits read renewed trimmed token_places
 returns-clause-level c = refl
-
-pub returns-clause-token_byte : goal.returns-clause-token_byte
-unfolding header_of fields partition_count adjustment filter segmentation colors literal more_bits read renewed trimmed token_places
-returns-clause-token_byte c = refl

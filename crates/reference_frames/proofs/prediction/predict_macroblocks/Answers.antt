@@ -1,7 +1,11 @@
-use Rattle.std.proofs.Common.{◌≡◌, ◌+◌, ◌*◌, ◌<◌, ℕ, refl, rules, arith}
+use Rattle.std.proofs.Common.{◌≡◌, ◌+◌, ◌*◌, ◌<◌, ℕ, length, ap, ◌∙◌, refl, rules, arith}
+use Rattle.std.specs.Option.{option_copied}
+use Rattle.std.proofs.lemmas.List.{length-set}
 use Rattle.pixel_planes.specs.PlaneSamples.{shown_of}
+use Rattle.reference_frames.specs.FrameTokens.{TokenState, residual_at, token_state}
+use Rattle.reference_frames.specs.FrameTokenValue.{state_of}
 use Rattle.reference_frames.specs.Unfiltered.{predicted_macroblocks}
-use Rattle.reference_frames.proofs.Frames.{predicted_more}
+use Rattle.reference_frames.proofs.Frames.{predicted_more, residual_here, state_more}
 use Rattle.reference_frames.proofs.prediction.predict_macroblocks.Goals as goal
 use Rattle.reference_frames.proofs.prediction.predict_macroblocks.Goals.{then-mx-columns, else-mx-columns}
 
@@ -16,9 +20,12 @@ next_column : (columns my mx my' mx' n : ℕ) → my * columns + mx ≡ n → my
 next_column columns my mx my' mx' n place row column = rw (row, column) (omega arith)
 
 pub loop-mode-init : goal.loop-mode-init
-unfolding predicted_macroblocks
+unfolding predicted_macroblocks token_state
 loop-mode-init c = record {
   value = refl;
+  state = refl;
+  readers = c.requires.some;
+  above = c.requires.above;
   sides = search rules;
   place = omega arith;
   column = λ some. some_columns c.args.columns c.args.rows (rw c.requires.each at some);
@@ -27,8 +34,17 @@ loop-mode-init c = record {
 pub loop-mode-preserved : goal.loop-mode-preserved
 loop-mode-preserved c =
     let column = c.loop-mode.invariant.column c.loop-mode-test.true in
+    let state = c.read-residual.ensures.state in
+    let residual : option_copied c.as_ref.result ≡ residual_at c.args.header.now c.args.columns (state_of c.args.tokens.now) c.args.modes.now c.loop-mode.mode-index =
+    c.as_ref.ensures.value ∙ c.read-residual.ensures.residual
+    ∙ residual_here c.args.header.now (state_of c.args.tokens.now) (state_of c.loop-mode.tokens) c.args.columns c.loop-mode.mx c.loop-mode.my c.loop-mode.mode-index c.args.modes.now _ c.loop-mode.invariant.state c.loop-mode.invariant.place column c.loop-mode-test.true in
+    let here = rw residual at c.predict_macroblock.ensures.value in
     record {
-      value = predicted_more (shown_of c.args.planes.now) (shown_of c.loop-mode.planes) (shown_of c.predict_macroblock.new.planes) c.args.columns c.loop-mode.mx c.loop-mode.my c.loop-mode.mode-index c.args.modes.now _ c.loop-mode.invariant.value c.predict_macroblock.ensures.value c.loop-mode.invariant.place column c.loop-mode-test.true;
+      value = predicted_more (shown_of c.args.planes.now) (shown_of c.loop-mode.planes) (shown_of c.predict_macroblock.new.planes) c.args.columns c.loop-mode.mx c.loop-mode.my c.loop-mode.mode-index c.args.modes.now
+          (residual_at c.args.header.now c.args.columns (state_of c.args.tokens.now) c.args.modes.now) _ c.loop-mode.invariant.value here c.loop-mode.invariant.place column c.loop-mode-test.true;
+      state = state_more c.args.header.now (state_of c.args.tokens.now) (state_of c.loop-mode.tokens) (state_of c.read-residual.new.self) c.args.columns c.loop-mode.mx c.loop-mode.my c.loop-mode.mode-index c.args.modes.now _ c.loop-mode.invariant.state c.read-residual.ensures.state c.loop-mode.invariant.place column c.loop-mode-test.true;
+      readers = (let same = ap (λ (t : TokenState). length t.readers) state ∙ length-set _ _ _ in omega (arith, same, c.loop-mode.invariant.readers));
+      above = ap (λ (t : TokenState). length t.above) state ∙ length-set _ _ _ ∙ c.loop-mode.invariant.above;
       sides = search rules;
       place = elim c.if-mx-columns.branch [
         | then-mx-columns w ↦ next_row c.args.columns c.loop-mode.my c.loop-mode.mx _ _ c.loop-mode.mode-index c.loop-mode.invariant.place w.if-mx-columns.true w.my-is w.mx-is

@@ -1,11 +1,16 @@
 use Rattle.std.proofs.Common.{◌≡◌, ◌+◌, ◌*◌, ◌<◌, length}
 use Rattle.pixel_planes.specs.PlaneSamples.{shown_of}
+use Rattle.reference_frames.specs.FrameTokens.{residual_at, token_state}
+use Rattle.reference_frames.specs.FrameTokenValue.{state_of}
 use Rattle.reference_frames.specs.Unfiltered.{predicted_macroblocks, SameShape}
 use Rattle.reference_frames.proofs.prediction.predict_macroblocks.Given as goal
 
 abbrev pub invariant-loop-mode : goal.invariant-loop-mode
 invariant-loop-mode l = record {
-  value : shown_of l.planes ≡ predicted_macroblocks (shown_of l.initial.planes) l.columns l.modes l.mode-index;
+  value : shown_of l.planes ≡ predicted_macroblocks (shown_of l.initial.planes) l.columns l.modes (residual_at l.header l.columns (state_of l.initial.tokens) l.modes) l.mode-index;
+  state : state_of l.tokens ≡ token_state l.header l.columns (state_of l.initial.tokens) l.modes l.mode-index;
+  readers : 0 < length (state_of l.tokens).readers;
+  above : length (state_of l.tokens).above ≡ l.columns;
   sides : SameShape (shown_of l.initial.planes) (shown_of l.planes);
   place : l.my * l.columns + l.mx ≡ l.mode-index;
   column : l.mode-index < length l.modes → l.mx < l.columns;

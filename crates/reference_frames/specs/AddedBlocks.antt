@@ -1,0 +1,13 @@
+-- Residuals that are added within a square.
+use Rattle.std.specs.Prelude.{◌≡◌, ℕ, ◌+◌, ◌-◌, ◌*◌, ◌<◌, ◌≤◌, List, length, slice_index, ℤ, pos, ◌+ℤ◌}
+use Rattle.transforms.specs.Residuals.{held}
+
+-- column i of row j is in the block of 4 by 4 samples that begins in this column and row
+abbrev pub IsInBlock : ℕ → ℕ → ℕ → ℕ → Type 0
+IsInBlock column row i j = (column ≤ i) × (i < column + 4) × (row ≤ j) × (j < row + 4)
+
+-- a residual was added to the samples of such a block in a square of this side, and every other sample is as it was
+pub record IsAddedAt (residual : ℕ → ℕ → ℤ) (side column row : ℕ) (old new : List ℕ) : Type 0 where
+  pub whole : length new ≡ length old
+  pub each : (i j : ℕ) → IsInBlock column row i j → slice_index new (j * side + i) ≡ held (pos (slice_index old (j * side + i)) +ℤ residual (i - column) (j - row))
+  pub others : (i j : ℕ) → i < side → j < side → (IsInBlock column row i j → ⊥) → slice_index new (j * side + i) ≡ slice_index old (j * side + i)

@@ -1,0 +1,182 @@
+//! The tokens of a frame: what stands between its macroblocks, and the residual that each has
+//! (RFC 6386, sections 9.5 and 13).
+
+ghost use Rattle.std.specs.Prelude.{◌≡◌, ◌+◌, ◌%◌, ◌<◌, ◌≤◌, [], length, map, slice_index_or, slice_set, All, IfOk};
+ghost use Rattle.bool_coder.specs.Reader.{started};
+ghost use Rattle.token_parser.specs.Blocks.{cleared, macroblock};
+ghost use Rattle.transforms.specs.Factors.{factors_of};
+ghost use Rattle.reference_frames.specs.FrameTokenValue.{state_of};
+ghost use Rattle.reference_frames.specs.FrameTokens.{has_y2 as has_y2_of, block_with, y2_results, block_of, blocks_of, reader_of, tokens_at, tokens_start, state_with, residual_with};
+
+use crate::residuals::Blocks;
+use bool_coder::Decoder;
+use frame_header::{Header, Place};
+use mode_parser::{MbMode, YMode};
+use pixel_planes::NoMemory;
+use std::alloc::Global;
+use token_parser::{Tokens, read_macroblock, skip_macroblock};
+use transforms::{Factors, dequantise, factors, wht};
+
+/// Whether a macroblock has a block Y2, of the first coefficients of its luma (RFC 6386, section 13).
+#[inline]
+fn has_y2(mode: &MbMode) -> bool
+    ensures { result ≡ has_y2_of mode.now.y_mode }
+{
+    match mode.y_mode {
+        YMode::Whole(_) => true,
+        YMode::B => false,
+    }
+}
+
+/// A block, dequantised (RFC 6386, section 14.1).
+#[inline]
+#[tactic(auto, unfolding(crate::specs::FrameTokens::block_with))]
+fn block_with(coefficients: &[i16; 16], dc: i16, ac: i16) -> [i16; 16]
+    ensures { result ≡ block_with coefficients.now dc ac }
+{
+    dequantise(coefficients, dc, ac)
+}
+
+/// The results of Y2, which are the first coefficients of the luma blocks (RFC 6386, section 14.3).
+#[inline]
+#[tactic(auto, unfolding(crate::specs::FrameTokens::y2_results))]
+fn y2_results(factors: Factors, coefficients: &[i16; 16]) -> [i16; 16]
+    ensures { result ≡ y2_results factors coefficients.now }
+{
+    wht(&block_with(coefficients, factors.y2_dc, factors.y2_ac))
+}
+
+/// The coefficients of block `k`, dequantised; the first of a luma block is its result of Y2, where
+/// there is one (RFC 6386, sections 14.1 and 14.3).
+#[inline]
+fn block_of(
+    factors: Factors,
+    firsts: &Option<[i16; 16]>,
+    coefficients: &[[i16; 16]; 25],
+    k: usize,
+) -> [i16; 16]
+    requires { k < 24 }
+    ensures { result ≡ block_of factors firsts.now coefficients.now k }
+{
+    if k >= 16 {
+        return block_with(&coefficients[k], factors.uv_dc, factors.uv_ac);
+    }
+    let mut block = block_with(&coefficients[k], factors.y_dc, factors.y_ac);
+    if let Some(firsts) = firsts {
+        block[0] = firsts[k];
+    }
+    block
+}
+
+/// The coefficients of the 24 blocks of a macroblock that have samples, dequantised.
+fn blocks_of(factors: Factors, has_y2: bool, coefficients: &[[i16; 16]; 25]) -> Blocks
+    ensures { result ≡ blocks_of factors has_y2 coefficients.now }
+{
+    let firsts = if has_y2 {
+        Some(y2_results(factors, &coefficients[24]))
+    } else {
+        None
+    };
+    let mut blocks = [[0; 16]; 24];
+    for k in 0..24 {
+        blocks[k] = block_of(factors, &firsts, coefficients, k);
+    }
+    blocks
+}
+
+/// The readers of the token partitions, each from its start.
+fn partition_readers<'a>(
+    alloc: Global,
+    packet: &'a [u8],
+    partitions: &[Place],
+) -> Result<Vec<Decoder<'a>>, NoMemory>
+    requires { All (λ place. place.start + place.length ≤ length packet.now) partitions.now }
+    ensures { IfOk result (λ readers. readers.items ≡ map (reader_of packet.now) partitions.now) }
+{
+    let mut readers = Vec::with_capacity(alloc, partitions.len())?;
+    for place in partitions {
+        let end = place.start + place.length;
+        readers.push(Decoder::new(&packet[place.start..end]))?;
+    }
+    Ok(readers)
+}
+
+/// What stands between the macroblocks of a frame.
+#[derive(Drop)]
+pub struct FrameTokens<'a> {
+    /// The readers of the token partitions.
+    readers: Vec<Decoder<'a>>,
+    /// The flags above each column of macroblocks.
+    above: Vec<[bool; 9]>,
+    /// The flags to the left, and the coefficients of one macroblock.
+    tokens: Tokens,
+}
+
+impl<'a> FrameTokens<'a> {
+    /// What stands before the first macroblock of a frame of so many columns. `NoMemory` where the
+    /// readers or the flags find no room.
+    pub fn new(
+        alloc: Global,
+        packet: &'a [u8],
+        partitions: &[Place],
+        columns: usize,
+    ) -> Result<FrameTokens<'a>, NoMemory>
+        requires { All (λ place. place.start + place.length ≤ length packet.now) partitions.now }
+        ensures { IfOk result (λ tokens. state_of tokens ≡ tokens_start partitions.now packet.now columns) }
+    {
+        Ok(FrameTokens {
+            readers: partition_readers(alloc, packet, partitions)?,
+            above: vec![in alloc; [false; 9]; columns]?,
+            tokens: Tokens::new(),
+        })
+    }
+
+    /// Reads the tokens of a macroblock in row `my`, behind its flags, and gives its residual.
+    fn read_blocks(&mut self, header: &Header, my: usize, mode: &MbMode) -> Blocks
+        requires { 0 < length self.old.readers.items }
+        ensures tokens { (self.new.tokens, slice_index_or self.new.readers.items (my % length self.old.readers.items) (started [])) ≡ macroblock header.now.context.probabilities.coefficients (has_y2_of mode.now.y_mode) (cleared self.old.tokens) (slice_index_or self.old.readers.items (my % length self.old.readers.items) (started [])) }
+        ensures readers { self.new.readers.items ≡ slice_set self.old.readers.items (my % length self.old.readers.items) (slice_index_or self.new.readers.items (my % length self.old.readers.items) (started [])) }
+        ensures above { self.new.above.items ≡ self.old.above.items }
+        ensures value { result ≡ blocks_of (factors_of header.now mode.now.segment) (has_y2_of mode.now.y_mode) self.new.tokens.coefficients }
+    {
+        let has_y2 = has_y2(mode);
+        let partition = my % self.readers.len();
+        let mut reader = self.readers[partition].copied();
+        self.tokens.clear();
+        read_macroblock(
+            &mut reader,
+            &header.context.probabilities.coefficients,
+            has_y2,
+            &mut self.tokens,
+        );
+        self.readers[partition] = reader;
+        blocks_of(
+            factors(header, mode.segment),
+            has_y2,
+            &self.tokens.coefficients,
+        )
+    }
+
+    /// Reads the tokens of the macroblock in column `mx` of row `my`, which stands next, and gives its
+    /// residual. Where it is skipped, nothing is read, and it has none.
+    #[tactic(auto, unfolding(crate::specs::FrameTokens::tokens_at))]
+    pub fn read(&mut self, header: &Header, mx: usize, my: usize, mode: &MbMode) -> Option<Blocks>
+        requires some { 0 < length (state_of self.old).readers }
+        requires column { mx < length (state_of self.old).above }
+        ensures state { state_of self.new ≡ state_with (state_of self.old) mx my (tokens_at header.now.context.probabilities.coefficients (state_of self.old) mx my mode.now) }
+        ensures residual { result ≡ residual_with (factors_of header.now mode.now.segment) mode.now (tokens_at header.now.context.probabilities.coefficients (state_of self.old) mx my mode.now).0 }
+    {
+        self.tokens.above = self.above[mx];
+        if mx == 0 {
+            self.tokens.left = [false; 9];
+        }
+        let residual = if mode.is_skipped {
+            skip_macroblock(has_y2(mode), &mut self.tokens);
+            None
+        } else {
+            Some(self.read_blocks(header, my, mode))
+        };
+        self.above[mx] = self.tokens.above;
+        residual
+    }
+}

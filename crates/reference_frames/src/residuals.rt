@@ -1,0 +1,96 @@
+//! Residuals that are added to what was predicted (RFC 6386, section 14.5).
+
+ghost use Rattle.std.specs.Prelude.{◌≡◌, ◌+◌, ◌*◌, ◌/◌, ◌<◌, ◌≤◌, length, pos, slice_index, slice_range, All, IsTrue, Some};
+ghost use Rattle.std.specs.Option.{option_copied};
+ghost use Rattle.intra_predict.specs.Blocks.{IsBlock};
+ghost use Rattle.intra_predict.specs.WholeSample.{side_of};
+ghost use Rattle.transforms.specs.Residuals.{IsAdded};
+ghost use Rattle.transforms.specs.Transforms.{inverse_dct};
+ghost use Rattle.reference_frames.specs.Restored.{restored};
+ghost use Rattle.reference_frames.specs.AddedBlocks.{IsAddedAt};
+
+use intra_predict::BlockSize;
+use transforms::{dct_add, dct_add_first};
+
+/// The dequantised coefficients of the blocks of a macroblock: 16 of luma, 4 of U and 4 of V, each
+/// in raster order.
+pub type Blocks = [[i16; 16]; 24];
+
+/// Whether a block has no coefficient behind its first.
+#[inline]
+fn has_only_first(coefficients: &[i16; 16]) -> bool
+    ensures { IsTrue result → All (λ c. c ≡ pos 0) (slice_range coefficients.now 1 16) }
+{
+    coefficients[1..].iter().all(|c| *c == 0)
+}
+
+/// Adds the residual of a block to its 4 by 4 samples at the start of `samples`, in rows `stride`
+/// apart.
+#[inline]
+fn add_block(coefficients: &[i16; 16], samples: &mut [u8], stride: usize)
+    requires wide { (4 ≤ stride) × (stride ≤ 16) }
+    requires room { 3 * stride + 4 ≤ length samples.old }
+    ensures { IsAdded (inverse_dct coefficients.now) stride samples.old samples.new }
+{
+    if !has_only_first(coefficients) {
+        dct_add(coefficients, samples, stride);
+    } else if coefficients[0] != 0 {
+        dct_add_first(coefficients[0], samples, stride);
+    }
+}
+
+/// Adds the residual of a block to its samples in a square, from this column and row on.
+#[inline]
+fn add_at(coefficients: &[i16; 16], samples: &mut [u8], size: BlockSize, column: usize, row: usize)
+    requires square { length samples.old ≡ side_of size * side_of size }
+    requires column { column + 4 ≤ side_of size }
+    requires row { row + 4 ≤ side_of size }
+    ensures { IsAddedAt (inverse_dct coefficients.now) (side_of size) column row samples.old samples.new }
+{
+    let side = size.side();
+    add_block(coefficients, &mut samples[side * row + column..], side);
+}
+
+/// Adds the residual of a macroblock to one of its squares, whose blocks are numbered from `first`
+/// on.
+#[inline]
+fn add_blocks(blocks: &Blocks, first: usize, size: BlockSize, samples: &mut [u8])
+    requires first { first + side_of size / 4 * (side_of size / 4) ≤ 24 }
+    requires square { length samples.old ≡ side_of size * side_of size }
+    ensures { IsBlock (side_of size) (restored (side_of size) first (Some blocks.now) (λ column row. slice_index samples.old (row * side_of size + column))) samples.new }
+{
+    let across = size.side() / 4;
+    for k in 0..across * across {
+        add_at(
+            &blocks[first + k],
+            samples,
+            size,
+            4 * (k % across),
+            4 * (k / across),
+        );
+    }
+}
+
+/// Adds the residual of a macroblock, if it has one, to one of its squares, whose blocks are numbered
+/// from `first` on.
+#[inline]
+pub fn add_to_whole(residual: Option<&Blocks>, first: usize, size: BlockSize, samples: &mut [u8])
+    requires first { first + side_of size / 4 * (side_of size / 4) ≤ 24 }
+    requires square { length samples.old ≡ side_of size * side_of size }
+    ensures { IsBlock (side_of size) (restored (side_of size) first (option_copied residual.entry) (λ column row. slice_index samples.old (row * side_of size + column))) samples.new }
+{
+    if let Some(blocks) = residual {
+        add_blocks(blocks, first, size, samples);
+    }
+}
+
+/// Adds the residual of a macroblock, if it has one, to its sub block of this number.
+#[inline]
+pub fn add_to_sub_block(residual: Option<&Blocks>, block: usize, samples: &mut [u8; 16])
+    requires { block < 16 }
+    ensures { IsBlock 4 (restored 4 block (option_copied residual.entry) (λ column row. slice_index samples.old (row * 4 + column))) samples.new }
+{
+    if let Some(blocks) = residual {
+        add_block(&blocks[block], samples, 4);
+    }
+}
