@@ -8,7 +8,6 @@ SUB_TREE = [0, 2, -1, 4, -2, 6, 8, 12, -3, 10, -5, -6, -4, 14, -7, 16, -8, -9]
 B_PRED = 4
 # The sub mode that a whole-block mode counts as: DC, V, H, TM as DC, VE, HE, TM.
 COUNTERPARTS = [0, 2, 3, 1]
-FLAT = [bytes([128]) * 1056, bytes([128]) * 1056, bytes([128]) * 900]
 
 
 def tables_of(text):

@@ -2,8 +2,7 @@
 """Compares key frames of random prediction modes with what vpxdec and ffmpeg show, sample for sample.
 
 Run by hand, not in the gate. It needs the built program (see README.md), vpxdec (Debian's vpx-tools) and
-ffmpeg, and the long tables of RFC 6386 as a file of 3,012 bytes. The program has flat tables, so the same
-modes are written twice: with flat tables for the program, with the RFC's for the others.
+ffmpeg, and the long tables of RFC 6386 as a file of 3,012 bytes, with which the modes are written.
 """
 
 import pathlib
@@ -12,7 +11,7 @@ import subprocess
 import sys
 import tempfile
 
-from bits import B_PRED, FLAT, ivf, key_packet, tables_of
+from bits import B_PRED, ivf, key_packet, tables_of
 from run import PROGRAM, frames_of, run
 
 
@@ -25,12 +24,11 @@ def random_mode(source, share):
 
 def compare(room, tables, width, height, modes):
     size = width * height + 2 * ((width + 1) // 2) * ((height + 1) // 2)
-    (room / "flat.ivf").write_bytes(ivf(width, height, [key_packet(FLAT, width, height, modes)]))
-    (room / "rfc.ivf").write_bytes(ivf(width, height, [key_packet(tables, width, height, modes)]))
+    (room / "in.ivf").write_bytes(ivf(width, height, [key_packet(tables, width, height, modes)]))
     (room / "requests").write_text("frame 0\n")
-    run([PROGRAM, room / "flat.ivf", room / "requests", room / "out.y4m"])
-    run(["vpxdec", "--codec=vp8", "--i420", "-o", room / "vpxdec.yuv", room / "rfc.ivf"])
-    run(["ffmpeg", "-y", "-v", "error", "-i", room / "rfc.ivf", "-pix_fmt", "yuv420p", "-f", "rawvideo", room / "ffmpeg.yuv"])
+    run([PROGRAM, room / "in.ivf", room / "requests", room / "out.y4m"])
+    run(["vpxdec", "--codec=vp8", "--i420", "-o", room / "vpxdec.yuv", room / "in.ivf"])
+    run(["ffmpeg", "-y", "-v", "error", "-i", room / "in.ivf", "-pix_fmt", "yuv420p", "-f", "rawvideo", room / "ffmpeg.yuv"])
     served = frames_of((room / "out.y4m").read_bytes(), size)
     return len(served) == size, [served == (room / f"{name}.yuv").read_bytes() for name in ("vpxdec", "ffmpeg")]
 
