@@ -55,19 +55,18 @@ impl<'a> HandWritten<'a> {
 
     #[inline]
     fn bit(&mut self, prob: u8) -> bool {
+        if self.left < 7 {
+            *self = self.refilled();
+        }
         let split = 1 + (((self.range - 1) * u32::from(prob)) >> 8);
-        let least = u64::from(split) << self.left;
-        let bit = self.value >= least;
+        let bit = self.value >> self.left >= u64::from(split);
         if bit {
-            self.value -= least;
+            self.value -= u64::from(split) << self.left;
             self.range -= split;
         } else {
             self.range = split;
         }
         let count = self.range.leading_zeros() - 24;
-        if self.left < count {
-            *self = self.refilled(count);
-        }
         self.left -= count;
         self.range <<= count;
         bit
@@ -75,7 +74,7 @@ impl<'a> HandWritten<'a> {
 
     #[cold]
     #[inline(never)]
-    fn refilled(mut self, count: u32) -> Self {
+    fn refilled(mut self) -> Self {
         let d = self.value >> self.left;
         if d > u64::from(self.range) {
             self.value -= (d - u64::from(self.range)) << self.left;
@@ -88,9 +87,9 @@ impl<'a> HandWritten<'a> {
             self.value = (self.value << 8) | u64::from(*first);
             self.left += 8;
         }
-        if self.left < count {
-            self.value <<= count - self.left;
-            self.left = count;
+        if self.left < 7 {
+            self.value <<= 7 - self.left;
+            self.left = 7;
         }
         self
     }

@@ -41,6 +41,7 @@ with_bit-small i value bit small =
 pub extra-small : (i value : ℕ) → i ≤ 11 → value < 2 ^ i → value < 2048
 extra-small i value few small =
     let power : 2 ^ i ≤ 2 ^ 11 = pow-le-pow_right (omega arith) few in omega arith
+
 pub extra-smaller : (i value : ℕ) → i < 11 → value < 2 ^ i → value < 1024
 extra-smaller i value few small =
     let less : i ≤ 10 = omega arith in

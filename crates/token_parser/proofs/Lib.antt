@@ -4,3 +4,4 @@ pub mod SizeWalks
 pub mod Steps
 pub mod Zigzag
 pub mod BlockSteps
+pub mod TokenLaws

@@ -2,3 +2,4 @@ pub mod TokenTree
 pub mod Walks
 pub mod Tokens
 pub mod Blocks
+pub mod Worked

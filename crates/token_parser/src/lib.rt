@@ -3,9 +3,12 @@
 
 mod block_place;
 mod block_tokens;
+pub mod laws;
 mod macroblocks;
 mod places;
 mod sizes;
+#[cfg(test)]
+mod tests;
 mod tokens;
 
 pub use macroblocks::{read_macroblock, skip_macroblock};

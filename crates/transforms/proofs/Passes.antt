@@ -1,5 +1,5 @@
 -- The inverse DCT, and that of a block with a first coefficient alone.
-use Rattle.std.proofs.Common.{◌≡◌, ℕ, zero, suc, ◌+◌, ◌*◌, ◌<◌, List, [], ◌∷◌, refl, ap, sym, ◌∙◌, arith, lit<, ℤ, pos, ◌+ℤ◌, w16, SFits, to_z, of_z}
+use Rattle.std.proofs.Common.{◌≡◌, ℕ, zero, suc, ◌<◌, List, [], ◌∷◌, refl, ap, sym, ◌∙◌, arith, lit<, ℤ, pos, ◌+ℤ◌, w16, SFits, to_z, of_z}
 use Rattle.std.specs.Prelude.{slice_index_or, replicate}
 use Rattle.std.proofs.lemmas.Int.{ints, to_z-of_z, int_wrap_fits, SFits-int_wrap}
 use Rattle.transforms.specs.Transforms.{by_sine, by_cosine, reduced, eighth, dct_pass, dct_column, inverse_dct, wht_pass, wht_column, inverse_wht_at}

@@ -1,9 +1,9 @@
 -- The low 16 bits of a number, by shifts.
-use Rattle.std.proofs.Common.{◌≡◌, ℕ, zero, suc, ◌+◌, ◌-◌, ◌*◌, ◌/◌, ◌%◌, ◌<◌, ◌≤◌, inl, inr, refl, ap, ◌∙◌, sym, arith, ℤ, pos, negsuc, ◌+ℤ◌, ◌-ℤ◌, w16, w32, SFits, to_z, of_z}
+use Rattle.std.proofs.Common.{◌≡◌, ℕ, ◌-◌, ◌*◌, ◌/◌, ◌%◌, ◌<◌, ◌≤◌, inl, inr, refl, ap, ◌∙◌, sym, arith, ℤ, pos, negsuc, ◌+ℤ◌, ◌-ℤ◌, w16, w32, SFits, to_z, of_z}
 use Rattle.std.proofs.lemmas.Bool.{cases_lt}
 use Rattle.std.proofs.lemmas.Bool.Decides.{nat_tests}
 use Rattle.std.proofs.lemmas.Int.{ints, to_z-of_z, to_z_pos, SFits-int_wrap}
-use Rattle.std.specs.Int.{int_wrap, cast_signed, int_rem_euclid, int_shr}
+use Rattle.std.specs.Int.{int_wrap, int_rem_euclid, int_shr}
 use Rattle.std.specs.Int.RustNames.{unsigned_abs}
 use Rattle.transforms.specs.Bounds.{IsWithin}
 

@@ -54,7 +54,8 @@ wht_column coefficients column row =
     let at = coefficient coefficients column in
     reduced (wht_pass row (at 0) (at 1) (at 2) (at 3))
 
--- the number in a column of a row: the second pass, over the row, in eighths (section 14.3)
+-- the number in a column of a row: the second pass, over the row, in eighths (section 14.3). An eighth of four numbers of
+-- 16 bits has no more itself
 unfoldable pub inverse_wht_at : List ℤ → ℕ → ℕ → ℤ
 inverse_wht_at coefficients column row =
     let at = λ (k : ℕ). wht_column coefficients k row in

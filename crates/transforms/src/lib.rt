@@ -4,7 +4,10 @@
 mod blocks;
 mod dct;
 mod factor_set;
+pub mod laws;
 mod quantisation;
+#[cfg(test)]
+mod tests;
 mod walsh;
 
 pub use dct::{dct_add, dct_add_first};

@@ -5,6 +5,7 @@
 mod fault;
 mod modes;
 mod quantizers;
+mod rfc;
 mod tables;
 mod vectors;
 

@@ -1,7 +1,9 @@
 ghost use Rattle.std.specs.Prelude.{◌≡◌, ◌<◌, length, slice_index};
+ghost use Rattle.vp8_tables.specs.Rfc.{rfc_entries};
 ghost use Rattle.vp8_tables.specs.Tables.{flat_entries, entries_of, coefficient_place, key_sub_place, key_sub_nodes_of};
 
 use crate::fault::TableFault;
+use crate::rfc;
 use std::marker::Model;
 
 const COEFFICIENTS: usize = 1056;
@@ -35,6 +37,18 @@ impl Tables {
             coefficients: [128; COEFFICIENTS],
             updates: [128; COEFFICIENTS],
             key_subs: [128; KEY_SUBS],
+        }
+    }
+
+    /// The tables that RFC 6386 prints, in sections 13.5, 13.4 and 11.5.
+    #[tactic(auto, unfolding(crate::specs::Rfc::rfc_entries))]
+    pub fn rfc() -> Tables
+        ensures { result ≡ rfc_entries }
+    {
+        Tables {
+            coefficients: rfc::COEFFICIENTS,
+            updates: rfc::UPDATES,
+            key_subs: rfc::KEY_SUBS,
         }
     }
 

@@ -1,7 +1,7 @@
 -- What the parts of a run leave.
 use Rattle.std.specs.Prelude.{◌≡◌, ℕ, ◌<◌, List, length, Option, IfSome, codes}
 use Rattle.std.specs.Io.KnownBytes.{Keeps}
-use Rattle.vp8_tables.specs.Tables.{flat_entries}
+use Rattle.vp8_tables.specs.Rfc.{rfc_entries}
 use Rattle.stream_files.specs.Ivf.{IvfRefuses}
 use Rattle.frame_session.specs.Answers.{Means}
 use Rattle.frame_session.specs.Sessions.{Now}
@@ -24,7 +24,7 @@ IsReadFault name left _ = ⊥
 -- the requests of this text were answered over the file that these bytes are, behind whose last whole record this many bytes stand
 abbrev pub IsAnswered : (bytes requests : List ℕ) → (frames frames' replies replies' : Option (List ℕ)) → ℕ → Type 0
 IsAnswered bytes requests frames frames' replies replies' spare =
-    (end : Now) × Means flat_entries bytes requests frames frames' replies replies' end × (spare ≡ end.spare)
+    (end : Now) × Means rfc_entries bytes requests frames frames' replies replies' end × (spare ≡ end.spare)
 
 -- the requests were answered so, and the replies are these; of the frames it is not known where they went
 abbrev pub IsReplied : (bytes requests : List ℕ) → (replies replies' : Option (List ℕ)) → ℕ → Type 0

@@ -62,7 +62,7 @@ pub fn run_to<F: Write, P: Write>(
 {
     let session = run(
         alloc,
-        Tables::flat(),
+        Tables::rfc(),
         CAPACITY,
         stream,
         requests,

@@ -16,4 +16,6 @@ mod packets;
 #[cfg(test)]
 mod refusals;
 #[cfg(test)]
+mod residuals;
+#[cfg(test)]
 mod sessions;

@@ -86,6 +86,24 @@ pub fn packet_of(
     Ok(packet)
 }
 
+/// Writes a key frame's header: how many token partitions there are (two digits), the quantizer index
+/// (seven), and what is said of skipping (one, and eight more for a probability).
+fn write_header(
+    encoder: &mut Encoder,
+    partitions: &[u8],
+    quantizer: &[u8],
+    skipping: &[u8],
+) -> Result<(), AllocError> {
+    write_bits(encoder, b"00000000000000")?;
+    write_bits(encoder, partitions)?;
+    write_bits(encoder, quantizer)?;
+    write_bits(encoder, b"000000")?;
+    for _ in 0..1056 {
+        encoder.bit(false, 128)?;
+    }
+    write_bits(encoder, skipping)
+}
+
 /// A key packet of these macroblocks in raster order, with an empty token partition.
 pub fn key_packet(
     alloc: Global,
@@ -94,13 +112,39 @@ pub fn key_packet(
     macroblocks: &[Macroblock],
 ) -> Result<Vec<u8>, AllocError> {
     let mut encoder = Encoder::new(alloc);
-    for _ in 0..29 + 1056 {
-        encoder.bit(false, 128)?;
-    }
-    write_bits(&mut encoder, b"100000001")?;
+    write_header(&mut encoder, b"00", b"0000000", b"100000001")?;
     for macroblock in macroblocks {
         write_macroblock(&mut encoder, macroblock)?;
     }
     let first = encoder.finish()?;
     packet_of(alloc, width, height, first.as_slice(), &[])
+}
+
+/// A first partition with quantizer index 127 in which no macroblock is skipped, and `count`
+/// macroblocks of modes DC. `partitions` are the two digits of their number.
+pub fn first_partition(
+    alloc: Global,
+    partitions: &[u8],
+    count: usize,
+) -> Result<Vec<u8>, AllocError> {
+    let mut encoder = Encoder::new(alloc);
+    write_header(&mut encoder, partitions, b"1111111", b"0")?;
+    for _ in 0..count {
+        write_pairs(&mut encoder, LUMA[0])?;
+        write_pairs(&mut encoder, CHROMA[0])?;
+    }
+    encoder.finish()
+}
+
+/// Writes the tokens of a macroblock whose Y2 block has a first coefficient of 1, of -1 or none, and
+/// whose other 24 blocks have nothing.
+pub fn write_y2(encoder: &mut Encoder, first: i8) -> Result<(), AllocError> {
+    if first > 0 {
+        write_bits(encoder, b"11000")?;
+    } else if first < 0 {
+        write_bits(encoder, b"11010")?;
+    } else {
+        write_bits(encoder, b"0")?;
+    }
+    write_bits(encoder, b"000000000000000000000000")
 }

@@ -64,8 +64,6 @@ fn not_yet(rt: HostRuntime) -> Result<(), Fail> {
         ran.replies.as_slice(),
         b"refused packet 1 NotYet\n".as_slice()
     );
-    let tokens = [0x10, 0, 0, 0x9D, 1, 0x2A, 0x10, 0, 0x10, 0, 0, 1];
-    refuses(&rt, rt.alloc(), &tokens, "refused packet 0 NotYet\n")?;
     // The third bit turns segments on; the sixth to the tenth are the low bits of the filter level.
     for fields in ["001", "0000000001"] {
         let mut encoder = Encoder::new(rt.alloc());

@@ -1,5 +1,5 @@
-use Rattle.std.proofs.Common.{◌≡◌, arith, w32, SFits, to_z, of_z}
-use Rattle.std.proofs.lemmas.Int.{ints, to_z-of_z}
+use Rattle.std.proofs.Common.{w32, SFits}
+use Rattle.std.proofs.lemmas.Int.{to_z-of_z}
 use Rattle.transforms.proofs.Rows.{row_added}
 use Rattle.transforms.proofs.blocks.add_row.Goals as goal
 

@@ -1,4 +1,4 @@
-use Rattle.std.proofs.Common.{◌≡◌, w16, w32, SFits, to_z, of_z}
+use Rattle.std.proofs.Common.{w16, SFits}
 use Rattle.std.proofs.lemmas.Int.{to_z-of_z}
 use Rattle.transforms.proofs.Wrap.{residual_fits}
 use Rattle.transforms.proofs.dct.add_transformed_row.Goals as goal

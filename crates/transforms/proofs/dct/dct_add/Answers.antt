@@ -1,4 +1,4 @@
-use Rattle.std.proofs.Common.{◌≡◌, ◌∙◌, refl, zero-add, ◌*◌, arith}
+use Rattle.std.proofs.Common.{arith}
 use Rattle.transforms.proofs.Rows.{all_rows, one_more, no_rows}
 use Rattle.transforms.proofs.Passes.{through, row_is}
 use Rattle.transforms.proofs.dct.dct_add.Goals as goal

@@ -1,4 +1,4 @@
-use Rattle.std.proofs.Common.{◌≡◌, ◌∙◌, ◌*◌, ap, lit<, arith, w16, w32, SFits, to_z, of_z}
+use Rattle.std.proofs.Common.{◌∙◌, ap, lit<, arith, w16, w32, SFits}
 use Rattle.std.proofs.lemmas.Int.{to_z-of_z}
 use Rattle.transforms.specs.Transforms.{eighth}
 use Rattle.transforms.proofs.Wrap.{residual_fits}

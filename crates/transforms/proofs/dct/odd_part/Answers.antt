@@ -1,4 +1,4 @@
-use Rattle.std.proofs.Common.{◌≡◌, arith, w16, SFits, to_z, of_z}
+use Rattle.std.proofs.Common.{arith, w16, SFits}
 use Rattle.std.proofs.lemmas.Int.{ints, to_z-of_z}
 use Rattle.transforms.proofs.dct.odd_part.Goals as goal
 

@@ -1,6 +1,4 @@
-use Rattle.std.proofs.Common.{◌≡◌, ◌∙◌, ap, ℤ, w16, w32, SFits, to_z, of_z}
-use Rattle.std.proofs.lemmas.Int.{to_z-of_z, SFits-int_wrap}
-use Rattle.std.specs.Int.{int_wrap}
+use Rattle.std.proofs.Common.{◌∙◌, ap, w16, w32, to_z, of_z}
 use Rattle.transforms.proofs.Wrap.{shifted_pair, narrowed}
 use Rattle.transforms.proofs.dct.reduced.Goals as goal
 

@@ -1,5 +1,5 @@
-use Rattle.std.proofs.Common.{◌≡◌, ◌∙◌, ap, sym, arith, w16, w32, SFits, to_z, of_z}
-use Rattle.std.proofs.lemmas.Int.{ints, to_z-of_z}
+use Rattle.std.proofs.Common.{◌∙◌, ap, w16, SFits}
+use Rattle.std.proofs.lemmas.Int.{to_z-of_z}
 use Rattle.transforms.specs.Transforms.{eighth}
 use Rattle.transforms.proofs.Wrap.{pass_fits, kept}
 use Rattle.transforms.proofs.dct.row_pass.Goals as goal

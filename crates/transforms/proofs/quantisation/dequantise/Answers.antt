@@ -1,4 +1,4 @@
-use Rattle.std.proofs.Common.{◌≡◌, refl, w16, SFits, to_z, of_z}
+use Rattle.std.proofs.Common.{refl, w16, SFits}
 use Rattle.std.proofs.lemmas.Int.{to_z-of_z}
 use Rattle.transforms.proofs.Passes.{next_same}
 use Rattle.transforms.proofs.Products.{product_kept}

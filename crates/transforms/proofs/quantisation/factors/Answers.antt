@@ -1,4 +1,4 @@
-use Rattle.std.proofs.Common.{◌≡◌, ◌≤◌, ◌*◌, ◌/◌, ◌∙◌, ℕ, ap, refl, arith, ℤ, pos, w8, w16, SFits, to_z, of_z, rules}
+use Rattle.std.proofs.Common.{◌*◌, ◌/◌, ◌∙◌, ℕ, ap, refl, arith, pos, w8, w16, SFits, rules}
 use Rattle.std.specs.Prelude.{min, max}
 use Rattle.std.proofs.lemmas.Int.{to_z_pos, to_z-of_z}
 use Rattle.transforms.specs.Factors.{factors_of, factor}

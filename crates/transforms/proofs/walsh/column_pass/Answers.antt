@@ -1,5 +1,5 @@
-use Rattle.std.proofs.Common.{◌≡◌, ◌∙◌, ◌+◌, ap, sym, arith, zero-add, get_or, ℤ, pos, w16, w32, SFits, to_z, of_z, rules}
-use Rattle.std.proofs.lemmas.Int.{ints, to_z-of_z}
+use Rattle.std.proofs.Common.{◌∙◌, ◌+◌, ap, zero-add, get_or, pos, w16, SFits, rules}
+use Rattle.std.proofs.lemmas.Int.{to_z-of_z}
 use Rattle.transforms.specs.Transforms.{wht_column, reduced}
 use Rattle.transforms.proofs.Wrap.{wht_fits}
 use Rattle.transforms.proofs.walsh.column_pass.Goals as goal

@@ -1,4 +1,4 @@
-use Rattle.std.proofs.Common.{◌≡◌, arith, w16, SFits, to_z, of_z}
+use Rattle.std.proofs.Common.{w16, SFits}
 use Rattle.std.proofs.lemmas.Int.{to_z-of_z}
 use Rattle.transforms.specs.Transforms.{wht_pass}
 use Rattle.transforms.proofs.Wrap.{sum_kept, difference_kept}

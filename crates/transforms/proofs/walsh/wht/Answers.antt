@@ -1,4 +1,4 @@
-use Rattle.std.proofs.Common.{◌≡◌, refl}
+use Rattle.std.proofs.Common.{refl}
 use Rattle.transforms.proofs.Passes.{next_same, wht_number}
 use Rattle.transforms.proofs.walsh.wht.Goals as goal
 

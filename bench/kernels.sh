@@ -1,0 +1,46 @@
+#!/bin/sh
+# Times the inverse transforms beside libvpx's. README.md says more.
+set -eu
+here=$(cd "$(dirname "$0")" && pwd)
+kit=$(dirname "$(rt doc | head -n 1)")
+vpx=$(cc -print-file-name=libvpx.a)
+[ -f "$vpx" ] || { echo "libvpx.a is not here: install libvpx-dev" >&2; exit 1; }
+room=$(mktemp -d)
+trap 'rm -rf "$room"' EXIT
+
+mkdir -p "$room/crates/transform_times/src"
+for crate in vp8_tables bool_coder frame_header transforms; do
+    cp -r "$here/../crates/$crate" "$room/crates"
+done
+cat > "$room/crates.txt" <<'END'
+vp8_tables: thiserror
+bool_coder:
+frame_header: vp8_tables bool_coder arrayvec thiserror
+transforms: vp8_tables bool_coder frame_header
+transform_times staticlib: transforms
+END
+cat > "$room/crates/transform_times/src/lib.rt" <<'END'
+#![tactic(auto)]
+
+use transforms::{dct_add, dct_add_first, wht};
+
+#[unsafe(no_mangle)]
+pub extern "C" fn proved_dct_add(coefficients: &[i16; 16], samples: &mut [u8; 64]) {
+    dct_add(coefficients, samples, 16);
+}
+
+#[unsafe(no_mangle)]
+pub extern "C" fn proved_dct_add_first(first: i16, samples: &mut [u8; 64]) {
+    dct_add_first(first, samples, 16);
+}
+
+#[unsafe(no_mangle)]
+pub extern "C" fn proved_wht(coefficients: &[i16; 16], out: &mut [i16; 16]) {
+    *out = wht(coefficients);
+}
+END
+(cd "$room/crates/transform_times" && rt lib --jobs 1 < /dev/null) > "$room/build.log" 2>&1 || { tail -n 20 "$room/build.log"; exit 1; }
+rustc -O --edition 2024 -C target-cpu=x86-64-v2 -o "$room/kernels" "$here/kernels.rs" \
+    -L "$room/crates/transform_times/out" -l static=transform_times -L "$kit/c" -l static=libc_c \
+    -L "$(dirname "$vpx")" -l static=vpx -l m
+"$room/kernels"

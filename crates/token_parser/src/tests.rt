@@ -1,0 +1,224 @@
+use crate::{Tokens, read_macroblock, skip_macroblock};
+use bool_coder::{Decoder, Encoder};
+use std::alloc::{AllocError, Global};
+use std::test::Fail;
+
+/// The bits of each token from the root of the tree, and the node of each bit: 0 to 4, the six
+/// categories, the end of a block (RFC 6386, section 13.2).
+const TOKENS: [(&[u8], &[u8]); 12] = [
+    (b"10", &[0, 1]),
+    (b"110", &[0, 1, 2]),
+    (b"11100", &[0, 1, 2, 3, 4]),
+    (b"111010", &[0, 1, 2, 3, 4, 5]),
+    (b"111011", &[0, 1, 2, 3, 4, 5]),
+    (b"111100", &[0, 1, 2, 3, 6, 7]),
+    (b"111101", &[0, 1, 2, 3, 6, 7]),
+    (b"1111100", &[0, 1, 2, 3, 6, 8, 9]),
+    (b"1111101", &[0, 1, 2, 3, 6, 8, 9]),
+    (b"1111110", &[0, 1, 2, 3, 6, 8, 10]),
+    (b"1111111", &[0, 1, 2, 3, 6, 8, 10]),
+    (b"0", &[0]),
+];
+
+const END: usize = 11;
+
+const CATEGORY_5: [u8; 5] = [180, 157, 141, 134, 130];
+
+const CATEGORY_6: [u8; 11] = [254, 254, 243, 230, 196, 177, 153, 140, 133, 130, 129];
+
+/// The least and the greatest size of each token, its extra bits, which are all alike, and their
+/// probabilities (section 13.2).
+const SIZES: [(i16, usize, bool, &[u8]); 16] = [
+    (1, 1, false, &[]),
+    (2, 2, false, &[]),
+    (3, 3, false, &[]),
+    (4, 4, false, &[]),
+    (5, 5, false, &[159]),
+    (6, 5, true, &[159]),
+    (7, 6, false, &[165, 145]),
+    (10, 6, true, &[165, 145]),
+    (11, 7, false, &[173, 148, 140]),
+    (18, 7, true, &[173, 148, 140]),
+    (19, 8, false, &[176, 155, 140, 135]),
+    (34, 8, true, &[176, 155, 140, 135]),
+    (35, 9, false, &CATEGORY_5),
+    (66, 9, true, &CATEGORY_5),
+    (67, 10, false, &CATEGORY_6),
+    (2114, 10, true, &CATEGORY_6),
+];
+
+/// Where a token is read: the kind of its block, its band and its context.
+#[derive(Clone, Copy)]
+struct NodeTable {
+    kind: u8,
+    band: u8,
+    context: u8,
+}
+
+fn nodes(kind: u8, band: u8, context: u8) -> NodeTable {
+    NodeTable {
+        kind,
+        band,
+        context,
+    }
+}
+
+/// Probability i is 1 + (37 i + i div 256) modulo 255, so that hardly two near ones are alike.
+fn counted_probabilities() -> [u8; 1056] {
+    let mut probabilities = [0; 1056];
+    for (i, probability) in probabilities.iter_mut().enumerate() {
+        *probability = (1 + (i % 256 * 37 + i / 256) % 255) as u8;
+    }
+    probabilities
+}
+
+/// Writes the bits of a token; those behind a 0 leave out the first.
+fn write_token(
+    encoder: &mut Encoder,
+    at: NodeTable,
+    token: usize,
+    after_zero: bool,
+) -> Result<(), AllocError> {
+    let probabilities = counted_probabilities();
+    let start = ((at.kind as usize * 8 + at.band as usize) * 3 + at.context as usize) * 11;
+    let (bits, numbers) = TOKENS[token % 12];
+    for (bit, node) in bits.iter().zip(numbers).skip(after_zero as usize) {
+        encoder.bit(*bit == b'1', probabilities[(start + *node as usize) % 1056])?;
+    }
+    Ok(())
+}
+
+fn write_extra(encoder: &mut Encoder, bit: bool, probs: &[u8]) -> Result<(), AllocError> {
+    for prob in probs {
+        encoder.bit(bit, *prob)?;
+    }
+    Ok(())
+}
+
+/// Blocks that end at once.
+fn write_ends(encoder: &mut Encoder, kind: u8, count: u32) -> Result<(), AllocError> {
+    for _block in 0..count {
+        write_token(encoder, nodes(kind, 0, 0), END, false)?;
+    }
+    Ok(())
+}
+
+/// In luma block n the n-th of `SIZES` stands as it is at the first place, and as its negative at
+/// the second; no other block has a token.
+fn sizes_text(alloc: Global, has_y2: bool) -> Result<Vec<u8>, AllocError> {
+    let mut encoder = Encoder::new(alloc);
+    let (kind, first) = if has_y2 { (0, 1) } else { (3, 0) };
+    if has_y2 {
+        write_ends(&mut encoder, 1, 1)?;
+    }
+    for (n, (size, token, bit, probs)) in SIZES.iter().enumerate() {
+        let flags = (n % 4 > 0) as u8 + (n > 3) as u8;
+        let large = if *size > 1 { 2 } else { 1 };
+        write_token(&mut encoder, nodes(kind, first, flags), *token, false)?;
+        write_extra(&mut encoder, *bit, probs)?;
+        encoder.bit(false, 128)?;
+        write_token(&mut encoder, nodes(kind, first + 1, large), *token, false)?;
+        write_extra(&mut encoder, *bit, probs)?;
+        encoder.bit(true, 128)?;
+        write_token(&mut encoder, nodes(kind, first + 2, large), END, false)?;
+    }
+    write_ends(&mut encoder, 2, 8)?;
+    encoder.finish()
+}
+
+#[test]
+fn each_size_is_read_back(rt: HostRuntime) -> Result<(), Fail> {
+    for has_y2 in [false, true] {
+        let text = sizes_text(rt.alloc(), has_y2)?;
+        let mut decoder = Decoder::new(&text);
+        let mut tokens = Tokens::new();
+        read_macroblock(&mut decoder, &counted_probabilities(), has_y2, &mut tokens);
+        let mut expected = Tokens::new();
+        for (block, (size, _, _, _)) in expected.coefficients.iter_mut().zip(&SIZES) {
+            block[has_y2 as usize] = *size;
+            block[if has_y2 { 4 } else { 1 }] = size.wrapping_neg();
+        }
+        for end in expected.ends.iter_mut().take(16) {
+            *end = 2 + has_y2 as u8;
+        }
+        expected.above = [true, true, true, true, false, false, false, false, false];
+        expected.left = expected.above;
+        assert_eq!(rt; tokens, expected);
+    }
+    Ok(())
+}
+
+// Y2 has a 0 at all places but the last, luma nothing, the last block of U one 0 and then 1,091 =
+// 67 + 1,024, and the first block of V sixteen times 0.
+fn order_text(alloc: Global) -> Result<Vec<u8>, AllocError> {
+    let bands = [0, 1, 2, 3, 6, 4, 5, 6, 6, 6, 6, 6, 6, 6, 6, 7];
+    let mut encoder = Encoder::new(alloc);
+    for place in 0..15usize {
+        let context = if place == 0 { 2 } else { 0 };
+        let at = nodes(1, bands[place], context);
+        write_token(&mut encoder, at, 0, place > 0)?;
+    }
+    write_token(&mut encoder, nodes(1, 7, 0), 1, true)?;
+    encoder.bit(true, 128)?;
+    for _block in 0..16 {
+        write_token(&mut encoder, nodes(0, 1, 0), END, false)?;
+    }
+    write_token(&mut encoder, nodes(2, 0, 1), END, false)?;
+    write_ends(&mut encoder, 2, 2)?;
+    write_token(&mut encoder, nodes(2, 0, 0), 0, false)?;
+    write_token(&mut encoder, nodes(2, 1, 0), 10, true)?;
+    encoder.bit(true, 254)?;
+    write_extra(&mut encoder, false, &CATEGORY_6[1..])?;
+    encoder.bit(false, 128)?;
+    write_token(&mut encoder, nodes(2, 2, 2), END, false)?;
+    for place in 0..16usize {
+        let context = if place == 0 { 1 } else { 0 };
+        let at = nodes(2, bands[place], context);
+        write_token(&mut encoder, at, 0, place > 0)?;
+    }
+    write_token(&mut encoder, nodes(2, 0, 1), END, false)?;
+    write_token(&mut encoder, nodes(2, 0, 2), END, false)?;
+    write_ends(&mut encoder, 2, 1)?;
+    encoder.finish()
+}
+
+#[test]
+fn blocks_come_in_order(rt: HostRuntime) -> Result<(), Fail> {
+    let text = order_text(rt.alloc())?;
+    let mut decoder = Decoder::new(&text);
+    let mut tokens = Tokens::new();
+    tokens.above = [false, false, false, false, true, false, false, false, true];
+    tokens.left = [false, false, false, false, false, false, true, true, true];
+    read_macroblock(&mut decoder, &counted_probabilities(), true, &mut tokens);
+    let mut expected = Tokens::new();
+    expected.coefficients[24][15] = -1;
+    expected.coefficients[19][1] = 1091;
+    expected.ends = [
+        1, 1, 1, 1, 1, 1, 1, 1, 1, 1, 1, 1, 1, 1, 1, 1, 0, 0, 0, 2, 16, 0, 0, 0, 16,
+    ];
+    expected.above = [false, false, false, false, false, true, false, false, true];
+    expected.left = [false, false, false, false, false, true, false, false, true];
+    assert_eq!(rt; tokens, expected);
+    skip_macroblock(false, &mut tokens);
+    assert_eq!(rt;
+        tokens.above,
+        [false, false, false, false, false, false, false, false, true]
+    );
+    skip_macroblock(true, &mut tokens);
+    tokens.clear();
+    assert_eq!(rt; tokens, Tokens::new());
+    Ok(())
+}
+
+// Behind the end of a partition every bit is 0, which is the end of each block.
+#[test]
+fn no_bytes_are_ends(rt: HostRuntime) -> Result<(), Fail> {
+    let mut decoder = Decoder::new(&[]);
+    let mut tokens = Tokens::new();
+    tokens.above = [true; 9];
+    read_macroblock(&mut decoder, &counted_probabilities(), false, &mut tokens);
+    let mut expected = Tokens::new();
+    expected.above[8] = true;
+    assert_eq!(rt; tokens, expected);
+    Ok(())
+}
