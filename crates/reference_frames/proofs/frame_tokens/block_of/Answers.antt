@@ -1,8 +1,6 @@
-use Rattle.std.proofs.Common.{rules, ◌≡◌, ◌<◌, ◌≤◌, ◌∙◌, ap, sym, refl, List, [], ℤ, pos, length, get_or, slice_set, SFits, w16, to_z-of_z, arith}
+use Rattle.std.proofs.Common.{rules, ◌∙◌, ap, sym, List, ℤ, pos, get_or, slice_set, SFits, w16, to_z-of_z}
 use Rattle.std.proofs.lemmas.Bool.{lt-ltb, le-ltb, cond-true, cond-false}
-use Rattle.std.proofs.lemmas.List.{get_or_default}
-use Rattle.transforms.specs.Factors.{dequantised}
-use Rattle.reference_frames.specs.FrameTokens.{block_of, with_first}
+use Rattle.reference_frames.specs.FrameTokens.{block_of}
 use Rattle.reference_frames.proofs.frame_tokens.block_of.Goals as goal
 
 pub returns-then-k-ge16 : goal.returns-then-k-ge16

@@ -1,4 +1,4 @@
-use Rattle.std.proofs.Common.{◌≡◌, ℕ, List, ◌<◌, [], length}
+use Rattle.std.proofs.Common.{◌≡◌, ℕ, ◌<◌, [], length}
 use Rattle.std.specs.Prelude.{slice_index_or}
 use Rattle.reference_frames.specs.FrameTokens.{block_of}
 use Rattle.reference_frames.proofs.frame_tokens.blocks_of.Given as goal

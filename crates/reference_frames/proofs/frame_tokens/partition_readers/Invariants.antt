@@ -1,4 +1,4 @@
-use Rattle.std.proofs.Common.{◌≡◌, ℕ, List, map, take}
+use Rattle.std.proofs.Common.{◌≡◌, map, take}
 use Rattle.reference_frames.specs.FrameTokens.{reader_of}
 use Rattle.reference_frames.proofs.frame_tokens.partition_readers.Given as goal
 
