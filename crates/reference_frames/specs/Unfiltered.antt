@@ -162,7 +162,3 @@ unfiltered columns rows modes residuals = predicted_macroblocks (empty_planes co
 -- the picture of a frame of this shown size, by the records and residuals of its macroblocks
 unfoldable pub unfiltered_picture : ℕ → ℕ → List MbMode → (ℕ → Residual) → PictureSamples
 unfiltered_picture width height modes residuals = picture_of width height (unfiltered (macroblocks width) (macroblocks height) modes residuals)
-
--- where no macroblock has a residual
-abbrev pub without_residual : ℕ → Residual
-without_residual place = None

@@ -1,11 +1,13 @@
 -- What the definitions of the unfiltered picture come to, sample by sample.
-use Rattle.std.specs.Prelude.{◌≡◌, ℕ, ◌+◌, ◌-◌, ◌*◌, ◌<◌, ◌≤◌, nat_lt, if◌then◌else◌, List, length, replicate, slice_get, Some}
+use Rattle.std.specs.Prelude.{◌≡◌, ℕ, ◌+◌, ◌-◌, ◌*◌, ◌<◌, ◌≤◌, nat_lt, if◌then◌else◌, true, List, length, replicate, slice_get, Some}
 use Rattle.intra_predict.specs.declared.modes.SubMode.TheVariants.{Dc}
 use Rattle.intra_predict.specs.declared.modes.WholeMode.TheVariants.{Dc as WholeDc}
 use Rattle.mode_parser.specs.declared.records.MbMode.{MbMode}
 use Rattle.mode_parser.specs.declared.records.YMode.TheVariants.{B}
 use Rattle.pixel_planes.specs.Samples.{Samples, IsWhole, sample_at}
-use Rattle.reference_frames.specs.Unfiltered.{HoldsSquare, with_block, unfiltered, without_residual}
+use Rattle.frame_header.specs.declared.header.Header.{Header}
+use Rattle.reference_frames.specs.FrameTokens.{TokenState, residual_at}
+use Rattle.reference_frames.specs.Unfiltered.{HoldsSquare, with_block, unfiltered}
 
 -- column i of row j is in the square of this side that begins in column x of row y
 abbrev pub IsInSquare : ℕ → ℕ → ℕ → ℕ → ℕ → Type 0
@@ -21,13 +23,13 @@ WritesOneBlock =
 abbrev pub luma_of_row : ℕ → ℕ
 luma_of_row y = if nat_lt y 4 then 128 else 129
 
--- luma is predicted by sub blocks, each of mode DC, and chroma by mode DC
+-- a macroblock that is skipped, whose luma is predicted by sub blocks, each of mode DC, and its chroma by mode DC
 abbrev pub IsBlank : MbMode → Type 0
-IsBlank mode = (mode.y_mode ≡ B) × (mode.sub_modes ≡ replicate 16 Dc) × (mode.uv_mode ≡ WholeDc)
+IsBlank mode = (mode.y_mode ≡ B) × (mode.sub_modes ≡ replicate 16 Dc) × (mode.uv_mode ≡ WholeDc) × (mode.is_skipped ≡ true)
 
--- where each record is such and no macroblock has a residual, luma is 128 in the first four rows and 129 below them, and chroma is 128
+-- where each record is such, luma is 128 in the first four rows and 129 below them, and chroma is 128, whatever the token partitions hold
 abbrev pub AreFlat : Type 0
 AreFlat =
-    (columns rows : ℕ) (modes : List MbMode) (x y : ℕ) → length modes ≡ columns * rows → ((n : ℕ) (mode : MbMode) → slice_get modes n ≡ Some mode → IsBlank mode) →
-    (x < 16 * columns → y < 16 * rows → sample_at (unfiltered columns rows modes without_residual).luma x y ≡ luma_of_row y)
-    × (x < 8 * columns → y < 8 * rows → (sample_at (unfiltered columns rows modes without_residual).cb x y ≡ 128) × (sample_at (unfiltered columns rows modes without_residual).cr x y ≡ 128))
+    (header : Header) (start : TokenState) (columns rows : ℕ) (modes : List MbMode) (x y : ℕ) → length modes ≡ columns * rows → ((n : ℕ) (mode : MbMode) → slice_get modes n ≡ Some mode → IsBlank mode) →
+    (x < 16 * columns → y < 16 * rows → sample_at (unfiltered columns rows modes (residual_at header columns start modes)).luma x y ≡ luma_of_row y)
+    × (x < 8 * columns → y < 8 * rows → (sample_at (unfiltered columns rows modes (residual_at header columns start modes)).cb x y ≡ 128) × (sample_at (unfiltered columns rows modes (residual_at header columns start modes)).cr x y ≡ 128))

@@ -15,8 +15,9 @@ pub fn block_write_is_local()
     ensures { WritesOneBlock }
 {}
 
-/// In the planes of a frame whose luma is all predicted by sub blocks of mode DC, and its chroma by
-/// mode DC, luma is 128 in the first four rows and 129 below them, and chroma is 128.
+/// In the planes of a frame whose macroblocks are all skipped, and predicted in luma by sub blocks of
+/// mode DC and in chroma by mode DC, luma is 128 in the first four rows and 129 below them, and
+/// chroma is 128, whatever its token partitions hold.
 pub fn blank_planes_are_flat()
     ensures { AreFlat }
 {}
