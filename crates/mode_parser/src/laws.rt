@@ -1,6 +1,8 @@
 //! Laws that show that the definitions mean what they are to mean.
 
-ghost use Rattle.std.specs.Prelude.{◌≡◌, ◌+◌, ◌*◌, ◌<◌, ◌≤◌, ℕ, [], ◌∷◌, List, Option, Some, None, length, replicate, All};
+ghost use Rattle.std.specs.Prelude.{◌≡◌, ◌+◌, ◌*◌, ◌<◌, ◌≤◌, ℕ, [], ◌∷◌, List, Option, Some, None, length, replicate, All, IsTrue};
+ghost use Rattle.bool_coder.specs.Trees.{is_tree};
+ghost use Rattle.vp8_tables.specs.declared.modes.TheConstants.{KEY_Y_TREE, KEY_Y_PROBABILITIES, UV_TREE, KEY_UV_PROBABILITIES, SUB_TREE};
 ghost use Rattle.intra_predict.specs.declared.modes.WholeMode.TheVariants.{Dc as WholeDc, V, H, Tm as WholeTm};
 ghost use Rattle.intra_predict.specs.declared.modes.SubMode.{SubMode};
 ghost use Rattle.intra_predict.specs.declared.modes.SubMode.TheVariants.{Dc, Tm, Ve, He, Hu};
@@ -12,6 +14,14 @@ ghost use Rattle.mode_parser.specs.KeyShape.{HasKeyShape, ReadsZeros, dc_record}
 
 use frame_header::Header;
 use vp8_tables::Tables;
+
+/// The lists by which modes are read are trees, each with a probability for every node
+/// (RFC 6386, section 8.1).
+pub fn trees_are_trees()
+    ensures luma { IsTrue (is_tree KEY_Y_TREE KEY_Y_PROBABILITIES) }
+    ensures chroma { IsTrue (is_tree UV_TREE KEY_UV_PROBABILITIES) }
+    ensures sub { (a b c d e f g h i : ℕ) → IsTrue (is_tree SUB_TREE (a ∷ b ∷ c ∷ d ∷ e ∷ f ∷ g ∷ h ∷ i ∷ [])) }
+{}
 
 /// Each mode of a sub block has a number below 10, by which it is found again.
 pub fn numbers_name_sub_modes()
