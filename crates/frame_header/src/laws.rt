@@ -36,7 +36,7 @@ pub fn worked_causes(tables: &Tables, context: &Context)
     ensures start_code { header_of tables.now None (0x10 ∷ 0 ∷ 0 ∷ 0x9D ∷ 0x01 ∷ 0x2B ∷ 0 ∷ 0 ∷ 0x10 ∷ 0 ∷ []) ≡ Err StartCode }
     ensures size { header_of tables.now None (0x10 ∷ 0 ∷ 0 ∷ 0x9D ∷ 0x01 ∷ 0x2A ∷ 0 ∷ 0 ∷ 0x10 ∷ 0 ∷ []) ≡ Err Size }
     ensures no_key_frame { header_of tables.now None (0x11 ∷ 0 ∷ 0 ∷ []) ≡ Err NoKeyFrame }
-    ensures not_yet { header_of tables.now (Some context.now) (0x11 ∷ 0 ∷ 0 ∷ []) ≡ Err NotYet }
+    ensures later_segments { header_of tables.now (Some context.now) (0x31 ∷ 0 ∷ 0 ∷ 0x80 ∷ []) ≡ Err NotYet }
     ensures first_partition { header_of tables.now None (0x30 ∷ 0 ∷ 0 ∷ behind_tag) ≡ Err FirstPartition }
     ensures token_sizes { header_of tables.now None (0x50 ∷ 0 ∷ 0 ∷ behind_tag ++ 0 ∷ 1 ∷ []) ≡ Err TokenSizes }
     ensures token_partition { header_of tables.now None (0x50 ∷ 0 ∷ 0 ∷ behind_tag ++ 0 ∷ 1 ∷ 5 ∷ 0 ∷ 0 ∷ []) ≡ Err (TokenPartition 0) }

@@ -16,7 +16,7 @@ pub use modes::{
 };
 pub use quantizers::{AC_QUANTIZERS, DC_QUANTIZERS};
 pub use tables::Tables;
-pub use vectors::DEFAULT_VECTOR_PROBABILITIES;
+pub use vectors::{DEFAULT_VECTOR_PROBABILITIES, VECTOR_UPDATE_PROBABILITIES};
 
 #[cfg(test)]
 mod tests {

@@ -11,3 +11,15 @@ pub const DEFAULT_VECTOR_PROBABILITIES: [[u8; 19]; 2] = [
         254,
     ],
 ];
+
+/// The probability that a frame changes each of them (RFC 6386, section 17.2), row, then column.
+pub const VECTOR_UPDATE_PROBABILITIES: [[u8; 19]; 2] = [
+    [
+        237, 246, 253, 253, 254, 254, 254, 254, 254, 254, 254, 254, 254, 254, 250, 250, 252, 254,
+        254,
+    ],
+    [
+        231, 243, 245, 253, 254, 254, 254, 254, 254, 254, 254, 254, 254, 254, 251, 251, 254, 254,
+        254,
+    ],
+];
