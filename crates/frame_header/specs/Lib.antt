@@ -11,3 +11,5 @@ pub mod InterFields
 pub mod TrailingFields
 pub mod Worked
 pub mod KeyFrames
+pub mod InterFrames
+pub mod WorkedInter

@@ -1,4 +1,4 @@
-use Rattle.std.specs.Prelude.{ℕ, Bool, true, Option, Some, None, ◌==◌, if◌then◌else◌}
+use Rattle.std.specs.Prelude.{Bool, true, Option, Some, None, ◌==◌, if◌then◌else◌}
 use Rattle.bool_coder.specs.Reading.{Reading, ◌>>=◌, give, flag, literal}
 use Rattle.frame_header.specs.declared.context.SignBiases.{SignBiases}
 use Rattle.frame_header.specs.declared.references.Reference.{Reference}

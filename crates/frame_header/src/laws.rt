@@ -5,7 +5,9 @@ ghost use Rattle.bool_coder.specs.Reader.{started};
 ghost use Rattle.frame_header.specs.Fields.{fields};
 ghost use Rattle.frame_header.specs.Contexts.{default_context};
 ghost use Rattle.frame_header.specs.Header.{header_of};
-ghost use Rattle.frame_header.specs.KeyFrames.{KeysLeaveDefaults, KeysTakeNoContext};
+ghost use Rattle.frame_header.specs.KeyFrames.{KeysLeaveDefaults, KeysRefreshAll, KeysTakeNoContext};
+ghost use Rattle.frame_header.specs.InterFrames.{ProbabilitiesComeBack};
+ghost use Rattle.frame_header.specs.WorkedInter.{IsInterWritten, inter_before, inter_packet};
 ghost use Rattle.frame_header.specs.Worked.{IsKeyFrameWritten, behind_tag, key_frame_packet, worked_tables, written_fields, fields_written, context_written, trailing_read, trailing_written, trailing_context};
 ghost use Rattle.frame_header.specs.declared.cause.Cause.TheVariants.{ShortPacket, Version, StartCode, Size, NoKeyFrame, FirstPartition, TokenSizes, TokenPartition, NotYet};
 
@@ -26,6 +28,11 @@ pub fn smallest_key_frame(tables: &Tables)
 /// A key frame of the kind that is decoded is read to the end of its header.
 pub fn worked_key_frame()
     ensures { IsOkAnd (header_of worked_tables None key_frame_packet) IsKeyFrameWritten }
+{}
+
+/// A frame that is no key frame is read to the end of its header.
+pub fn worked_inter_frame()
+    ensures { IsOkAnd (header_of worked_tables (Some inter_before) inter_packet) IsInterWritten }
 {}
 
 /// Each cause of a packet.
@@ -52,4 +59,14 @@ pub fn keys_leave_defaults()
 /// A key frame takes no context over: its header is the same whatever came before.
 pub fn keys_take_no_context()
     ensures { KeysTakeNoContext }
+{}
+
+/// A key frame becomes each of the references.
+pub fn keys_refresh_all()
+    ensures { KeysRefreshAll }
+{}
+
+/// Where a frame that is no key frame does not refresh them, the probabilities before it come back.
+pub fn probabilities_come_back()
+    ensures { ProbabilitiesComeBack }
 {}

@@ -106,7 +106,7 @@ fn read_inter_refreshes(reader: &mut Decoder, biases: &mut SignBiases) -> Refres
     }
 }
 
-/// What is kept of a key frame or another, and the sign biases, which a key frame does not have.
+/// What is kept of a key frame or another, and the sign biases, of which a key frame has none.
 #[tactic(auto, unfolding(crate::specs::References::refreshes))]
 pub(crate) fn read_refreshes(
     reader: &mut Decoder,
