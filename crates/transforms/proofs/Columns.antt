@@ -63,7 +63,7 @@ odd_less x y = (more_bits 4294937228 x + (65536 - more_bits 20091 y)) % 65536
 abbrev pub lane : ℕ → ℤ
 lane n = to_z w16 (of_z w16 (to_z w16 (of_z w16 (to_z w16 n))))
 
-lane_is : (n : ℕ) (z : ℤ) → Stand w16 n z → lane n ≡ reduced z
+pub lane_is : (n : ℕ) (z : ℤ) → Stand w16 n z → lane n ≡ reduced z
 lane_is n z s =
     let same = of_z-to_z w16 n s.below in
     ap (λ (k : ℕ). to_z w16 (of_z w16 (to_z w16 k))) same ∙ ap (to_z w16) same ∙ s.is

@@ -5,3 +5,5 @@ pub mod Products
 pub mod Bits
 pub mod Columns
 pub mod ResidualLanes
+pub mod Held
+pub mod WalshLanes

@@ -1,11 +1,13 @@
 -- What lanes of 32 bits hold behind the second pass.
-use Rattle.std.proofs.Common.{◌≡◌, ℕ, ◌+◌, ◌-◌, ◌*◌, ◌%◌, List, [], ◌∷◌, map, refl, ap, sym, ◌∙◌, arith, lit<, ℤ, pos, negsuc, ◌+ℤ◌, ◌-ℤ◌, ◌*ℤ◌, w16, w32, SFits, to_z, of_z}
+use Rattle.std.proofs.Common.{◌≡◌, ℕ, ◌+◌, ◌-◌, ◌*◌, ◌%◌, ◌<◌, List, [], ◌∷◌, map, refl, ap, sym, ◌∙◌, arith, lit<, ℤ, pos, negsuc, ◌+ℤ◌, ◌-ℤ◌, ◌*ℤ◌, w16, w32, SFits, to_z, of_z}
 use Rattle.std.specs.List.{range_with_len}
+use Rattle.std.specs.Prelude.{slice_index_or}
 use Rattle.std.specs.Int.{int_shr}
 use Rattle.std.proofs.lemmas.Int.{ints, to_z-of_z}
 use Rattle.transforms.specs.Bounds.{IsWithin}
 use Rattle.transforms.specs.Transforms.{by_sine, by_cosine, eighth, dct_pass, dct_column, inverse_dct}
 use Rattle.transforms.proofs.Wrap.{wider}
+use Rattle.transforms.proofs.Rows.{below_four}
 use Rattle.transforms.proofs.Passes.{next_same, column_fits}
 use Rattle.transforms.proofs.Bits.{Stand, Stand-plus, Stand-minus, Stand-times, Stand-of, Stand-fits, Stand-same, shifted_fits, sine_product, cosine_product, sine_less}
 use Rattle.transforms.proofs.Columns.{sine_factor, cosine_factor, lane}
@@ -29,7 +31,7 @@ cosine_within (negsuc n) fits =
 abbrev pub wide : ℤ → ℕ
 wide x = of_z w32 (to_z w16 (of_z w16 x))
 
-wide_stands : (x : ℤ) → SFits w16 x → Stand w32 (wide x) x
+pub wide_stands : (x : ℤ) → SFits w16 x → Stand w32 (wide x) x
 wide_stands x fits = rw (to_z-of_z w16 x fits) (Stand-of w32 x (wider x fits))
 
 -- it and a part that is added to it
@@ -70,6 +72,10 @@ eighth_within : (y : ℤ) → IsWithin 126088 y → SFits w16 (int_shr y 3)
 eighth_within (pos n) within = record { sfits = omega (arith, ints, within.0, within.1) }
 eighth_within (negsuc n) within = record { sfits = omega (arith, ints, within.0, within.1) }
 
+eighth_near : (y : ℤ) → IsWithin 126088 y → IsWithin 16384 (int_shr y 3)
+eighth_near (pos n) within = (omega (arith, ints, within.0, within.1), omega (arith, ints, within.0, within.1))
+eighth_near (negsuc n) within = (omega (arith, ints, within.0, within.1), omega (arith, ints, within.0, within.1))
+
 -- a number that a pass makes
 record IsPassed (n : ℕ) (z : ℤ) : Type 0 where
   stands : Stand w32 n z
@@ -88,6 +94,10 @@ within_fits (negsuc n) within = record { sfits = omega (arith, ints, within.0, w
 eighth_fits : (z : ℤ) → IsWithin 126084 z → SFits w16 (eighth z)
 unfolding eighth
 eighth_fits z within = eighth_within _ (with_four z within)
+
+near_of : (n : ℕ) (z : ℤ) → IsPassed n z → IsWithin 16384 (eighth z)
+unfolding eighth
+near_of n z passed = eighth_near _ (with_four z passed.small)
 
 eighth_is : (n : ℕ) (z : ℤ) → IsPassed n z → eighth_of n ≡ eighth z
 unfolding eighth
@@ -213,3 +223,18 @@ pub row_lanes : (cs : List ℤ) (row : ℕ)
     ≡ map (λ column. inverse_dct cs column row) (range_with_len 0 4)
 unfolding inverse_dct
 row_lanes cs row = next_same (eighth_lane _ _ (passed0 cs row)) (next_same (eighth_lane _ _ (passed1 cs row)) (next_same (eighth_lane _ _ (passed2 cs row)) (next_same (eighth_lane _ _ (passed3 cs row)) refl)))
+
+-- a residual is no further from 0 than its sum with a sample needs
+pub residual_within : (cs : List ℤ) (row column : ℕ) → column < 4 → IsWithin 16384 (inverse_dct cs column row)
+unfolding inverse_dct
+residual_within cs row = below_four (λ column. IsWithin 16384 (inverse_dct cs column row)) (near_of _ _ (passed0 cs row)) (near_of _ _ (passed1 cs row)) (near_of _ _ (passed2 cs row)) (near_of _ _ (passed3 cs row))
+
+-- the same of a list of a row's residuals
+abbrev pub IsRow : List ℤ → ℕ → List ℤ → Type 0
+IsRow cs row residuals = residuals ≡ map (λ column. inverse_dct cs column row) (range_with_len 0 4)
+
+pub row_at : (cs : List ℤ) (row : ℕ) (residuals : List ℤ) → IsRow cs row residuals → (column : ℕ) → column < 4 → slice_index_or residuals column (pos 0) ≡ inverse_dct cs column row
+row_at cs row residuals is = rw is (below_four (λ column. slice_index_or (map (λ column. inverse_dct cs column row) (range_with_len 0 4)) column (pos 0) ≡ inverse_dct cs column row) refl refl refl refl)
+
+pub row_small : (cs : List ℤ) (row : ℕ) (residuals : List ℤ) → IsRow cs row residuals → (column : ℕ) → column < 4 → IsWithin 16384 (slice_index_or residuals column (pos 0))
+row_small cs row residuals is column inside = rw (row_at cs row residuals is column inside) (residual_within cs row column inside)

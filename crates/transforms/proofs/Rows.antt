@@ -27,11 +27,11 @@ four-other old start v0 v1 v2 v3 place (inl below) = get_or-set_other _ (start +
 four-other old start v0 v1 v2 v3 place (inr above) = get_or-set_other _ (start + 3) place v3 0 (omega arith) ∙ get_or-set_other _ (start + 2) place v2 0 (omega arith) ∙ get_or-set_other _ (start + 1) place v1 0 (omega arith) ∙ get_or-set_other old start place v0 0 (omega arith)
 
 -- a row of four samples, each with its residual
-pub row_added : (old : List ℕ) (start : ℕ) (r0 r1 r2 r3 : ℤ) (v0 v1 v2 v3 : ℕ) → start + 4 ≤ length old
-    → v0 ≡ held (pos (get_or old start 0) +ℤ r0) → v1 ≡ held (pos (get_or old (start + 1) 0) +ℤ r1) → v2 ≡ held (pos (get_or old (start + 2) 0) +ℤ r2) → v3 ≡ held (pos (get_or old (start + 3) 0) +ℤ r3)
-    → IsRowAdded (r0 ∷ r1 ∷ r2 ∷ r3 ∷ []) start old (set (set (set (set old start v0) (start + 1) v1) (start + 2) v2) (start + 3) v3)
+pub row_added : (old : List ℕ) (start : ℕ) (rs : List ℤ) (v0 v1 v2 v3 : ℕ) → start + 4 ≤ length old
+    → v0 ≡ held (pos (get_or old start 0) +ℤ get_or rs 0 (pos 0)) → v1 ≡ held (pos (get_or old (start + 1) 0) +ℤ get_or rs 1 (pos 0)) → v2 ≡ held (pos (get_or old (start + 2) 0) +ℤ get_or rs 2 (pos 0)) → v3 ≡ held (pos (get_or old (start + 3) 0) +ℤ get_or rs 3 (pos 0))
+    → IsRowAdded rs start old (set (set (set (set old start v0) (start + 1) v1) (start + 2) v2) (start + 3) v3)
 unfolding four_set
-row_added old start r0 r1 r2 r3 v0 v1 v2 v3 room is0 is1 is2 is3 =
+row_added old start rs v0 v1 v2 v3 room is0 is1 is2 is3 =
     let room1 : start + 1 < length (set old start v0) = omega (arith, length-set old start v0) in
     let long1 : length (set (set old start v0) (start + 1) v1) ≡ length old = length-set _ (start + 1) v1 ∙ length-set old start v0 in
     let long2 : length (set (set (set old start v0) (start + 1) v1) (start + 2) v2) ≡ length old = length-set _ (start + 2) v2 ∙ long1 in
@@ -39,7 +39,7 @@ row_added old start r0 r1 r2 r3 v0 v1 v2 v3 room is0 is1 is2 is3 =
     let at1 : get_or (four_set old start v0 v1 v2 v3) (start + 1) 0 ≡ v1 = get_or-set_other _ (start + 3) (start + 1) v3 0 (omega arith) ∙ get_or-set_other _ (start + 2) (start + 1) v2 0 (omega arith) ∙ get_or-set_same _ (start + 1) v1 0 room1 in
     let at2 : get_or (four_set old start v0 v1 v2 v3) (start + 2) 0 ≡ v2 = get_or-set_other _ (start + 3) (start + 2) v3 0 (omega arith) ∙ get_or-set_same _ (start + 2) v2 0 (omega (arith, long1)) in
     let at3 : get_or (four_set old start v0 v1 v2 v3) (start + 3) 0 ≡ v3 = get_or-set_same _ (start + 3) v3 0 (omega (arith, long2)) in
-    let P : ℕ → Type 0 = λ k. get_or (four_set old start v0 v1 v2 v3) (start + k) 0 ≡ held (pos (get_or old (start + k) 0) +ℤ slice_index_or (r0 ∷ r1 ∷ r2 ∷ r3 ∷ []) k (pos 0)) in
+    let P : ℕ → Type 0 = λ k. get_or (four_set old start v0 v1 v2 v3) (start + k) 0 ≡ held (pos (get_or old (start + k) 0) +ℤ slice_index_or rs k (pos 0)) in
     record {
       whole = length-four old start v0 v1 v2 v3;
       each = below_four P (rw (add-zero start) (at0 ∙ is0)) (at1 ∙ is1) (at2 ∙ is2) (at3 ∙ is3);

@@ -1,76 +1,33 @@
-ghost use Rattle.std.specs.Prelude.{◌≡◌, ◌<◌, pos, ◌+ℤ◌, ◌-ℤ◌};
-ghost use Rattle.std.specs.Int.{int_shr};
-ghost use Rattle.transforms.specs.Bounds.{IsWithin};
-ghost use Rattle.transforms.specs.Transforms.{wht_pass, wht_column, inverse_wht_at, inverse_wht};
+//! The inverse WHT of a block, four of its columns or rows at once (RFC 6386, section 14.3).
 
-use crate::dct::reduced;
+ghost use Rattle.std.specs.Prelude.{◌≡◌, map};
+ghost use Rattle.std.specs.List.{range_with_len};
+ghost use Rattle.transforms.specs.Transforms.{wht_column, inverse_wht};
 
-/// The sum and the difference of two numbers.
+use std::simd::prelude::*;
+use std::simd::{i16x4, i32x4};
+
+/// What the first pass leaves of the coefficients: each of the four columns, with its rows in lanes.
+/// Numbers of 16 bits wrap, and so each is reduced to its low 16 bits.
 #[inline]
-fn sum_and_difference(x: i16, y: i16) -> (i32, i32)
-    ensures sum { (result.0 ≡ x +ℤ y) × IsWithin 65536 result.0 }
-    ensures difference { (result.1 ≡ x -ℤ y) × IsWithin 65536 result.1 }
+fn columns_passed(coefficients: &[i16; 16]) -> (i16x4, i16x4, i16x4, i16x4)
+    ensures first { result.0 ≡ map (wht_column coefficients.now 0) (range_with_len 0 4) }
+    ensures second { result.1 ≡ map (wht_column coefficients.now 1) (range_with_len 0 4) }
+    ensures third { result.2 ≡ map (wht_column coefficients.now 2) (range_with_len 0 4) }
+    ensures fourth { result.3 ≡ map (wht_column coefficients.now 3) (range_with_len 0 4) }
 {
-    let (x, y) = (i32::from(x), i32::from(y));
-    (x + y, x - y)
-}
-
-/// The four numbers that one pass of the inverse WHT makes of four (RFC 6386, section 14.3).
-#[inline]
-fn pass(i0: i16, i1: i16, i2: i16, i3: i16) -> (i32, i32, i32, i32)
-    ensures first { (result.0 ≡ wht_pass 0 i0 i1 i2 i3) × IsWithin 131072 result.0 }
-    ensures second { (result.1 ≡ wht_pass 1 i0 i1 i2 i3) × IsWithin 131072 result.1 }
-    ensures third { (result.2 ≡ wht_pass 2 i0 i1 i2 i3) × IsWithin 131072 result.2 }
-    ensures fourth { (result.3 ≡ wht_pass 3 i0 i1 i2 i3) × IsWithin 131072 result.3 }
-{
-    let (a, d) = sum_and_difference(i0, i3);
-    let (b, c) = sum_and_difference(i1, i2);
-    (a + b, c + d, a - b, d - c)
-}
-
-/// A column behind the first pass.
-#[inline]
-fn column_pass(coefficients: &[i16; 16], column: usize) -> (i16, i16, i16, i16)
-    requires { column < 4 }
-    ensures first { result.0 ≡ wht_column coefficients.now column 0 }
-    ensures second { result.1 ≡ wht_column coefficients.now column 1 }
-    ensures third { result.2 ≡ wht_column coefficients.now column 2 }
-    ensures fourth { result.3 ≡ wht_column coefficients.now column 3 }
-{
-    let (row0, row1, row2, row3) = pass(
-        coefficients[column],
-        coefficients[4 + column],
-        coefficients[8 + column],
-        coefficients[12 + column],
-    );
-    (reduced(row0), reduced(row1), reduced(row2), reduced(row3))
-}
-
-/// An eighth of a number, as the inverse WHT rounds it.
-#[inline]
-fn eighth(x: i32) -> i16
-    requires { IsWithin 131072 x }
-    ensures value { result ≡ int_shr (x +ℤ pos 3) 3 }
-    ensures within { IsWithin 16384 result }
-{
-    ((x + 3) >> 3) as i16
-}
-
-/// A row of the result, from what the first pass left in it.
-#[inline]
-fn row_pass(i0: i16, i1: i16, i2: i16, i3: i16) -> (i16, i16, i16, i16)
-    ensures first { (result.0 ≡ int_shr (wht_pass 0 i0 i1 i2 i3 +ℤ pos 3) 3) × IsWithin 16384 result.0 }
-    ensures second { (result.1 ≡ int_shr (wht_pass 1 i0 i1 i2 i3 +ℤ pos 3) 3) × IsWithin 16384 result.1 }
-    ensures third { (result.2 ≡ int_shr (wht_pass 2 i0 i1 i2 i3 +ℤ pos 3) 3) × IsWithin 16384 result.2 }
-    ensures fourth { (result.3 ≡ int_shr (wht_pass 3 i0 i1 i2 i3 +ℤ pos 3) 3) × IsWithin 16384 result.3 }
-{
-    let (column0, column1, column2, column3) = pass(i0, i1, i2, i3);
-    (
-        eighth(column0),
-        eighth(column1),
-        eighth(column2),
-        eighth(column3),
-    )
+    let at = coefficients;
+    let i0 = i16x4::from_array([at[0], at[1], at[2], at[3]]);
+    let i1 = i16x4::from_array([at[4], at[5], at[6], at[7]]);
+    let i2 = i16x4::from_array([at[8], at[9], at[10], at[11]]);
+    let i3 = i16x4::from_array([at[12], at[13], at[14], at[15]]);
+    let (a, b) = (i0 + i3, i1 + i2);
+    let (c, d) = (i1 - i2, i0 - i3);
+    let (even0, even1) = (a + b).interleave(a - b);
+    let (odd0, odd1) = (c + d).interleave(d - c);
+    let (column0, column1) = even0.interleave(odd0);
+    let (column2, column3) = even1.interleave(odd1);
+    (column0, column1, column2, column3)
 }
 
 /// The first coefficients of the 16 luma blocks, in raster order, that the inverse WHT makes of
@@ -78,18 +35,26 @@ fn row_pass(i0: i16, i1: i16, i2: i16, i3: i16) -> (i16, i16, i16, i16)
 pub fn wht(coefficients: &[i16; 16]) -> [i16; 16]
     ensures { result ≡ inverse_wht coefficients.now }
 {
-    let (c00, c01, c02, c03) = column_pass(coefficients, 0);
-    let (c10, c11, c12, c13) = column_pass(coefficients, 1);
-    let (c20, c21, c22, c23) = column_pass(coefficients, 2);
-    let (c30, c31, c32, c33) = column_pass(coefficients, 3);
-    let (block0, block1, block2, block3) = row_pass(c00, c10, c20, c30);
-    let (block4, block5, block6, block7) = row_pass(c01, c11, c21, c31);
-    let (block8, block9, block10, block11) = row_pass(c02, c12, c22, c32);
-    let (block12, block13, block14, block15) = row_pass(c03, c13, c23, c33);
+    let (i0, i1, i2, i3) = columns_passed(coefficients);
+    let (i0, i1) = (i0.cast::<i32>(), i1.cast::<i32>());
+    let (i2, i3) = (i2.cast::<i32>(), i3.cast::<i32>());
+    let (a, b) = (i0 + i3, i1 + i2);
+    let (c, d) = (i1 - i2, i0 - i3);
+    let three = i32x4::splat(3);
+    let column0 = ((a + b + three) >> three).cast::<i16>();
+    let column1 = ((c + d + three) >> three).cast::<i16>();
+    let column2 = ((a - b + three) >> three).cast::<i16>();
+    let column3 = ((d - c + three) >> three).cast::<i16>();
+    let (even0, even1) = column0.interleave(column2);
+    let (odd0, odd1) = column1.interleave(column3);
+    let (row0, row1) = even0.interleave(odd0);
+    let (row2, row3) = even1.interleave(odd1);
+    let (row0, row1) = (row0.to_array(), row1.to_array());
+    let (row2, row3) = (row2.to_array(), row3.to_array());
     [
-        block0, block1, block2, block3, //
-        block4, block5, block6, block7, //
-        block8, block9, block10, block11, //
-        block12, block13, block14, block15,
+        row0[0], row0[1], row0[2], row0[3], //
+        row1[0], row1[1], row1[2], row1[3], //
+        row2[0], row2[1], row2[2], row2[3], //
+        row3[0], row3[1], row3[2], row3[3],
     ]
 }

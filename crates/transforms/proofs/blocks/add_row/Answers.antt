@@ -1,16 +1,20 @@
-use Rattle.std.proofs.Common.{w32, SFits}
-use Rattle.std.proofs.lemmas.Int.{to_z-of_z}
+use Rattle.std.proofs.Common.{◌+◌, ◌<◌, get_or, lit<, rules}
 use Rattle.transforms.proofs.Rows.{row_added}
+use Rattle.transforms.proofs.Held.{sum_is, sum_asks}
 use Rattle.transforms.proofs.blocks.add_row.Goals as goal
+
+pub overflow_cast-after : goal.overflow_cast-after
+overflow_cast-after c =
+    let small0 : get_or c.args.samples.now c.args.start 0 < 256 = search rules in
+    let small1 : get_or c.args.samples.now (c.args.start + 1) 0 < 256 = search rules in
+    let small2 : get_or c.args.samples.now (c.args.start + 2) 0 < 256 = search rules in
+    let small3 : get_or c.args.samples.now (c.args.start + 3) 0 < 256 = search rules in
+    (sum_asks _ _ small0 (c.requires.small 0 (lit< tt)), (sum_asks _ _ small1 (c.requires.small 1 (lit< tt)), (sum_asks _ _ small2 (c.requires.small 2 (lit< tt)), (sum_asks _ _ small3 (c.requires.small 3 (lit< tt)), tt))))
 
 pub returns : goal.returns
 returns c =
-    let fits0 : SFits w32 c.args.r0 = c.ranges.r0 in
-    let fits1 : SFits w32 c.args.r1 = c.ranges.r1 in
-    let fits2 : SFits w32 c.args.r2 = c.ranges.r2 in
-    let fits3 : SFits w32 c.args.r3 = c.ranges.r3 in
-    let is0 = simp to_z-of_z at c.held_sum-sample0.ensures in
-    let is1 = simp to_z-of_z at c.held_sum-sample1.ensures in
-    let is2 = simp to_z-of_z at c.held_sum-sample2.ensures in
-    let is3 = simp to_z-of_z at c.held_sum-sample3.ensures in
-    row_added _ _ _ _ _ _ _ _ _ _ c.requires.room is0 is1 is2 is3
+    let small0 : get_or c.args.samples.now c.args.start 0 < 256 = search rules in
+    let small1 : get_or c.args.samples.now (c.args.start + 1) 0 < 256 = search rules in
+    let small2 : get_or c.args.samples.now (c.args.start + 2) 0 < 256 = search rules in
+    let small3 : get_or c.args.samples.now (c.args.start + 3) 0 < 256 = search rules in
+    row_added _ _ _ _ _ _ _ c.requires.room (sum_is _ _ small0 (c.requires.small 0 (lit< tt))) (sum_is _ _ small1 (c.requires.small 1 (lit< tt))) (sum_is _ _ small2 (c.requires.small 2 (lit< tt))) (sum_is _ _ small3 (c.requires.small 3 (lit< tt)))
