@@ -1,14 +1,17 @@
 -- Bits of lanes, and the numbers that they stand for.
-use Rattle.std.proofs.Common.{◌≡◌, ℕ, zero, suc, ◌+◌, ◌-◌, ◌*◌, ◌/◌, ◌%◌, ◌^◌, ◌<◌, ◌≤◌, refl, ap, sym, ◌∙◌, arith, ℤ, pos, negsuc, ◌+ℤ◌, ◌-ℤ◌, ◌*ℤ◌, w16, w32, SFits, to_z, of_z}
-use Rattle.std.proofs.lemmas.Int.{ints, to_z-of_z, of_z-to_z, int_wrap_fits, SFits-int_wrap, wrapping_add-bits, wrapping_sub-bits, wrapping_mul-bits, int_wrap-add_left, int_wrap-add_right, int_wrap-sub_right, int_wrap-mul_left, int_wrap-mul_right}
+use Rattle.std.proofs.Common.{◌≡◌, ℕ, zero, suc, ◌+◌, ◌-◌, ◌*◌, ◌%◌, ◌^◌, ◌<◌, refl, sym, ◌∙◌, arith, ℤ, pos, negsuc, ◌+ℤ◌, ◌-ℤ◌, ◌*ℤ◌, w16, w32, SFits, to_z, of_z}
+use Rattle.std.proofs.lemmas.Int.{ints, to_z-of_z, int_wrap_fits, wrapping_add-bits, wrapping_sub-bits, wrapping_mul-bits, int_wrap-add_left, int_wrap-add_right, int_wrap-sub_right, int_wrap-mul_left, int_wrap-mul_right}
 use Rattle.std.specs.Int.{int_wrap, int_shr}
 use mir.Syntax.{Width}
 use mir.Val.{bits}
 use mir.ValLaws.{of_z_fits}
 use lib.Pow.{pow_pos}
 use native.Mathlib.Nat.{mod-lt}
-use Rattle.transforms.specs.Transforms.{by_sine, by_cosine, reduced, dct_pass}
-use Rattle.transforms.proofs.Wrap.{wider}
+use Rattle.transforms.specs.Transforms.{by_sine}
+
+-- a number of 16 bits has 32
+pub wider : (z : ℤ) → SFits w16 z → SFits w32 z
+wider z fits = record { sfits = omega (arith, fits.sfits) }
 
 -- the bits n stand for a number that may be too great for them: they are those of what is left of it
 pub record Stand (w : Width) (n : ℕ) (z : ℤ) : Type 0 where

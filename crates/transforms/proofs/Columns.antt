@@ -4,9 +4,8 @@ use Rattle.std.specs.List.{range_with_len}
 use Rattle.std.specs.Int.{int_shr}
 use Rattle.std.proofs.lemmas.Int.{to_z-of_z, of_z-to_z}
 use Rattle.transforms.specs.Transforms.{reduced, coefficient, by_sine, by_cosine, dct_pass, dct_column}
-use Rattle.transforms.proofs.Wrap.{wider}
 use Rattle.transforms.proofs.Passes.{next_same}
-use Rattle.transforms.proofs.Bits.{Stand, Stand-plus, Stand-minus, Stand-times, Stand-of, Stand-fits, Stand-same, shifted_fits, sine_product, cosine_product, sine_less}
+use Rattle.transforms.proofs.Bits.{wider, Stand, Stand-plus, Stand-minus, Stand-times, Stand-of, Stand-fits, Stand-same, shifted_fits, sine_product, cosine_product, sine_less}
 
 -- the factors, as bits
 pub sine_factor : Stand w32 4294937228 (negsuc 30067)
@@ -100,9 +99,9 @@ module _ (i0 i1 i2 i3 : ℤ) (fits0 : SFits w16 i0) (fits1 : SFits w16 i1) (fits
 -- the lanes of a column
 pub column_lanes : (cs : List ℤ) (column : ℕ) → SFits w16 (coefficient cs column 0) → SFits w16 (coefficient cs column 1) → SFits w16 (coefficient cs column 2) → SFits w16 (coefficient cs column 3)
     → lane ((sum_bits (coefficient cs column 0) (coefficient cs column 2) + odd_sum (coefficient cs column 1) (coefficient cs column 3)) % 65536)
-      ∷ lane ((less_bits (coefficient cs column 0) (coefficient cs column 2) + odd_less (coefficient cs column 1) (coefficient cs column 3)) % 65536)
-      ∷ lane ((less_bits (coefficient cs column 0) (coefficient cs column 2) + (65536 - odd_less (coefficient cs column 1) (coefficient cs column 3))) % 65536)
-      ∷ lane ((sum_bits (coefficient cs column 0) (coefficient cs column 2) + (65536 - odd_sum (coefficient cs column 1) (coefficient cs column 3))) % 65536) ∷ []
+    ∷ lane ((less_bits (coefficient cs column 0) (coefficient cs column 2) + odd_less (coefficient cs column 1) (coefficient cs column 3)) % 65536)
+    ∷ lane ((less_bits (coefficient cs column 0) (coefficient cs column 2) + (65536 - odd_less (coefficient cs column 1) (coefficient cs column 3))) % 65536)
+    ∷ lane ((sum_bits (coefficient cs column 0) (coefficient cs column 2) + (65536 - odd_sum (coefficient cs column 1) (coefficient cs column 3))) % 65536) ∷ []
     ≡ map (dct_column cs column) (range_with_len 0 4)
 unfolding dct_column
 column_lanes cs column f0 f1 f2 f3 = next_same (pass_lane0 _ _ _ _ f0 f1 f2 f3) (next_same (pass_lane1 _ _ _ _ f0 f1 f2 f3) (next_same (pass_lane2 _ _ _ _ f0 f1 f2 f3) (next_same (pass_lane3 _ _ _ _ f0 f1 f2 f3) refl)))

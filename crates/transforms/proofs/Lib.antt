@@ -1,4 +1,3 @@
-pub mod Wrap
 pub mod Rows
 pub mod Passes
 pub mod Products

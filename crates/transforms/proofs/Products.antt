@@ -1,7 +1,8 @@
 -- Products with factors.
-use Rattle.std.proofs.Common.{◌≡◌, ℕ, zero, suc, ◌≤◌, Bool, true, ◌&&◌, leb, List, [], ◌∷◌, get_or, refl, ap, ◌∙◌, arith, ℤ, w16, to_z, of_z}
+use Rattle.std.proofs.Common.{◌≡◌, ℕ, zero, suc, ◌*◌, ◌%◌, ◌≤◌, Bool, true, ◌&&◌, leb, List, [], ◌∷◌, get_or, refl, ap, ◌∙◌, arith, ℤ, ◌*ℤ◌, w16, SFits, to_z, of_z}
 use Rattle.std.proofs.lemmas.Bool.Decides.{nat_tests}
-use Rattle.std.proofs.lemmas.Int.{to_z-of_z, SFits-int_wrap}
+use Rattle.std.proofs.lemmas.Int.{of_z-to_z}
+use Rattle.transforms.proofs.Bits.{Stand-times, Stand-of}
 use Rattle.transforms.specs.Transforms.{reduced}
 use Rattle.vp8_tables.specs.declared.quantizers.TheConstants.{AC_QUANTIZERS}
 
@@ -21,6 +22,8 @@ pub ac_small : (i : ℕ) → get_or AC_QUANTIZERS i 0 ≤ 284
 unfolding none_above
 ac_small i = none_above-at AC_QUANTIZERS 284 i refl
 
--- a product that goes through 16 bits is as it was
-pub product_kept : (z x : ℤ) → z ≡ reduced x → to_z w16 (of_z w16 z) ≡ reduced x
-product_kept z x is = ap (λ (y : ℤ). to_z w16 (of_z w16 y)) is ∙ to_z-of_z w16 _ (SFits-int_wrap w16 x)
+-- a lane of a product, read from an array
+pub product_lane : (x y : ℤ) → SFits w16 x → SFits w16 y → to_z w16 (of_z w16 (to_z w16 (of_z w16 x * of_z w16 y % 65536))) ≡ reduced (x *ℤ y)
+product_lane x y f g =
+    let s = Stand-times w16 _ _ x y (Stand-of w16 x f) (Stand-of w16 y g) in
+    ap (to_z w16) (of_z-to_z w16 _ s.below) ∙ s.is

@@ -6,10 +6,9 @@ use Rattle.std.specs.Int.{int_shr}
 use Rattle.std.proofs.lemmas.Int.{ints, to_z-of_z}
 use Rattle.transforms.specs.Bounds.{IsWithin}
 use Rattle.transforms.specs.Transforms.{by_sine, by_cosine, eighth, dct_pass, dct_column, inverse_dct}
-use Rattle.transforms.proofs.Wrap.{wider}
 use Rattle.transforms.proofs.Rows.{below_four}
 use Rattle.transforms.proofs.Passes.{next_same, column_fits}
-use Rattle.transforms.proofs.Bits.{Stand, Stand-plus, Stand-minus, Stand-times, Stand-of, Stand-fits, Stand-same, shifted_fits, sine_product, cosine_product, sine_less}
+use Rattle.transforms.proofs.Bits.{wider, Stand, Stand-plus, Stand-minus, Stand-times, Stand-of, Stand-fits, Stand-same, shifted_fits, sine_product, cosine_product, sine_less}
 use Rattle.transforms.proofs.Columns.{sine_factor, cosine_factor, lane}
 
 -- the parts of a pass stay small

@@ -4,12 +4,11 @@ use Rattle.std.specs.List.{range_with_len}
 use Rattle.std.specs.Int.{int_shr}
 use Rattle.std.proofs.lemmas.Int.{ints, to_z-of_z, SFits-int_wrap}
 use Rattle.transforms.specs.Bounds.{IsWithin}
-use Rattle.transforms.specs.Transforms.{reduced, coefficient, wht_pass, wht_column, inverse_wht_at, inverse_wht}
-use Rattle.transforms.proofs.Wrap.{wider}
+use Rattle.transforms.specs.Transforms.{reduced, coefficient, wht_pass, wht_column, inverse_wht_at}
 use Rattle.transforms.proofs.Passes.{next_same}
-use Rattle.transforms.proofs.Bits.{Stand, Stand-plus, Stand-minus, Stand-of, Stand-fits}
+use Rattle.transforms.proofs.Bits.{wider, Stand, Stand-plus, Stand-minus, Stand-of, Stand-fits}
 use Rattle.transforms.proofs.Columns.{lane, lane_is, sum_bits, less_bits}
-use Rattle.transforms.proofs.ResidualLanes.{wide, wide_stands, wide_sum, wide_less}
+use Rattle.transforms.proofs.ResidualLanes.{wide_stands, wide_sum, wide_less}
 
 module _ (i0 i1 i2 i3 : ℤ) (fits0 : SFits w16 i0) (fits1 : SFits w16 i1) (fits2 : SFits w16 i2) (fits3 : SFits w16 i3) where
   a_stands : Stand w16 (sum_bits i0 i3) (i0 +ℤ i3)
@@ -43,16 +42,16 @@ module _ (i0 i1 i2 i3 : ℤ) (fits0 : SFits w16 i0) (fits1 : SFits w16 i1) (fits
 -- the lanes of a column
 pub wht_column_lanes : (cs : List ℤ) (column : ℕ) → SFits w16 (coefficient cs column 0) → SFits w16 (coefficient cs column 1) → SFits w16 (coefficient cs column 2) → SFits w16 (coefficient cs column 3)
     → lane ((sum_bits (coefficient cs column 0) (coefficient cs column 3) + sum_bits (coefficient cs column 1) (coefficient cs column 2)) % 65536)
-      ∷ lane ((less_bits (coefficient cs column 1) (coefficient cs column 2) + less_bits (coefficient cs column 0) (coefficient cs column 3)) % 65536)
-      ∷ lane ((sum_bits (coefficient cs column 0) (coefficient cs column 3) + (65536 - sum_bits (coefficient cs column 1) (coefficient cs column 2))) % 65536)
-      ∷ lane ((less_bits (coefficient cs column 0) (coefficient cs column 3) + (65536 - less_bits (coefficient cs column 1) (coefficient cs column 2))) % 65536) ∷ []
+    ∷ lane ((less_bits (coefficient cs column 1) (coefficient cs column 2) + less_bits (coefficient cs column 0) (coefficient cs column 3)) % 65536)
+    ∷ lane ((sum_bits (coefficient cs column 0) (coefficient cs column 3) + (65536 - sum_bits (coefficient cs column 1) (coefficient cs column 2))) % 65536)
+    ∷ lane ((less_bits (coefficient cs column 0) (coefficient cs column 3) + (65536 - less_bits (coefficient cs column 1) (coefficient cs column 2))) % 65536) ∷ []
     ≡ map (wht_column cs column) (range_with_len 0 4)
 unfolding wht_column
 wht_column_lanes cs column f0 f1 f2 f3 = next_same (pass_lane0 _ _ _ _ f0 f1 f2 f3) (next_same (pass_lane1 _ _ _ _ f0 f1 f2 f3) (next_same (pass_lane2 _ _ _ _ f0 f1 f2 f3) (next_same (pass_lane3 _ _ _ _ f0 f1 f2 f3) refl)))
 
 -- an eighth of what bits stand for, with 3 added before
-abbrev pub third_of : ℕ → ℤ
-third_of n = to_z w32 (of_z w32 (int_shr (to_z w32 ((n + 3) % 4294967296)) 3))
+abbrev pub part_of : ℕ → ℤ
+part_of n = to_z w32 (of_z w32 (int_shr (to_z w32 ((n + 3) % 4294967296)) 3))
 
 -- a number that the second pass makes
 record IsPassed (n : ℕ) (z : ℤ) : Type 0 where
@@ -62,8 +61,8 @@ record IsPassed (n : ℕ) (z : ℤ) : Type 0 where
 three : Stand w32 3 (pos 3)
 three = Stand-of w32 (pos 3) (record { sfits = lit< tt })
 
-with_three : (z : ℤ) → IsWithin 131072 z → IsWithin 131075 (z +ℤ pos 3)
-with_three z within = (omega (arith, ints, within.0, within.1), omega (arith, ints, within.0, within.1))
+with_half : (z : ℤ) → IsWithin 131072 z → IsWithin 131075 (z +ℤ pos 3)
+with_half z within = (omega (arith, ints, within.0, within.1), omega (arith, ints, within.0, within.1))
 
 within_fits : (z : ℤ) → IsWithin 131075 z → SFits w32 z
 within_fits (pos n) within = record { sfits = omega (arith, ints, within.0, within.1) }
@@ -73,23 +72,23 @@ shifted_fits : (z : ℤ) → IsWithin 131075 z → SFits w16 (int_shr z 3)
 shifted_fits (pos n) within = record { sfits = omega (arith, ints, within.0, within.1) }
 shifted_fits (negsuc n) within = record { sfits = omega (arith, ints, within.0, within.1) }
 
-third_is : (n : ℕ) (z : ℤ) → IsPassed n z → third_of n ≡ int_shr (z +ℤ pos 3) 3
-third_is n z passed =
-    let near = with_three z passed.small in
+part_is : (n : ℕ) (z : ℤ) → IsPassed n z → part_of n ≡ int_shr (z +ℤ pos 3) 3
+part_is n z passed =
+    let near = with_half z passed.small in
     let sum : to_z w32 ((n + 3) % 4294967296) ≡ z +ℤ pos 3 = Stand-fits w32 _ _ (Stand-plus w32 _ _ _ _ passed.stands three) (within_fits _ near) in
     ap (λ (y : ℤ). to_z w32 (of_z w32 (int_shr y 3))) sum ∙ to_z-of_z w32 _ (wider _ (shifted_fits _ near))
 
-third_small : (n : ℕ) (z : ℤ) → IsPassed n z → SFits w16 (third_of n)
-third_small n z passed = rw (third_is n z passed) (shifted_fits _ (with_three z passed.small))
+part_small : (n : ℕ) (z : ℤ) → IsPassed n z → SFits w16 (part_of n)
+part_small n z passed = rw (part_is n z passed) (shifted_fits _ (with_half z passed.small))
 
 -- a lane that is read from an array
 abbrev pub lane_read : ℕ → ℤ
-lane_read n = to_z w16 (of_z w16 (lane (of_z w16 (third_of n))))
+lane_read n = to_z w16 (of_z w16 (lane (of_z w16 (part_of n))))
 
-third_lane : (n : ℕ) (z : ℤ) → IsPassed n z → lane_read n ≡ int_shr (z +ℤ pos 3) 3
-third_lane n z passed =
-    let same = to_z-of_z w16 (int_shr (z +ℤ pos 3) 3) (shifted_fits _ (with_three z passed.small)) in
-    ap (λ (y : ℤ). to_z w16 (of_z w16 (lane (of_z w16 y)))) (third_is n z passed) ∙ ap (λ (y : ℤ). to_z w16 (of_z w16 (to_z w16 (of_z w16 (to_z w16 (of_z w16 y)))))) same ∙ ap (λ (y : ℤ). to_z w16 (of_z w16 (to_z w16 (of_z w16 y)))) same ∙ ap (λ (y : ℤ). to_z w16 (of_z w16 y)) same ∙ same
+part_lane : (n : ℕ) (z : ℤ) → IsPassed n z → lane_read n ≡ int_shr (z +ℤ pos 3) 3
+part_lane n z passed =
+    let same = to_z-of_z w16 (int_shr (z +ℤ pos 3) 3) (shifted_fits _ (with_half z passed.small)) in
+    ap (λ (y : ℤ). to_z w16 (of_z w16 (lane (of_z w16 y)))) (part_is n z passed) ∙ ap (λ (y : ℤ). to_z w16 (of_z w16 (to_z w16 (of_z w16 (to_z w16 (of_z w16 y)))))) same ∙ ap (λ (y : ℤ). to_z w16 (of_z w16 (to_z w16 (of_z w16 y)))) same ∙ ap (λ (y : ℤ). to_z w16 (of_z w16 y)) same ∙ same
 
 wht_fits : (cs : List ℤ) (column row : ℕ) → SFits w16 (wht_column cs column row)
 unfolding wht_column
@@ -151,21 +150,21 @@ module _ (cs : List ℤ) (row : ℕ) where
   passed3 = record { stands = Stand-minus w32 _ _ _ _ (wide_minus 0 3) (wide_minus 1 2); small = rest_within _ _ (less_within _ _ (f 0) (f 3)) (less_within _ _ (f 1) (f 2)) }
 
   -- each of their eighths has 16 bits
-  pub walsh_small0 : SFits w16 (third_of (walsh0 cs row))
-  walsh_small0 = third_small _ _ passed0
+  pub walsh_small0 : SFits w16 (part_of (walsh0 cs row))
+  walsh_small0 = part_small _ _ passed0
 
-  pub walsh_small1 : SFits w16 (third_of (walsh1 cs row))
-  walsh_small1 = third_small _ _ passed1
+  pub walsh_small1 : SFits w16 (part_of (walsh1 cs row))
+  walsh_small1 = part_small _ _ passed1
 
-  pub walsh_small2 : SFits w16 (third_of (walsh2 cs row))
-  walsh_small2 = third_small _ _ passed2
+  pub walsh_small2 : SFits w16 (part_of (walsh2 cs row))
+  walsh_small2 = part_small _ _ passed2
 
-  pub walsh_small3 : SFits w16 (third_of (walsh3 cs row))
-  walsh_small3 = third_small _ _ passed3
+  pub walsh_small3 : SFits w16 (part_of (walsh3 cs row))
+  walsh_small3 = part_small _ _ passed3
 
   -- the numbers of a row, before others
   pub walsh_row : {xs ys : List ℤ} → xs ≡ ys
       → lane_read (walsh0 cs row) ∷ lane_read (walsh1 cs row) ∷ lane_read (walsh2 cs row) ∷ lane_read (walsh3 cs row) ∷ xs
       ≡ inverse_wht_at cs 0 row ∷ inverse_wht_at cs 1 row ∷ inverse_wht_at cs 2 row ∷ inverse_wht_at cs 3 row ∷ ys
   unfolding inverse_wht_at
-  walsh_row rest = next_same (third_lane _ _ passed0) (next_same (third_lane _ _ passed1) (next_same (third_lane _ _ passed2) (next_same (third_lane _ _ passed3) rest)))
+  walsh_row rest = next_same (part_lane _ _ passed0) (next_same (part_lane _ _ passed1) (next_same (part_lane _ _ passed2) (next_same (part_lane _ _ passed3) rest)))

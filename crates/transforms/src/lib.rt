@@ -4,9 +4,7 @@
 mod blocks;
 mod dct;
 mod factor_set;
-mod lanes;
 pub mod laws;
-
 mod quantisation;
 #[cfg(test)]
 mod tests;

@@ -1,10 +1,11 @@
-ghost use Rattle.std.specs.Prelude.{◌≡◌, ◌<◌, ◌≤◌, slice_index_or, pos, ◌+ℤ◌, ◌*ℤ◌};
-ghost use Rattle.transforms.specs.Transforms.{reduced};
+ghost use Rattle.std.specs.Prelude.{◌≡◌, ◌≤◌, pos, ◌+ℤ◌};
 ghost use Rattle.transforms.specs.Factors.{held_index, factor, factors_of, dequantised};
 ghost use Rattle.vp8_tables.specs.declared.quantizers.TheConstants.{DC_QUANTIZERS, AC_QUANTIZERS};
 
 use crate::factor_set::Factors;
 use frame_header::Header;
+use std::simd::i16x8;
+use std::simd::prelude::*;
 use vp8_tables::{AC_QUANTIZERS, DC_QUANTIZERS};
 
 /// The place in the tables of a quantizer index with a change.
@@ -51,37 +52,21 @@ pub fn factors(header: &Header, segment: u8) -> Factors
     }
 }
 
-/// The low 16 bits of a coefficient times its factor.
-#[inline]
-fn product(coefficients: &[i16; 16], place: usize, factor: i16) -> i16
-    requires { place < 16 }
-    ensures { result ≡ reduced (slice_index_or coefficients.now place (pos 0) *ℤ factor) }
-{
-    coefficients[place].wrapping_mul(factor)
-}
-
 /// The coefficients that a block's tokens stand for: the first times `dc`, the others times `ac`,
 /// in the low 16 bits of each product (RFC 6386, section 14.1).
 #[inline]
 pub fn dequantise(coefficients: &[i16; 16], dc: i16, ac: i16) -> [i16; 16]
     ensures { result ≡ dequantised coefficients.now dc ac }
 {
+    let at = coefficients;
+    let low = i16x8::from_array([at[0], at[1], at[2], at[3], at[4], at[5], at[6], at[7]]);
+    let high = i16x8::from_array([at[8], at[9], at[10], at[11], at[12], at[13], at[14], at[15]]);
+    let others = i16x8::splat(ac);
+    let factors = i16x8::splat(dc).shuffle(others, [0, 8, 8, 8, 8, 8, 8, 8]);
+    let low = (low * factors).to_array();
+    let high = (high * others).to_array();
     [
-        product(coefficients, 0, dc),
-        product(coefficients, 1, ac),
-        product(coefficients, 2, ac),
-        product(coefficients, 3, ac),
-        product(coefficients, 4, ac),
-        product(coefficients, 5, ac),
-        product(coefficients, 6, ac),
-        product(coefficients, 7, ac),
-        product(coefficients, 8, ac),
-        product(coefficients, 9, ac),
-        product(coefficients, 10, ac),
-        product(coefficients, 11, ac),
-        product(coefficients, 12, ac),
-        product(coefficients, 13, ac),
-        product(coefficients, 14, ac),
-        product(coefficients, 15, ac),
+        low[0], low[1], low[2], low[3], low[4], low[5], low[6], low[7], //
+        high[0], high[1], high[2], high[3], high[4], high[5], high[6], high[7],
     ]
 }

@@ -8,7 +8,7 @@ use std::simd::prelude::*;
 use std::simd::{i16x4, i32x4};
 
 /// What the first pass leaves of the coefficients: each of the four columns, with its rows in lanes.
-/// Numbers of 16 bits wrap, and so each is reduced to its low 16 bits.
+/// Lanes of 16 bits wrap, and so each number is reduced to its low 16 bits.
 #[inline]
 fn columns_passed(coefficients: &[i16; 16]) -> (i16x4, i16x4, i16x4, i16x4)
     ensures first { result.0 ≡ map (wht_column coefficients.now 0) (range_with_len 0 4) }

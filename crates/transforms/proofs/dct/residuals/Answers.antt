@@ -1,5 +1,5 @@
 use Rattle.transforms.proofs.ResidualLanes.{small0, small1, small2, small3, row_lanes}
-use Rattle.transforms.proofs.lanes.residuals.Goals as goal
+use Rattle.transforms.proofs.dct.residuals.Goals as goal
 
 pub overflow_cast-column0 : goal.overflow_cast-column0
 overflow_cast-column0 c = rw (c.columns_passed.ensures.first, c.columns_passed.ensures.second, c.columns_passed.ensures.third, c.columns_passed.ensures.fourth) (small0 c.args.coefficients.now 0, (small0 c.args.coefficients.now 1, (small0 c.args.coefficients.now 2, (small0 c.args.coefficients.now 3, tt))))

@@ -1,6 +1,6 @@
 use Rattle.std.proofs.Common.{get_or, pos, w16, SFits, rules}
 use Rattle.transforms.proofs.Columns.{column_lanes, cosine_small}
-use Rattle.transforms.proofs.lanes.columns_passed.Goals as goal
+use Rattle.transforms.proofs.dct.columns_passed.Goals as goal
 
 pub returns-clause-first : goal.returns-clause-first
 returns-clause-first c =
