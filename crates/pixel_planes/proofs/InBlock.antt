@@ -1,0 +1,111 @@
+-- A plane in its block: what the block shows, and its border.
+use Rattle.std.specs.Prelude.{slice_index, slice_range}
+use Rattle.std.specs.Simd.Lanes.{chunk, put_chunk}
+use Rattle.std.proofs.Common.{◌≡◌, ℕ, zero, suc, ◌+◌, ◌-◌, ◌*◌, ◌<◌, ◌≤◌, min, List, [], ◌∷◌, ◌++◌, length, take, drop, get_or, replicate, refl, ap, sym, ◌∙◌, arith, ℤ, pos, negsuc, ◌+ℤ◌}
+use Rattle.std.proofs.lemmas.Int.{ints}
+use Rattle.std.proofs.Math.Nat.{mul_comm, add-mul, mul-le-mul_left, mul-le-mul_right}
+use Rattle.std.proofs.lemmas.List.{take_all, length-replicate, take-replicate, drop-replicate, get_or-replicate, replicate-append-replicate}
+use Rattle.std.proofs.lemmas.Nat.{mul-le}
+use Rattle.std.proofs.lemmas.Simd.{length-chunk, get_or-chunk}
+use Rattle.pixel_planes.specs.Samples.{Samples, IsWhole, row_of, sample_at, uniform}
+use Rattle.pixel_planes.specs.ReferenceSamples.{held_place, reference_sample}
+use Rattle.pixel_planes.specs.Layout.{Layout, layout_of, shown_in, IsLaidOut, IsBordered, rows_of, bordered_row, bordered_side, flat_plane}
+use Rattle.pixel_planes.proofs.Parts.{part_is, chunk-chunk, take-put_chunk}
+use Rattle.pixel_planes.proofs.BlockRows.{length-rows_of, chunk_of_rows, sample_of_rows, rows_at_front, same_rows, row_ends}
+use Rattle.pixel_planes.proofs.BorderedRows.{row_in_bordered, sample_in_bordered}
+
+-- what is shown is a whole plane
+pub whole_of_laid_out : (l : Layout) (items : List ℕ) → IsLaidOut l items → IsWhole (shown_in l items)
+whole_of_laid_out l items o = (o.wide.0, o.wide.1, o.high.0, o.high.1, length-rows_of items l.first l.stride l.width l.height o.stride_small.0 o.rows_fit ∙ mul_comm l.height l.width)
+
+-- a shown row where it stands
+pub row_of_laid_out : (l : Layout) (items : List ℕ) (y : ℕ) → IsLaidOut l items → y < l.height → slice_range items (l.first + y * l.stride) (l.first + y * l.stride + l.width) ≡ row_of (shown_in l items) y
+row_of_laid_out l items y o below =
+    part_is items (l.first + y * l.stride) l.width ∙ sym (chunk_of_rows items l.first l.stride l.width l.height y o.stride_small.0 o.rows_fit below) ∙ sym (part_is (rows_of items l.first l.stride l.width l.height) (y * l.width) l.width)
+
+-- a shown sample where it stands
+pub sample_of_laid_out : (l : Layout) (items : List ℕ) (x y : ℕ) → IsLaidOut l items → x < l.width → y < l.height → slice_index items (l.first + y * l.stride + x) ≡ sample_at (shown_in l items) x y
+sample_of_laid_out l items x y o in_row below = sym (sample_of_rows items l.first l.stride l.width l.height x y o.stride_small.0 o.rows_fit below in_row)
+
+-- a row of a whole plane has its width
+pub length-row_of : (p : Samples) (y : ℕ) → IsWhole p → y < p.height → length (row_of p y) ≡ p.width
+length-row_of p y whole below =
+    ap length (part_is p.samples (y * p.width) p.width) ∙ length-chunk (y * p.width) p.width p.samples (omega (arith, whole.4, mul_comm p.width p.height, row_ends y p.height p.width below))
+
+-- a sample of a row
+pub sample_of_row : (p : Samples) (x y : ℕ) → x < p.width → slice_index (row_of p y) x ≡ sample_at p x y
+sample_of_row p x y in_row = ap (λ row. slice_index row x) (part_is p.samples (y * p.width) p.width) ∙ get_or-chunk (y * p.width) p.width p.samples x 0 in_row
+
+-- the sample in a column and row of the plane with its border
+pub sample_of_bordered : (p : Samples) (border : ℕ) (items : List ℕ) → IsWhole p → IsBordered p border items → (column row : ℕ) → column < bordered_side p.width border → row < bordered_side p.height border → slice_index items (row * bordered_side p.width border + column) ≡ sample_at p (min (column - border) (p.width - 1)) (min (row - border) (p.height - 1))
+sample_of_bordered p border items whole b column row in_row in_block =
+    let stride : ℕ = bordered_side p.width border in
+    let k : ℕ = min (row - border) (p.height - 1) in
+    let below : min (row - border) (p.height - 1) < p.height = omega (arith, whole.2) in
+    let len : length (row_of p k) ≡ p.width = length-row_of p k whole below in
+    let inside : column < bordered_side (length (row_of p k)) border = omega (arith, len) in
+    sym (get_or-chunk (row * stride) stride items column 0 in_row) ∙ ap (λ part. slice_index part column) (sym (part_is items (row * stride) stride) ∙ b.rows row in_block) ∙ sample_in_bordered border column (row_of p k) inside ∙ ap (λ n. slice_index (row_of p k) (min (column - border) (n - 1))) len ∙ sample_of_row p (min (column - border) (p.width - 1)) k (omega (arith, whole.0))
+
+held_go : (side border m : ℕ) (z : ℤ) → z +ℤ pos border ≡ pos m → held_place side z ≡ min (m - border) (side - 1)
+held_go side border m (pos n) at = omega (arith, ints)
+held_go side border m (negsuc n) at = omega (arith, ints)
+
+-- a coordinate held within the plane, by its place in the block
+pub held_is : (side border found k : ℕ) (x : ℤ) → pos found ≡ x +ℤ pos border → held_place side (x +ℤ pos k) ≡ min (found + k - border) (side - 1)
+held_is side border found k x at = held_go side border (found + k) (x +ℤ pos k) (omega (arith, ints))
+
+-- a place of the block by its coordinates
+pub reference_of_bordered : (p : Samples) (border : ℕ) (items : List ℕ) → IsWhole p → IsBordered p border items → (left top column row : ℕ) (x y : ℤ) → pos left ≡ x +ℤ pos border → pos top ≡ y +ℤ pos border → left + column < bordered_side p.width border → top + row < bordered_side p.height border → slice_index items ((top + row) * bordered_side p.width border + (left + column)) ≡ reference_sample p (x +ℤ pos column) (y +ℤ pos row)
+unfolding reference_sample
+reference_of_bordered p border items whole b left top column row x y across down in_row in_block =
+    rw (held_is p.width border left column x across, held_is p.height border top row y down) (sample_of_bordered p border items whole b (left + column) (top + row) in_row in_block)
+
+-- a shown row between its borders
+row_there : (p : Samples) (border : ℕ) (items : List ℕ) → IsWhole p → IsBordered p border items → (y : ℕ) → y < p.height → chunk (border * bordered_side p.width border + border + y * bordered_side p.width border) p.width items ≡ chunk (0 + y * p.width) p.width p.samples
+row_there p border items whole b y below =
+    let stride : ℕ = bordered_side p.width border in
+    let at : border * bordered_side p.width border + border + y * bordered_side p.width border ≡ (border + y) * bordered_side p.width border + border = omega (arith, add-mul border y (bordered_side p.width border)) in
+    let held : min (border + y - border) (p.height - 1) ≡ y = omega arith in
+    let start : 0 + y * p.width ≡ y * p.width = omega arith in
+    let row : chunk ((border + y) * stride) stride items ≡ bordered_row border (row_of p y) = sym (part_is items ((border + y) * stride) stride) ∙ b.rows (border + y) (omega arith) ∙ ap (λ k. bordered_row border (row_of p k)) held in
+    ap (λ k. chunk k p.width items) at ∙ sym (chunk-chunk ((border + y) * stride) stride border p.width items (omega arith)) ∙ ap (chunk border p.width) row ∙ row_in_bordered border p.width (row_of p y) (length-row_of p y whole below) ∙ part_is p.samples (y * p.width) p.width ∙ ap (λ k. chunk k p.width p.samples) (sym start)
+
+-- what a block with its border shows
+pub shown_of_bordered : (p : Samples) (border : ℕ) (items : List ℕ) → IsWhole p → IsBordered p border items → rows_of items (border * bordered_side p.width border + border) (bordered_side p.width border) p.width p.height ≡ p.samples
+shown_of_bordered p border items whole b =
+    let stride : ℕ = bordered_side p.width border in
+    same_rows items p.samples (border * stride + border) stride 0 p.width p.width p.height (λ y below. row_there p border items whole b y below) ∙ rows_at_front p.samples p.width p.height ∙ take_all (p.height * p.width) p.samples (omega (arith, whole.4, mul_comm p.width p.height))
+
+-- what a packed block shows
+pub shown_of_packed : (items packed : List ℕ) (first stride width height : ℕ) → take (width * height) packed ≡ rows_of items first stride width height → rows_of packed 0 width width height ≡ rows_of items first stride width height
+shown_of_packed items packed first stride width height value = rows_at_front packed width height ∙ ap (λ k. take k packed) (mul_comm height width) ∙ value
+
+-- what is left behind a write to a packed block
+pub shown_of_written : (items ws : List ℕ) (at first stride width height : ℕ) → stride ≡ width → first ≡ 0 → rows_of (put_chunk at items ws) first stride width height ≡ put_chunk at (rows_of items first stride width height) ws
+shown_of_written items ws at first stride width height flat front =
+    rw (flat, front, rows_at_front (put_chunk at items ws) width height, rows_at_front items width height) (take-put_chunk (height * width) at items ws)
+
+-- a block of one value
+pub chunk-replicate : (i n m value : ℕ) → i + n ≤ m → chunk i n (replicate m value) ≡ replicate n value
+chunk-replicate i n m value fits = ap (take n) (drop-replicate i m value) ∙ take-replicate n (m - i) value (omega arith)
+
+pub shown_of_replicate : (m width height value : ℕ) → height * width ≤ m → rows_of (replicate m value) 0 width width height ≡ replicate (width * height) value
+shown_of_replicate m width height value fits = rows_at_front (replicate m value) width height ∙ take-replicate (height * width) m value fits ∙ ap (λ k. replicate k value) (mul_comm height width)
+
+-- a row of one value with its border
+pub bordered_replicate : (border width value : ℕ) → 0 < width → bordered_row border (replicate width value) ≡ replicate (bordered_side width border) value
+bordered_replicate border width value some =
+    let len : length (replicate width value) ≡ width = length-replicate width value in
+    let sum : border + (width + border) ≡ bordered_side width border = omega arith in
+    rw (len, get_or-replicate width 0 value 0 some, get_or-replicate width (width - 1) value 0 (omega arith), replicate-append-replicate width border value, replicate-append-replicate border (width + border) value, sum) refl
+
+-- a plane of one value in a block of that value
+pub bordered_of_replicate : (width height border value m : ℕ) → 0 < width → 0 < height → m ≡ bordered_side width border * bordered_side height border → IsBordered (uniform width height value) border (replicate m value)
+bordered_of_replicate width height border value m wide high size =
+    record { rows = λ row within.
+      let stride : ℕ = bordered_side width border in
+      let k : ℕ = min (row - border) (height - 1) in
+      let below : min (row - border) (height - 1) < height = omega arith in
+      let part : row_of (uniform width height value) k ≡ replicate width value = part_is (replicate (width * height) value) (k * width) width ∙ chunk-replicate (k * width) width (width * height) value (omega (arith, mul_comm width height, row_ends k height width below)) in
+      part_is (replicate m value) (row * stride) stride ∙ chunk-replicate (row * stride) stride m value (omega (arith, size, mul_comm stride (bordered_side height border), row_ends row (bordered_side height border) stride within)) ∙ sym (ap (bordered_row border) part ∙ bordered_replicate border width value wide)
+    }
