@@ -1,10 +1,10 @@
 -- A plane in its block: what the block shows, and its border.
 use Rattle.std.specs.Prelude.{slice_index, slice_range}
 use Rattle.std.specs.Simd.Lanes.{chunk, put_chunk}
-use Rattle.std.proofs.Common.{◌≡◌, ℕ, zero, suc, ◌+◌, ◌-◌, ◌*◌, ◌<◌, ◌≤◌, min, List, [], ◌∷◌, ◌++◌, length, take, drop, get_or, replicate, refl, ap, sym, ◌∙◌, arith, ℤ, pos, negsuc, ◌+ℤ◌}
+use Rattle.std.proofs.Common.{◌≡◌, ℕ, zero, suc, ◌+◌, ◌-◌, ◌*◌, ◌<◌, ◌≤◌, min, List, [], ◌∷◌, ◌++◌, length, take, drop, get_or, replicate, refl, ap, sym, subst, ◌∙◌, arith, ℤ, pos, negsuc, ◌+ℤ◌}
 use Rattle.std.proofs.lemmas.Int.{ints}
-use Rattle.std.proofs.Math.Nat.{mul_comm, add-mul, mul-le-mul_left, mul-le-mul_right}
-use Rattle.std.proofs.lemmas.List.{take_all, length-replicate, take-replicate, drop-replicate, get_or-replicate, replicate-append-replicate}
+use Rattle.std.proofs.Math.Nat.{mul_comm, add-mul, two-mul, mul-le-mul_left, mul-le-mul_right}
+use Rattle.std.proofs.lemmas.List.{append-nil, take_all, length-replicate, take-replicate, drop-replicate, get_or-replicate, replicate-append-replicate}
 use Rattle.std.proofs.lemmas.Nat.{mul-le}
 use Rattle.std.proofs.lemmas.Simd.{length-chunk, get_or-chunk}
 use Rattle.pixel_planes.specs.Samples.{Samples, IsWhole, row_of, sample_at, uniform}
@@ -108,4 +108,64 @@ bordered_of_replicate width height border value m wide high size =
       let below : min (row - border) (height - 1) < height = omega arith in
       let part : row_of (uniform width height value) k ≡ replicate width value = part_is (replicate (width * height) value) (k * width) width ∙ chunk-replicate (k * width) width (width * height) value (omega (arith, mul_comm width height, row_ends k height width below)) in
       part_is (replicate m value) (row * stride) stride ∙ chunk-replicate (row * stride) stride m value (omega (arith, size, mul_comm stride (bordered_side height border), row_ends row (bordered_side height border) stride within)) ∙ sym (ap (bordered_row border) part ∙ bordered_replicate border width value wide)
+    }
+
+-- a plane whose border is up to date: where it stands, and that it shows what it showed
+pub record IsSettled (width height border first stride : ℕ) (items : List ℕ) (shown : Samples) : Type 0 where
+  pub laid_out : IsLaidOut (layout_of width height border first stride) items
+  pub has_border : IsBordered shown border items
+  pub same : shown_in (layout_of width height border first stride) items ≡ shown
+
+-- a row with no border
+bare_row : (width height first stride : ℕ) (items : List ℕ) → stride ≡ width → IsLaidOut (layout_of width height 0 first stride) items → (row : ℕ) → row < bordered_side height 0 → slice_range items (row * bordered_side width 0) (row * bordered_side width 0 + bordered_side width 0) ≡ bordered_row 0 (row_of (shown_in (layout_of width height 0 first stride) items) (min (row - 0) (height - 1)))
+bare_row width height first stride items flat o row within =
+    let shown : Samples = shown_in (layout_of width height 0 first stride) items in
+    let front : first ≡ 0 = o.flat_at_front flat in
+    let held : min (row - 0) (height - 1) ≡ row = omega arith in
+    let side : bordered_side width 0 ≡ width = omega arith in
+    let below : row < height = omega arith in
+    let at : first + row * stride ≡ row * width = rw (flat, front) (omega arith) in
+    rw (held, side, append-nil) (rw (at) at (row_of_laid_out (layout_of width height 0 first stride) items row o below))
+
+-- with no border nothing is to be done
+settled_bare : (width height first stride : ℕ) (items : List ℕ) → stride ≡ width → IsLaidOut (layout_of width height 0 first stride) items → IsSettled width height 0 first stride items (shown_in (layout_of width height 0 first stride) items)
+settled_bare width height first stride items flat o =
+    record { laid_out = o; has_border = record { rows = bare_row width height first stride items flat o }; same = refl }
+
+pub settled_unbordered : (width height border first stride : ℕ) (items : List ℕ) → border ≤ 0 → stride ≡ width → IsLaidOut (layout_of width height border first stride) items → IsSettled width height border first stride items (shown_in (layout_of width height border first stride) items)
+settled_unbordered width height border first stride items none flat o =
+    let e : 0 ≡ border = omega arith in
+    let P : ℕ → Type 0 = λ b. IsLaidOut (layout_of width height b first stride) items → IsSettled width height b first stride items (shown_in (layout_of width height b first stride) items) in
+    subst P e (settled_bare width height first stride items flat) o
+
+-- the shown rows fit in, between their borders
+spread_fits : (width height border : ℕ) → 0 < width → border * bordered_side width border + border + height * bordered_side width border ≤ bordered_side width border * bordered_side height border
+spread_fits width height border some =
+    let sides : bordered_side height border * bordered_side width border ≡ height * bordered_side width border + 2 * border * bordered_side width border = add-mul height (2 * border) (bordered_side width border) in
+    let twice : 2 * border * bordered_side width border ≡ border * bordered_side width border + border * bordered_side width border = ap (λ k. k * bordered_side width border) (two-mul border) ∙ add-mul border border (bordered_side width border) in
+    let once : border * 1 ≤ border * bordered_side width border = mul-le-mul_left border (omega arith) in
+    omega (arith, mul_comm (bordered_side width border) (bordered_side height border))
+
+no_border : (width border stride : ℕ) → bordered_side width border ≡ width → border * stride + border ≡ 0
+no_border width border stride same = let none : border ≡ 0 = omega arith in rw none (omega arith)
+
+-- a block with its border
+pub settled_spread : (width height border first stride : ℕ) (items spread : List ℕ) → stride ≡ width → IsLaidOut (layout_of width height border first stride) items → IsBordered (flat_plane width height items) border spread → length spread ≡ length items → IsSettled width height border (border * bordered_side width border + border) (bordered_side width border) spread (shown_in (layout_of width height border first stride) items)
+settled_spread width height border first stride items spread flat o b len =
+    let front : first ≡ 0 = o.flat_at_front flat in
+    let shown : shown_in (layout_of width height border first stride) items ≡ flat_plane width height items = rw (flat, front) refl in
+    let whole : IsWhole (flat_plane width height items) = subst IsWhole shown (whole_of_laid_out (layout_of width height border first stride) items o) in
+    let there : rows_of spread (border * bordered_side width border + border) (bordered_side width border) width height ≡ rows_of items 0 width width height = shown_of_bordered (flat_plane width height items) border spread whole b in
+    record {
+      laid_out = record {
+        wide = o.wide;
+        high = o.high;
+        border_small = o.border_small;
+        stride_small = (omega arith, omega (arith, o.wide, o.border_small));
+        room = len ∙ o.room;
+        rows_fit = omega (arith, len, o.room, spread_fits width height border o.wide.0);
+        flat_at_front = λ same. no_border width border (bordered_side width border) same
+      };
+      has_border = subst (λ (s : Samples). IsBordered s border spread) (sym shown) b;
+      same = ap (λ (l : List ℕ). record { width = width; height = height; samples = l }) there ∙ sym shown
     }
