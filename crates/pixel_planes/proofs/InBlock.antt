@@ -1,18 +1,22 @@
 -- A plane in its block: what the block shows, and its border.
 use Rattle.std.specs.Prelude.{slice_index, slice_range}
 use Rattle.std.specs.Simd.Lanes.{chunk, put_chunk}
-use Rattle.std.proofs.Common.{◌≡◌, ℕ, zero, suc, ◌+◌, ◌-◌, ◌*◌, ◌<◌, ◌≤◌, min, List, [], ◌∷◌, ◌++◌, length, take, drop, get_or, replicate, refl, ap, sym, subst, ◌∙◌, arith, ℤ, pos, negsuc, ◌+ℤ◌}
+use Rattle.std.proofs.Common.{◌≡◌, ℕ, zero, suc, ◌+◌, ◌-◌, ◌*◌, ◌<◌, ◌≤◌, min, Bool, false, List, [], ◌∷◌, ◌++◌, length, take, drop, get_or, replicate, refl, ap, sym, subst, ◌∙◌, arith, ℤ, pos, negsuc, ◌+ℤ◌}
 use Rattle.std.proofs.lemmas.Int.{ints}
 use Rattle.std.proofs.Math.Nat.{mul_comm, add-mul, two-mul, mul-le-mul_left, mul-le-mul_right}
 use Rattle.std.proofs.lemmas.List.{append-nil, take_all, length-replicate, take-replicate, drop-replicate, get_or-replicate, replicate-append-replicate}
 use Rattle.std.proofs.lemmas.Nat.{mul-le}
 use Rattle.std.proofs.lemmas.Simd.{length-chunk, get_or-chunk}
-use Rattle.pixel_planes.specs.Samples.{Samples, IsWhole, row_of, sample_at, uniform}
+use Rattle.pixel_planes.specs.Samples.{Samples, PlaneValue, out_of_date, IsWhole, row_of, sample_at, uniform}
 use Rattle.pixel_planes.specs.ReferenceSamples.{held_place, reference_sample}
 use Rattle.pixel_planes.specs.Layout.{Layout, layout_of, shown_in, IsLaidOut, IsBordered, rows_of, bordered_row, bordered_side, flat_plane}
 use Rattle.pixel_planes.proofs.Parts.{part_is, chunk-chunk, take-put_chunk}
 use Rattle.pixel_planes.proofs.BlockRows.{length-rows_of, chunk_of_rows, sample_of_rows, rows_at_front, same_rows, row_ends}
 use Rattle.pixel_planes.proofs.BorderedRows.{row_in_bordered, sample_in_bordered}
+
+-- what is seen of a plane with this layout
+abbrev pub shown_value : ℕ → ℕ → ℕ → ℕ → ℕ → Bool → List ℕ → PlaneValue
+shown_value width height border first stride cur items = record { shown = shown_in (layout_of width height border first stride) items; border = border; is_current = cur }
 
 -- what is shown is a whole plane
 pub whole_of_laid_out : (l : Layout) (items : List ℕ) → IsLaidOut l items → IsWhole (shown_in l items)
@@ -169,3 +173,23 @@ settled_spread width height border first stride items spread flat o b len =
       has_border = subst (λ (s : Samples). IsBordered s border spread) (sym shown) b;
       same = ap (λ (l : List ℕ). record { width = width; height = height; samples = l }) there ∙ sym shown
     }
+
+-- a shown row of a packed block
+pub row_of_packed : (l : Layout) (items : List ℕ) (y : ℕ) → IsLaidOut l items → l.stride ≡ l.width → y < l.height → slice_range items (y * l.width) (y * l.width + l.width) ≡ row_of (shown_in l items) y
+row_of_packed l items y o flat below =
+    let front : l.first ≡ 0 = o.flat_at_front flat in
+    let at : l.first + y * l.stride ≡ y * l.width = rw (flat, front) (omega arith) in
+    sym (ap (λ k. slice_range items k (k + l.width)) at) ∙ row_of_laid_out l items y o below
+
+-- all shown samples of a packed block
+pub samples_of_packed : (l : Layout) (items : List ℕ) → IsLaidOut l items → l.stride ≡ l.width → slice_range items 0 (l.width * l.height) ≡ (shown_in l items).samples
+samples_of_packed l items o flat =
+    let front : l.first ≡ 0 = o.flat_at_front flat in
+    let size : l.width * l.height - 0 ≡ l.height * l.width = omega (arith, mul_comm l.width l.height) in
+    rw (flat, front, size) (sym (rows_at_front items l.width l.height))
+
+-- a plane whose packed block was written
+pub view_of_written : (p : PlaneValue) (width height border first stride at : ℕ) (cur : Bool) (items left ws : List ℕ) → shown_value width height border first stride cur items ≡ out_of_date p → stride ≡ width → first ≡ 0 → left ≡ put_chunk at items ws → shown_value width height border first stride cur left ≡ record p { shown = record p.shown { samples = put_chunk at p.shown.samples ws }; is_current = false }
+view_of_written p width height border first stride at cur items left ws now flat front left_is =
+    ap (λ (l : List ℕ). record { shown = record { width = width; height = height; samples = l }; border = border; is_current = cur }) (ap (λ k. rows_of k first stride width height) left_is ∙ shown_of_written items ws at first stride width height flat front)
+      ∙ ap (λ (v : PlaneValue). record v { shown = record v.shown { samples = put_chunk at v.shown.samples ws } }) now
