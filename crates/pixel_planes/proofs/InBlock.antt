@@ -5,10 +5,10 @@ use Rattle.std.proofs.Common.{◌≡◌, ℕ, zero, suc, ◌+◌, ◌-◌, ◌*�
 use Rattle.std.proofs.lemmas.Int.{ints}
 use Rattle.std.proofs.Math.Nat.{mul_comm, add-mul, two-mul, mul-le-mul_left, mul-le-mul_right}
 use Rattle.std.proofs.lemmas.List.{append-nil, take_all, length-replicate, take-replicate, drop-replicate, get_or-replicate, replicate-append-replicate}
-use Rattle.std.proofs.lemmas.Nat.{mul-le}
+use Rattle.std.proofs.lemmas.List.Edits.{length-between, get_or-between}
 use Rattle.std.proofs.lemmas.Simd.{length-chunk, get_or-chunk}
 use Rattle.pixel_planes.specs.Samples.{Samples, PlaneValue, out_of_date, IsWhole, row_of, sample_at, uniform}
-use Rattle.pixel_planes.specs.ReferenceSamples.{held_place, reference_sample}
+use Rattle.pixel_planes.specs.ReferenceSamples.{held_place, reference_sample, IsSpan, IsWindow}
 use Rattle.pixel_planes.specs.Layout.{Layout, layout_of, shown_in, IsLaidOut, IsBordered, rows_of, bordered_row, bordered_side, flat_plane}
 use Rattle.pixel_planes.proofs.Parts.{part_is, chunk-chunk, take-put_chunk}
 use Rattle.pixel_planes.proofs.BlockRows.{length-rows_of, chunk_of_rows, sample_of_rows, rows_at_front, same_rows, row_ends}
@@ -193,3 +193,71 @@ pub view_of_written : (p : PlaneValue) (width height border first stride at : �
 view_of_written p width height border first stride at cur items left ws now flat front left_is =
     ap (λ (l : List ℕ). record { shown = record { width = width; height = height; samples = l }; border = border; is_current = cur }) (ap (λ k. rows_of k first stride width height) left_is ∙ shown_of_written items ws at first stride width height flat front)
       ∙ ap (λ (v : PlaneValue). record v { shown = record v.shown { samples = put_chunk at v.shown.samples ws } }) now
+
+-- a part of a row of the block ends within it
+pub part_in_block : (l : Layout) (items : List ℕ) (top left n : ℕ) → IsLaidOut l items → top + 1 ≤ bordered_side l.height l.border → left + n ≤ bordered_side l.width l.border → top * bordered_side l.width l.border + left + n ≤ length items
+part_in_block l items top left n o in_block in_row =
+    omega (arith, o.room, mul_comm (bordered_side l.width l.border) (bordered_side l.height l.border), row_ends top (bordered_side l.height l.border) (bordered_side l.width l.border) (omega arith))
+
+-- where a rectangle stands in the block with its border
+pub record IsPlaced (l : Layout) (x y : ℤ) (width height left top : ℕ) : Type 0 where
+  pub across : (pos left ≡ x +ℤ pos l.border) × (left + width ≤ bordered_side l.width l.border)
+  pub down : (pos top ≡ y +ℤ pos l.border) × (top + height ≤ bordered_side l.height l.border)
+
+-- a sample of a rectangle
+placed_sample : (l : Layout) (items : List ℕ) (x y : ℤ) (width height left top : ℕ) → IsLaidOut l items → IsBordered (shown_in l items) l.border items → IsPlaced l x y width height left top → (column row : ℕ) → column < width → row < height → slice_index items (top * bordered_side l.width l.border + left + (row * bordered_side l.width l.border + column)) ≡ reference_sample (shown_in l items) (x +ℤ pos column) (y +ℤ pos row)
+placed_sample l items x y width height left top o b placed column row in_row in_column =
+    let stride : ℕ = bordered_side l.width l.border in
+    let at : top * bordered_side l.width l.border + left + (row * bordered_side l.width l.border + column) ≡ (top + row) * bordered_side l.width l.border + (left + column) = omega (arith, add-mul top row (bordered_side l.width l.border)) in
+    ap (λ k. slice_index items k) at ∙ reference_of_bordered (shown_in l items) l.border items (whole_of_laid_out l items o) b left top column row x y placed.across.0 placed.down.0 (omega (arith, placed.across.1)) (omega (arith, placed.down.1))
+
+-- a span
+pub span_is : (l : Layout) (items : List ℕ) (x y : ℤ) (n left top : ℕ) → IsLaidOut l items → IsBordered (shown_in l items) l.border items → IsPlaced l x y n 1 left top → IsSpan (shown_in l items) x y n (slice_range items (top * bordered_side l.width l.border + left) (top * bordered_side l.width l.border + left + n))
+span_is l items x y n left top o b placed =
+    let start : ℕ = top * bordered_side l.width l.border + left in
+    record {
+      len = ap length (part_is items start n) ∙ length-chunk start n items (part_in_block l items top left n o placed.down.1 placed.across.1);
+      each = λ column within.
+        let none : column ≡ 0 * bordered_side l.width l.border + column = omega arith in
+        let here : y +ℤ pos 0 ≡ y = omega (arith, ints) in
+        ap (λ part. slice_index part column) (part_is items start n) ∙ get_or-chunk start n items column 0 within ∙ ap (λ k. slice_index items (start + k)) none ∙ placed_sample l items x y n 1 left top o b placed column 0 within (omega arith) ∙ ap (reference_sample (shown_in l items) (x +ℤ pos column)) here
+    }
+
+-- a window of several rows ends within the block
+pub window_in_block : (l : Layout) (items : List ℕ) (x y : ℤ) (width height left top : ℕ) → IsLaidOut l items → 0 < height → IsPlaced l x y width height left top → top * bordered_side l.width l.border + left + (height - 1) * bordered_side l.width l.border + width ≤ length items
+window_in_block l items x y width height left top o high placed =
+    let last : top + (height - 1) + 1 ≤ bordered_side l.height l.border = omega (arith, placed.down.1) in
+    omega (arith, add-mul top (height - 1) (bordered_side l.width l.border), part_in_block l items (top + (height - 1)) left width o last placed.across.1)
+
+above : (height row : ℕ) → row < height → row ≤ height - 1
+above height row below = omega arith
+
+-- a window
+pub window_is : (l : Layout) (items : List ℕ) (x y : ℤ) (width height left top : ℕ) → IsLaidOut l items → IsBordered (shown_in l items) l.border items → 0 < height → IsPlaced l x y width height left top → IsWindow (shown_in l items) x y width height (slice_range items (top * bordered_side l.width l.border + left) (top * bordered_side l.width l.border + left + (height - 1) * bordered_side l.width l.border + width)) (bordered_side l.width l.border)
+window_is l items x y width height left top o b high placed =
+    let stride : ℕ = bordered_side l.width l.border in
+    let start : ℕ = top * bordered_side l.width l.border + left in
+    let end : ℕ = top * bordered_side l.width l.border + left + (height - 1) * bordered_side l.width l.border + width in
+    record {
+      room = rw (length-between items start end (window_in_block l items x y width height left top o high placed)) (omega arith);
+      wide = omega (arith, placed.across.1);
+      small = omega (arith, o.wide, o.border_small);
+      each = λ column row in_row in_column.
+        get_or-between items start end (row * stride + column) 0 (omega (arith, mul-le-mul_right stride (above height row in_column))) ∙ placed_sample l items x y width height left top o b placed column row in_row in_column
+    }
+
+same_part : (p q : Samples) → p.width ≡ q.width → (y : ℕ) → row_of p y ≡ row_of q y → chunk (0 + y * p.width) p.width p.samples ≡ chunk (0 + y * q.width) p.width q.samples
+same_part p q wide y same =
+    let p_at : 0 + y * p.width ≡ y * p.width = omega arith in
+    let q_at : 0 + y * q.width ≡ y * q.width = omega arith in
+    ap (λ k. chunk k p.width p.samples) p_at ∙ sym (part_is p.samples (y * p.width) p.width) ∙ same ∙ part_is q.samples (y * q.width) q.width ∙ ap (λ n. chunk (y * q.width) n q.samples) (sym wide) ∙ ap (λ k. chunk k p.width q.samples) (sym q_at)
+
+-- two whole planes of the same sides with the same rows
+pub same_from_rows : (p q : Samples) → IsWhole p → IsWhole q → p.width ≡ q.width → p.height ≡ q.height → ((y : ℕ) → y < p.height → row_of p y ≡ row_of q y) → p ≡ q
+same_from_rows p q whole_p whole_q wide high rows =
+    let of_p : rows_of p.samples 0 p.width p.width p.height ≡ p.samples = rows_at_front p.samples p.width p.height ∙ take_all (p.height * p.width) p.samples (omega (arith, whole_p.4, mul_comm p.width p.height)) in
+    let of_q : rows_of q.samples 0 q.width q.width q.height ≡ q.samples = rows_at_front q.samples q.width q.height ∙ take_all (q.height * q.width) q.samples (omega (arith, whole_q.4, mul_comm q.width q.height)) in
+    let each : rows_of p.samples 0 p.width p.width p.height ≡ rows_of q.samples 0 q.width p.width p.height = same_rows p.samples q.samples 0 p.width 0 q.width p.width p.height (λ y below. same_part p q wide y (rows y below)) in
+    let sides : rows_of q.samples 0 q.width p.width p.height ≡ rows_of q.samples 0 q.width q.width q.height = rw (wide, high) refl in
+    let samples : p.samples ≡ q.samples = sym of_p ∙ each ∙ sides ∙ of_q in
+    λ i. record { width = wide i; height = high i; samples = samples i }
