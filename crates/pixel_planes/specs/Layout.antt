@@ -7,6 +7,10 @@ unfoldable pub rows_of : List ℕ → ℕ → ℕ → ℕ → ℕ → List ℕ
 rows_of items first stride width zero = []
 rows_of items first stride width (suc n) = rows_of items first stride width n ++ slice_range items (first + n * stride) (first + n * stride + width)
 
+-- column x of row y of such rows is the sample that many places behind the first one of its row in the block
+abbrev pub RowsArePlaced : Type 0
+RowsArePlaced = (items : List ℕ) (first stride width n x y : ℕ) → width ≤ stride → first + n * stride ≤ length items → y < n → x < width → slice_index (rows_of items first stride width n) (y * width + x) ≡ slice_index items (first + y * stride + x)
+
 -- the side of a plane with its border before and behind it
 abbrev pub bordered_side : ℕ → ℕ → ℕ
 bordered_side side border = side + 2 * border
