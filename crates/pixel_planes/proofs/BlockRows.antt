@@ -37,14 +37,14 @@ chunk_of_rows items first stride width (suc n) y wide fits below =
     let len : length (rows_of items first stride width n) ≡ n * width = length-rows_of items first stride width n wide (omega arith) in
     let row : length (chunk (first + n * stride) width items) ≡ width = length-chunk (first + n * stride) width items (omega arith) in
     rw (rows_of-suc items first stride width n)
-      (elim (cases_lt y n) [
-        | inl above ↦
-            let fits' : 0 + y * width + width ≤ 0 + n * width = row_room 0 width width y n (omega arith) above in
-            chunk_left (y * width) width (rows_of items first stride width n) (chunk (first + n * stride) width items) (omega arith) ∙ chunk_of_rows items first stride width n y wide (omega arith) above
-        | inr past ↦
-            let last : y ≡ n = omega arith in
-            rw last (chunk_right (n * width) 0 width (n * width) (rows_of items first stride width n) (chunk (first + n * stride) width items) len (omega arith) ∙ chunk_all width (chunk (first + n * stride) width items) row)
-      ])
+    (elim (cases_lt y n) [
+      | inl above ↦
+          let fits' : 0 + y * width + width ≤ 0 + n * width = row_room 0 width width y n (omega arith) above in
+          chunk_left (y * width) width (rows_of items first stride width n) (chunk (first + n * stride) width items) (omega arith) ∙ chunk_of_rows items first stride width n y wide (omega arith) above
+      | inr past ↦
+          let last : y ≡ n = omega arith in
+          rw last (chunk_right (n * width) 0 width (n * width) (rows_of items first stride width n) (chunk (first + n * stride) width items) len (omega arith) ∙ chunk_all width (chunk (first + n * stride) width items) row)
+    ])
 
 -- the sample in column x of row y of these rows
 pub sample_of_rows : (items : List ℕ) (first stride width n x y : ℕ) → width ≤ stride → first + n * stride ≤ length items → y < n → x < width → slice_index (rows_of items first stride width n) (y * width + x) ≡ slice_index items (first + y * stride + x)

@@ -31,12 +31,12 @@ sample_in_bordered border column row within =
           rw held (get_or_append_left (replicate border first) (row ++ replicate border last) 0 column (omega arith) ∙ get_or-replicate border column first 0 before)
       | inr behind ↦
           rw (get_or-append_right (replicate border first) (row ++ replicate border last) border column 0 wide behind)
-            (elim (cases_lt (column - border) (length row)) [
-              | inl inside ↦
-                  let held : min (column - border) (length row - 1) ≡ column - border = omega arith in
-                  rw held (get_or_append_left row (replicate border last) 0 (column - border) inside)
-              | inr past ↦
-                  let held : min (column - border) (length row - 1) ≡ length row - 1 = omega arith in
-                  rw held (get_or-append_right row (replicate border last) (length row) (column - border) 0 refl past ∙ get_or-replicate border (column - border - length row) last 0 (omega arith))
-            ])
+          (elim (cases_lt (column - border) (length row)) [
+            | inl inside ↦
+                let held : min (column - border) (length row - 1) ≡ column - border = omega arith in
+                rw held (get_or_append_left row (replicate border last) 0 (column - border) inside)
+            | inr past ↦
+                let held : min (column - border) (length row - 1) ≡ length row - 1 = omega arith in
+                rw held (get_or-append_right row (replicate border last) (length row) (column - border) 0 refl past ∙ get_or-replicate border (column - border - length row) last 0 (omega arith))
+          ])
     ]

@@ -106,12 +106,13 @@ bordered_replicate border width value some =
 -- a plane of one value in a block of that value
 pub bordered_of_replicate : (width height border value m : ℕ) → 0 < width → 0 < height → m ≡ bordered_side width border * bordered_side height border → IsBordered (uniform width height value) border (replicate m value)
 bordered_of_replicate width height border value m wide high size =
-    record { rows = λ row within.
-      let stride : ℕ = bordered_side width border in
-      let k : ℕ = min (row - border) (height - 1) in
-      let below : min (row - border) (height - 1) < height = omega arith in
-      let part : row_of (uniform width height value) k ≡ replicate width value = part_is (replicate (width * height) value) (k * width) width ∙ chunk-replicate (k * width) width (width * height) value (omega (arith, mul_comm width height, row_ends k height width below)) in
-      part_is (replicate m value) (row * stride) stride ∙ chunk-replicate (row * stride) stride m value (omega (arith, size, mul_comm stride (bordered_side height border), row_ends row (bordered_side height border) stride within)) ∙ sym (ap (bordered_row border) part ∙ bordered_replicate border width value wide)
+    record {
+      rows = λ row within.
+          let stride : ℕ = bordered_side width border in
+          let k : ℕ = min (row - border) (height - 1) in
+          let below : min (row - border) (height - 1) < height = omega arith in
+          let part : row_of (uniform width height value) k ≡ replicate width value = part_is (replicate (width * height) value) (k * width) width ∙ chunk-replicate (k * width) width (width * height) value (omega (arith, mul_comm width height, row_ends k height width below)) in
+          part_is (replicate m value) (row * stride) stride ∙ chunk-replicate (row * stride) stride m value (omega (arith, size, mul_comm stride (bordered_side height border), row_ends row (bordered_side height border) stride within)) ∙ sym (ap (bordered_row border) part ∙ bordered_replicate border width value wide);
     }
 
 -- a plane whose border is up to date: where it stands, and that it shows what it showed
@@ -168,10 +169,10 @@ settled_spread width height border first stride items spread flat o b len =
         stride_small = (omega arith, omega (arith, o.wide, o.border_small));
         room = len ∙ o.room;
         rows_fit = omega (arith, len, o.room, spread_fits width height border o.wide.0);
-        flat_at_front = λ same. no_border width border (bordered_side width border) same
+        flat_at_front = λ same. no_border width border (bordered_side width border) same;
       };
       has_border = subst (λ (s : Samples). IsBordered s border spread) (sym shown) b;
-      same = ap (λ (l : List ℕ). record { width = width; height = height; samples = l }) there ∙ sym shown
+      same = ap (λ (l : List ℕ). record { width = width; height = height; samples = l }) there ∙ sym shown;
     }
 
 -- a shown row of a packed block
@@ -192,7 +193,7 @@ samples_of_packed l items o flat =
 pub view_of_written : (p : PlaneValue) (width height border first stride at : ℕ) (cur : Bool) (items left ws : List ℕ) → shown_value width height border first stride cur items ≡ out_of_date p → stride ≡ width → first ≡ 0 → left ≡ put_chunk at items ws → shown_value width height border first stride cur left ≡ record p { shown = record p.shown { samples = put_chunk at p.shown.samples ws }; is_current = false }
 view_of_written p width height border first stride at cur items left ws now flat front left_is =
     ap (λ (l : List ℕ). record { shown = record { width = width; height = height; samples = l }; border = border; is_current = cur }) (ap (λ k. rows_of k first stride width height) left_is ∙ shown_of_written items ws at first stride width height flat front)
-      ∙ ap (λ (v : PlaneValue). record v { shown = record v.shown { samples = put_chunk at v.shown.samples ws } }) now
+    ∙ ap (λ (v : PlaneValue). record v { shown = record v.shown { samples = put_chunk at v.shown.samples ws } }) now
 
 -- a part of a row of the block ends within it
 pub part_in_block : (l : Layout) (items : List ℕ) (top left n : ℕ) → IsLaidOut l items → top + 1 ≤ bordered_side l.height l.border → left + n ≤ bordered_side l.width l.border → top * bordered_side l.width l.border + left + n ≤ length items
@@ -218,9 +219,9 @@ span_is l items x y n left top o b placed =
     record {
       len = ap length (part_is items start n) ∙ length-chunk start n items (part_in_block l items top left n o placed.down.1 placed.across.1);
       each = λ column within.
-        let none : column ≡ 0 * bordered_side l.width l.border + column = omega arith in
-        let here : y +ℤ pos 0 ≡ y = omega (arith, ints) in
-        ap (λ part. slice_index part column) (part_is items start n) ∙ get_or-chunk start n items column 0 within ∙ ap (λ k. slice_index items (start + k)) none ∙ placed_sample l items x y n 1 left top o b placed column 0 within (omega arith) ∙ ap (reference_sample (shown_in l items) (x +ℤ pos column)) here
+          let none : column ≡ 0 * bordered_side l.width l.border + column = omega arith in
+          let here : y +ℤ pos 0 ≡ y = omega (arith, ints) in
+          ap (λ part. slice_index part column) (part_is items start n) ∙ get_or-chunk start n items column 0 within ∙ ap (λ k. slice_index items (start + k)) none ∙ placed_sample l items x y n 1 left top o b placed column 0 within (omega arith) ∙ ap (reference_sample (shown_in l items) (x +ℤ pos column)) here;
     }
 
 -- a window of several rows ends within the block
@@ -243,7 +244,7 @@ window_is l items x y width height left top o b high placed =
       wide = omega (arith, placed.across.1);
       small = omega (arith, o.wide, o.border_small);
       each = λ column row in_row in_column.
-        get_or-between items start end (row * stride + column) 0 (omega (arith, mul-le-mul_right stride (above height row in_column))) ∙ placed_sample l items x y width height left top o b placed column row in_row in_column
+          get_or-between items start end (row * stride + column) 0 (omega (arith, mul-le-mul_right stride (above height row in_column))) ∙ placed_sample l items x y width height left top o b placed column row in_row in_column;
     }
 
 same_part : (p q : Samples) → p.width ≡ q.width → (y : ℕ) → row_of p y ≡ row_of q y → chunk (0 + y * p.width) p.width p.samples ≡ chunk (0 + y * q.width) p.width q.samples

@@ -55,11 +55,11 @@ loop-y-init c = record { len = refl; rows = no_rows _ _ _ _; rest = refl }
 pub loop-y-preserved : goal.loop-y-preserved
 loop-y-preserved c =
     let m : IsMove c.args.first c.args.stride c.args.width c.args.height c.loop-y.y c.args.samples.now.items c.loop-y.samples.items c.copy_within.new.self.items = record {
-          wide = c.requires.sides.0;
-          below = c.loop-y-test.true;
-          room = omega (arith, c.requires.room, c.loop-y.invariant.len);
-          rows = c.loop-y.invariant.rows;
-          rest = c.loop-y.invariant.rest;
-          moved = c.copy_within.ensures.items
-        } in
+      wide = c.requires.sides.0;
+      below = c.loop-y-test.true;
+      room = omega (arith, c.requires.room, c.loop-y.invariant.len);
+      rows = c.loop-y.invariant.rows;
+      rest = c.loop-y.invariant.rest;
+      moved = c.copy_within.ensures.items;
+    } in
     record { len = omega (arith, c.copy_within.ensures.len, c.copy_within.new.self.ok.0, c.loop-y.samples.ok.0, c.loop-y.invariant.len); rows = front_after _ _ _ _ _ _ _ _ m; rest = rest_after _ _ _ _ _ _ _ _ m }

@@ -100,15 +100,15 @@ pub returns-clause-bordered : goal.returns-clause-bordered
 returns-clause-bordered c =
     let mid : List ℕ = c.spread_rows.new.samples in
     let r : IsRepeated c.args.width c.args.height c.args.border (c.args.width + 2 * c.args.border) c.args.samples.now c.spread_rows.new.samples c.repeat_row.new.out c.split_at_mut-rows.result.0.now c.repeat_row-2.new.out = record {
-          high = c.requires.high.0;
-          stride_is = refl;
-          flat_fits = let le : c.args.height * c.args.width ≤ bordered_side c.args.height c.args.border * bordered_side c.args.width c.args.border = mul-le _ _ _ _ (omega arith) (omega arith) in omega (arith, c.requires.room, mul_comm (bordered_side c.args.height c.args.border) (bordered_side c.args.width c.args.border));
-          room = c.spread_rows.ensures.len ∙ c.requires.room ∙ mul_comm (bordered_side c.args.width c.args.border) (bordered_side c.args.height c.args.border);
-          spread = λ y below. sym (part_is c.spread_rows.new.samples ((c.args.border + y) * (c.args.width + 2 * c.args.border)) (c.args.width + 2 * c.args.border)) ∙ c.spread_rows.ensures.rows y below;
-          rows_are = c.split_at_mut-rows.ensures.front ∙ ap (take (c.args.height * (c.args.width + 2 * c.args.border))) c.split_at_mut-above.ensures.back;
-          above_len = c.repeat_row.ensures.len ∙ c.split_at_mut-above.ensures.front_len;
-          below_len = c.repeat_row-2.ensures.len ∙ below_rows c.args.width c.args.height c.args.border _ _ _ c.requires.room c.spread_rows.ensures.len c.split_at_mut-above.ensures.back_len c.split_at_mut-rows.ensures.back_len;
-          above_is = λ y below. repeated y _ (c.args.width + 2 * c.args.border) c.repeat_row.new.out (chunk 0 (c.args.width + 2 * c.args.border) c.split_at_mut-rows.result.0.now) (first_len c.args.height (c.args.width + 2 * c.args.border) c.split_at_mut-rows.result.0.now c.requires.high.0 c.split_at_mut-rows.ensures.front_len) (c.repeat_row.ensures.rows y below);
-          below_is = λ y below. repeated y _ (c.args.width + 2 * c.args.border) c.repeat_row-2.new.out (slice_range c.split_at_mut-rows.result.0.now ((c.args.height - 1) * (c.args.width + 2 * c.args.border)) (c.args.height * (c.args.width + 2 * c.args.border))) (last_len c.args.height (c.args.width + 2 * c.args.border) c.split_at_mut-rows.result.0.now c.requires.high.0 c.split_at_mut-rows.ensures.front_len) (c.repeat_row-2.ensures.rows y below) ∙ last_is c.args.height (c.args.width + 2 * c.args.border) c.split_at_mut-rows.result.0.now c.requires.high.0
-        } in
+      high = c.requires.high.0;
+      stride_is = refl;
+      flat_fits = let le : c.args.height * c.args.width ≤ bordered_side c.args.height c.args.border * bordered_side c.args.width c.args.border = mul-le _ _ _ _ (omega arith) (omega arith) in omega (arith, c.requires.room, mul_comm (bordered_side c.args.height c.args.border) (bordered_side c.args.width c.args.border));
+      room = c.spread_rows.ensures.len ∙ c.requires.room ∙ mul_comm (bordered_side c.args.width c.args.border) (bordered_side c.args.height c.args.border);
+      spread = λ y below. sym (part_is c.spread_rows.new.samples ((c.args.border + y) * (c.args.width + 2 * c.args.border)) (c.args.width + 2 * c.args.border)) ∙ c.spread_rows.ensures.rows y below;
+      rows_are = c.split_at_mut-rows.ensures.front ∙ ap (take (c.args.height * (c.args.width + 2 * c.args.border))) c.split_at_mut-above.ensures.back;
+      above_len = c.repeat_row.ensures.len ∙ c.split_at_mut-above.ensures.front_len;
+      below_len = c.repeat_row-2.ensures.len ∙ below_rows c.args.width c.args.height c.args.border _ _ _ c.requires.room c.spread_rows.ensures.len c.split_at_mut-above.ensures.back_len c.split_at_mut-rows.ensures.back_len;
+      above_is = λ y below. repeated y _ (c.args.width + 2 * c.args.border) c.repeat_row.new.out (chunk 0 (c.args.width + 2 * c.args.border) c.split_at_mut-rows.result.0.now) (first_len c.args.height (c.args.width + 2 * c.args.border) c.split_at_mut-rows.result.0.now c.requires.high.0 c.split_at_mut-rows.ensures.front_len) (c.repeat_row.ensures.rows y below);
+      below_is = λ y below. repeated y _ (c.args.width + 2 * c.args.border) c.repeat_row-2.new.out (slice_range c.split_at_mut-rows.result.0.now ((c.args.height - 1) * (c.args.width + 2 * c.args.border)) (c.args.height * (c.args.width + 2 * c.args.border))) (last_len c.args.height (c.args.width + 2 * c.args.border) c.split_at_mut-rows.result.0.now c.requires.high.0 c.split_at_mut-rows.ensures.front_len) (c.repeat_row-2.ensures.rows y below) ∙ last_is c.args.height (c.args.width + 2 * c.args.border) c.split_at_mut-rows.result.0.now c.requires.high.0;
+    } in
     record { rows = λ row within. part_is (c.repeat_row.new.out ++ (c.split_at_mut-rows.result.0.now ++ c.repeat_row-2.new.out)) (row * (c.args.width + 2 * c.args.border)) (c.args.width + 2 * c.args.border) ∙ bordered_at _ _ _ _ _ _ _ _ _ r row within }

@@ -24,7 +24,7 @@ more y w = ap (λ k. k * w) (add-one y) ∙ suc-mul y w
 row_kept : (width height border y : ℕ) (before samples new : List ℕ) → IsStep width height border y before samples new → slice_range samples (y * width) (y * width + width) ≡ slice_range before (y * width) (y * width + width)
 row_kept width height border y before samples new s =
     rw (part_is samples (y * width) width, part_is before (y * width) width)
-      (chunk_from_front ((y + 1) * width) (y * width) width samples before (omega (arith, more y width)) s.front)
+    (chunk_from_front ((y + 1) * width) (y * width) width samples before (omega (arith, more y width)) s.front)
 
 -- a row ends where the rows below it begin
 row_ends : (y k s : ℕ) → y < k → y * s + s ≤ k * s
@@ -58,13 +58,13 @@ rows_after width height border y before samples new s k from below =
     let row : List ℕ = bordered_row border old_row in
     let len : length row ≡ stride = length-bordered_row border old_row ∙ ap (λ n. bordered_side n border) (ap length (part_is samples (y * width) width) ∙ length-chunk (y * width) width samples (row_fits width height border y before samples new s)) in
     rw (part_is new ((border + k) * stride) stride, s.written)
-      (elim (cases_lt y k) [
-        | inl later ↦
-            chunk_from_tail ((border + y) * stride + stride) ((border + k) * stride) stride (put_chunk ((border + y) * stride) samples row) samples (row_ends (border + y) (border + k) stride (omega arith)) (drop_behind-put_chunk ((border + y) * stride + stride) ((border + y) * stride) samples row (omega arith)) ∙ sym (part_is samples ((border + k) * stride) stride) ∙ s.rows k (omega arith) below
-        | inr here ↦
-            let same : k ≡ y = omega arith in
-            rw same (chunk_at-put_chunk ((border + y) * stride) stride samples row len (place_fits width height border y before samples new s) ∙ ap (bordered_row border) (row_kept width height border y before samples new s))
-      ])
+    (elim (cases_lt y k) [
+      | inl later ↦
+          chunk_from_tail ((border + y) * stride + stride) ((border + k) * stride) stride (put_chunk ((border + y) * stride) samples row) samples (row_ends (border + y) (border + k) stride (omega arith)) (drop_behind-put_chunk ((border + y) * stride + stride) ((border + y) * stride) samples row (omega arith)) ∙ sym (part_is samples ((border + k) * stride) stride) ∙ s.rows k (omega arith) below
+      | inr here ↦
+          let same : k ≡ y = omega arith in
+          rw same (chunk_at-put_chunk ((border + y) * stride) stride samples row len (place_fits width height border y before samples new s) ∙ ap (bordered_row border) (row_kept width height border y before samples new s))
+    ])
 
 pub loop-y-init : goal.loop-y-init
 loop-y-init c = record { len = refl; front = refl; rows = λ y from below. absurd (omega arith) }
@@ -73,10 +73,10 @@ pub loop-y-preserved : goal.loop-y-preserved
 loop-y-preserved c =
     let again : c.loop-y.y - 1 + 1 ≡ c.loop-y.y = omega (arith, c.loop-y-test.true) in
     let s : IsStep c.args.width c.args.height c.args.border (c.loop-y.y - 1) c.args.samples.now c.loop-y.samples c.spread_row.new.samples = record {
-          below = omega (arith, c.loop-y-test.true, c.loop-y.auto.y);
-          room = c.loop-y.invariant.len ∙ c.requires.room;
-          front = rw again c.loop-y.invariant.front;
-          rows = λ k from below. c.loop-y.invariant.rows k (omega arith) below;
-          written = c.spread_row.ensures
-        } in
+      below = omega (arith, c.loop-y-test.true, c.loop-y.auto.y);
+      room = c.loop-y.invariant.len ∙ c.requires.room;
+      front = rw again c.loop-y.invariant.front;
+      rows = λ k from below. c.loop-y.invariant.rows k (omega arith) below;
+      written = c.spread_row.ensures;
+    } in
     record { len = ap length c.spread_row.ensures ∙ length-put_chunk _ _ _ ∙ c.loop-y.invariant.len; front = front_after _ _ _ _ _ _ _ s; rows = rows_after _ _ _ _ _ _ _ s }

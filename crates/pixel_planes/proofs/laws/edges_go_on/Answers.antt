@@ -22,5 +22,5 @@ returns c = record {
   left = λ p x y before. ap (λ k. sample_at p k (held_place p.height y)) (held_before p.width x before);
   right = λ p x y behind. ap (λ k. sample_at p k (held_place p.height y)) (held_behind p.width x behind);
   above = λ p x y before. ap (sample_at p (held_place p.width x)) (held_before p.height y before);
-  below = λ p x y behind. ap (sample_at p (held_place p.width x)) (held_behind p.height y behind)
+  below = λ p x y behind. ap (sample_at p (held_place p.width x)) (held_behind p.height y behind);
 }

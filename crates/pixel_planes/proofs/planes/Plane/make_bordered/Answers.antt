@@ -22,10 +22,10 @@ laid_out width height border value items wide high small all =
 
 pub invariant_of-result : goal.invariant_of-result
 invariant_of-result c =
-    let all = c.in_ok-samples.ensures.items_if_clones_equal (λ y same. same) in
-    ( laid_out c.args.width c.args.height c.args.border c.args.value c.in_ok-samples.samples.items c.requires.wide c.requires.high c.requires.border all
-    , λ _. refl
-    , λ _. rw (shown_is c.args.width c.args.height c.args.border c.args.value c.in_ok-samples.samples.items all, all) (bordered_of_replicate c.args.width c.args.height c.args.border c.args.value _ c.requires.wide.0 c.requires.high.0 refl)
+    let all = c.in_ok-samples.ensures.items_if_clones_equal (λ y same. same) in (
+      laid_out c.args.width c.args.height c.args.border c.args.value c.in_ok-samples.samples.items c.requires.wide c.requires.high c.requires.border all,
+      λ _. refl,
+      λ _. rw (shown_is c.args.width c.args.height c.args.border c.args.value c.in_ok-samples.samples.items all, all) (bordered_of_replicate c.args.width c.args.height c.args.border c.args.value _ c.requires.wide.0 c.requires.high.0 refl),
     )
 
 pub returns : goal.returns

@@ -9,16 +9,16 @@ use Rattle.pixel_planes.proofs.planes.Plane.refill.Goals.{then-not-self+then-sel
 settled : (c : goal.After-self-2-1) → (c.if-not-self.self-inside.border ≡ c.self.inside.border) × IsSettled c.if-not-self.self-inside.width c.if-not-self.self-inside.height c.if-not-self.self-inside.border c.if-not-self.self-inside.first c.if-not-self.self-inside.stride c.if-not-self.self-inside.samples.items (shown_in (layout_of c.self.inside.width c.self.inside.height c.self.inside.border c.self.inside.first c.self.inside.stride) c.self.inside.samples.items)
 settled c =
     elim c.if-not-self.branch [
-      | then-not-self+then-self-gt0 w ↦ 
+      | then-not-self+then-self-gt0 w ↦
           let b = rw (w.deref_mut.ensures.value) at w.spread.ensures.bordered in
           let l = rw (w.deref_mut.ensures.value) at w.spread.ensures.len in
           let kept : length w.spread.new.samples ≡ c.self.inside.samples.len = l ∙ sym c.self.inside.samples.ok.0 in
           let whole = take_at w.spread.new.samples (drop (length w.spread.new.samples) c.self.inside.samples.items) c.self.inside.samples.len kept in
           rw w.self-inside-is (refl, rw whole (settled_spread c.self.inside.width c.self.inside.height c.self.inside.border c.self.inside.first c.self.inside.stride c.self.inside.samples.items w.spread.new.samples (c.self.invariant.1 w.if-not-self.true) c.self.invariant.0 b l))
       | else-not-self w ↦ rw w.self-inside-is (elim w.else-not-self.branch [
-          | else-not-self-via-then-not-self+else-self-gt0 w' ↦ (refl, settled_unbordered c.self.inside.width c.self.inside.height c.self.inside.border c.self.inside.first c.self.inside.stride c.self.inside.samples.items w'.if-self-gt0.false (c.self.invariant.1 w'.if-not-self.true) c.self.invariant.0)
-          | else-not-self-via-else-not-self w' ↦ (refl, record { laid_out = c.self.invariant.0; has_border = c.self.invariant.2 w'.if-not-self.false; same = refl })
-        ])
+        | else-not-self-via-then-not-self+else-self-gt0 w' ↦ (refl, settled_unbordered c.self.inside.width c.self.inside.height c.self.inside.border c.self.inside.first c.self.inside.stride c.self.inside.samples.items w'.if-self-gt0.false (c.self.invariant.1 w'.if-not-self.true) c.self.invariant.0)
+        | else-not-self-via-else-not-self w' ↦ (refl, record { laid_out = c.self.invariant.0; has_border = c.self.invariant.2 w'.if-not-self.false; same = refl })
+      ])
     ]
 
 pub returns : goal.returns

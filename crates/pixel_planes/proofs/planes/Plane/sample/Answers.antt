@@ -18,4 +18,4 @@ returns c =
     let ex = simp to_z-of_z at c.held-column.ensures.value in
     let ey = simp to_z-of_z at c.held-row.ensures.value in
     rw (← c.self.view_is, ← ex, ← ey)
-      (get_or_read _ _ _ (inside _ _ c.held-column.result c.held-row.result c.self.invariant.0 c.held-column.ensures.within c.held-row.ensures.within) c.index.ensures 0 ∙ sample_of_laid_out _ _ c.held-column.result c.held-row.result c.self.invariant.0 c.held-column.ensures.within c.held-row.ensures.within)
+    (get_or_read _ _ _ (inside _ _ c.held-column.result c.held-row.result c.self.invariant.0 c.held-column.ensures.within c.held-row.ensures.within) c.index.ensures 0 ∙ sample_of_laid_out _ _ c.held-column.result c.held-row.result c.self.invariant.0 c.held-column.ensures.within c.held-row.ensures.within)
