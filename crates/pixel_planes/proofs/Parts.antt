@@ -2,9 +2,9 @@
 use Rattle.std.specs.Prelude.{slice_range}
 use Rattle.std.specs.Simd.Lanes.{chunk, put_chunk}
 use borrow.Rule.Slice.PartMut.{put_mid}
-use Rattle.std.proofs.Common.{◌≡◌, ℕ, zero, suc, ◌+◌, ◌-◌, ◌<◌, ◌≤◌, List, [], ◌∷◌, ◌++◌, length, take, drop, get_or, refl, ap, sym, ◌∙◌, arith, length-append, length-drop, append_assoc}
-use Rattle.std.proofs.lemmas.List.{drop-append-le, take-append-le, drop_at, take_at, drop-drop, drop-take, take-take, take_all}
-use Rattle.std.proofs.lemmas.Simd.{length-chunk, put_chunk_is}
+use Rattle.std.proofs.Common.{◌≡◌, ℕ, zero, suc, ◌+◌, ◌-◌, ◌≤◌, List, [], ◌∷◌, ◌++◌, length, take, drop, refl, ap, sym, ◌∙◌, arith, length-drop}
+use Rattle.std.proofs.lemmas.List.{drop-append-le, take-append-le, drop_at, drop-drop, drop-take, take-take, take_all}
+use Rattle.std.proofs.lemmas.Simd.{put_chunk_is}
 
 -- a part of n places
 pub part_is : (xs : List ℕ) (i n : ℕ) → slice_range xs i (i + n) ≡ chunk i n xs

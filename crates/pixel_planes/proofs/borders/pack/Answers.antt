@@ -1,9 +1,9 @@
-use Rattle.std.proofs.Common.{◌≡◌, ℕ, ◌+◌, ◌-◌, ◌*◌, ◌<◌, ◌≤◌, List, ◌++◌, length, take, drop, refl, ap, sym, ◌∙◌, arith, length-drop, add-one}
+use Rattle.std.proofs.Common.{◌≡◌, ℕ, ◌+◌, ◌*◌, ◌<◌, ◌≤◌, List, ◌++◌, length, take, drop, refl, ap, sym, ◌∙◌, arith, length-drop, add-one}
 use Rattle.std.specs.List.{copy_within}
-use Rattle.std.proofs.Math.Nat.{suc-mul, mul-le-mul_left, mul-le-mul}
+use Rattle.std.proofs.Math.Nat.{suc-mul, mul-le-mul_left}
 use Rattle.std.proofs.Math.Seq.{paste}
 use Rattle.std.proofs.lemmas.List.{drop-drop}
-use Rattle.std.proofs.lemmas.List.Edits.{take-paste, drop-paste, length-paste}
+use Rattle.std.proofs.lemmas.List.Edits.{take-paste, drop-paste}
 use Rattle.std.specs.Simd.Lanes.{chunk}
 use Rattle.pixel_planes.specs.Layout.{rows_of}
 use Rattle.pixel_planes.proofs.Parts.{chunk_from_tail}

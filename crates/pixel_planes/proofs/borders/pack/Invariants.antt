@@ -1,4 +1,4 @@
-use Rattle.std.proofs.Common.{◌≡◌, ◌+◌, ◌*◌, length, take, drop}
+use Rattle.std.proofs.Common.{◌≡◌, ◌*◌, length, take, drop}
 use Rattle.pixel_planes.specs.Layout.{rows_of}
 use Rattle.pixel_planes.proofs.borders.pack.Given as goal
 

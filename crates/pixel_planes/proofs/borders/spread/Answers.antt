@@ -1,13 +1,12 @@
-use Rattle.std.proofs.Common.{◌≡◌, ℕ, suc, ◌+◌, ◌-◌, ◌*◌, ◌<◌, ◌≤◌, min, List, ◌++◌, length, take, drop, slice_range, refl, ap, sym, ◌∙◌, arith, inl, inr}
+use Rattle.std.proofs.Common.{◌≡◌, ℕ, suc, ◌+◌, ◌-◌, ◌*◌, ◌<◌, ◌≤◌, min, List, ◌++◌, length, take, slice_range, refl, ap, sym, ◌∙◌, arith, inl, inr}
 use Rattle.std.specs.Simd.Lanes.{chunk}
-use Rattle.std.proofs.Math.Nat.{mul_comm, add-mul, suc-mul, two-mul, mul-le-mul_right, mul-le-mul_left}
+use Rattle.std.proofs.Math.Nat.{mul_comm, add-mul, suc-mul, two-mul, mul-le-mul_right}
 use Rattle.std.proofs.lemmas.Bool.{cases_lt}
-use Rattle.std.proofs.lemmas.List.{length-take-le, length-drop}
 use Rattle.std.proofs.lemmas.Simd.{length-chunk}
 use Rattle.std.proofs.lemmas.Nat.{mul-le}
 use Rattle.pixel_planes.specs.Samples.{row_of}
-use Rattle.pixel_planes.specs.Layout.{bordered_side, bordered_row, flat_plane, IsBordered, HasBorderedRows}
-use Rattle.pixel_planes.proofs.Parts.{part_is, chunk_left, chunk_right, chunk_all, chunk_of_take, chunk-chunk}
+use Rattle.pixel_planes.specs.Layout.{bordered_side, bordered_row, flat_plane}
+use Rattle.pixel_planes.proofs.Parts.{part_is, chunk_left, chunk_right, chunk-chunk}
 use Rattle.pixel_planes.proofs.BlockRows.{row_of_flat, row_ends}
 use Rattle.pixel_planes.proofs.borders.spread.Goals as goal
 

@@ -1,7 +1,7 @@
-use Rattle.std.proofs.Common.{◌≡◌, ℕ, ◌+◌, ◌*◌, ◌≤◌, List, ◌++◌, length, take, drop, slice_range, refl, ap, sym, ◌∙◌, arith}
+use Rattle.std.proofs.Common.{◌≡◌, ℕ, ◌+◌, ◌*◌, ◌≤◌, List, ◌++◌, length, take, drop, slice_range, ap, sym, ◌∙◌, arith}
 use Rattle.std.specs.Simd.Lanes.{chunk, put_chunk}
 use Rattle.std.proofs.lemmas.Simd.{length-chunk, put_chunk_is}
-use Rattle.pixel_planes.specs.Layout.{bordered_side, bordered_row}
+use Rattle.pixel_planes.specs.Layout.{bordered_row}
 use Rattle.pixel_planes.proofs.Parts.{part_is, chunk_of_take}
 use Rattle.pixel_planes.proofs.BorderedRows.{length-bordered_row}
 use Rattle.pixel_planes.proofs.borders.spread_row.Goals as goal

@@ -1,5 +1,5 @@
-use Rattle.std.proofs.Common.{◌≡◌, ℕ, ◌+◌, ◌-◌, ◌*◌, ◌<◌, ◌≤◌, List, length, take, drop, slice_range, refl, ap, sym, ◌∙◌, arith, add-one, inl, inr}
-use Rattle.std.specs.Simd.Lanes.{chunk, put_chunk}
+use Rattle.std.proofs.Common.{◌≡◌, ℕ, ◌+◌, ◌-◌, ◌*◌, ◌<◌, ◌≤◌, List, length, take, slice_range, refl, ap, sym, ◌∙◌, arith, add-one, inl, inr}
+use Rattle.std.specs.Simd.Lanes.{put_chunk}
 use Rattle.std.proofs.Math.Nat.{suc-mul, mul_comm, mul-le-mul_right, mul-le-mul_left}
 use Rattle.std.proofs.lemmas.Bool.{cases_lt}
 use Rattle.std.proofs.lemmas.List.{take-take}

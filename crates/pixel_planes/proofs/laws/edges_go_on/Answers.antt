@@ -1,7 +1,7 @@
-use Rattle.std.proofs.Common.{◌≡◌, ℕ, ◌-◌, ◌<◌, ◌≤◌, min, refl, ap, arith, ℤ, pos, negsuc, ◌≤ℤ◌}
+use Rattle.std.proofs.Common.{◌≡◌, ℕ, ◌-◌, ◌<◌, refl, ap, arith, ℤ, pos, negsuc, ◌≤ℤ◌}
 use Rattle.std.proofs.lemmas.Int.{ints}
-use Rattle.pixel_planes.specs.Samples.{Samples, sample_at}
-use Rattle.pixel_planes.specs.ReferenceSamples.{held_place, reference_sample, GoesOnPastItsEdges}
+use Rattle.pixel_planes.specs.Samples.{sample_at}
+use Rattle.pixel_planes.specs.ReferenceSamples.{held_place, reference_sample}
 use Rattle.pixel_planes.proofs.laws.edges_go_on.Goals as goal
 
 held_inside : (side x : ℕ) → x < side → held_place side (pos x) ≡ x

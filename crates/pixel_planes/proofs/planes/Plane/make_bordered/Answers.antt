@@ -1,9 +1,9 @@
-use Rattle.std.proofs.Common.{◌≡◌, ℕ, ◌+◌, ◌*◌, ◌<◌, ◌≤◌, List, length, replicate, refl, ap, sym, ◌∙◌, arith}
+use Rattle.std.proofs.Common.{◌≡◌, ℕ, ◌*◌, ◌<◌, ◌≤◌, List, length, replicate, refl, ap, ◌∙◌, arith}
 use Rattle.std.proofs.Math.Nat.{mul_comm}
 use Rattle.std.proofs.lemmas.Nat.{mul-le}
 use Rattle.std.proofs.lemmas.List.{length-replicate}
 use Rattle.pixel_planes.specs.Samples.{Samples, uniform, bordered}
-use Rattle.pixel_planes.specs.Layout.{layout_of, shown_in, bordered_side, IsLaidOut, IsBordered}
+use Rattle.pixel_planes.specs.Layout.{layout_of, shown_in, bordered_side, IsLaidOut}
 use Rattle.pixel_planes.proofs.InBlock.{shown_of_replicate, bordered_of_replicate}
 use Rattle.pixel_planes.proofs.planes.Plane.make_bordered.Goals as goal
 

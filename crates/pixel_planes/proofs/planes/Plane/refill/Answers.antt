@@ -1,4 +1,4 @@
-use Rattle.std.proofs.Common.{◌≡◌, ℕ, List, true, false, length, drop, ap, ◌∙◌, sym, refl, arith}
+use Rattle.std.proofs.Common.{◌≡◌, true, length, drop, ap, ◌∙◌, sym, refl}
 use Rattle.std.proofs.lemmas.List.{take_at}
 use Rattle.pixel_planes.specs.Samples.{Samples}
 use Rattle.pixel_planes.specs.Layout.{shown_in, layout_of}

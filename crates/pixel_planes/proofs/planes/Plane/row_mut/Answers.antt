@@ -1,6 +1,6 @@
-use Rattle.std.proofs.Common.{◌≡◌, ℕ, ◌+◌, ◌-◌, ◌*◌, ◌<◌, List, false, refl, ap, sym, ◌∙◌, arith}
+use Rattle.std.proofs.Common.{◌≡◌, ℕ, ◌*◌, ◌<◌, false, refl, ap, ◌∙◌, arith}
 use Rattle.std.specs.Simd.Lanes.{put_chunk}
-use Rattle.pixel_planes.specs.Samples.{Samples, PlaneValue, row_of, out_of_date}
+use Rattle.pixel_planes.specs.Samples.{PlaneValue, row_of, out_of_date}
 use Rattle.pixel_planes.proofs.Rows.{written_range}
 use Rattle.pixel_planes.proofs.InBlock.{shown_value, row_of_packed, view_of_written}
 use Rattle.pixel_planes.proofs.planes.Plane.row_mut.Goals as goal

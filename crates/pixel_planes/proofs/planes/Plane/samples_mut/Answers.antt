@@ -1,5 +1,5 @@
-use Rattle.std.proofs.Common.{◌≡◌, ℕ, ◌+◌, ◌-◌, ◌*◌, ◌<◌, List, false, refl, ap, sym, ◌∙◌, arith}
-use Rattle.pixel_planes.specs.Samples.{Samples, PlaneValue, out_of_date}
+use Rattle.std.proofs.Common.{◌≡◌, ◌*◌, refl, ap, ◌∙◌, arith}
+use Rattle.pixel_planes.specs.Samples.{PlaneValue, out_of_date}
 use Rattle.pixel_planes.proofs.Rows.{written_range}
 use Rattle.pixel_planes.proofs.InBlock.{shown_value, samples_of_packed, view_of_written}
 use Rattle.pixel_planes.proofs.planes.Plane.samples_mut.Goals as goal

@@ -1,4 +1,4 @@
-use Rattle.std.proofs.Common.{◌≡◌, ℕ, ◌+◌, ◌*◌, ◌<◌, ◌≤◌, List, length, ap, arith, SFits, w64, to_z, of_z}
+use Rattle.std.proofs.Common.{◌≡◌, ◌+◌, ◌*◌, ◌≤◌, length, ap, arith, SFits, w64}
 use Rattle.std.proofs.lemmas.Int.{to_z-of_z}
 use Rattle.pixel_planes.specs.Layout.{layout_of, bordered_side}
 use Rattle.pixel_planes.proofs.InBlock.{IsPlaced, part_in_block, span_is}

@@ -1,4 +1,3 @@
-use Rattle.std.proofs.Common.{rules}
 use Rattle.pixel_planes.proofs.InBlock.{whole_of_laid_out}
 use Rattle.pixel_planes.proofs.planes.Plane.width.Goals as goal
 
