@@ -48,6 +48,18 @@ fn is_within(plane: &Plane, x: i64, y: i64, n: usize) -> bool
     plane.span(x, y, n).is_some()
 }
 
+/// Whether there is a span outside the border of 32 of a plane of 16 by 16 samples.
+fn leaves_the_border(plane: &Plane) -> bool {
+    is_within(plane, -32, -32, 81)
+        || is_within(plane, -33, 0, 1)
+        || is_within(plane, 48, 0, 1)
+        || is_within(plane, 0, -33, 1)
+        || is_within(plane, 0, 48, 1)
+        || is_within(plane, i64::MIN, 0, 1)
+        || is_within(plane, 0, i64::MAX, 1)
+        || is_within(plane, 0, 0, usize::MAX)
+}
+
 /// Whether row `y` has these samples.
 fn has_row(plane: &Plane, y: usize, samples: &[u8]) -> bool {
     y < plane.height() && plane.row(y) == samples
@@ -67,6 +79,13 @@ fn spans_are_samples(plane: &Plane, border: usize) -> bool
         }
     }
     !is_within(plane, -side - 1, 0, 1) && !is_within(plane, -side, 0, 17 + 2 * border)
+}
+
+/// Turns the highest bit of one sample.
+fn turn(plane: &mut Plane, place: usize) {
+    if let Some(sample) = plane.samples_mut().get_mut(place) {
+        *sample ^= 128;
+    }
 }
 
 /// A picture of one macroblock, each component of one value.
@@ -96,10 +115,15 @@ fn one_sample_of_a_macroblock_is_shown(rt: HostRuntime) -> Result<(), Fail> {
     assert_eq!(rt; picture.shown_row(Component::Luma, 0), [7].as_slice());
     assert_eq!(rt; picture.shown_row(Component::Cb, 0), [9].as_slice());
     assert_eq!(rt; picture.shown_row(Component::Cr, 0), [11].as_slice());
-    assert!(rt; has_span(picture.luma(), -32, -1, &[7; 3]));
-    assert!(rt; has_span(picture.luma(), -32, 47, &[128; 80]));
-    assert_eq!(rt; picture.cb().sample(8, 8), 9);
-    assert_eq!(rt; picture.cr().sample(-1, 0), 11);
+    Ok(())
+}
+
+#[test]
+fn planes_of_a_picture_have_their_border(rt: HostRuntime) -> Result<(), Fail> {
+    let picture = one_macroblock(rt.alloc(), 1, 2, 3)?;
+    assert!(rt; has_span(picture.luma(), -32, 47, &[1; 80]));
+    assert!(rt; has_span(picture.cb(), -32, -32, &[2; 72]));
+    assert!(rt; has_span(picture.cr(), 39, 39, &[3]));
     Ok(())
 }
 
@@ -108,15 +132,7 @@ fn a_span_ends_with_the_border(rt: HostRuntime) -> Result<(), Fail> {
     let mut plane = Plane::make_bordered(rt.alloc(), 16, 16, 5, 32)?;
     assert_eq!(rt; plane.border(), 32);
     assert!(rt; has_span(&plane, -32, -32, &[5; 80]));
-    assert!(rt; has_span(&plane, -32, 47, &[5; 80]));
-    assert!(rt; !is_within(&plane, -32, -32, 81));
-    assert!(rt; !is_within(&plane, -33, 0, 1));
-    assert!(rt; !is_within(&plane, 48, 0, 1));
-    assert!(rt; !is_within(&plane, 0, -33, 1));
-    assert!(rt; !is_within(&plane, 0, 48, 1));
-    assert!(rt; !is_within(&plane, i64::MIN, 0, 1));
-    assert!(rt; !is_within(&plane, 0, i64::MAX, 1));
-    assert!(rt; !is_within(&plane, 0, 0, usize::MAX));
+    assert!(rt; !leaves_the_border(&plane));
     plane.row_mut(0).fill(6);
     assert!(rt; !plane.is_current());
     assert!(rt; !is_within(&plane, 0, 0, 1));
@@ -197,37 +213,37 @@ fn planes_that_differ_in_one_sample_are_not_the_same(rt: HostRuntime) -> Result<
         other.refill();
         for place in 0..2 * width {
             assert!(rt; plane.same(&other));
-            if let Some(sample) = other.samples_mut().get_mut(place) {
-                *sample ^= 128;
-            }
+            turn(&mut other, place);
             assert!(rt; !plane.same(&other));
-            if let Some(sample) = other.samples_mut().get_mut(place) {
-                *sample ^= 128;
-            }
+            turn(&mut other, place);
         }
-        assert!(rt; plane.same(&other));
-        let wider = numbered(alloc, width + 1, 2, 0)?;
-        assert!(rt; !plane.same(&wider));
-        let higher = numbered(alloc, width, 3, 0)?;
-        assert!(rt; !plane.same(&higher));
+        assert!(rt; !plane.same(&numbered(alloc, width + 1, 2, 0)?));
+        assert!(rt; !plane.same(&numbered(alloc, width, 3, 0)?));
     }
     Ok(())
 }
 
 #[test]
-fn pictures_are_the_same_in_size_and_every_component(rt: HostRuntime) -> Result<(), Fail> {
+fn pictures_are_the_same_in_every_component(rt: HostRuntime) -> Result<(), Fail> {
     let alloc = rt.alloc();
     let picture = one_macroblock(alloc, 1, 2, 3)?;
     assert!(rt; same(&picture, &picture.again()?));
     assert!(rt; same(&picture, &one_macroblock(alloc, 1, 2, 3)?));
-    assert!(rt; !same(&picture, &one_macroblock(alloc, 9, 2, 3)?));
-    assert!(rt; !same(&picture, &one_macroblock(alloc, 1, 9, 3)?));
-    assert!(rt; !same(&picture, &one_macroblock(alloc, 1, 2, 9)?));
+    for (luma, cb, cr) in [(9, 2, 3), (1, 9, 3), (1, 2, 9)] {
+        assert!(rt; !same(&picture, &one_macroblock(alloc, luma, cb, cr)?));
+    }
+    Ok(())
+}
+
+#[test]
+fn pictures_of_two_shown_sizes_are_not_the_same(rt: HostRuntime) -> Result<(), Fail> {
+    let alloc = rt.alloc();
     let planes = Planes {
         luma: Plane::make(alloc, 16, 16, 1)?,
         cb: Plane::make(alloc, 8, 8, 2)?,
         cr: Plane::make(alloc, 8, 8, 3)?,
     };
-    assert!(rt; !same(&picture, &Picture::share(alloc, planes, 15, 16)?));
+    let narrow = Picture::share(alloc, planes, 15, 16)?;
+    assert!(rt; !same(&narrow, &one_macroblock(alloc, 1, 2, 3)?));
     Ok(())
 }
