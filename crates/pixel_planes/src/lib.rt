@@ -1,11 +1,14 @@
 //! Planes of samples and the pictures made of them.
 #![tactic(auto)]
 
+mod borders;
 pub mod laws;
 mod pictures;
 mod planes;
+#[cfg(test)]
+mod tests;
 
-pub use pictures::{Component, Picture, Planes};
-pub use planes::Plane;
+pub use pictures::{Component, Picture, Planes, same};
+pub use planes::{Plane, Window};
 /// The refusal of a block of memory.
 pub use std::alloc::AllocError as NoMemory;

@@ -1,4 +1,4 @@
-ghost use Rattle.std.specs.Prelude.{◌≡◌, ◌<◌, ◌≤◌, length, IfOk};
+ghost use Rattle.std.specs.Prelude.{◌≡◌, ◌<◌, ◌≤◌, ◌↔◌, length, IfOk, IsTrue};
 ghost use Rattle.pixel_planes.specs.Pictures.{IsWholePicture, AreCoded, shown_height, shown_width, shown_row_of};
 ghost use Rattle.pixel_planes.specs.PlaneSamples.{shown_of, picture_of};
 
@@ -106,6 +106,45 @@ impl Picture {
         self.height
     }
 
+    /// The brightness at coded size, with its border up to date.
+    pub fn luma(&self) -> &Plane
+        ensures shown { result.now.shown ≡ self.now.luma }
+        ensures current { IsTrue result.now.is_current }
+    {
+        &self.luma
+    }
+
+    /// The blue difference at coded size, with its border up to date.
+    pub fn cb(&self) -> &Plane
+        ensures shown { result.now.shown ≡ self.now.cb }
+        ensures current { IsTrue result.now.is_current }
+    {
+        &self.cb
+    }
+
+    /// The red difference at coded size, with its border up to date.
+    pub fn cr(&self) -> &Plane
+        ensures shown { result.now.shown ≡ self.now.cr }
+        ensures current { IsTrue result.now.is_current }
+    {
+        &self.cr
+    }
+
+    /// The same picture again, which shares its planes and takes no memory.
+    ///
+    /// `NoMemory` where a plane is shared so often that no further share can be counted.
+    pub fn again(&self) -> Result<Picture, NoMemory>
+        ensures { IfOk result (λ p. p ≡ self.now) }
+    {
+        Ok(Picture {
+            width: self.width,
+            height: self.height,
+            luma: self.luma.clone()?,
+            cb: self.cb.clone()?,
+            cr: self.cr.clone()?,
+        })
+    }
+
     /// Shown row `y` of a component, counted from the top.
     ///
     /// It has the shown width in luma, and half of that, rounded up, in chroma. `y` is below the
@@ -124,28 +163,13 @@ impl Picture {
     }
 }
 
-#[cfg(test)]
-mod tests {
-    use super::*;
-    use std::test::Fail;
-
-    #[test]
-    fn one_sample_of_a_macroblock_is_shown(rt: HostRuntime) -> Result<(), Fail> {
-        let alloc = rt.alloc();
-        let mut luma = Plane::make(alloc, 16, 16, 128)?;
-        luma.row_mut(0).fill(7);
-        assert_eq!(rt; luma.row(0), [7; 16].as_slice());
-        assert_eq!(rt; luma.row(1), [128; 16].as_slice());
-        let planes = Planes {
-            luma,
-            cb: Plane::make(alloc, 8, 8, 9)?,
-            cr: Plane::make(alloc, 8, 8, 11)?,
-        };
-        let picture = Picture::share(alloc, planes, 1, 1)?;
-        assert_eq!(rt; (picture.width(), picture.height()), (1, 1));
-        assert_eq!(rt; picture.shown_row(Component::Luma, 0), [7].as_slice());
-        assert_eq!(rt; picture.shown_row(Component::Cb, 0), [9].as_slice());
-        assert_eq!(rt; picture.shown_row(Component::Cr, 0), [11].as_slice());
-        Ok(())
-    }
+/// Whether two pictures have the same shown size and the same samples at coded size.
+pub fn same(a: &Picture, b: &Picture) -> bool
+    ensures { IsTrue result ↔ (a.now ≡ b.now) }
+{
+    a.width == b.width
+        && a.height == b.height
+        && a.luma.same(&b.luma)
+        && a.cb.same(&b.cb)
+        && a.cr.same(&b.cr)
 }
