@@ -1,0 +1,2 @@
+pub mod InterSample
+pub mod Blocks

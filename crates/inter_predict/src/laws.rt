@@ -1,0 +1,1 @@
+//! Laws that show that the definitions mean what they are to mean.
