@@ -1,2 +1,3 @@
 pub mod InterSample
 pub mod Blocks
+pub mod Kernels

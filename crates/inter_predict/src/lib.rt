@@ -3,7 +3,9 @@
 
 mod blocks;
 mod kinds;
+mod lanes;
 pub mod laws;
+mod taps;
 
 pub use blocks::{block, block_in};
 pub use kinds::Kind;

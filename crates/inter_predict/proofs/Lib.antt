@@ -1,0 +1,2 @@
+pub mod HeldLanes
+pub mod TappedLanes

@@ -1,0 +1,23 @@
+-- The sums of inter prediction as they are worked out: what is added and what is taken away apart, so that no number is below 0.
+use Rattle.std.specs.Prelude.{◌≡◌, ◌⊎◌, ℕ, ◌+◌, ◌-◌, ◌*◌, ◌/◌, ◌<◌, ◌≤◌, min, List, length, slice_index}
+use Rattle.inter_predict.specs.declared.taps.Taps.{Taps}
+
+-- the sample that taps make of six samples
+unfoldable pub tapped : Taps → (ℕ → ℕ) → ℕ
+tapped t samples = min ((samples 0 * t.a + samples 2 * t.c + samples 3 * t.d + samples 5 * t.f + 64 - (samples 1 * t.b + samples 4 * t.e)) / 128) 255
+
+-- the taps are so small that sums of samples stay within 16 bits, and where the third is 128 no other counts
+pub record IsTaps (t : Taps) : Type 0 where
+  pub added : t.a + t.c + t.d + t.f ≤ 160
+  pub taken : t.b + t.e ≤ 32
+  pub alone : t.c ≡ 128 → (t.a ≡ 0) × (t.b ≡ 0) × (t.d ≡ 0) × (t.e ≡ 0) × (t.f ≡ 0)
+
+-- what taps make of six samples `step` places apart
+abbrev pub tapped_at : Taps → List ℕ → ℕ → ℕ → ℕ
+tapped_at t samples step place = tapped t (λ k. slice_index samples (place + k * step))
+
+-- the strip of `width` columns from column `first` on, in `height` rows `stride` samples apart, holds in each column of each row what `sample` gives for them, and every other sample is as in `old`
+pub record IsStrip (sample : ℕ → ℕ → ℕ) (first width height stride : ℕ) (old new : List ℕ) : Type 0 where
+  pub whole : length new ≡ length old
+  pub each : (column row : ℕ) → column < width → row < height → slice_index new (row * stride + (first + column)) ≡ sample column row
+  pub others : (column row : ℕ) → column < stride → (column < first) ⊎ (first + width ≤ column) ⊎ (height ≤ row) → slice_index new (row * stride + column) ≡ slice_index old (row * stride + column)
