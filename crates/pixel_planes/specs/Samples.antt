@@ -34,13 +34,21 @@ pub record PlaneValue : Type 0 where
   pub border : ℕ
   pub is_current : Bool
 
--- the plane of these samples with no border
-abbrev pub without_border : Samples → PlaneValue
-without_border samples = record { shown = samples; border = 0; is_current = true }
+-- the plane of these samples with a border so wide, which is up to date
+abbrev pub bordered : Samples → ℕ → PlaneValue
+bordered samples border = record { shown = samples; border = border; is_current = true }
 
 -- the plane with `row` written over shown row y, which puts the border out of date
 abbrev pub with_row_written : PlaneValue → ℕ → List ℕ → PlaneValue
 with_row_written plane y row = record plane { shown = with_row plane.shown y row; is_current = false }
+
+-- the plane with all its shown samples written over, row after row, which puts the border out of date
+abbrev pub with_samples_written : PlaneValue → List ℕ → PlaneValue
+with_samples_written plane samples = record plane { shown = record plane.shown { samples = put_chunk 0 plane.shown.samples samples }; is_current = false }
+
+-- the plane with its border out of date
+abbrev pub out_of_date : PlaneValue → PlaneValue
+out_of_date plane = record plane { is_current = false }
 
 -- the plane with its border up to date
 abbrev pub brought_up_to_date : PlaneValue → PlaneValue

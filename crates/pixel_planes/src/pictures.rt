@@ -1,4 +1,4 @@
-ghost use Rattle.std.specs.Prelude.{◌≡◌, ◌<◌, ◌≤◌, length, IfOk};
+ghost use Rattle.std.specs.Prelude.{◌≡◌, ◌<◌, ◌≤◌, ◌↔◌, length, IfOk, IsTrue};
 ghost use Rattle.pixel_planes.specs.Pictures.{IsWholePicture, AreCoded, shown_height, shown_width, shown_row_of};
 ghost use Rattle.pixel_planes.specs.PlaneSamples.{shown_of, picture_of};
 
@@ -106,6 +106,45 @@ impl Picture {
         self.height
     }
 
+    /// The brightness at coded size, with its border up to date.
+    pub fn luma(&self) -> &Plane
+        ensures shown { result.now.shown ≡ self.now.luma }
+        ensures current { IsTrue result.now.is_current }
+    {
+        &self.luma
+    }
+
+    /// The blue difference at coded size, with its border up to date.
+    pub fn cb(&self) -> &Plane
+        ensures shown { result.now.shown ≡ self.now.cb }
+        ensures current { IsTrue result.now.is_current }
+    {
+        &self.cb
+    }
+
+    /// The red difference at coded size, with its border up to date.
+    pub fn cr(&self) -> &Plane
+        ensures shown { result.now.shown ≡ self.now.cr }
+        ensures current { IsTrue result.now.is_current }
+    {
+        &self.cr
+    }
+
+    /// The same picture again, which shares its planes and takes no memory.
+    ///
+    /// `NoMemory` where a plane is shared so often that no further share can be counted.
+    pub fn again(&self) -> Result<Picture, NoMemory>
+        ensures { IfOk result (λ p. p ≡ self.now) }
+    {
+        Ok(Picture {
+            width: self.width,
+            height: self.height,
+            luma: self.luma.clone()?,
+            cb: self.cb.clone()?,
+            cr: self.cr.clone()?,
+        })
+    }
+
     /// Shown row `y` of a component, counted from the top.
     ///
     /// It has the shown width in luma, and half of that, rounded up, in chroma. `y` is below the
@@ -122,6 +161,17 @@ impl Picture {
             Component::Cr => &self.cr.row(y)[..width.div_ceil(2)],
         }
     }
+}
+
+/// Whether two pictures have the same shown size and the same samples at coded size.
+pub fn same(a: &Picture, b: &Picture) -> bool
+    ensures { IsTrue result ↔ (a.now ≡ b.now) }
+{
+    a.width == b.width
+        && a.height == b.height
+        && a.luma.same(&b.luma)
+        && a.cb.same(&b.cb)
+        && a.cr.same(&b.cr)
 }
 
 #[cfg(test)]

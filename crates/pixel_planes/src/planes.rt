@@ -1,53 +1,93 @@
-ghost use Rattle.std.specs.Prelude.{◌≡◌, ◌+◌, ◌*◌, ◌<◌, ◌≤◌, length, IfOk};
+ghost use Rattle.std.specs.Prelude.{◌≡◌, ◌+◌, ◌*◌, ◌<◌, ◌≤◌, ◌↔◌, length, is_some, IfOk, IfSome, IsTrue};
 ghost use Rattle.std.specs.Borrow.{sem};
-ghost use Rattle.pixel_planes.specs.Samples.{IsWhole, uniform, row_of, without_border, brought_up_to_date};
-ghost use Rattle.pixel_planes.specs.Lending.{LendsRow};
+ghost use Rattle.pixel_planes.specs.Samples.{IsWhole, uniform, row_of, bordered, brought_up_to_date, out_of_date};
+ghost use Rattle.pixel_planes.specs.ReferenceSamples.{reference_sample, is_within_border, IsSpan, IsWindow};
+ghost use Rattle.pixel_planes.specs.Lending.{LendsRow, LendsSamples};
 
 use crate::NoMemory;
+use crate::borders::{held, pack, place, spread};
 use std::alloc::Global;
 use std::marker::Model;
 
-/// A rectangle of 8-bit samples, row by row, in one block of memory, with a border round it.
+/// A rectangle of 8-bit samples with a border round it, in one block of memory.
 ///
-/// Both sides are 1 to 16,384 samples, and only shown samples count. The border, whose width is 0
-/// as of now, repeats the samples at the edges; it is up to date until a row is lent to be written.
+/// Both sides are 1 to 16,384 samples, and only shown samples count. The border is 0 to 64 samples
+/// wide and repeats the samples at the edges; it is up to date until samples are lent to be written.
+///
+/// While the plane is written, its rows stand one right behind the other at the front of the block.
+/// They are spread out in place when the border is brought up to date.
 #[derive(Debug, Drop)]
 pub struct Plane {
     width: usize,
     height: usize,
-    stride: usize,
     border: usize,
+    first: usize,
+    stride: usize,
     is_current: bool,
     samples: Vec<u8>,
 }
 
+/// Rows of samples in a plane or in its border.
+///
+/// Row `y` of the window begins at `samples[y * stride]`. What stands between its rows is no part
+/// of it.
+#[derive(Clone, Copy, Debug)]
+pub struct Window<'a> {
+    /// The samples from the first one of the window on.
+    pub samples: &'a [u8],
+    /// How many samples further on the next row begins, at most 16,512.
+    pub stride: usize,
+}
+
 impl Model for Plane {
-    ghost use Rattle.std.specs.Prelude.{◌≡◌};
-    ghost use Rattle.pixel_planes.specs.Samples.{PlaneValue, IsWhole};
+    ghost use Rattle.std.specs.Prelude.{◌≡◌, false, IsTrue};
+    ghost use Rattle.pixel_planes.specs.Samples.{PlaneValue};
+    ghost use Rattle.pixel_planes.specs.Layout.{layout_of, shown_in, IsLaidOut, IsBordered};
 
     ghost Value = { PlaneValue };
 
-    ghost view = { λ p. record { shown = record { width = p.width; height = p.height; samples = p.samples.items }; border = p.border; is_current = p.is_current } };
+    ghost view = { λ p. record { shown = shown_in (layout_of p.width p.height p.border p.first p.stride) p.samples.items; border = p.border; is_current = p.is_current } };
 
-    ghost invariant = { λ p. IsWhole (record { width = p.width; height = p.height; samples = p.samples.items }) × (p.stride ≡ p.width) × (p.border ≡ 0) };
+    ghost invariant = { λ p. IsLaidOut (layout_of p.width p.height p.border p.first p.stride) p.samples.items × (p.is_current ≡ false → p.stride ≡ p.width) × (IsTrue p.is_current → IsBordered (shown_in (layout_of p.width p.height p.border p.first p.stride) p.samples.items) p.border p.samples.items) };
 }
 
 impl Plane {
-    /// Makes a plane of `width` by `height` samples, each of them `value`, in one allocation.
+    /// Makes a plane of `width` by `height` samples with a border of 32, each of them `value`, in
+    /// one allocation.
     ///
-    /// The sides are 1 to 16,384. The border, of width 0, is up to date. `NoMemory` where the block
-    /// is refused.
+    /// The sides are 1 to 16,384. The border is up to date. `NoMemory` where the block is refused.
     pub fn make(alloc: Global, width: usize, height: usize, value: u8) -> Result<Plane, NoMemory>
         requires wide { (0 < width) × (width ≤ 16384) }
         requires high { (0 < height) × (height ≤ 16384) }
-        ensures { IfOk result (λ p. p ≡ without_border (uniform width height value)) }
+        ensures { IfOk result (λ p. p ≡ bordered (uniform width height value) 32) }
     {
-        let samples = vec![in alloc; value; width * height]?;
+        Plane::make_bordered(alloc, width, height, value, 32)
+    }
+
+    /// Makes a plane of `width` by `height` samples with a border of `border`, each of them
+    /// `value`, in one allocation.
+    ///
+    /// The sides are 1 to 16,384, and the border is 0 to 64. The border is up to date. `NoMemory`
+    /// where the block is refused.
+    pub fn make_bordered(
+        alloc: Global,
+        width: usize,
+        height: usize,
+        value: u8,
+        border: usize,
+    ) -> Result<Plane, NoMemory>
+        requires wide { (0 < width) × (width ≤ 16384) }
+        requires high { (0 < height) × (height ≤ 16384) }
+        requires border { border ≤ 64 }
+        ensures { IfOk result (λ p. p ≡ bordered (uniform width height value) border) }
+    {
+        let samples = vec![in alloc; value; (width + 2 * border) * (height + 2 * border)]?;
         Ok(Plane {
             width,
             height,
+            border,
+            first: 0,
             stride: width,
-            border: 0,
             is_current: true,
             samples,
         })
@@ -71,7 +111,8 @@ impl Plane {
 
     /// The number of columns and of rows that stand round the shown samples at each side.
     pub fn border(&self) -> usize
-        ensures { result ≡ self.now.border }
+        ensures value { result ≡ self.now.border }
+        ensures small { result ≤ 64 }
     {
         self.border
     }
@@ -83,13 +124,64 @@ impl Plane {
         self.is_current
     }
 
+    /// The sample at these coordinates, which are held within the plane: past an edge its samples
+    /// go on (section 18 of RFC 6386).
+    pub fn sample(&self, x: i64, y: i64) -> u8
+        ensures { result ≡ reference_sample self.now.shown x y }
+    {
+        let column = held(x, self.width);
+        let row = held(y, self.height);
+        self.samples[self.first + row * self.stride + column]
+    }
+
+    /// The `n` samples from (`x`, `y`) to the right, each as `sample` gives it. `n` is at least 1.
+    ///
+    /// None exactly where the border is out of date or a sample lies outside the border.
+    pub fn span(&self, x: i64, y: i64, n: usize) -> Option<&[u8]>
+        requires { 0 < n }
+        ensures within { is_some result ≡ is_within_border self.now x y n 1 }
+        ensures samples { IfSome result (λ found. IsSpan self.now.shown x y n found.now) }
+    {
+        if !self.is_current {
+            return None;
+        }
+        let column = place(x, n, self.width, self.border)?;
+        let row = place(y, 1, self.height, self.border)?;
+        let start = row * (self.width + 2 * self.border) + column;
+        Some(&self.samples[start..start + n])
+    }
+
+    /// The samples of `width` columns and `height` rows from (`x`, `y`) to the right and down, each
+    /// as `sample` gives it. Both sides are at least 1.
+    ///
+    /// None exactly where the border is out of date or a sample lies outside the border.
+    pub fn window(&self, x: i64, y: i64, width: usize, height: usize) -> Option<Window<'_>>
+        requires wide { 0 < width }
+        requires high { 0 < height }
+        ensures within { is_some result ≡ is_within_border self.now x y width height }
+        ensures samples { IfSome result (λ found. IsWindow self.now.shown x y width height found.samples.now found.stride) }
+    {
+        if !self.is_current {
+            return None;
+        }
+        let column = place(x, width, self.width, self.border)?;
+        let row = place(y, height, self.height, self.border)?;
+        let stride = self.width + 2 * self.border;
+        let start = row * stride + column;
+        let end = start + (height - 1) * stride + width;
+        Some(Window {
+            samples: &self.samples[start..end],
+            stride,
+        })
+    }
+
     /// Shown row `y`, counted from the top: `width` samples. `y` is below the height.
     pub fn row(&self, y: usize) -> &[u8]
         requires { y < self.now.shown.height }
         ensures value { result.now ≡ row_of self.now.shown y }
         ensures len { length result.now ≡ self.now.shown.width }
     {
-        let start = y * self.stride;
+        let start = self.first + y * self.stride;
         &self.samples[start..start + self.width]
     }
 
@@ -102,16 +194,69 @@ impl Plane {
         ensures value { result.now ≡ row_of self.old.shown y }
         ensures len { length result.now ≡ self.old.shown.width }
     {
-        let start = y * self.stride;
+        self.open();
+        let start = y * self.width;
         let end = start + self.width;
-        self.is_current = false;
         self.samples.slice_mut(start..end)
+    }
+
+    /// All shown samples to be written, row by row from the top, each row right behind the one
+    /// above it.
+    ///
+    /// The border is out of date from here on.
+    pub fn samples_mut(&mut self) -> &mut [u8]
+        ensures* writes_back { sem 𝓛 (LendsSamples self.entry result) }
+        ensures value { result.now ≡ self.old.shown.samples }
+        ensures len { length result.now ≡ self.old.shown.width * self.old.shown.height }
+    {
+        self.open();
+        let end = self.width * self.height;
+        self.samples.slice_mut(0..end)
+    }
+
+    /// Whether the other plane has the same sides and the same shown samples.
+    pub fn same(&self, other: &Plane) -> bool
+        ensures { IsTrue result ↔ (self.now.shown ≡ other.now.shown) }
+    {
+        if self.width != other.width || self.height != other.height {
+            return false;
+        }
+        for y in 0..self.height {
+            if self.row(y) != other.row(y) {
+                return false;
+            }
+        }
+        true
     }
 
     /// Brings the border up to date, which takes no memory.
     pub(crate) fn refill(&mut self)
         ensures { self.new ≡ brought_up_to_date self.old }
     {
+        if !self.is_current && self.border > 0 {
+            let stride = self.width + 2 * self.border;
+            spread(&mut self.samples, self.width, self.height, self.border);
+            self.first = self.border * stride + self.border;
+            self.stride = stride;
+        }
         self.is_current = true;
+    }
+
+    /// Puts the border out of date and the shown rows one right behind the other, to be written.
+    fn open(&mut self)
+        ensures { self.new ≡ out_of_date self.old }
+    {
+        if self.stride != self.width {
+            pack(
+                &mut self.samples,
+                self.first,
+                self.stride,
+                self.width,
+                self.height,
+            );
+            self.first = 0;
+            self.stride = self.width;
+        }
+        self.is_current = false;
     }
 }

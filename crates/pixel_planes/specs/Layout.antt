@@ -1,0 +1,55 @@
+-- How the samples of a plane and of its border stand in one block of memory.
+use Rattle.std.specs.Prelude.{◌≡◌, ℕ, zero, suc, ◌+◌, ◌-◌, ◌*◌, ◌<◌, ◌≤◌, min, List, [], ◌++◌, length, replicate, slice_index, slice_range}
+use Rattle.pixel_planes.specs.Samples.{Samples, row_of}
+
+-- so many rows of `width` samples, the first of them from place `first` on and each further one `stride` places behind the one above, one row after another
+unfoldable pub rows_of : List ℕ → ℕ → ℕ → ℕ → ℕ → List ℕ
+rows_of items first stride width zero = []
+rows_of items first stride width (suc n) = rows_of items first stride width n ++ slice_range items (first + n * stride) (first + n * stride + width)
+
+-- the side of a plane with its border before and behind it
+abbrev pub bordered_side : ℕ → ℕ → ℕ
+bordered_side side border = side + 2 * border
+
+-- a row with its first sample so many times before it and its last sample so many times behind it
+abbrev pub bordered_row : ℕ → List ℕ → List ℕ
+bordered_row border row = replicate border (slice_index row 0) ++ (row ++ replicate border (slice_index row (length row - 1)))
+
+-- the rows of the plane, each with its border at both ends; above them the first row again and below them the last one, as often as the border is wide
+pub record IsBordered (p : Samples) (border : ℕ) (items : List ℕ) : Type 0 where
+  pub rows : (row : ℕ) → row < bordered_side p.height border → slice_range items (row * bordered_side p.width border) (row * bordered_side p.width border + bordered_side p.width border) ≡ bordered_row border (row_of p (min (row - border) (p.height - 1)))
+
+-- the sides of a plane and its border, and where its shown rows stand in the block
+pub record Layout : Type 0 where
+  pub width : ℕ
+  pub height : ℕ
+  pub border : ℕ
+  pub first : ℕ
+  pub stride : ℕ
+
+-- those numbers in this order
+abbrev pub layout_of : ℕ → ℕ → ℕ → ℕ → ℕ → Layout
+layout_of width height border first stride = record { width = width; height = height; border = border; first = first; stride = stride }
+
+-- what the block shows
+abbrev pub shown_in : Layout → List ℕ → Samples
+shown_in l items = record { width = l.width; height = l.height; samples = rows_of items l.first l.stride l.width l.height }
+
+-- the plane of these sides whose rows stand one right behind the other at the front of the block
+abbrev pub flat_plane : ℕ → ℕ → List ℕ → Samples
+flat_plane width height items = record { width = width; height = height; samples = rows_of items 0 width width height }
+
+-- the rows that stood at the front of the block now stand in it with their border
+abbrev pub HasBorderedRows : ℕ → ℕ → ℕ → List ℕ → List ℕ → Type 0
+HasBorderedRows width height border before items =
+    (y : ℕ) → y < height → slice_range items ((border + y) * bordered_side width border) ((border + y) * bordered_side width border + bordered_side width border) ≡ bordered_row border (slice_range before (y * width) (y * width + width))
+
+-- the sides are 1 to 16,384 and the border at most 64; the block has room for the plane with its border; the shown rows stand in it, apart from each other, or one right behind the other at its front
+pub record IsLaidOut (l : Layout) (items : List ℕ) : Type 0 where
+  pub wide : (0 < l.width) × (l.width ≤ 16384)
+  pub high : (0 < l.height) × (l.height ≤ 16384)
+  pub border_small : l.border ≤ 64
+  pub stride_small : (l.width ≤ l.stride) × (l.stride ≤ 16512)
+  pub room : length items ≡ bordered_side l.width l.border * bordered_side l.height l.border
+  pub rows_fit : l.first + l.height * l.stride ≤ length items
+  pub flat_at_front : l.stride ≡ l.width → l.first ≡ 0
