@@ -1,2 +1,6 @@
 pub mod HeldLanes
+pub mod Predicted
+pub mod StripRows
 pub mod TappedLanes
+pub mod TapSums
+pub mod Twice

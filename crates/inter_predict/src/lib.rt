@@ -2,10 +2,14 @@
 #![tactic(auto)]
 
 mod blocks;
+mod gathering;
 mod kinds;
 mod lanes;
 pub mod laws;
+mod passes;
+mod strips;
 mod taps;
+mod windows;
 
 pub use blocks::{block, block_in};
 pub use kinds::Kind;
