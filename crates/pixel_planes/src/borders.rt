@@ -27,12 +27,11 @@ pub(crate) fn place(at: i64, count: usize, side: usize, border: usize) -> Option
     ensures within { is_some result ≡ spans_within side border at count }
     ensures value { IfSome result (λ found. (pos found ≡ at +ℤ pos border) × (found + count ≤ bordered_side side border)) }
 {
-    let whole = side + 2 * border;
-    if at < -(border as i64) || at >= whole as i64 {
+    if at < -(border as i64) || at >= (side + border) as i64 {
         return None;
     }
     let found = (at + border as i64) as usize;
-    if found < whole && count <= whole - found {
+    if count <= side + 2 * border - found {
         Some(found)
     } else {
         None

@@ -5,6 +5,8 @@ mod borders;
 pub mod laws;
 mod pictures;
 mod planes;
+#[cfg(test)]
+mod tests;
 
 pub use pictures::{Component, Picture, Planes, same};
 pub use planes::{Plane, Window};

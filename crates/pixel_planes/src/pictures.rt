@@ -173,29 +173,3 @@ pub fn same(a: &Picture, b: &Picture) -> bool
         && a.cb.same(&b.cb)
         && a.cr.same(&b.cr)
 }
-
-#[cfg(test)]
-mod tests {
-    use super::*;
-    use std::test::Fail;
-
-    #[test]
-    fn one_sample_of_a_macroblock_is_shown(rt: HostRuntime) -> Result<(), Fail> {
-        let alloc = rt.alloc();
-        let mut luma = Plane::make(alloc, 16, 16, 128)?;
-        luma.row_mut(0).fill(7);
-        assert_eq!(rt; luma.row(0), [7; 16].as_slice());
-        assert_eq!(rt; luma.row(1), [128; 16].as_slice());
-        let planes = Planes {
-            luma,
-            cb: Plane::make(alloc, 8, 8, 9)?,
-            cr: Plane::make(alloc, 8, 8, 11)?,
-        };
-        let picture = Picture::share(alloc, planes, 1, 1)?;
-        assert_eq!(rt; (picture.width(), picture.height()), (1, 1));
-        assert_eq!(rt; picture.shown_row(Component::Luma, 0), [7].as_slice());
-        assert_eq!(rt; picture.shown_row(Component::Cb, 0), [9].as_slice());
-        assert_eq!(rt; picture.shown_row(Component::Cr, 0), [11].as_slice());
-        Ok(())
-    }
-}
