@@ -1,6 +1,6 @@
 -- Lanes of 16 bits that are held within bounds.
 use Rattle.std.specs.Prelude.{min, replicate}
-use Rattle.std.proofs.Common.{◌≡◌, ℕ, ◌+◌, ◌-◌, ◌<◌, ◌≤◌, ◌*◌, ◌/◌, ◌%◌, ◌^◌, Bool, true, false, cond, ltb, leb, List, [], ◌∷◌, map, length, refl, ap, ◌∙◌, arith, w8, w16, Fits}
+use Rattle.std.proofs.Common.{◌≡◌, ℕ, ◌+◌, ◌-◌, ◌<◌, ◌/◌, ◌%◌, ◌^◌, Bool, true, false, cond, ltb, leb, List, [], ◌∷◌, map, length, refl, ap, ◌∙◌, arith, w8, w16, Fits}
 use lib.Lanes.{Each1, zip2, sel_l}
 use Rattle.std.proofs.lemmas.Bool.Decides.{nat_tests}
 

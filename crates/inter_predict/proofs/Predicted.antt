@@ -1,7 +1,7 @@
 -- What the kernels make of a window is what the definition says.
 use Rattle.std.specs.Prelude.{slice_index}
 use Rattle.std.specs.Int.{int_shr}
-use Rattle.std.proofs.Common.{◌≡◌, ◌⊎◌, inl, inr, ℕ, zero-add, ◌+◌, ◌*◌, ◌-◌, ◌/◌, ◌<◌, ◌≤◌, List, length, ℤ, pos, negsuc, ◌+ℤ◌, ◌-ℤ◌, ◌≤ℤ◌, neg_ℤ, refl, ap, subst, sym, ◌∙◌, arith, to_z, of_z, w32, w64, FitsSigned}
+use Rattle.std.proofs.Common.{◌≡◌, inl, inr, ℕ, zero-add, ◌+◌, ◌*◌, ◌<◌, List, ℤ, pos, negsuc, ◌+ℤ◌, ◌-ℤ◌, ◌≤ℤ◌, ap, subst, sym, ◌∙◌, arith, to_z, of_z, w32, w64, FitsSigned}
 use Rattle.std.proofs.lemmas.Int.{ints, to_z-of_z}
 use Rattle.pixel_planes.specs.Samples.{Samples}
 use Rattle.pixel_planes.specs.ReferenceSamples.{reference_sample, IsWindow}

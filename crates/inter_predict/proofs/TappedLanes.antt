@@ -1,7 +1,7 @@
 -- What taps make of samples side by side.
 use Rattle.std.specs.Prelude.{min, replicate, slice_index}
 use Rattle.std.specs.List.{range_with_len}
-use Rattle.std.proofs.Common.{◌≡◌, ℕ, zero, suc, ◌+◌, ◌-◌, ◌<◌, ◌≤◌, ◌*◌, ◌/◌, ◌%◌, List, [], ◌∷◌, map, get_or, length, refl, ap, subst, ◌∙◌, arith, w8, Fits}
+use Rattle.std.proofs.Common.{◌≡◌, ℕ, ◌+◌, ◌-◌, ◌<◌, ◌≤◌, ◌*◌, ◌/◌, ◌%◌, List, [], ◌∷◌, map, get_or, length, refl, ap, subst, ◌∙◌, arith}
 use lib.Lanes.{zip2, chunk}
 use Rattle.std.proofs.Math.Nat.{mul-le-mul_right}
 use Rattle.std.proofs.lemmas.List.FromFn.{fill_by_all, length-range_with_len, get_or-map-range_with_len}

@@ -1,5 +1,5 @@
 use Rattle.std.specs.Int.{int_shr}
-use Rattle.std.proofs.Common.{◌≡◌, ◌∙◌, ap, to_z, of_z, w32, FitsSigned, rules, arith}
+use Rattle.std.proofs.Common.{◌≡◌, ◌∙◌, ap, to_z, of_z, w32, arith}
 use Rattle.std.proofs.lemmas.Int.{to_z-of_z, ints}
 use Rattle.inter_predict.proofs.Predicted.{first_tap_is, whole_fits}
 use Rattle.inter_predict.proofs.blocks.first_tap.Goals as goal

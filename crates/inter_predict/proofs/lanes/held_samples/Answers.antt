@@ -1,4 +1,4 @@
-use Rattle.std.proofs.Common.{◌≡◌, ◌+◌, sym, arith, length}
+use Rattle.std.proofs.Common.{arith}
 use Rattle.std.proofs.lemmas.Simd.{shifts_fit_splat}
 use Rattle.inter_predict.proofs.HeldLanes.{held_samples, held_fit}
 use Rattle.inter_predict.proofs.lanes.held_samples.Goals as goal

@@ -1,4 +1,4 @@
-use Rattle.std.proofs.Common.{◌≡◌, ◌≤◌, ◌-◌, ◌+◌, ◌*◌, ℕ, length, arith, rules}
+use Rattle.std.proofs.Common.{◌≤◌, ◌+◌, ◌*◌, length, arith, rules}
 use Rattle.inter_predict.specs.Kernels.{tapped_at}
 use Rattle.inter_predict.proofs.StripRows.{row_put, upper_row}
 use Rattle.inter_predict.proofs.passes.pass_by.Goals as goal

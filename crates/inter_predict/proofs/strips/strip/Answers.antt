@@ -1,6 +1,5 @@
-use Rattle.std.proofs.Common.{◌+◌, ◌*◌, refl}
-use Rattle.std.specs.Prelude.{slice_index}
-use Rattle.inter_predict.specs.Kernels.{tapped_at, tapped_twice}
+use Rattle.std.proofs.Common.{◌+◌, refl}
+use Rattle.inter_predict.specs.Kernels.{tapped_twice}
 use Rattle.inter_predict.proofs.Twice.{same_strip, copied, across_alone, down_alone, across_then_down}
 use Rattle.inter_predict.proofs.strips.strip.Goals as goal
 

@@ -1,4 +1,4 @@
-use Rattle.std.proofs.Common.{◌≡◌, ◌+◌, ◌*◌, ℕ, refl, arith}
+use Rattle.std.proofs.Common.{◌+◌, ◌*◌, ℕ, refl, arith}
 use Rattle.inter_predict.specs.Kernels.{tapped_twice}
 use Rattle.inter_predict.proofs.StripRows.{joined}
 use Rattle.inter_predict.proofs.windows.in_fours.Goals as goal
