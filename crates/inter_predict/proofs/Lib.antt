@@ -1,3 +1,4 @@
+pub mod FilterLaws
 pub mod HeldLanes
 pub mod Predicted
 pub mod StripRows

@@ -30,20 +30,20 @@ predicted_is kind p x y right below left top across_taps down_taps samples strid
     let column_at : ℕ → ℤ = λ (i : ℕ). (((x +ℤ pos column) +ℤ whole_part right) -ℤ pos 2) +ℤ pos i in
     sym (is_down (across kind p (x +ℤ pos column) right) ((y +ℤ pos row) +ℤ whole_part below)
     ∙ tapped_same down_taps _ _ (λ j less.
-      is_across (λ c. reference_sample p c (row_at j)) ((x +ℤ pos column) +ℤ whole_part right)
-      ∙ tapped_same across_taps _ _ (λ i less'.
-        let place : (row + j) * stride + (column + i) ≡ (row + j) * stride + column + i * 1 = omega arith in
-        ap (λ c. reference_sample p c (row_at j)) (tap_place x (whole_part right) left column i left_is)
-        ∙ ap (reference_sample p (left +ℤ pos (column + i))) (tap_place y (whole_part below) top row j top_is)
-        ∙ sym (window.each (column + i) (row + j) (omega arith) (omega arith))
-        ∙ ap (slice_index samples) place)))
+    is_across (λ c. reference_sample p c (row_at j)) ((x +ℤ pos column) +ℤ whole_part right)
+    ∙ tapped_same across_taps _ _ (λ i less'.
+    let place : (row + j) * stride + (column + i) ≡ (row + j) * stride + column + i * 1 = omega arith in
+    ap (λ c. reference_sample p c (row_at j)) (tap_place x (whole_part right) left column i left_is)
+    ∙ ap (reference_sample p (left +ℤ pos (column + i))) (tap_place y (whole_part below) top row j top_is)
+    ∙ sym (window.each (column + i) (row + j) (omega arith) (omega arith))
+    ∙ ap (slice_index samples) place)))
 
 -- a strip from the first column on is a block
 pub block_of_strip : (one other : ℕ → ℕ → ℕ) (width height stride : ℕ) (old new : List ℕ) → IsStrip one 0 width height stride old new → ((column row : ℕ) → column < width → row < height → one column row ≡ other column row) → IsBlockIn other width height stride old new
 block_of_strip one other width height stride old new strip same = record {
   whole = strip.whole;
   each = λ column row inside below. ap (λ k. slice_index new (row * stride + k)) (sym (zero-add column)) ∙ strip.each column row inside below ∙ same column row inside below;
-  others = λ column row inside beside. strip.others column row inside (inr (elim beside [ | inl behind ↦ inl (omega arith) | inr below ↦ inr below ]));
+  others = λ column row inside beside. strip.others column row inside (inr (elim beside [ inl behind ↦ inl (omega arith) | inr below ↦ inr below ]));
 }
 
 -- the whole samples in 32 bits of eighths

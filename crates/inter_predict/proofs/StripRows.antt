@@ -28,17 +28,17 @@ beside_row first width n stride column row fits inside beside =
     elim (cases_lt row n) [
       | inl earlier ↦ inl (omega (arith, earlier_row stride row n earlier))
       | inr from ↦ elim (cases_lt n row) [
-          | inl later ↦ inr (omega (arith, earlier_row stride n row later))
-          | inr upto ↦
-              let same : row ≡ n = omega arith in
-              rw same (elim beside [
-                | inl left ↦ inl (omega arith)
-                | inr other ↦ elim other [
-                    | inl right ↦ inr (omega arith)
-                    | inr below ↦ absurd (omega arith)
-                  ]
-              ])
-        ]
+        | inl later ↦ inr (omega (arith, earlier_row stride n row later))
+        | inr upto ↦
+            let same : row ≡ n = omega arith in
+            rw same (elim beside [
+              | inl left ↦ inl (omega arith)
+              | inr other ↦ elim other [
+                | inl right ↦ inr (omega arith)
+                | inr below ↦ absurd (omega arith)
+              ]
+            ])
+      ]
     ]
 
 -- a place beside the first n + 1 rows stands beside the first n

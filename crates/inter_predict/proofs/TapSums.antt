@@ -11,7 +11,7 @@ use Rattle.inter_predict.specs.declared.taps.Taps.{Taps}
 use Rattle.inter_predict.specs.Kernels.{IsTaps, tapped}
 
 -- what holds at 0 to 7 holds below 8
-below_eight : (P : ℕ → Type 0) → P 0 → P 1 → P 2 → P 3 → P 4 → P 5 → P 6 → P 7 → (k : ℕ) → k < 8 → P k
+pub below_eight : (P : ℕ → Type 0) → P 0 → P 1 → P 2 → P 3 → P 4 → P 5 → P 6 → P 7 → (k : ℕ) → k < 8 → P k
 below_eight P at0 at1 at2 at3 at4 at5 at6 at7 zero less = at0
 below_eight P at0 at1 at2 at3 at4 at5 at6 at7 (suc zero) less = at1
 below_eight P at0 at1 at2 at3 at4 at5 at6 at7 (suc (suc zero)) less = at2

@@ -78,6 +78,6 @@ tapped_lanes n t xs start step small bytes room lane less =
     let e = loaded n (start + 4 * step) start (4 * step) xs (omega arith) refl in
     let f = loaded n (start + 5 * step) start (5 * step) xs (omega arith) refl in
     let all : lanes_of n t (map (λ v. at v 0) vs) (map (λ v. at v 1) vs) (map (λ v. at v 2) vs) (map (λ v. at v 3) vs) (map (λ v. at v 4) vs) (map (λ v. at v 5) vs) ≡ map (λ v. lane_of t (at v)) vs =
-        let P : ℕ → Type 0 = λ (m : ℕ). lanes_of m t (map (λ v. at v 0) vs) (map (λ v. at v 1) vs) (map (λ v. at v 2) vs) (map (λ v. at v 3) vs) (map (λ v. at v 4) vs) (map (λ v. at v 5) vs) ≡ map (λ v. lane_of t (at v)) vs in
-        subst P (length-range_with_len 0 n) (kernel_lanes t at vs) in
+    let P : ℕ → Type 0 = λ (m : ℕ). lanes_of m t (map (λ v. at v 0) vs) (map (λ v. at v 1) vs) (map (λ v. at v 2) vs) (map (λ v. at v 3) vs) (map (λ v. at v 4) vs) (map (λ v. at v 5) vs) ≡ map (λ v. lane_of t (at v)) vs in
+    subst P (length-range_with_len 0 n) (kernel_lanes t at vs) in
     rw (a, b, c, d, e, f) (ap (λ l. slice_index l lane) all ∙ get_or-map-range_with_len (λ v. lane_of t (at v)) 0 n lane lane 0 less (omega arith) ∙ lane_is t (at lane) small (λ k. bytes (start + lane + k * step)))

@@ -78,10 +78,28 @@ pub fn block_in(
     let left = first_tap(x, vector.0);
     let top = first_tap(y, vector.1);
     if let Some(window) = plane.window(left, top, width + 5, height + 5) {
-        predict(window.samples, window.stride, across, down, width, height, out, stride);
+        predict(
+            window.samples,
+            window.stride,
+            across,
+            down,
+            width,
+            height,
+            out,
+            stride,
+        );
     } else {
         let mut gathered = [0; 441];
         gather(plane, left, top, width + 5, height + 5, &mut gathered);
-        predict(&gathered, GATHERED_STRIDE, across, down, width, height, out, stride);
+        predict(
+            &gathered,
+            GATHERED_STRIDE,
+            across,
+            down,
+            width,
+            height,
+            out,
+            stride,
+        );
     }
 }

@@ -9,6 +9,8 @@ pub mod laws;
 mod passes;
 mod strips;
 mod taps;
+#[cfg(test)]
+mod tests;
 mod windows;
 
 pub use blocks::{block, block_in};

@@ -31,8 +31,9 @@ fn pass_by<const N: usize>(
     ensures { IsStrip (λ column row. tapped_at taps samples.now step (start + row * stride + column)) first N height out_stride out.old out.new }
 {
     for row in 0..height {
-        tapped::<N>(samples, start + row * stride, step, taps)
-            .copy_to_slice(&mut out[row * out_stride + first..]);
+        tapped::<N>(samples, start + row * stride, step, taps).copy_to_slice(
+            &mut out[row * out_stride + first..],
+        );
     }
 }
 
@@ -60,13 +61,25 @@ pub fn pass<const N: usize>(
 {
     if taps.a == 0 && taps.f == 0 {
         if taps.b == 0 && taps.e == 0 {
-            let two = Taps { a: 0, b: 0, e: 0, f: 0, ..taps };
-            pass_by::<N>(samples, start, stride, step, two, height, out, first, out_stride);
+            let two = Taps {
+                a: 0,
+                b: 0,
+                e: 0,
+                f: 0,
+                ..taps
+            };
+            pass_by::<N>(
+                samples, start, stride, step, two, height, out, first, out_stride,
+            );
         } else {
             let four = Taps { a: 0, f: 0, ..taps };
-            pass_by::<N>(samples, start, stride, step, four, height, out, first, out_stride);
+            pass_by::<N>(
+                samples, start, stride, step, four, height, out, first, out_stride,
+            );
         }
     } else {
-        pass_by::<N>(samples, start, stride, step, taps, height, out, first, out_stride);
+        pass_by::<N>(
+            samples, start, stride, step, taps, height, out, first, out_stride,
+        );
     }
 }

@@ -26,8 +26,9 @@ fn copy<const N: usize>(
     ensures { IsStrip (λ column row. slice_index samples.now (start + row * stride + column)) first N height out_stride out.old out.new }
 {
     for row in 0..height {
-        Simd::<u8, N>::from_slice(&samples[start + row * stride..])
-            .copy_to_slice(&mut out[row * out_stride + first..]);
+        Simd::<u8, N>::from_slice(&samples[start + row * stride..]).copy_to_slice(
+            &mut out[row * out_stride + first..],
+        );
     }
 }
 
@@ -63,15 +64,29 @@ pub fn strip<const N: usize, const M: usize>(
         }
         (false, true) => {
             let start = 2 * stride + first;
-            pass::<N>(samples, start, stride, 1, across, height, out, first, out_stride);
+            pass::<N>(
+                samples, start, stride, 1, across, height, out, first, out_stride,
+            );
         }
         (true, false) => {
             let start = first + 2;
-            pass::<N>(samples, start, stride, stride, down, height, out, first, out_stride);
+            pass::<N>(
+                samples, start, stride, stride, down, height, out, first, out_stride,
+            );
         }
         (false, false) => {
             let mut middle = [0; M];
-            pass::<N>(samples, first, stride, 1, across, height + 5, &mut middle, 0, N);
+            pass::<N>(
+                samples,
+                first,
+                stride,
+                1,
+                across,
+                height + 5,
+                &mut middle,
+                0,
+                N,
+            );
             pass::<N>(&middle, 0, N, N, down, height, out, first, out_stride);
         }
     }

@@ -25,7 +25,16 @@ fn in_fours(
     ensures { IsStrip (tapped_twice across down samples.now stride) 0 (width / 4 * 4) height out_stride out.old out.new }
 {
     for four in 0..width / 4 {
-        strip::<4, 84>(samples, stride, across, down, four * 4, height, out, out_stride);
+        strip::<4, 84>(
+            samples,
+            stride,
+            across,
+            down,
+            four * 4,
+            height,
+            out,
+            out_stride,
+        );
     }
 }
 
@@ -51,7 +60,9 @@ fn in_ones(
     ensures { IsStrip (λ column row. tapped_twice across down samples.now stride (first + column) row) first (width - first) height out_stride out.old out.new }
 {
     for column in first..width {
-        strip::<1, 21>(samples, stride, across, down, column, height, out, out_stride);
+        strip::<1, 21>(
+            samples, stride, across, down, column, height, out, out_stride,
+        );
     }
 }
 
@@ -84,9 +95,13 @@ pub fn predict(
         8 => strip::<8, 168>(samples, stride, across, down, 0, height, out, out_stride),
         4 => strip::<4, 84>(samples, stride, across, down, 0, height, out, out_stride),
         _ => {
-            in_fours(samples, stride, across, down, width, height, out, out_stride);
+            in_fours(
+                samples, stride, across, down, width, height, out, out_stride,
+            );
             let first = width / 4 * 4;
-            in_ones(samples, stride, across, down, first, width, height, out, out_stride);
+            in_ones(
+                samples, stride, across, down, first, width, height, out, out_stride,
+            );
         }
     }
 }
