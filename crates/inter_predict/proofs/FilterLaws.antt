@@ -1,6 +1,6 @@
 -- What the filters come to.
 use Rattle.std.specs.Prelude.{slice_index_or}
-use Rattle.std.proofs.Common.{◌≡◌, ℕ, suc, ◌+◌, ◌-◌, ◌*◌, ◌<◌, [], ℤ, pos, negsuc, ◌+ℤ◌, ◌-ℤ◌, ◌*ℤ◌, refl, ap, subst, sym, ◌∙◌, lit≤, ◌/◌, ◌%◌, arith}
+use Rattle.std.proofs.Common.{◌≡◌, ℕ, suc, ◌+◌, ◌-◌, ◌*◌, ◌<◌, [], ℤ, pos, negsuc, ◌+ℤ◌, ◌-ℤ◌, ◌*ℤ◌, refl, ap, subst, sym, ◌∙◌, ◌/◌, ◌%◌, arith}
 use Rattle.std.proofs.lemmas.Int.{ints}
 use Rattle.vp8_tables.specs.declared.filters.TheConstants.{SIX_TAP_FILTERS}
 use Rattle.pixel_planes.specs.ReferenceSamples.{reference_sample}
@@ -9,7 +9,7 @@ use Rattle.inter_predict.specs.declared.kinds.Kind.TheVariants.{SixTap, Bilinear
 use Rattle.inter_predict.specs.InterSample.{whole_part, fraction, held, filtered, weighed, between, across, inter_sample}
 use Rattle.inter_predict.specs.Laws.{TapsAddUp, KeepsOneValue, CopiesWhole}
 use Rattle.inter_predict.specs.Kernels.{tapped}
-use Rattle.inter_predict.proofs.TapSums.{below_eight, six_taps, six_small, six_between, two_taps, two_between}
+use Rattle.inter_predict.proofs.TapSums.{below_eight, six_taps, six_small, six_between, two_taps, two_small, two_between}
 use Rattle.inter_predict.proofs.Twice.{tapped_whole}
 
 pub taps_add_up : TapsAddUp
@@ -36,7 +36,7 @@ at_place SixTap line place byte =
     six_between 0 (omega arith) line place ∙ tapped_whole (six_taps 0) (λ k. line ((place -ℤ pos 2) +ℤ pos k)) (six_small 0 (omega arith)) refl (let P : ℤ → Type 0 = λ (z : ℤ). line z < 256 in subst P (sym there) byte) ∙ ap line there
 at_place Bilinear line place byte =
     let there : (place -ℤ pos 2) +ℤ pos 2 ≡ place = omega (arith, ints) in
-    two_between 0 (omega arith) line place ∙ tapped_whole (two_taps 0) (λ k. line ((place -ℤ pos 2) +ℤ pos k)) (record { added = lit≤ tt; taken = lit≤ tt; alone = λ whole. (refl, refl, refl, refl, refl) }) refl (let P : ℤ → Type 0 = λ (z : ℤ). line z < 256 in subst P (sym there) byte) ∙ ap line there
+    two_between 0 (omega arith) line place ∙ tapped_whole (two_taps 0) (λ k. line ((place -ℤ pos 2) +ℤ pos k)) (two_small 0 (omega arith)) refl (let P : ℤ → Type 0 = λ (z : ℤ). line z < 256 in subst P (sym there) byte) ∙ ap line there
 
 -- eight eighths are a whole sample
 eight_eighths : (z : ℤ) → (whole_part (z *ℤ pos 8) ≡ z) × (fraction (z *ℤ pos 8) ≡ 0)

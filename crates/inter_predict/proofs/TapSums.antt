@@ -1,14 +1,14 @@
 -- Signed taps and sums, as the kernel works them out without signs.
 use Rattle.std.specs.Prelude.{min, slice_index_or}
 use Rattle.std.specs.Int.{int_shr}
-use Rattle.std.specs.Int.RustNames.{unsigned_abs}
-use Rattle.std.proofs.Common.{◌≡◌, ℕ, zero, suc, ◌+◌, ◌-◌, ◌*◌, ◌/◌, ◌<◌, List, [], ◌∷◌, map, ℤ, pos, negsuc, ◌+ℤ◌, ◌-ℤ◌, ◌*ℤ◌, neg_ℤ, refl, ap, ◌∙◌, arith, to_z, of_z, w16, lit≤}
+use Rattle.std.proofs.Common.{◌≡◌, ℕ, zero, suc, ◌+◌, ◌-◌, ◌*◌, ◌/◌, ◌<◌, List, [], ◌∷◌, map, ℤ, pos, negsuc, ◌+ℤ◌, ◌-ℤ◌, ◌*ℤ◌, neg_ℤ, refl, ap, ◌∙◌, arith, lit≤}
 use Rattle.std.proofs.lemmas.Int.{ints}
 use Rattle.vp8_tables.specs.declared.filters.TheConstants.{SIX_TAP_FILTERS, BILINEAR_FILTERS}
 use Rattle.inter_predict.specs.InterSample.{held, weighed, filtered, between}
 use Rattle.inter_predict.specs.declared.kinds.Kind.TheVariants.{SixTap, Bilinear}
 use Rattle.inter_predict.specs.declared.taps.Taps.{Taps}
-use Rattle.inter_predict.specs.Kernels.{IsTaps, tapped}
+use Rattle.inter_predict.specs.declared.taps.TheConstants.{SIX_TAPS, TWO_TAPS}
+use Rattle.inter_predict.specs.Kernels.{IsTaps, taps_of, tapped}
 
 -- what holds at 0 to 7 holds below 8
 pub below_eight : (P : ℕ → Type 0) → P 0 → P 1 → P 2 → P 3 → P 4 → P 5 → P 6 → P 7 → (k : ℕ) → k < 8 → P k
@@ -49,12 +49,12 @@ signed_filtered t s =
     let sum : (weighed (signed t) s +ℤ pos 64) +ℤ pos (s 1 * t.b + s 4 * t.e) ≡ pos (s 0 * t.a + s 2 * t.c + s 3 * t.d + s 5 * t.f + 64) = rw (less_times t.b (s 1), less_times t.e (s 4), a, c, d, f) (omega (arith, ints)) in
     shifted _ _ _ sum
 
--- the taps of a six-tap filter without signs
-abbrev pub tap_without_sign : ℕ → ℕ → ℕ
-tap_without_sign fraction k = unsigned_abs (to_z w16 (of_z w16 (slice_index_or (slice_index_or SIX_TAP_FILTERS fraction []) k (pos 0))))
-
+-- the rows of the code's tables
 abbrev pub six_taps : ℕ → Taps
-six_taps fraction = record { a = tap_without_sign fraction 0; b = tap_without_sign fraction 1; c = tap_without_sign fraction 2; d = tap_without_sign fraction 3; e = tap_without_sign fraction 4; f = tap_without_sign fraction 5 }
+six_taps eighths = taps_of (slice_index_or SIX_TAPS eighths [])
+
+abbrev pub two_taps : ℕ → Taps
+two_taps eighths = taps_of (slice_index_or TWO_TAPS eighths [])
 
 -- they are small
 whole_alone : IsTaps (six_taps 0)
@@ -82,14 +82,31 @@ six_between fraction less line place =
     let samples : ℕ → ℕ = λ (k : ℕ). line ((place -ℤ pos 2) +ℤ pos k) in
     ap (λ taps. filtered taps samples) (six_signed fraction less) ∙ signed_filtered (six_taps fraction) samples
 
--- the two taps of a bilinear filter among six
-abbrev pub two_taps : ℕ → Taps
-two_taps fraction = record { a = 0; b = 0; c = slice_index_or (slice_index_or BILINEAR_FILTERS fraction []) 0 0; d = slice_index_or (slice_index_or BILINEAR_FILTERS fraction []) 1 0; e = 0; f = 0 }
+pub two_small : (fraction : ℕ) → fraction < 8 → IsTaps (two_taps fraction)
+two_small fraction less =
+    below_eight (λ f. IsTaps (two_taps f)) whole_alone
+    (record { added = lit≤ tt; taken = lit≤ tt; alone = λ whole. absurd (omega arith) })
+    (record { added = lit≤ tt; taken = lit≤ tt; alone = λ whole. absurd (omega arith) })
+    (record { added = lit≤ tt; taken = lit≤ tt; alone = λ whole. absurd (omega arith) })
+    (record { added = lit≤ tt; taken = lit≤ tt; alone = λ whole. absurd (omega arith) })
+    (record { added = lit≤ tt; taken = lit≤ tt; alone = λ whole. absurd (omega arith) })
+    (record { added = lit≤ tt; taken = lit≤ tt; alone = λ whole. absurd (omega arith) })
+    (record { added = lit≤ tt; taken = lit≤ tt; alone = λ whole. absurd (omega arith) })
+    fraction less
+
+-- the two taps of a bilinear filter stand third and fourth among six
+abbrev two_only : ℕ → ℕ → Taps
+two_only c d = record { a = 0; b = 0; c = c; d = d; e = 0; f = 0 }
+
+two_apart : (fraction : ℕ) → fraction < 8 → two_only (two_taps fraction).c (two_taps fraction).d ≡ two_taps fraction
+two_apart fraction less =
+    let P : ℕ → Type 0 = λ (f : ℕ). two_only (two_taps f).c (two_taps f).d ≡ two_taps f in
+    below_eight P refl refl refl refl refl refl refl refl fraction less
 
 two_pair : (fraction : ℕ) → fraction < 8 → slice_index_or BILINEAR_FILTERS fraction [] ≡ (two_taps fraction).c ∷ (two_taps fraction).d ∷ []
 two_pair fraction less = below_eight (λ f. slice_index_or BILINEAR_FILTERS f [] ≡ (two_taps f).c ∷ (two_taps f).d ∷ []) refl refl refl refl refl refl refl refl fraction less
 
-two_filtered : (c d : ℕ) (s u : ℕ → ℕ) → u 2 ≡ s 0 → u 3 ≡ s 1 → filtered (map pos (c ∷ d ∷ [])) s ≡ tapped (record { a = 0; b = 0; c = c; d = d; e = 0; f = 0 }) u
+two_filtered : (c d : ℕ) (s u : ℕ → ℕ) → u 2 ≡ s 0 → u 3 ≡ s 1 → filtered (map pos (c ∷ d ∷ [])) s ≡ tapped (two_only c d) u
 unfolding filtered tapped
 two_filtered c d s u here next =
     let one : c * s 0 ≡ u 2 * c = rw here (grind arith) in
@@ -104,3 +121,4 @@ two_between fraction less line place =
     let next : (place -ℤ pos 2) +ℤ pos 3 ≡ place +ℤ pos 1 = omega (arith, ints) in
     ap (λ taps. filtered (map pos taps) (λ k. line (place +ℤ pos k))) (two_pair fraction less)
     ∙ two_filtered (two_taps fraction).c (two_taps fraction).d (λ k. line (place +ℤ pos k)) (λ k. line ((place -ℤ pos 2) +ℤ pos k)) (ap line here) (ap line next)
+    ∙ ap (λ taps. tapped taps (λ k. line ((place -ℤ pos 2) +ℤ pos k))) (two_apart fraction less)

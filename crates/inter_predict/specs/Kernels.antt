@@ -2,6 +2,10 @@
 use Rattle.std.specs.Prelude.{◌≡◌, ◌⊎◌, ℕ, ◌+◌, ◌-◌, ◌*◌, ◌/◌, ◌<◌, ◌≤◌, min, List, length, slice_index, ℤ, pos, neg_ℤ, ◌≤ℤ◌}
 use Rattle.inter_predict.specs.declared.taps.Taps.{Taps}
 
+-- six numbers as taps
+abbrev pub taps_of : List ℕ → Taps
+taps_of row = record { a = slice_index row 0; b = slice_index row 1; c = slice_index row 2; d = slice_index row 3; e = slice_index row 4; f = slice_index row 5 }
+
 -- the sample that taps make of six samples
 unfoldable pub tapped : Taps → (ℕ → ℕ) → ℕ
 tapped t samples = min ((samples 0 * t.a + samples 2 * t.c + samples 3 * t.d + samples 5 * t.f + 64 - (samples 1 * t.b + samples 4 * t.e)) / 128) 255
