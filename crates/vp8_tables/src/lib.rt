@@ -3,6 +3,7 @@
 #![tactic(auto)]
 
 mod fault;
+mod filters;
 mod modes;
 mod quantizers;
 mod rfc;
@@ -10,6 +11,7 @@ mod tables;
 mod vectors;
 
 pub use fault::TableFault;
+pub use filters::{BILINEAR_FILTERS, SIX_TAP_FILTERS};
 pub use modes::{
     DEFAULT_UV_PROBABILITIES, DEFAULT_Y_PROBABILITIES, KEY_UV_PROBABILITIES, KEY_Y_PROBABILITIES,
     KEY_Y_TREE, SUB_TREE, UV_TREE,

@@ -1,0 +1,67 @@
+#!/bin/sh
+# Times inter prediction beside libvpx's. README.md says more.
+set -eu
+here=$(cd "$(dirname "$0")" && pwd)
+kit=$(dirname "$(rt doc | head -n 1)")
+vpx=$(cc -print-file-name=libvpx.a)
+[ -f "$vpx" ] || { echo "libvpx.a is not here: install libvpx-dev" >&2; exit 1; }
+room=$(mktemp -d)
+trap 'rm -rf "$room"' EXIT
+
+mkdir -p "$room/crates/inter_times/src" "$room/crates/block_times/src"
+for crate in vp8_tables pixel_planes inter_predict; do
+    cp -r "$here/../crates/$crate" "$room/crates"
+done
+cat > "$room/crates.txt" <<'END'
+vp8_tables: thiserror
+pixel_planes:
+inter_predict: vp8_tables pixel_planes
+inter_times staticlib: inter_predict
+block_times: pixel_planes inter_predict
+END
+# A plane takes memory, which an exported function has none of: what `block` makes of a window is
+# timed here, and `block` itself in a program.
+sed -i 's/^mod taps;/pub mod taps;/; s/^mod windows;/pub mod windows;/' "$room/crates/inter_predict/src/lib.rt"
+cat > "$room/crates/inter_times/src/lib.rt" <<'END'
+#![tactic(auto)]
+
+use inter_predict::Kind;
+use inter_predict::taps::Taps;
+use inter_predict::windows::predict;
+
+#[unsafe(no_mangle)]
+pub extern "C" fn proved_predict(
+    is_bilinear: u32,
+    side: u32,
+    right: u32,
+    below: u32,
+    samples: &[u8; 672],
+    stride: usize,
+    out: &mut [u8; 256],
+) {
+    if stride < 21 || stride > 32 {
+        return;
+    }
+    let kind = match is_bilinear {
+        0 => Kind::SixTap,
+        _ => Kind::Bilinear,
+    };
+    let side = match side {
+        16 => 16,
+        8 => 8,
+        _ => 4,
+    };
+    let across = Taps::of(kind, (right % 8) as usize);
+    let down = Taps::of(kind, (below % 8) as usize);
+    predict(samples, stride, across, down, side, side, out, side);
+}
+END
+cp "$here/inter.rt.txt" "$room/crates/block_times/src/main.rt"
+for level in v2 v3; do
+    echo "x86-64-$level"
+    (cd "$room/crates/inter_times" && rt lib --jobs 1 --cpu "x86-64-$level" < /dev/null) > "$room/build.log" 2>&1 || { tail -n 20 "$room/build.log"; exit 1; }
+    rustc -O --edition 2024 -C "target-cpu=x86-64-$level" -o "$room/inter" "$here/inter.rs" \
+        -L "$room/crates/inter_times/out" -l static=inter_times -L "$kit/c" -l static=libc_c \
+        -L "$(dirname "$vpx")" -l static=vpx -l m
+    "$room/inter"
+done

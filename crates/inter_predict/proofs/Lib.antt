@@ -1,0 +1,7 @@
+pub mod FilterLaws
+pub mod HeldLanes
+pub mod Predicted
+pub mod StripRows
+pub mod TappedLanes
+pub mod TapSums
+pub mod Twice

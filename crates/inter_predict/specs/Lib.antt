@@ -1,0 +1,4 @@
+pub mod InterSample
+pub mod Blocks
+pub mod Kernels
+pub mod Laws

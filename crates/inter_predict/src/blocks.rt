@@ -1,0 +1,105 @@
+ghost use Rattle.std.specs.Prelude.{◌≡◌, ℕ, ◌+◌, ◌-◌, ◌*◌, ◌<◌, ◌≤◌, length, pos, ◌+ℤ◌, ◌-ℤ◌};
+ghost use Rattle.inter_predict.specs.InterSample.{whole_part, fraction as fraction_of, predicted};
+ghost use Rattle.inter_predict.specs.Blocks.{IsBlockIn};
+ghost use Rattle.inter_predict.specs.Kernels.{IsNear};
+
+use crate::gathering::{GATHERED_STRIDE, gather};
+use crate::kinds::Kind;
+use crate::taps::Taps;
+use crate::windows::predict;
+use pixel_planes::Plane;
+
+/// The eighths of a sample that a vector leads behind a whole one, 0 to 7.
+#[inline]
+fn fraction(eighths: i32) -> usize
+    ensures value { result ≡ fraction_of eighths }
+    ensures bound { result < 8 }
+{
+    eighths.rem_euclid(8) as usize
+}
+
+/// Where the first tap stands for a block at `place`: two samples before the whole one that the
+/// vector leads to.
+#[inline]
+fn first_tap(place: i32, eighths: i32) -> i64
+    ensures value { result ≡ (place +ℤ whole_part eighths) -ℤ pos 2 }
+    ensures near { IsNear result }
+{
+    i64::from(place) + i64::from(eighths >> 3) - 2
+}
+
+/// Predicts a block of `width` by `height` samples, 1 to 16 each, from a reference plane into `out`,
+/// row by row (RFC 6386, section 18).
+///
+/// The block stands at column `x` of row `y`; the vector is how far to the right and how far down of
+/// that its samples are taken from, in eighths of a sample. Both may be any numbers: outside the
+/// plane its edges go on.
+#[inline]
+pub fn block(
+    plane: &Plane,
+    x: i32,
+    y: i32,
+    vector: (i32, i32),
+    kind: Kind,
+    width: usize,
+    height: usize,
+    out: &mut [u8],
+)
+    requires wide { (0 < width) × (width ≤ 16) }
+    requires high { (0 < height) × (height ≤ 16) }
+    requires out { length out.old ≡ width * height }
+    ensures { IsBlockIn (predicted kind plane.now.shown x y vector.0 vector.1) width height width out.old out.new }
+{
+    block_in(plane, x, y, vector, kind, width, height, out, width);
+}
+
+/// Does what `block` does, into rows `stride` samples apart: at least the width, and at most 65,536.
+///
+/// The block begins with the first sample of `out`; samples beside it and below it stay as they are.
+pub fn block_in(
+    plane: &Plane,
+    x: i32,
+    y: i32,
+    vector: (i32, i32),
+    kind: Kind,
+    width: usize,
+    height: usize,
+    out: &mut [u8],
+    stride: usize,
+)
+    requires wide { (0 < width) × (width ≤ 16) }
+    requires high { (0 < height) × (height ≤ 16) }
+    requires stride { (width ≤ stride) × (stride ≤ 65536) }
+    requires room { (height - 1) * stride + width ≤ length out.old }
+    ensures { IsBlockIn (predicted kind plane.now.shown x y vector.0 vector.1) width height stride out.old out.new }
+{
+    let across = Taps::of(kind, fraction(vector.0));
+    let down = Taps::of(kind, fraction(vector.1));
+    let left = first_tap(x, vector.0);
+    let top = first_tap(y, vector.1);
+    if let Some(window) = plane.window(left, top, width + 5, height + 5) {
+        predict(
+            window.samples,
+            window.stride,
+            across,
+            down,
+            width,
+            height,
+            out,
+            stride,
+        );
+    } else {
+        let mut gathered = [0; 441];
+        gather(plane, left, top, width + 5, height + 5, &mut gathered);
+        predict(
+            &gathered,
+            GATHERED_STRIDE,
+            across,
+            down,
+            width,
+            height,
+            out,
+            stride,
+        );
+    }
+}

@@ -1,0 +1,17 @@
+//! Inter prediction of VP8 (RFC 6386, section 18).
+#![tactic(auto)]
+
+mod blocks;
+mod gathering;
+mod kinds;
+mod lanes;
+pub mod laws;
+mod passes;
+mod strips;
+mod taps;
+#[cfg(test)]
+mod tests;
+mod windows;
+
+pub use blocks::{block, block_in};
+pub use kinds::Kind;

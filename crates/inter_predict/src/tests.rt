@@ -1,0 +1,218 @@
+ghost use Rattle.std.specs.Prelude.{◌<◌, ◌≤◌};
+
+use crate::{Kind, block, block_in};
+use pixel_planes::{NoMemory, Picture, Plane, Planes};
+use std::alloc::Global;
+use std::test::Fail;
+
+/// The taps of RFC 6386, section 18.3, from two samples before a place to three behind it.
+const SIX_TAPS: [[i64; 6]; 8] = [
+    [0, 0, 128, 0, 0, 0],
+    [0, -6, 123, 12, -1, 0],
+    [2, -11, 108, 36, -8, 1],
+    [0, -9, 93, 50, -6, 0],
+    [3, -16, 77, 77, -16, 3],
+    [0, -6, 50, 93, -9, 0],
+    [1, -8, 36, 108, -11, 2],
+    [0, -1, 12, 123, -6, 0],
+];
+
+/// A plain reading of section 18.3: the sample that six samples of a line make.
+fn filtered(kind: Kind, eighths: i32, samples: &[u8; 6]) -> u8 {
+    let fraction = eighths.rem_euclid(8) as usize;
+    let near = 16 * fraction as i64;
+    let taps = match kind {
+        Kind::SixTap => SIX_TAPS[fraction],
+        Kind::Bilinear => [0, 0, 128 - near, near, 0, 0],
+    };
+    let mut sum: i64 = 64;
+    for (tap, sample) in taps.iter().zip(samples) {
+        sum = sum.wrapping_add(tap.wrapping_mul(i64::from(*sample)));
+    }
+    (sum >> 7).clamp(0, 255) as u8
+}
+
+/// A plain reading of section 18: the sample that a vector predicts at column `x` of row `y`.
+fn predicted(plane: &Plane, x: i64, y: i64, vector: (i32, i32), kind: Kind) -> u8 {
+    let left = x.wrapping_add(i64::from(vector.0 >> 3)).wrapping_sub(2);
+    let top = y.wrapping_add(i64::from(vector.1 >> 3)).wrapping_sub(2);
+    let mut column = [0; 6];
+    for j in 0..6 {
+        let mut row = [0; 6];
+        for i in 0..6 {
+            row[i] = plane.sample(left.wrapping_add(i as i64), top.wrapping_add(j as i64));
+        }
+        column[j] = filtered(kind, vector.0, &row);
+    }
+    filtered(kind, vector.1, &column)
+}
+
+/// Whether a block of these sides among samples of 7, in rows of 16, is as read plainly, and whether
+/// every other sample is 7 still.
+fn is_right(
+    plane: &Plane,
+    x: i32,
+    y: i32,
+    vector: (i32, i32),
+    kind: Kind,
+    width: usize,
+    height: usize,
+) -> bool
+    requires wide { (0 < width) × (width ≤ 16) }
+    requires high { (0 < height) × (height ≤ 16) }
+{
+    let mut out = [7; 256];
+    block_in(plane, x, y, vector, kind, width, height, &mut out, 16);
+    for row in 0..16 {
+        for column in 0..16 {
+            let expected = if row < height && column < width {
+                let (x, y) = (i64::from(x), i64::from(y));
+                predicted(plane, x + column as i64, y + row as i64, vector, kind)
+            } else {
+                7
+            };
+            if out[row * 16 + column] != expected {
+                return false;
+            }
+        }
+    }
+    true
+}
+
+/// A picture of 32 by 48 samples whose luma plane has this border and pseudo-random samples.
+fn picture(alloc: Global, border: usize) -> Result<Picture, NoMemory>
+    requires { border ≤ 64 }
+{
+    let mut luma = Plane::make_bordered(alloc, 32, 48, 0, border)?;
+    let mut state: u32 = 12345;
+    for sample in luma.samples_mut() {
+        state = state.wrapping_mul(1_103_515_245).wrapping_add(12345);
+        *sample = (state / 65536 % 256) as u8;
+    }
+    let planes = Planes {
+        luma,
+        cb: Plane::make(alloc, 16, 24, 0)?,
+        cr: Plane::make(alloc, 16, 24, 0)?,
+    };
+    Picture::share(alloc, planes, 32, 48)
+}
+
+#[test]
+fn all_fractions_are_as_read_plainly(rt: HostRuntime) -> Result<(), Fail> {
+    let picture = picture(rt.alloc(), 32)?;
+    let plane = picture.luma();
+    for fractions in 0..64u32 {
+        let right = (fractions % 8) as i32 - 16;
+        let below = (fractions / 8) as i32 + 24;
+        for kind in [Kind::SixTap, Kind::Bilinear] {
+            let holds = is_right(plane, 20, 30, (right, below), kind, 16, 3)
+                && is_right(plane, 3, 30, (right, below), kind, 8, 3)
+                && is_right(plane, 20, 2, (right, below), kind, 4, 4);
+            assert!(rt; holds, "{kind:?} {right} {below}");
+        }
+    }
+    Ok(())
+}
+
+#[test]
+fn all_widths_are_as_read_plainly(rt: HostRuntime) -> Result<(), Fail> {
+    let picture = picture(rt.alloc(), 32)?;
+    for width in 1..17 {
+        let height = 17 - width;
+        let holds = is_right(
+            picture.luma(),
+            -4,
+            7,
+            (-13, 30),
+            Kind::SixTap,
+            width,
+            height,
+        );
+        assert!(rt; holds, "{width}");
+        let holds = is_right(
+            picture.luma(),
+            3,
+            2,
+            (21, -37),
+            Kind::Bilinear,
+            width,
+            height,
+        );
+        assert!(rt; holds, "{width}");
+    }
+    Ok(())
+}
+
+/// Where the border is too narrow, or nothing of it stands, the block is the same.
+#[test]
+fn blocks_do_not_depend_on_the_border(rt: HostRuntime) -> Result<(), Fail> {
+    let bordered = picture(rt.alloc(), 32)?;
+    for border in [0, 1, 64] {
+        let other = picture(rt.alloc(), border)?;
+        for vector in [(0, 0), (-4000, 4000), (63, -63), (-131, 40)] {
+            for kind in [Kind::SixTap, Kind::Bilinear] {
+                let mut one = [1; 256];
+                let mut two = [2; 256];
+                block(bordered.luma(), 16, 16, vector, kind, 16, 16, &mut one);
+                block(other.luma(), 16, 16, vector, kind, 16, 16, &mut two);
+                assert_eq!(rt; one.as_slice(), two.as_slice(), "{border} {vector:?}");
+            }
+        }
+    }
+    Ok(())
+}
+
+/// A plane whose rows were written and not shared yet has no border: its samples are read one by one.
+#[test]
+fn a_plane_being_written_is_read(rt: HostRuntime) -> Result<(), Fail> {
+    let mut plane = Plane::make(rt.alloc(), 16, 16, 9)?;
+    plane.row_mut(0).fill(200);
+    assert!(rt; is_right(&plane, 0, 0, (3, -5), Kind::SixTap, 16, 16));
+    assert!(rt; is_right(&plane, -7, 5, (2, 2), Kind::Bilinear, 5, 9));
+    Ok(())
+}
+
+#[test]
+fn places_far_outside_repeat_the_corners(rt: HostRuntime) -> Result<(), Fail> {
+    let picture = picture(rt.alloc(), 32)?;
+    let plane = picture.luma();
+    for kind in [Kind::SixTap, Kind::Bilinear] {
+        for (place, column) in [(i32::MIN, 0), (i32::MAX, 31)] {
+            for (other, row) in [(i32::MIN, 0), (i32::MAX, 47)] {
+                let mut out = [0; 256];
+                block(plane, place, other, (place, other), kind, 16, 16, &mut out);
+                assert_eq!(rt; out.as_slice(), [plane.sample(column, row); 256].as_slice());
+            }
+        }
+    }
+    Ok(())
+}
+
+/// A plane of these samples.
+fn plane_of(alloc: Global, width: usize, height: usize, samples: &[u8]) -> Result<Plane, NoMemory>
+    requires wide { (0 < width) × (width ≤ 16384) }
+    requires high { (0 < height) × (height ≤ 16384) }
+{
+    let mut plane = Plane::make(alloc, width, height, 0)?;
+    for (to, from) in plane.samples_mut().iter_mut().zip(samples) {
+        *to = *from;
+    }
+    Ok(plane)
+}
+
+/// Half a sample to the right: 64 * 255 / 128 = 127.5 is rounded up, -13 * 255 / 128 is held at 0 and
+/// 154 * 255 / 128 at 255.
+#[test]
+fn rows_are_as_worked_by_hand(rt: HostRuntime) -> Result<(), Fail> {
+    for (row, sample) in [
+        ([0, 0, 0, 255, 255, 255], 128),
+        ([255, 255, 0, 0, 0, 0], 0),
+        ([0, 0, 255, 255, 0, 0], 255),
+    ] {
+        let plane = plane_of(rt.alloc(), 6, 1, &row)?;
+        let mut out = [1];
+        block(&plane, 2, 0, (4, 0), Kind::SixTap, 1, 1, &mut out);
+        assert_eq!(rt; out, [sample]);
+    }
+    Ok(())
+}
