@@ -49,6 +49,7 @@ header_in start (fields, before) partitions ((trailing, context), reader) = reco
   quantizers = trailing.quantizers;
   refreshes_entropy = trailing.refreshes_entropy;
   skip_probability = trailing.skip_probability;
+  reference_probabilities = record { inter = 0; last = 0; golden = 0 };
   partitions = partitions;
   context = context;
   context_after = if trailing.refreshes_entropy then context else before;

@@ -6,6 +6,7 @@ ghost use Rattle.frame_header.specs.Tags.{has_key_tag};
 use crate::cause::Cause;
 use crate::context::{Context, first_context};
 use crate::fields::{Colors, Fields, Filter, Segmentation, read_fields};
+use crate::inter_fields::ReferenceProbabilities;
 use crate::places::{Place, token_places};
 use crate::start::{Start, start_of};
 use crate::tags::has_key_tag;
@@ -41,6 +42,8 @@ pub struct Header<'a> {
     pub refreshes_entropy: bool,
     /// The probability that a macroblock is not skipped; `None` where none is.
     pub skip_probability: Option<u8>,
+    /// The probabilities of a macroblock's reference; each 0 on a key frame.
+    pub reference_probabilities: ReferenceProbabilities,
     /// The places of the 1 to 8 token partitions in the packet.
     pub partitions: ArrayVec<Place, 8>,
     /// The context for this frame.
@@ -116,6 +119,11 @@ pub fn read_header<'a>(
         quantizers: trailing.quantizers,
         refreshes_entropy: trailing.refreshes_entropy,
         skip_probability: trailing.skip_probability,
+        reference_probabilities: ReferenceProbabilities {
+            inter: 0,
+            last: 0,
+            golden: 0,
+        },
         partitions,
         context,
         context_after,

@@ -8,8 +8,8 @@ use Rattle.vp8_tables.specs.Tables.{TableEntries}
 use Rattle.intra_predict.specs.declared.modes.SubMode.{SubMode}
 use Rattle.mode_parser.specs.declared.records.MbMode.{MbMode}
 use Rattle.mode_parser.specs.SubModes.{mode_above, mode_left, key_sub_mode, first_sub_modes}
-use Rattle.mode_parser.specs.Records.{key_mode}
-use Rattle.mode_parser.specs.FrameModes.{record_above, record_left, first_modes}
+use Rattle.frame_header.specs.declared.header.Header.{Header}
+use Rattle.mode_parser.specs.FrameModes.{mode_at, first_modes}
 
 pub first_sub_modes-none : (tables : TableEntries) (above left : Option MbMode) (start : Reader) → first_sub_modes 0 tables above left start ≡ ([], start)
 unfolding first_sub_modes
@@ -24,14 +24,14 @@ pub first_sub_modes-more : (n : ℕ) (tables : TableEntries) (above left : Optio
 first_sub_modes-more n tables above left modes mode start r s below done told =
     rw (take_more_set modes n mode below, add-one) (first_sub_modes-suc n tables above left (take n modes) mode start r s done told)
 
-pub first_modes-none : (tables : TableEntries) (skip_probability : Option ℕ) (columns : ℕ) (start : Reader) → first_modes 0 tables skip_probability columns start ≡ ([], start)
+pub first_modes-none : (tables : TableEntries) (header : Header) (columns rows : ℕ) (start : Reader) → first_modes 0 tables header columns rows start ≡ ([], start)
 unfolding first_modes
-first_modes-none tables skip_probability columns start = refl
+first_modes-none tables header columns rows start = refl
 
-first_modes-suc : (place : ℕ) (tables : TableEntries) (skip_probability : Option ℕ) (columns : ℕ) (before : List MbMode) (mode : MbMode) (start r s : Reader) → first_modes place tables skip_probability columns start ≡ (before, r) → key_mode tables skip_probability (record_above before columns place) (record_left before columns place) r ≡ (mode, s) → first_modes (suc place) tables skip_probability columns start ≡ (before ++ mode ∷ [], s)
+first_modes-suc : (place : ℕ) (tables : TableEntries) (header : Header) (columns rows : ℕ) (before : List MbMode) (mode : MbMode) (start r s : Reader) → first_modes place tables header columns rows start ≡ (before, r) → mode_at tables header columns rows place before r ≡ (mode, s) → first_modes (suc place) tables header columns rows start ≡ (before ++ mode ∷ [], s)
 unfolding first_modes
-first_modes-suc place tables skip_probability columns before mode start r s done told = rw (done, told) refl
+first_modes-suc place tables header columns rows before mode start r s done told = rw (done, told) refl
 
-pub first_modes-more : (place : ℕ) (tables : TableEntries) (skip_probability : Option ℕ) (columns : ℕ) (before : List MbMode) (mode : MbMode) (start r s : Reader) → first_modes place tables skip_probability columns start ≡ (before, r) → key_mode tables skip_probability (record_above before columns place) (record_left before columns place) r ≡ (mode, s) → first_modes (place + 1) tables skip_probability columns start ≡ (before ++ mode ∷ [], s)
-first_modes-more place tables skip_probability columns before mode start r s done told =
-    rw add-one (first_modes-suc place tables skip_probability columns before mode start r s done told)
+pub first_modes-more : (place : ℕ) (tables : TableEntries) (header : Header) (columns rows : ℕ) (before : List MbMode) (mode : MbMode) (start r s : Reader) → length before ≡ place → first_modes place tables header columns rows start ≡ (before, r) → mode_at tables header columns rows (length before) before r ≡ (mode, s) → first_modes (place + 1) tables header columns rows start ≡ (before ++ mode ∷ [], s)
+first_modes-more place tables header columns rows before mode start r s count done told =
+    rw add-one (first_modes-suc place tables header columns rows before mode start r s done (rw (← count) told))

@@ -10,9 +10,10 @@ use Rattle.intra_predict.specs.declared.modes.WholeMode.TheVariants.{Dc, V, H, T
 use Rattle.intra_predict.specs.declared.modes.SubMode.{SubMode}
 use Rattle.intra_predict.specs.declared.modes.SubMode.TheVariants.{Dc as SubDc}
 use Rattle.mode_parser.specs.declared.records.YMode.{YMode}
-use Rattle.mode_parser.specs.declared.records.YMode.TheVariants.{Whole, B}
+use Rattle.mode_parser.specs.declared.records.YMode.TheVariants.{Whole, B, Inter}
 use Rattle.mode_parser.specs.declared.records.MbMode.{MbMode}
 use Rattle.mode_parser.specs.SubModes.{first_sub_modes}
+use Rattle.mode_parser.specs.Vectors.{MotionVector, zero_vector}
 
 -- whether a macroblock is skipped; where the header has no probability of it, none is (section 11.1)
 unfoldable pub skip : Option ℕ → Reading Bool
@@ -40,9 +41,14 @@ key_uv_mode = do
 abbrev pub no_sub_modes : List SubMode
 no_sub_modes = replicate 16 SubDc
 
+-- the vectors of a macroblock that is not predicted from a reference
+abbrev pub no_vectors : List MotionVector
+no_vectors = replicate 16 zero_vector
+
 -- the sub block modes, which only mode B has (section 11.2)
 unfoldable pub key_sub_modes : YMode → TableEntries → Option MbMode → Option MbMode → Reading (List SubMode)
 key_sub_modes (Whole mode) tables above left = give no_sub_modes
+key_sub_modes (Inter reference mode) tables above left = give no_sub_modes
 key_sub_modes B tables above left = first_sub_modes 16 tables above left
 
 -- the record of a macroblock below and to the right of these, in a key frame without segments (section 19.3)
@@ -52,4 +58,4 @@ key_mode tables skip_probability above left = do
   y_mode ← key_y_mode
   sub_modes ← key_sub_modes y_mode tables above left
   uv_mode ← key_uv_mode
-  give (record { segment = 0; is_skipped = is_skipped; y_mode = y_mode; sub_modes = sub_modes; uv_mode = uv_mode })
+  give (record { segment = 0; is_skipped = is_skipped; y_mode = y_mode; sub_modes = sub_modes; uv_mode = uv_mode; vectors = no_vectors })

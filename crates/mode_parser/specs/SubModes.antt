@@ -9,7 +9,7 @@ use Rattle.intra_predict.specs.declared.modes.WholeMode.TheVariants.{Dc as Whole
 use Rattle.intra_predict.specs.declared.modes.SubMode.{SubMode}
 use Rattle.intra_predict.specs.declared.modes.SubMode.TheVariants.{Dc, Tm, Ve, He, Ld, Rd, Vr, Vl, Hd, Hu}
 use Rattle.mode_parser.specs.declared.records.YMode.{YMode}
-use Rattle.mode_parser.specs.declared.records.YMode.TheVariants.{Whole, B}
+use Rattle.mode_parser.specs.declared.records.YMode.TheVariants.{Whole, B, Inter}
 use Rattle.mode_parser.specs.declared.records.MbMode.{MbMode}
 
 -- the modes of sub blocks in the order of their numbers, which are the leaves of their tree (section 11.2)
@@ -39,10 +39,12 @@ counterpart V = Ve
 counterpart H = He
 counterpart WholeTm = Tm
 
--- the mode of sub block n of a macroblock, as its neighbours take it; outside the frame it is DC (section 11.3)
+-- the mode of sub block n of a macroblock, as its neighbours take it; outside the frame it is DC (section 11.3). No macroblock
+-- of a key frame has a reference
 abbrev pub counted_mode : YMode → List SubMode → ℕ → SubMode
 counted_mode (Whole mode) modes n = counterpart mode
 counted_mode B modes n = slice_index_or modes n Dc
+counted_mode (Inter reference mode) modes n = Dc
 
 abbrev pub context_in : Option MbMode → ℕ → SubMode
 context_in None n = Dc

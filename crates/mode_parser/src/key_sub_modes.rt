@@ -53,6 +53,7 @@ fn context_in(macroblock: Option<&MbMode>, n: usize) -> SubMode
         Some(macroblock) => match macroblock.y_mode {
             YMode::Whole(mode) => counterpart(mode),
             YMode::B => macroblock.sub_modes[n],
+            YMode::Inter(_, _) => SubMode::Dc,
         },
     }
 }

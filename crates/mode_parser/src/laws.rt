@@ -10,7 +10,7 @@ ghost use Rattle.mode_parser.specs.declared.records.YMode.TheVariants.{Whole, B}
 ghost use Rattle.mode_parser.specs.declared.records.MbMode.{MbMode};
 ghost use Rattle.mode_parser.specs.SubModes.{number_of, sub_mode_of, context_in, mode_above, mode_left};
 ghost use Rattle.mode_parser.specs.FrameModes.{record_above, record_left, modes_of};
-ghost use Rattle.mode_parser.specs.KeyShape.{HasKeyShape, ReadsZeros, dc_record};
+ghost use Rattle.mode_parser.specs.KeyShape.{HasShape, HasKeyShape, ReadsZeros, dc_record};
 
 use frame_header::Header;
 use vp8_tables::Tables;
@@ -63,17 +63,25 @@ pub fn worked_places()
     ensures inner_left { (a b c d e : MbMode) → record_left (a ∷ b ∷ c ∷ d ∷ e ∷ []) 3 5 ≡ Some e }
 {}
 
-/// A key frame has a record for each macroblock, all in segment 0 and with 16 sub block modes,
-/// which are DC where luma is predicted as a whole.
+/// A frame has a record for each macroblock, all in segment 0 and with 16 sub block modes and 16
+/// vectors.
+pub fn records_have_shape(tables: &Tables, header: &Header, columns: usize, rows: usize)
+    ensures count { (map : Option (List ℕ)) → length (modes_of tables.now header.now columns rows map).records ≡ columns * rows }
+    ensures shape { (map : Option (List ℕ)) → All HasShape (modes_of tables.now header.now columns rows map).records }
+{}
+
+/// In a key frame the 16 sub block modes are DC where luma is predicted as a whole, no macroblock
+/// has vectors, and the segment map behind the frame is zeros, whatever that before it is.
 pub fn records_have_key_shape(tables: &Tables, header: &Header, columns: usize, rows: usize)
-    ensures count { length (modes_of tables.now header.now columns rows).records ≡ columns * rows }
-    ensures shape { All HasKeyShape (modes_of tables.now header.now columns rows).records }
-    ensures map { (modes_of tables.now header.now columns rows).segment_map ≡ replicate (columns * rows) 0 }
+    requires { IsTrue header.now.is_key }
+    ensures shape { (map : Option (List ℕ)) → All HasKeyShape (modes_of tables.now header.now columns rows map).records }
+    ensures map { (map : Option (List ℕ)) → (modes_of tables.now header.now columns rows map).segment_map ≡ replicate (columns * rows) 0 }
 {}
 
 /// Where only zeros stand behind the header of a key frame, every macroblock has sub blocks, and
 /// all modes are DC, whatever the tables and the probability of skipping are.
 pub fn zeros_are_dc(tables: &Tables, header: &Header, columns: usize, rows: usize)
-    requires { ReadsZeros header.now.reader }
-    ensures { (modes_of tables.now header.now columns rows).records ≡ replicate (columns * rows) dc_record }
+    requires key { IsTrue header.now.is_key }
+    requires zeros { ReadsZeros header.now.reader }
+    ensures { (map : Option (List ℕ)) → (modes_of tables.now header.now columns rows map).records ≡ replicate (columns * rows) dc_record }
 {}
