@@ -2,6 +2,7 @@ pub mod SubModes
 pub mod Vectors
 pub mod Records
 pub mod NearVectors
+pub mod Neighbours
 pub mod VectorReading
 pub mod InterRecords
 pub mod ChromaVectors

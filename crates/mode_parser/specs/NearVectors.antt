@@ -10,7 +10,7 @@ use Rattle.mode_parser.specs.declared.records.YMode.{YMode}
 use Rattle.mode_parser.specs.declared.records.YMode.TheVariants.{Whole, B, Inter}
 use Rattle.mode_parser.specs.declared.records.MbMode.{MbMode}
 use Rattle.mode_parser.specs.declared.nearby.MbPlace.{MbPlace}
-use Rattle.mode_parser.specs.declared.nearby.Weighted.{Weighted}
+use Rattle.mode_parser.specs.declared.neighbours.Weighted.{Weighted}
 use Rattle.mode_parser.specs.declared.nearby.Near.{Near}
 
 -- what neighbours have: the weight of zero vectors, and all others, the newest first
@@ -68,17 +68,13 @@ abbrev pub splits : Option MbMode → ℕ
 splits None = 0
 splits (Some macroblock) = from_bool (is_split_mode macroblock.y_mode)
 
--- a component held between two bounds
-abbrev pub held : ℤ → ℤ → ℤ → ℤ
-held z low high = int_max low (int_min z high)
+-- a component of a vector, held so that a macroblock that it moves along a row or column of so many is at most one macroblock
+-- out of the frame, in quarters of a sample (section 5)
+abbrev pub held : ℕ → ℕ → ℤ → ℤ
+held place count z = int_max (neg_ℤ (pos (64 * (place + 1)))) (int_min z (pos (64 * (count - place))))
 
--- a vector held so that a macroblock at a place that it moves is at most one macroblock out of the frame, in quarters of a
--- sample (section 5)
 abbrev pub clamped : MbPlace → MotionVector → MotionVector
-clamped place v = record {
-  x = held v.x (neg_ℤ (pos (64 * (place.column + 1)))) (pos (64 * (place.columns - place.column)));
-  y = held v.y (neg_ℤ (pos (64 * (place.row + 1)))) (pos (64 * (place.rows - place.row)));
-}
+clamped place v = record { x = held place.column place.columns v.x; y = held place.row place.rows v.y }
 
 -- the n-th vector in the order in which they were listed; one that is not listed is zero and weighs nothing
 abbrev pub unlisted : Weighted
@@ -93,23 +89,27 @@ first_in listed =
     let first = listed_at listed 0 in
     record { vector = first.vector; weight = first.weight + from_bool (length listed == 3 && is_same (listed_at listed 2).vector first.vector) }
 
--- the first and the second, or the second and the first where that weighs more
-abbrev pub ranked : Weighted → Weighted → Weighted × Weighted
-ranked first second = if nat_lt first.weight second.weight then (second, first) else (first, second)
+-- the best one is the nearest, unless zero vectors weigh more
+abbrev pub best_in : ℕ → Weighted → MotionVector
+best_in zeros nearest = if nat_le zeros nearest.weight then nearest.vector else zero_vector
 
--- the near vectors in which a listing results, where split neighbours weigh so much. The best one is the nearest, unless
--- zero vectors weigh more
-abbrev pub near_in : MbPlace → Listing → ℕ → Near
-near_in place listing split =
-    let pair = ranked (first_in listing.listed) (listed_at listing.listed 1) in
-    record {
-      counts = listing.zeros ∷ pair.0.weight ∷ pair.1.weight ∷ split ∷ [];
-      best = clamped place (if nat_le listing.zeros pair.0.weight then pair.0.vector else zero_vector);
-      nearest = clamped place pair.0.vector;
-      near = clamped place pair.1.vector;
-    }
+-- the near vectors where these weigh most, zero vectors weigh so much, and split neighbours
+abbrev pub near_in : MbPlace → ℕ → Weighted → Weighted → ℕ → Near
+near_in place zeros nearest near split = record {
+  counts = zeros ∷ nearest.weight ∷ near.weight ∷ split ∷ [];
+  best = clamped place (best_in zeros nearest);
+  nearest = clamped place nearest.vector;
+  near = clamped place near.vector;
+}
+
+-- the first and the second vector that are listed, or the second and the first where that weighs more
+abbrev pub ranked : MbPlace → Listing → ℕ → Near
+ranked place listing split =
+    let first = first_in listing.listed in
+    let second = listed_at listing.listed 1 in
+    if nat_lt first.weight second.weight then near_in place listing.zeros second first split else near_in place listing.zeros first second split
 
 -- the near vectors of a macroblock at a place, which is to be predicted from a reference
 unfoldable pub near_of : Option MbMode → Option MbMode → Option MbMode → Reference → SignBiases → MbPlace → Near
 near_of above left above_left reference biases place =
-    near_in place (listing_of above left above_left reference biases) (2 * (splits above + splits left) + splits above_left)
+    ranked place (listing_of above left above_left reference biases) (2 * (splits above + splits left) + splits above_left)

@@ -23,10 +23,14 @@ long_size probabilities = do
     bit ← read (slice_index probabilities 12)
     give (size + 8 * from_bool bit))
 
+-- a short size, which is 7 or less
+unfoldable pub short_size : List ℕ → Reading ℕ
+short_size probabilities = leaf SHORT_VECTOR_TREE (slice_range probabilities 2 9)
+
 unfoldable pub size : List ℕ → Reading ℕ
 size probabilities = do
   is_long ← read (slice_index probabilities 0)
-  if is_long then long_size probabilities else leaf SHORT_VECTOR_TREE (slice_range probabilities 2 9)
+  if is_long then long_size probabilities else short_size probabilities
 
 -- a component by its 19 probabilities: its size, and where that is not 0 its sign, where 1 is minus
 unfoldable pub component : List ℕ → Reading ℤ

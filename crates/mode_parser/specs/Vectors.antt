@@ -1,6 +1,6 @@
 -- Motion vectors in quarters of a luma sample (RFC 6386, sections 5 and 18). Numbers are whole and do not wrap.
 use Rattle.std.specs.Prelude.{ℕ, Bool, false, ◌&&◌, ℤ, pos, neg_ℤ, ◌+ℤ◌, ◌≤ℤ◌, if◌then◌else◌}
-use Rattle.std.specs.Bool.{xor}
+use Rattle.std.specs.Bool.{beq}
 use Rattle.std.specs.Ordering.{int_eq}
 use Rattle.frame_header.specs.declared.references.Reference.{Reference}
 use Rattle.frame_header.specs.declared.references.Reference.TheVariants.{Last, Golden, Altref}
@@ -39,4 +39,4 @@ is_biased biases Altref = biases.altref
 
 -- a vector to another reference as it counts for this one: negated where their sign biases differ (section 9.7)
 abbrev pub toward : SignBiases → Reference → Reference → MotionVector → MotionVector
-toward biases reference other v = if xor (is_biased biases other) (is_biased biases reference) then opposite v else v
+toward biases reference other v = if beq (is_biased biases other) (is_biased biases reference) then v else opposite v

@@ -10,9 +10,11 @@ mod key_modes;
 mod key_sub_modes;
 pub mod laws;
 mod nearby;
+mod neighbours;
 mod records;
 #[cfg(test)]
 mod tests;
+mod vector_reading;
 mod vectors;
 
 pub use chroma_vectors::chroma_vector;
