@@ -1,11 +1,10 @@
 -- The mode record of a macroblock in an inter frame (RFC 6386, sections 16 and 19.3).
-use Rattle.std.specs.Prelude.{ℕ, zero, suc, ◌+◌, ◌-◌, ◌%◌, ◌==◌, nat_lt, Bool, Option, Some, None, List, [], ◌∷◌, ◌++◌, replicate, slice_index, slice_index_or, if◌then◌else◌}
+use Rattle.std.specs.Prelude.{ℕ, zero, suc, ◌+◌, ◌-◌, ◌%◌, ◌==◌, nat_lt, nat_le, ◌&&◌, Bool, true, Option, Some, None, List, [], ◌∷◌, ◌++◌, replicate, slice_index, slice_index_or, if◌then◌else◌}
 use Rattle.bool_coder.specs.Reader.{read}
 use Rattle.bool_coder.specs.Reading.{Reading, ◌>>=◌, give}
 use Rattle.bool_coder.specs.Trees.{leaf}
-use Rattle.vp8_tables.specs.declared.modes.TheConstants.{INTER_Y_TREE, UV_TREE, SUB_TREE, INTER_SUB_PROBABILITIES, VECTOR_MODE_TREE, VECTOR_MODE_PROBABILITIES, SPLIT_TREE, SPLIT_PROBABILITIES, SPLIT_STARTS, PART_VECTOR_TREE, PART_VECTOR_PROBABILITIES}
-use Rattle.intra_predict.specs.declared.modes.WholeMode.{WholeMode}
-use Rattle.intra_predict.specs.declared.modes.WholeMode.TheVariants.{Dc, Tm}
+use Rattle.vp8_tables.specs.declared.modes.TheConstants.{INTER_Y_TREE, INTER_SUB_PROBABILITIES, VECTOR_MODE_TREE, VECTOR_MODE_PROBABILITIES, SPLIT_TREE, SPLIT_PROBABILITIES, SPLIT_STARTS, PART_VECTOR_TREE, PART_VECTOR_PROBABILITIES}
+use Rattle.intra_predict.specs.declared.modes.WholeMode.TheVariants.{Dc}
 use Rattle.intra_predict.specs.declared.modes.SubMode.{SubMode}
 use Rattle.frame_header.specs.declared.references.Reference.{Reference}
 use Rattle.frame_header.specs.declared.references.Reference.TheVariants.{Last, Golden, Altref}
@@ -19,30 +18,25 @@ use Rattle.mode_parser.specs.declared.records.YMode.TheVariants.{Whole, B, Inter
 use Rattle.mode_parser.specs.declared.records.MbMode.{MbMode}
 use Rattle.mode_parser.specs.declared.nearby.MbPlace.{MbPlace}
 use Rattle.mode_parser.specs.declared.nearby.Near.{Near}
-use Rattle.mode_parser.specs.SubModes.{sub_mode_of}
-use Rattle.mode_parser.specs.Records.{skip, y_modes, uv_modes, no_sub_modes, no_vectors}
+use Rattle.mode_parser.specs.SubModes.{sub_mode}
+use Rattle.mode_parser.specs.Records.{skip, y_modes, chroma_mode, no_sub_modes, no_vectors}
 use Rattle.mode_parser.specs.Vectors.{MotionVector, zero_vector, is_same, sum_of}
 use Rattle.mode_parser.specs.NearVectors.{near_of}
-use Rattle.mode_parser.specs.VectorReading.{vector}
+use Rattle.mode_parser.specs.VectorReading.{new_vector}
 
--- the luma and the chroma mode of a macroblock without a reference (section 16.1)
+-- the luma mode of a macroblock without a reference (section 16.1)
 unfoldable pub inter_y_mode : List ℕ → Reading YMode
 inter_y_mode probabilities = do
   number ← leaf INTER_Y_TREE probabilities
   give (slice_index_or y_modes number B)
-
-unfoldable pub inter_uv_mode : List ℕ → Reading WholeMode
-inter_uv_mode probabilities = do
-  number ← leaf UV_TREE probabilities
-  give (slice_index_or uv_modes number Tm)
 
 -- the modes of the first n sub blocks, in raster order: no mode depends on another (section 16.1)
 unfoldable pub first_inter_sub_modes : ℕ → Reading (List SubMode)
 first_inter_sub_modes zero = give []
 first_inter_sub_modes (suc n) = do
   before ← first_inter_sub_modes n
-  number ← leaf SUB_TREE INTER_SUB_PROBABILITIES
-  give (before ++ sub_mode_of number ∷ [])
+  mode ← sub_mode INTER_SUB_PROBABILITIES
+  give (before ++ mode ∷ [])
 
 unfoldable pub inter_sub_modes : YMode → Reading (List SubMode)
 inter_sub_modes B = first_inter_sub_modes 16
@@ -50,8 +44,8 @@ inter_sub_modes (Whole mode) = give no_sub_modes
 inter_sub_modes (Inter reference mode) = give no_sub_modes
 
 -- the reference from which a macroblock is predicted (section 16.2)
-unfoldable pub reference : ReferenceProbabilities → Reading Reference
-reference probabilities = do
+unfoldable pub which_reference : ReferenceProbabilities → Reading Reference
+which_reference probabilities = do
   is_other ← read probabilities.last
   if is_other then (do
     is_altref ← read probabilities.golden
@@ -94,22 +88,38 @@ unfoldable pub part_vector : List (List ℕ) → MotionVector → MotionVector �
 part_vector probabilities best left above = do
   number ← leaf PART_VECTOR_TREE (slice_index_or PART_VECTOR_PROBABILITIES (part_row left above) [])
   if number == 0 then give left else if number == 1 then give above else if number == 2 then give zero_vector else (do
-    read_vector ← vector probabilities
-    give (sum_of best read_vector))
+    more ← new_vector probabilities
+    give (sum_of best more))
 
--- the vectors of the first n blocks, in raster order, of a macroblock split so that each block has the vector of the first
--- block of its part (section 16.4)
+-- the vector of block n, of a part that starts at a block: at that block it is the part's, and later that block's (section 16.4)
+unfoldable pub block_vector : ℕ → List (List ℕ) → MotionVector → Option MbMode → Option MbMode → List MotionVector → ℕ → Reading MotionVector
+block_vector start probabilities best above left before n =
+    if start == n then part_vector probabilities best (vector_left left before n) (vector_above above before n)
+    else give (slice_index_or before start zero_vector)
+
+-- the vectors of the first n blocks, in raster order, of a macroblock whose parts start at these blocks (section 16.4)
 unfoldable pub first_vectors : ℕ → List ℕ → List (List ℕ) → MotionVector → Option MbMode → Option MbMode → Reading (List MotionVector)
 first_vectors zero starts probabilities best above left = give []
 first_vectors (suc n) starts probabilities best above left = do
   before ← first_vectors n starts probabilities best above left
-  here ← (if slice_index starts n == n then part_vector probabilities best (vector_left left before n) (vector_above above before n) else give (slice_index_or before (slice_index starts n) zero_vector))
+  here ← block_vector (slice_index starts n) probabilities best above left before n
   give (before ++ here ∷ [])
+
+-- the blocks at which the parts of a macroblock start, for each of its blocks (section 16.4)
+unfoldable pub split_starts : Reading (List ℕ)
+split_starts = do
+  way ← leaf SPLIT_TREE SPLIT_PROBABILITIES
+  give (slice_index_or SPLIT_STARTS way [])
+
+-- whether no block from this one on is before the start of its part
+abbrev pub are_starts : ℕ → List ℕ → Bool
+are_starts block [] = true
+are_starts block (start ∷ starts) = nat_le start block && are_starts (suc block) starts
 
 unfoldable pub split_vectors : List (List ℕ) → MotionVector → Option MbMode → Option MbMode → Reading (List MotionVector)
 split_vectors probabilities best above left = do
-  way ← leaf SPLIT_TREE SPLIT_PROBABILITIES
-  first_vectors 16 (slice_index_or SPLIT_STARTS way []) probabilities best above left
+  starts ← split_starts
+  first_vectors 16 starts probabilities best above left
 
 -- the vectors of a macroblock's blocks: one for all, unless it is split (sections 16.3 and 16.4)
 unfoldable pub vectors_by : VectorMode → Near → List (List ℕ) → Option MbMode → Option MbMode → Reading (List MotionVector)
@@ -117,8 +127,8 @@ vectors_by Zero near probabilities above left = give no_vectors
 vectors_by Nearest near probabilities above left = give (replicate 16 near.nearest)
 vectors_by NearMode near probabilities above left = give (replicate 16 near.near)
 vectors_by New near probabilities above left = do
-  read_vector ← vector probabilities
-  give (replicate 16 (sum_of near.best read_vector))
+  more ← new_vector probabilities
+  give (replicate 16 (sum_of near.best more))
 vectors_by Split near probabilities above left = split_vectors probabilities near.best above left
 
 -- the record of a macroblock without a reference, and of one with a reference, behind the bit that says which it is
@@ -126,12 +136,12 @@ unfoldable pub intra_mode : Bool → Probabilities → Reading MbMode
 intra_mode is_skipped probabilities = do
   y_mode ← inter_y_mode probabilities.y_modes
   sub_modes ← inter_sub_modes y_mode
-  uv_mode ← inter_uv_mode probabilities.uv_modes
-  give (record { segment = 0; is_skipped = is_skipped; y_mode = y_mode; sub_modes = sub_modes; uv_mode = uv_mode; vectors = no_vectors })
+  chroma ← chroma_mode probabilities.uv_modes
+  give (record { segment = 0; is_skipped = is_skipped; y_mode = y_mode; sub_modes = sub_modes; uv_mode = chroma; vectors = no_vectors })
 
 unfoldable pub referenced_mode : Bool → Header → MbPlace → Option MbMode → Option MbMode → Option MbMode → Reading MbMode
 referenced_mode is_skipped header place above left above_left = do
-  from ← reference header.reference_probabilities
+  from ← which_reference header.reference_probabilities
   let near = near_of above left above_left from header.context.sign_biases place
   mode ← vector_mode near.counts
   vectors ← vectors_by mode near header.context.probabilities.vectors above left

@@ -32,9 +32,10 @@ key_y_mode = do
   number ← leaf KEY_Y_TREE KEY_Y_PROBABILITIES
   give (slice_index_or y_modes number B)
 
-unfoldable pub key_uv_mode : Reading WholeMode
-key_uv_mode = do
-  number ← leaf UV_TREE KEY_UV_PROBABILITIES
+-- a chroma mode by the probabilities of the tree's nodes (section 11.4)
+unfoldable pub chroma_mode : List ℕ → Reading WholeMode
+chroma_mode probabilities = do
+  number ← leaf UV_TREE probabilities
   give (slice_index_or uv_modes number Tm)
 
 -- the sub block modes of a macroblock whose luma is predicted as a whole: none is read, and all are DC
@@ -57,5 +58,5 @@ key_mode tables skip_probability above left = do
   is_skipped ← skip skip_probability
   y_mode ← key_y_mode
   sub_modes ← key_sub_modes y_mode tables above left
-  uv_mode ← key_uv_mode
-  give (record { segment = 0; is_skipped = is_skipped; y_mode = y_mode; sub_modes = sub_modes; uv_mode = uv_mode; vectors = no_vectors })
+  chroma ← chroma_mode KEY_UV_PROBABILITIES
+  give (record { segment = 0; is_skipped = is_skipped; y_mode = y_mode; sub_modes = sub_modes; uv_mode = chroma; vectors = no_vectors })

@@ -58,11 +58,15 @@ mode_above above before n = if nat_lt n 4 then context_in above (n + 12) else sl
 abbrev pub mode_left : Option MbMode → List SubMode → ℕ → SubMode
 mode_left left before n = if n % 4 == 0 then context_in left (n + 3) else slice_index_or before (n - 1) Dc
 
--- the mode of a sub block below and to the right of these (section 11.3)
-unfoldable pub key_sub_mode : TableEntries → SubMode → SubMode → Reading SubMode
-key_sub_mode tables above left = do
-  number ← leaf SUB_TREE (key_sub_nodes_of tables (number_of above) (number_of left))
+-- a mode by the probabilities of the tree's nodes (section 11.2)
+unfoldable pub sub_mode : List ℕ → Reading SubMode
+sub_mode nodes = do
+  number ← leaf SUB_TREE nodes
   give (sub_mode_of number)
+
+-- the mode of a sub block below and to the right of these (section 11.3)
+abbrev pub key_sub_mode : TableEntries → SubMode → SubMode → Reading SubMode
+key_sub_mode tables above left = sub_mode (key_sub_nodes_of tables (number_of above) (number_of left))
 
 -- the modes of the first n sub blocks, in raster order
 unfoldable pub first_sub_modes : ℕ → TableEntries → Option MbMode → Option MbMode → Reading (List SubMode)

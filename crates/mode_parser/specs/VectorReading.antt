@@ -27,22 +27,22 @@ long_size probabilities = do
 unfoldable pub short_size : List ℕ → Reading ℕ
 short_size probabilities = leaf SHORT_VECTOR_TREE (slice_range probabilities 2 9)
 
-unfoldable pub size : List ℕ → Reading ℕ
-size probabilities = do
+unfoldable pub vector_size : List ℕ → Reading ℕ
+vector_size probabilities = do
   is_long ← read (slice_index probabilities 0)
   if is_long then long_size probabilities else short_size probabilities
 
 -- a component by its 19 probabilities: its size, and where that is not 0 its sign, where 1 is minus
-unfoldable pub component : List ℕ → Reading ℤ
-component probabilities = do
-  n ← size probabilities
+unfoldable pub vector_component : List ℕ → Reading ℤ
+vector_component probabilities = do
+  n ← vector_size probabilities
   if n == 0 then give (pos 0) else (do
     is_minus ← read (slice_index probabilities 1)
     give (if is_minus then neg_ℤ (pos n) else pos n))
 
 -- a vector by the probabilities of its row and of its column: its row, then its column
-unfoldable pub vector : List (List ℕ) → Reading MotionVector
-vector probabilities = do
-  down ← component (slice_index_or probabilities 0 [])
-  right ← component (slice_index_or probabilities 1 [])
+unfoldable pub new_vector : List (List ℕ) → Reading MotionVector
+new_vector probabilities = do
+  down ← vector_component (slice_index_or probabilities 0 [])
+  right ← vector_component (slice_index_or probabilities 1 [])
   give (record { x = right; y = down })

@@ -2,9 +2,9 @@
 
 ghost use Rattle.std.specs.Prelude.{◌≡◌};
 ghost use Rattle.std.specs.Option.{option_copied};
-ghost use Rattle.mode_parser.specs.Records.{skip, key_y_mode, key_uv_mode, key_mode};
+ghost use Rattle.mode_parser.specs.Records.{skip, key_y_mode, chroma_mode, key_mode};
 
-use crate::key_sub_modes::read_sub_modes;
+use crate::key_sub_modes::read_key_sub_modes;
 use crate::records::{MbMode, YMode};
 use crate::vectors::Vector;
 use bool_coder::Decoder;
@@ -46,16 +46,16 @@ fn read_y_mode(reader: &mut Decoder) -> YMode
 
 /// The chroma mode: the leaf of its tree.
 #[inline]
-fn read_uv_mode(reader: &mut Decoder) -> WholeMode
-    ensures { key_uv_mode reader.old ≡ (result, reader.new) }
+pub(crate) fn read_uv_mode(reader: &mut Decoder, probabilities: &[u8; 3]) -> WholeMode
+    ensures { chroma_mode probabilities.now reader.old ≡ (result, reader.new) }
 {
-    if !reader.bit(KEY_UV_PROBABILITIES[0]) {
+    if !reader.bit(probabilities[0]) {
         return WholeMode::Dc;
     }
-    if !reader.bit(KEY_UV_PROBABILITIES[1]) {
+    if !reader.bit(probabilities[1]) {
         return WholeMode::V;
     }
-    if reader.bit(KEY_UV_PROBABILITIES[2]) {
+    if reader.bit(probabilities[2]) {
         WholeMode::Tm
     } else {
         WholeMode::H
@@ -78,9 +78,9 @@ pub(crate) fn read_key_mode(
     let y_mode = read_y_mode(reader);
     let sub_modes = match y_mode {
         YMode::Whole(_) | YMode::Inter(_, _) => [SubMode::Dc; 16],
-        YMode::B => read_sub_modes(reader, tables, above, left),
+        YMode::B => read_key_sub_modes(reader, tables, above, left),
     };
-    let uv_mode = read_uv_mode(reader);
+    let uv_mode = read_uv_mode(reader, &KEY_UV_PROBABILITIES);
     MbMode {
         segment: 0,
         is_skipped,

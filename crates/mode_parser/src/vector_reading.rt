@@ -4,7 +4,7 @@ ghost use Rattle.std.specs.Prelude.{◌≡◌, ◌<◌, ◌≤◌, ◌+◌, ◌*
 ghost use Rattle.std.specs.Int.{from_bool};
 ghost use Rattle.bool_coder.specs.Reader.{read};
 ghost use Rattle.mode_parser.specs.Vectors.{IsWithin};
-ghost use Rattle.mode_parser.specs.VectorReading.{long_size, short_size, size, component, vector};
+ghost use Rattle.mode_parser.specs.VectorReading.{long_size, short_size, vector_size, vector_component, new_vector};
 
 use crate::vectors::Vector;
 use bool_coder::Decoder;
@@ -55,9 +55,9 @@ fn read_long_size(reader: &mut Decoder, probabilities: &[u8; 19]) -> u16
 }
 
 #[inline]
-#[tactic(auto, unfolding(crate::specs::VectorReading::size))]
+#[tactic(auto, unfolding(crate::specs::VectorReading::vector_size))]
 fn read_size(reader: &mut Decoder, probabilities: &[u8; 19]) -> u16
-    ensures value { size probabilities.now reader.old ≡ (result, reader.new) }
+    ensures value { vector_size probabilities.now reader.old ≡ (result, reader.new) }
     ensures small { result ≤ 1023 }
 {
     if reader.bit(probabilities[0]) {
@@ -69,9 +69,9 @@ fn read_size(reader: &mut Decoder, probabilities: &[u8; 19]) -> u16
 
 /// A component of a vector: its size, and where that is not 0 its sign, where 1 is minus.
 #[inline]
-#[tactic(auto, unfolding(crate::specs::VectorReading::component))]
+#[tactic(auto, unfolding(crate::specs::VectorReading::vector_component))]
 fn read_component(reader: &mut Decoder, probabilities: &[u8; 19]) -> i32
-    ensures value { component probabilities.now reader.old ≡ (result, reader.new) }
+    ensures value { vector_component probabilities.now reader.old ≡ (result, reader.new) }
     ensures within { IsWithin 1023 result }
 {
     let size = read_size(reader, probabilities) as i32;
@@ -87,9 +87,9 @@ fn read_component(reader: &mut Decoder, probabilities: &[u8; 19]) -> i32
 
 /// A vector by the probabilities of its row and of its column: its row, then its column.
 #[inline]
-#[tactic(auto, unfolding(crate::specs::VectorReading::vector))]
+#[tactic(auto, unfolding(crate::specs::VectorReading::new_vector))]
 pub(crate) fn read_vector(reader: &mut Decoder, probabilities: &[[u8; 19]; 2]) -> Vector
-    ensures value { vector probabilities.now reader.old ≡ (result, reader.new) }
+    ensures value { new_vector probabilities.now reader.old ≡ (result, reader.new) }
     ensures across { IsWithin 1023 result.x }
     ensures down { IsWithin 1023 result.y }
 {
