@@ -59,9 +59,12 @@ vector_modes = Zero ∷ Nearest ∷ NearMode ∷ New ∷ Split ∷ []
 abbrev pub counted_probability : List ℕ → ℕ → ℕ
 counted_probability counts n = slice_index (slice_index_or VECTOR_MODE_PROBABILITIES (slice_index counts n) []) n
 
+abbrev pub counted_probabilities : List ℕ → List ℕ
+counted_probabilities counts = counted_probability counts 0 ∷ counted_probability counts 1 ∷ counted_probability counts 2 ∷ counted_probability counts 3 ∷ []
+
 unfoldable pub vector_mode : List ℕ → Reading VectorMode
 vector_mode counts = do
-  number ← leaf VECTOR_MODE_TREE (counted_probability counts 0 ∷ counted_probability counts 1 ∷ counted_probability counts 2 ∷ counted_probability counts 3 ∷ [])
+  number ← leaf VECTOR_MODE_TREE (counted_probabilities counts)
   give (slice_index_or vector_modes number Split)
 
 -- the vector of a block of a neighbour, which is zero outside the frame (section 16.4)

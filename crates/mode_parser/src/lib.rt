@@ -12,6 +12,7 @@ pub mod laws;
 mod nearby;
 mod neighbours;
 mod records;
+mod split_vectors;
 #[cfg(test)]
 mod tests;
 mod vector_reading;
