@@ -1,6 +1,6 @@
 -- One sub block more, and one macroblock more
 use Rattle.std.proofs.Common.{◌≡◌, ℕ, zero, suc, ◌+◌, ◌<◌, ◌≤◌, true, List, [], ◌∷◌, ◌++◌, length, take, refl, add-one, arith}
-use Rattle.std.specs.Prelude.{Option, slice_index}
+use Rattle.std.specs.Prelude.{Option, slice_index, nat_le}
 use Rattle.std.proofs.lemmas.Bool.{and_parts, leb-true}
 use Rattle.std.proofs.Math.ListN.{set}
 use Rattle.std.proofs.lemmas.List.{take_more_set}
@@ -67,5 +67,5 @@ first_vectors-more n starts probabilities best above left vectors here start r s
 -- a part starts at one of the blocks up to each of its own
 pub are_starts-at : (block : ℕ) (starts : List ℕ) (k : ℕ) → are_starts block starts ≡ true → slice_index starts k ≤ block + k
 are_starts-at block [] k are = omega arith
-are_starts-at block (start ∷ starts) zero are = let here : start ≤ block = leb-true _ _ (and_parts _ _ are).0 in omega arith
-are_starts-at block (start ∷ starts) (suc k) are = let later = are_starts-at (suc block) starts k (and_parts _ _ are).1 in omega (arith, later)
+are_starts-at block (start ∷ starts) zero are = let here : start ≤ block = leb-true start block (and_parts (nat_le start block) (are_starts (suc block) starts) are).0 in omega arith
+are_starts-at block (start ∷ starts) (suc k) are = let rest : are_starts (suc block) starts ≡ true = (and_parts (nat_le start block) (are_starts (suc block) starts) are).1 in let later : slice_index starts k ≤ suc block + k = are_starts-at (suc block) starts k rest in omega arith

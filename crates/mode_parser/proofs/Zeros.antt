@@ -14,7 +14,7 @@ use Rattle.mode_parser.specs.declared.records.YMode.{YMode}
 use Rattle.mode_parser.specs.declared.records.YMode.TheVariants.{B}
 use Rattle.frame_header.specs.declared.header.Header.{Header}
 use Rattle.mode_parser.specs.declared.records.MbMode.{MbMode}
-use Rattle.mode_parser.specs.SubModes.{number_of, key_sub_mode, first_sub_modes}
+use Rattle.mode_parser.specs.SubModes.{number_of, mode_above, mode_left, key_sub_mode, first_sub_modes}
 use Rattle.mode_parser.specs.Records.{skip, key_y_mode, chroma_mode, no_sub_modes, key_sub_modes, key_mode}
 use Rattle.mode_parser.specs.FrameModes.{mode_at, first_modes}
 use Rattle.mode_parser.specs.KeyShape.{ReadsZeros, dc_record}
@@ -85,7 +85,8 @@ unfolding first_sub_modes
 first_sub_modes-zeros zero tables above left r zeros = record { same = refl; zeros = zeros }
 first_sub_modes-zeros (suc n) tables above left r zeros =
     let before = first_sub_modes-zeros n tables above left r zeros in
-    let here = key_sub_mode-zeros tables _ _ _ before.zeros in
+    let modes : List SubMode = (first_sub_modes n tables above left r).0 in
+    let here = key_sub_mode-zeros tables (mode_above above modes n) (mode_left left modes n) _ before.zeros in
     record { same = rw (here.same, before.same) (replicate-push n Dc); zeros = here.zeros }
 
 key_sub_modes-zeros : (y_mode : YMode) (tables : TableEntries) (above left : Option MbMode) (r : Reader) → y_mode ≡ B → ReadsZeros r → Gives (key_sub_modes y_mode tables above left r) no_sub_modes

@@ -1,4 +1,4 @@
-use crate::{MbMode, YMode, read_modes};
+use crate::{MbMode, Vector, YMode, read_modes};
 use bool_coder::Encoder;
 use frame_header::read_header;
 use intra_predict::{SubMode, WholeMode};
@@ -238,6 +238,7 @@ fn record_of(macroblock: &Written, skips: bool) -> MbMode {
         },
         sub_modes,
         uv_mode: WHOLE[macroblock.chroma % 4],
+        vectors: [Vector::ZERO; 16],
     }
 }
 
