@@ -1,3 +1,4 @@
 pub mod PlaceLemmas
 pub mod KeyLemmas
 pub mod UpdateLemmas
+pub mod InterLemmas

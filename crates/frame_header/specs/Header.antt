@@ -29,12 +29,16 @@ first_end start packet =
     if nat_lt (length packet - start.place) start.tag.first_partition then Err FirstPartition
     else Ok (start.place + start.tag.first_partition)
 
--- what is decoded so far: a key frame without segments and without a filter
-abbrev pub is_decoded : List ℕ → Fields → Bool
-is_decoded packet fields = has_key_tag packet && not fields.segmentation.is_enabled && fields.filter.level == 0
+-- what is decoded so far: a frame without segments and without a filter
+abbrev pub is_decoded : Fields → Bool
+is_decoded fields = not fields.segmentation.is_enabled && fields.filter.level == 0
 
--- a header of these parts. The frame leaves its context to the next, or, where refresh_entropy is 0, the context that
--- stood when that was read (RFC 6386, section 19.2)
+-- the context that a frame leaves for the next: its own, but where refresh_entropy is 0 with the four sets of
+-- probabilities that stood when that was read (RFC 6386, section 19.2)
+abbrev pub context_left : Context → TrailingFields → Context → Context
+context_left before trailing context = if trailing.refreshes_entropy then context else record context { probabilities = before.probabilities }
+
+-- a header of these parts
 abbrev pub header_in : Start → Fields × Context → ArrayVec Place → (TrailingFields × Context) × Reader → Header
 header_in start (fields, before) partitions ((trailing, context), reader) = record {
   is_key = start.tag.key;
@@ -47,12 +51,13 @@ header_in start (fields, before) partitions ((trailing, context), reader) = reco
   filter = fields.filter;
   adjusts_level = fields.adjusts_level;
   quantizers = trailing.quantizers;
+  references = trailing.references;
   refreshes_entropy = trailing.refreshes_entropy;
   skip_probability = trailing.skip_probability;
-  reference_probabilities = record { inter = 0; last = 0; golden = 0 };
+  reference_probabilities = trailing.reference_probabilities;
   partitions = partitions;
   context = context;
-  context_after = if trailing.refreshes_entropy then context else before;
+  context_after = context_left before trailing context;
   reader = reader;
 }
 
@@ -64,8 +69,8 @@ header_behind tables context packet start = do
   end ← first_end start packet
   let read = fields start.tag.key context (started (slice_range packet start.place end))
   partitions ← token_places packet end read.0.0.partition_count
-  if is_decoded packet read.0.0
-      then Ok (header_in start read.0 partitions (trailing_fields tables.updates read.0.1 read.1)) else Err NotYet
+  if is_decoded read.0.0
+      then Ok (header_in start read.0 partitions (trailing_fields start.tag.key tables.updates read.0.1 read.1)) else Err NotYet
 
 -- the header of a packet behind a context or none, or the first cause against it (RFC 6386, sections 9 and 19)
 unfoldable pub header_of : TableEntries → Option Context → List ℕ → Result Header Cause

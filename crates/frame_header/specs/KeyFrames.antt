@@ -5,6 +5,7 @@ use Rattle.frame_header.specs.declared.context.Context.{Context}
 use Rattle.frame_header.specs.declared.header.Header.{Header}
 use Rattle.frame_header.specs.Contexts.{default_probabilities}
 use Rattle.frame_header.specs.Header.{header_of}
+use Rattle.frame_header.specs.References.{all_refreshed}
 
 -- the header of a packet with a key tag is the same behind every context as behind none
 abbrev pub KeysTakeNoContext : Type 0
@@ -17,3 +18,7 @@ key_context_after tables header = if header.refreshes_entropy then header.contex
 -- each header of a packet with a key tag leaves that context
 abbrev pub KeysLeaveDefaults : Type 0
 KeysLeaveDefaults = (tables : TableEntries) (before : Option Context) (packet : List ℕ) → has_key_tag packet ≡ true → IfOk (header_of tables before packet) (λ header. header.context_after ≡ key_context_after tables header)
+
+-- each packet with a key tag becomes every reference (RFC 6386, section 9.7)
+abbrev pub KeysRefreshAll : Type 0
+KeysRefreshAll = (tables : TableEntries) (before : Option Context) (packet : List ℕ) → has_key_tag packet ≡ true → IfOk (header_of tables before packet) (λ header. header.references ≡ all_refreshed)

@@ -5,6 +5,11 @@ pub mod Header
 pub mod Places
 pub mod Start
 pub mod Tags
+pub mod Updates
+pub mod References
+pub mod InterFields
 pub mod TrailingFields
 pub mod Worked
 pub mod KeyFrames
+pub mod InterFrames
+pub mod WorkedInter

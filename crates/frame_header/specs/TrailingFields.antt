@@ -1,8 +1,13 @@
--- The fields of a key frame behind the number of token partitions.
-use Rattle.std.specs.Prelude.{ℕ, zero, suc, Option, Some, None, List, slice_index, slice_set, if◌then◌else◌}
+-- The fields behind the number of token partitions.
+use Rattle.std.specs.Prelude.{ℕ, Bool, Option, Some, None, List, if◌then◌else◌}
 use Rattle.bool_coder.specs.Reader.{read}
 use Rattle.bool_coder.specs.Reading.{Reading, ◌>>=◌, give, flag, literal, signed}
+use Rattle.frame_header.specs.Updates.{first_updated}
+use Rattle.frame_header.specs.References.{refreshes}
+use Rattle.frame_header.specs.InterFields.{no_reference_probabilities, inter_fields}
 use Rattle.frame_header.specs.declared.context.Context.{Context}
+use Rattle.frame_header.specs.declared.context.Probabilities.{Probabilities}
+use Rattle.frame_header.specs.declared.inter_fields.ReferenceProbabilities.{ReferenceProbabilities}
 use Rattle.frame_header.specs.declared.trailing_fields.Quantizers.{Quantizers}
 use Rattle.frame_header.specs.declared.trailing_fields.TrailingFields.{TrailingFields}
 
@@ -23,14 +28,6 @@ updated update before = do
   is_updated ← read update
   if is_updated then literal 8 else give before
 
--- the probabilities where so many of them, in index order, had their update (RFC 6386, section 13.4)
-unfoldable pub first_updated : ℕ → List ℕ → List ℕ → Reading (List ℕ)
-first_updated zero updates before = give before
-first_updated (suc place) updates before = do
-  done ← first_updated place updates before
-  here ← updated (slice_index updates place) (slice_index done place)
-  give (slice_set done place here)
-
 -- the probability that a macroblock is not skipped, where some may be (RFC 6386, section 9.11)
 unfoldable pub skip_probability : Reading (Option ℕ)
 skip_probability = do
@@ -39,11 +36,17 @@ skip_probability = do
     prob ← literal 8
     give (Some prob)) else give None
 
+-- the probabilities of the references, and the sets with their updates; a key frame has none of these (RFC 6386, section 9.10)
+abbrev pub behind_skip : Bool → Probabilities → Reading (ReferenceProbabilities × Probabilities)
+behind_skip is_key before = if is_key then give (no_reference_probabilities, before) else inter_fields before
+
 -- the fields in order, and the context with what they change of it (RFC 6386, section 19.2)
-unfoldable pub trailing_fields : List ℕ → Context → Reading (TrailingFields × Context)
-trailing_fields updates before = do
+unfoldable pub trailing_fields : Bool → List ℕ → Context → Reading (TrailingFields × Context)
+trailing_fields is_key updates before = do
   quantizers ← quantizers
-  refreshes ← flag
-  coefficients ← first_updated 1056 updates before.probabilities.coefficients
+  kept ← refreshes is_key before.sign_biases
+  coefficients ← first_updated updated 1056 updates before.probabilities.coefficients
   skip ← skip_probability
-  give (record { quantizers = quantizers; refreshes_entropy = refreshes; skip_probability = skip }, record before { probabilities = record before.probabilities { coefficients = coefficients } })
+  inter ← behind_skip is_key (record before.probabilities { coefficients = coefficients })
+  let trailing : TrailingFields = record { quantizers = quantizers; references = kept.0.references; refreshes_entropy = kept.0.refreshes_entropy; skip_probability = skip; reference_probabilities = inter.0 }
+  give (trailing, record before { probabilities = inter.1; sign_biases = kept.1 })

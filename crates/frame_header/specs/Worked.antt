@@ -3,6 +3,8 @@ use Rattle.vp8_tables.specs.Tables.{TableEntries}
 use Rattle.bool_coder.specs.Reader.{started}
 use Rattle.frame_header.specs.Contexts.{default_context}
 use Rattle.frame_header.specs.Fields.{fields}
+use Rattle.frame_header.specs.References.{all_refreshed}
+use Rattle.frame_header.specs.InterFields.{no_reference_probabilities}
 use Rattle.frame_header.specs.TrailingFields.{trailing_fields}
 use Rattle.frame_header.specs.declared.trailing_fields.TrailingFields.{TrailingFields}
 use Rattle.frame_header.specs.declared.context.Context.{Context}
@@ -52,8 +54,10 @@ worked_tables = record { coefficients = replicate 1056 128; updates = replicate 
 abbrev pub trailing_written : TrailingFields
 trailing_written = record {
   quantizers = record { y_ac_index = 53; y_dc_delta = negsuc 2; y2_dc_delta = pos 0; y2_ac_delta = pos 15; uv_dc_delta = negsuc 14; uv_ac_delta = pos 7 };
+  references = all_refreshed;
   refreshes_entropy = false;
   skip_probability = Some 77;
+  reference_probabilities = no_reference_probabilities;
 }
 
 -- the context behind them, of which the second and the last coefficient probability are new
@@ -66,7 +70,7 @@ trailing_context =
 abbrev pub trailing_read : TrailingFields × Context
 trailing_read =
     let read = fields true (default_context worked_tables) (started written_fields) in
-    (trailing_fields worked_tables.updates read.0.1 read.1).0
+    (trailing_fields true worked_tables.updates read.0.1 read.1).0
 
 -- the first partition of a key frame of the kind that is decoded, with refresh_entropy, as that encoder wrote it
 abbrev pub written_key_frame : List ℕ

@@ -1,4 +1,4 @@
-ghost use Rattle.std.specs.Prelude.{◌≡◌, ◌<◌, ◌≤◌, ◌+◌, length, IsTrue, IfOk, All};
+ghost use Rattle.std.specs.Prelude.{◌≡◌, ◌<◌, ◌≤◌, ◌+◌, false, length, IsTrue, IsSome, IfOk, All};
 ghost use Rattle.std.specs.Option.{option_copied};
 ghost use Rattle.frame_header.specs.Header.{first_end, is_decoded, header_of};
 ghost use Rattle.frame_header.specs.Tags.{has_key_tag};
@@ -8,8 +8,8 @@ use crate::context::{Context, first_context};
 use crate::fields::{Colors, Fields, Filter, Segmentation, read_fields};
 use crate::inter_fields::ReferenceProbabilities;
 use crate::places::{Place, token_places};
+use crate::references::ReferenceUpdates;
 use crate::start::{Start, start_of};
-use crate::tags::has_key_tag;
 use crate::trailing_fields::{Quantizers, read_trailing_fields};
 use arrayvec::ArrayVec;
 use bool_coder::Decoder;
@@ -38,6 +38,8 @@ pub struct Header<'a> {
     pub adjusts_level: bool,
     /// The quantizer index and its changes.
     pub quantizers: Quantizers,
+    /// What the frame does to the references behind it.
+    pub references: ReferenceUpdates,
     /// The probabilities of the frame are kept for the next one.
     pub refreshes_entropy: bool,
     /// The probability that a macroblock is not skipped; `None` where none is.
@@ -48,7 +50,8 @@ pub struct Header<'a> {
     pub partitions: ArrayVec<Place, 8>,
     /// The context for this frame.
     pub context: Context,
-    /// The context that the frame leaves for the next.
+    /// The context that the frame leaves for the next: its own, but where it does not refresh them
+    /// with the probabilities that stood before it.
     pub context_after: Context,
     /// The reader of the first partition behind these fields.
     pub reader: Decoder<'a>,
@@ -69,15 +72,15 @@ fn first_end(start: &Start, packet: &[u8]) -> Result<usize, Cause>
 }
 
 /// Whether a frame is of the kind that is decoded so far.
-fn is_decoded(packet: &[u8], fields: &Fields) -> bool
-    ensures { result ≡ is_decoded packet.now fields.now }
+fn is_decoded(fields: &Fields) -> bool
+    ensures { result ≡ is_decoded fields.now }
 {
-    has_key_tag(packet) && !fields.segmentation.is_enabled && fields.filter.level == 0
+    !fields.segmentation.is_enabled && fields.filter.level == 0
 }
 
 /// The header of a packet behind a context, or none where no key frame came before. An `Err` is
-/// the first cause, in the order of `Cause`, whose condition holds; `NotYet` is that of a packet
-/// without a key tag, with segments, or with a filter level above 0.
+/// the first cause, in the order of `Cause`, whose condition holds; `NotYet` is that of a frame
+/// with segments or with a filter level above 0.
 #[tactic(auto, unfolding(crate::specs::Header::header_of))]
 pub fn read_header<'a>(
     tables: &Tables,
@@ -89,25 +92,28 @@ pub fn read_header<'a>(
     ensures high { IfOk result (λ header. IsTrue header.is_key → (1 ≤ header.height) × (header.height ≤ 16383)) }
     ensures inside { IfOk result (λ header. All (λ place. place.start + place.length ≤ length packet.now) header.partitions.items) }
     ensures some { IfOk result (λ header. 0 < length header.partitions.items) }
-    ensures key { IfOk result (λ header. IsTrue header.is_key × IsTrue (has_key_tag packet.now)) }
-    ensures whole { IfOk result (λ _. 10 ≤ length packet.now) }
+    ensures key { IfOk result (λ header. header.is_key ≡ has_key_tag packet.now) }
+    ensures whole { IfOk result (λ header. IsTrue header.is_key → 10 ≤ length packet.now) }
+    ensures behind { IfOk result (λ header. header.is_key ≡ false → IsSome (option_copied context.entry)) }
 {
     let start = start_of(context, packet)?;
     let end = first_end(&start, packet)?;
+    let is_key = start.tag.key;
     let mut reader = Decoder::new(&packet[start.place..end]);
-    let mut context = first_context(tables, start.tag.key, context);
-    let fields = read_fields(&mut reader, start.tag.key, &mut context);
+    let mut context = first_context(tables, is_key, context);
+    let fields = read_fields(&mut reader, is_key, &mut context);
     let partitions = token_places(packet, end, fields.partition_count)?;
-    if !is_decoded(packet, &fields) {
+    if !is_decoded(&fields) {
         return Err(Cause::NotYet);
     }
+    let probabilities = context.probabilities;
+    let trailing = read_trailing_fields(&mut reader, is_key, tables.updates(), &mut context);
     let mut context_after = context;
-    let trailing = read_trailing_fields(&mut reader, tables.updates(), &mut context);
-    if trailing.refreshes_entropy {
-        context_after = context;
+    if !trailing.refreshes_entropy {
+        context_after.probabilities = probabilities;
     }
     Ok(Header {
-        is_key: start.tag.key,
+        is_key,
         version: start.tag.version,
         is_shown: start.tag.shown,
         width: start.width,
@@ -117,13 +123,10 @@ pub fn read_header<'a>(
         filter: fields.filter,
         adjusts_level: fields.adjusts_level,
         quantizers: trailing.quantizers,
+        references: trailing.references,
         refreshes_entropy: trailing.refreshes_entropy,
         skip_probability: trailing.skip_probability,
-        reference_probabilities: ReferenceProbabilities {
-            inter: 0,
-            last: 0,
-            golden: 0,
-        },
+        reference_probabilities: trailing.reference_probabilities,
         partitions,
         context,
         context_after,

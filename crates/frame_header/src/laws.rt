@@ -5,7 +5,9 @@ ghost use Rattle.bool_coder.specs.Reader.{started};
 ghost use Rattle.frame_header.specs.Fields.{fields};
 ghost use Rattle.frame_header.specs.Contexts.{default_context};
 ghost use Rattle.frame_header.specs.Header.{header_of};
-ghost use Rattle.frame_header.specs.KeyFrames.{KeysLeaveDefaults, KeysTakeNoContext};
+ghost use Rattle.frame_header.specs.KeyFrames.{KeysLeaveDefaults, KeysRefreshAll, KeysTakeNoContext};
+ghost use Rattle.frame_header.specs.InterFrames.{ProbabilitiesComeBack};
+ghost use Rattle.frame_header.specs.WorkedInter.{IsInterWritten, inter_before, inter_packet};
 ghost use Rattle.frame_header.specs.Worked.{IsKeyFrameWritten, behind_tag, key_frame_packet, worked_tables, written_fields, fields_written, context_written, trailing_read, trailing_written, trailing_context};
 ghost use Rattle.frame_header.specs.declared.cause.Cause.TheVariants.{ShortPacket, Version, StartCode, Size, NoKeyFrame, FirstPartition, TokenSizes, TokenPartition, NotYet};
 
@@ -28,6 +30,11 @@ pub fn worked_key_frame()
     ensures { IsOkAnd (header_of worked_tables None key_frame_packet) IsKeyFrameWritten }
 {}
 
+/// A frame that is no key frame is read to the end of its header.
+pub fn worked_inter_frame()
+    ensures { IsOkAnd (header_of worked_tables (Some inter_before) inter_packet) IsInterWritten }
+{}
+
 /// Each cause of a packet.
 #[tactic(auto, unfolding(crate::specs::Header::header_of))]
 pub fn worked_causes(tables: &Tables, context: &Context)
@@ -36,7 +43,7 @@ pub fn worked_causes(tables: &Tables, context: &Context)
     ensures start_code { header_of tables.now None (0x10 ∷ 0 ∷ 0 ∷ 0x9D ∷ 0x01 ∷ 0x2B ∷ 0 ∷ 0 ∷ 0x10 ∷ 0 ∷ []) ≡ Err StartCode }
     ensures size { header_of tables.now None (0x10 ∷ 0 ∷ 0 ∷ 0x9D ∷ 0x01 ∷ 0x2A ∷ 0 ∷ 0 ∷ 0x10 ∷ 0 ∷ []) ≡ Err Size }
     ensures no_key_frame { header_of tables.now None (0x11 ∷ 0 ∷ 0 ∷ []) ≡ Err NoKeyFrame }
-    ensures not_yet { header_of tables.now (Some context.now) (0x11 ∷ 0 ∷ 0 ∷ []) ≡ Err NotYet }
+    ensures later_segments { header_of tables.now (Some context.now) (0x31 ∷ 0 ∷ 0 ∷ 0x80 ∷ []) ≡ Err NotYet }
     ensures first_partition { header_of tables.now None (0x30 ∷ 0 ∷ 0 ∷ behind_tag) ≡ Err FirstPartition }
     ensures token_sizes { header_of tables.now None (0x50 ∷ 0 ∷ 0 ∷ behind_tag ++ 0 ∷ 1 ∷ []) ≡ Err TokenSizes }
     ensures token_partition { header_of tables.now None (0x50 ∷ 0 ∷ 0 ∷ behind_tag ++ 0 ∷ 1 ∷ 5 ∷ 0 ∷ 0 ∷ []) ≡ Err (TokenPartition 0) }
@@ -52,4 +59,14 @@ pub fn keys_leave_defaults()
 /// A key frame takes no context over: its header is the same whatever came before.
 pub fn keys_take_no_context()
     ensures { KeysTakeNoContext }
+{}
+
+/// A key frame becomes each of the references.
+pub fn keys_refresh_all()
+    ensures { KeysRefreshAll }
+{}
+
+/// Where a frame that is no key frame does not refresh them, the probabilities before it come back.
+pub fn probabilities_come_back()
+    ensures { ProbabilitiesComeBack }
 {}

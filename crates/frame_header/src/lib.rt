@@ -21,7 +21,7 @@ pub use fields::{Colors, Filter, Segmentation};
 pub use header::{Header, read_header};
 pub use inter_fields::ReferenceProbabilities;
 pub use places::Place;
-pub use references::Reference;
+pub use references::{Reference, ReferenceUpdates};
 pub use tag_fields::Tag;
 pub use tags::{has_key_tag, is_shown, key_size, tag};
 pub use trailing_fields::Quantizers;

@@ -1,4 +1,4 @@
-ghost use Rattle.std.specs.Prelude.{◌≡◌, ◌≤◌, length, IsTrue, IfOk};
+ghost use Rattle.std.specs.Prelude.{◌≡◌, ◌≤◌, false, length, IsTrue, IsSome, IfOk};
 ghost use Rattle.std.specs.Option.{option_copied};
 ghost use Rattle.frame_header.specs.Start.{key_start, later_start, start_of};
 ghost use Rattle.frame_header.specs.Tags.{has_key_tag};
@@ -43,6 +43,7 @@ fn key_start(tag: Tag, packet: &[u8]) -> Result<Start, Cause>
 fn later_start(tag: Tag, context: Option<&Context>) -> Result<Start, Cause>
     ensures value { result ≡ later_start tag (option_copied context.entry) }
     ensures place { IfOk result (λ start. start.place ≡ 3) }
+    ensures behind { IfOk result (λ start. IsSome (option_copied context.entry)) }
     ensures tag { IfOk result (λ start. start.tag ≡ tag) }
 {
     if context.is_none() {
@@ -63,6 +64,7 @@ pub(crate) fn start_of(context: Option<&Context>, packet: &[u8]) -> Result<Start
     ensures behind { IfOk result (λ start. start.place ≤ length packet.now) }
     ensures key { IfOk result (λ start. start.tag.key ≡ has_key_tag packet.now) }
     ensures whole { IfOk result (λ start. IsTrue start.tag.key → 10 ≤ length packet.now) }
+    ensures context { IfOk result (λ start. start.tag.key ≡ false → IsSome (option_copied context.entry)) }
     ensures wide { IfOk result (λ start. IsTrue start.tag.key → (1 ≤ start.width) × (start.width ≤ 16383)) }
     ensures high { IfOk result (λ start. IsTrue start.tag.key → (1 ≤ start.height) × (start.height ≤ 16383)) }
 {

@@ -1,11 +1,15 @@
-//! The fields of the first partition of a key frame behind the number of token partitions
-//! (RFC 6386, sections 9.6, 9.9, 9.11 and 19.2).
+//! The fields of the first partition behind the number of token partitions
+//! (RFC 6386, sections 9.6 to 9.11 and 19.2).
 
 ghost use Rattle.std.specs.Prelude.{◌≡◌};
-ghost use Rattle.frame_header.specs.TrailingFields.{quantizers, updated, first_updated, skip_probability, trailing_fields};
+ghost use Rattle.frame_header.specs.Updates.{first_updated};
+ghost use Rattle.frame_header.specs.InterFields.{no_reference_probabilities};
+ghost use Rattle.frame_header.specs.TrailingFields.{quantizers, updated, skip_probability, behind_skip, trailing_fields};
 
-use crate::context::Context;
+use crate::context::{Context, Probabilities};
 use crate::fields::read_signed;
+use crate::inter_fields::{ReferenceProbabilities, read_inter_fields};
+use crate::references::{ReferenceUpdates, read_refreshes};
 use bool_coder::Decoder;
 
 /// The quantizer index and what is added to it for each kind of coefficient
@@ -30,8 +34,10 @@ pub struct Quantizers {
 #[derive(Clone, Copy)]
 pub(crate) struct TrailingFields {
     pub(crate) quantizers: Quantizers,
+    pub(crate) references: ReferenceUpdates,
     pub(crate) refreshes_entropy: bool,
     pub(crate) skip_probability: Option<u8>,
+    pub(crate) reference_probabilities: ReferenceProbabilities,
 }
 
 #[tactic(auto, unfolding(crate::specs::TrailingFields::quantizers))]
@@ -68,7 +74,7 @@ fn read_updated(reader: &mut Decoder, update: u8, before: u8) -> u8
 }
 
 fn read_updates(reader: &mut Decoder, updates: &[u8; 1056], probabilities: &mut [u8; 1056])
-    ensures { first_updated 1056 updates.now probabilities.old reader.old ≡ (probabilities.new, reader.new) }
+    ensures { first_updated updated 1056 updates.now probabilities.old reader.old ≡ (probabilities.new, reader.new) }
 {
     // A copy of its own keeps the reader in registers.
     let mut local = reader.copied();
@@ -89,23 +95,53 @@ fn read_skip_probability(reader: &mut Decoder) -> Option<u8>
     }
 }
 
-/// The fields of a key frame behind the number of token partitions, with what they change of its
-/// context; `updates` has the probability of each update.
+/// The probabilities of a key frame's references, which it has none of.
+fn no_reference_probabilities() -> ReferenceProbabilities
+    ensures { result ≡ no_reference_probabilities }
+{
+    ReferenceProbabilities {
+        inter: 0,
+        last: 0,
+        golden: 0,
+    }
+}
+
+/// The fields behind the probability of skipping, of which a key frame has none.
+fn read_behind_skip(
+    reader: &mut Decoder,
+    is_key: bool,
+    probabilities: &mut Probabilities,
+) -> ReferenceProbabilities
+    ensures { behind_skip is_key probabilities.old reader.old ≡ ((result, probabilities.new), reader.new) }
+{
+    if is_key {
+        no_reference_probabilities()
+    } else {
+        read_inter_fields(reader, probabilities)
+    }
+}
+
+/// The fields behind the number of token partitions, of a key frame or another, with what they
+/// change of its context; `updates` has the probability of each update of a coefficient's.
 #[tactic(auto, unfolding(crate::specs::TrailingFields::trailing_fields))]
 pub(crate) fn read_trailing_fields(
     reader: &mut Decoder,
+    is_key: bool,
     updates: &[u8; 1056],
     context: &mut Context,
 ) -> TrailingFields
-    ensures { trailing_fields updates.now context.old reader.old ≡ ((result, context.new), reader.new) }
+    ensures { trailing_fields is_key updates.now context.old reader.old ≡ ((result, context.new), reader.new) }
 {
     let quantizers = read_quantizers(reader);
-    let refreshes_entropy = reader.flag();
+    let kept = read_refreshes(reader, is_key, &mut context.sign_biases);
     read_updates(reader, updates, &mut context.probabilities.coefficients);
     let skip_probability = read_skip_probability(reader);
+    let reference_probabilities = read_behind_skip(reader, is_key, &mut context.probabilities);
     TrailingFields {
         quantizers,
-        refreshes_entropy,
+        references: kept.references,
+        refreshes_entropy: kept.refreshes_entropy,
         skip_probability,
+        reference_probabilities,
     }
 }

@@ -9,7 +9,7 @@ use Rattle.std.specs.Int.{int_shr}
 use Rattle.transforms.proofs.Rows.{below_four}
 
 -- what the first pass leaves goes through 16 bits unchanged
-column_fits : (cs : List ℤ) (column row : ℕ) → SFits w16 (dct_column cs column row)
+pub column_fits : (cs : List ℤ) (column row : ℕ) → SFits w16 (dct_column cs column row)
 unfolding dct_column
 column_fits cs column row = SFits-int_wrap w16 _
 

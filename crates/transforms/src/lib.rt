@@ -4,7 +4,9 @@
 mod blocks;
 mod dct;
 mod factor_set;
+mod lanes;
 pub mod laws;
+
 mod quantisation;
 #[cfg(test)]
 mod tests;

@@ -18,7 +18,9 @@ pub use modes::{
 };
 pub use quantizers::{AC_QUANTIZERS, DC_QUANTIZERS};
 pub use tables::Tables;
-pub use vectors::{DEFAULT_VECTOR_PROBABILITIES, LONG_VECTOR_BITS, SHORT_VECTOR_TREE};
+pub use vectors::{
+    DEFAULT_VECTOR_PROBABILITIES, LONG_VECTOR_BITS, SHORT_VECTOR_TREE, VECTOR_UPDATE_PROBABILITIES,
+};
 
 #[cfg(test)]
 mod tests {

@@ -21,3 +21,15 @@ pub const SHORT_VECTOR_TREE: [i8; 14] = [2, 8, 4, 6, 0, -1, -2, -3, 10, 12, -4, 
 /// The bits of a long component's size in the order in which they are read, before bit 3, which
 /// comes last (RFC 6386, section 17.1).
 pub const LONG_VECTOR_BITS: [u8; 9] = [0, 1, 2, 9, 8, 7, 6, 5, 4];
+
+/// The probability that a frame changes each of them (RFC 6386, section 17.2), row, then column.
+pub const VECTOR_UPDATE_PROBABILITIES: [[u8; 19]; 2] = [
+    [
+        237, 246, 253, 253, 254, 254, 254, 254, 254, 254, 254, 254, 254, 254, 250, 250, 252, 254,
+        254,
+    ],
+    [
+        231, 243, 245, 253, 254, 254, 254, 254, 254, 254, 254, 254, 254, 254, 251, 251, 254, 254,
+        254,
+    ],
+];

@@ -6,9 +6,9 @@ use Rattle.bool_coder.specs.Reader.{read, renewed, trimmed}
 use Rattle.frame_header.specs.Places.{token_places}
 use Rattle.frame_header.proofs.laws.worked_causes.Goals as goal
 
-pub returns-clause-not_yet : goal.returns-clause-not_yet
-unfolding header_of fields partition_count adjustment filter segmentation colors literal more_bits read renewed trimmed token_places
-returns-clause-not_yet c = refl
+pub returns-clause-later_segments : goal.returns-clause-later_segments
+unfolding header_of fields partition_count adjustment filter segmentation segment_updates colors literal more_bits read renewed trimmed token_places
+returns-clause-later_segments c = refl
 
 pub returns-clause-token_sizes : goal.returns-clause-token_sizes
 unfolding header_of fields partition_count adjustment filter segmentation colors literal more_bits read renewed trimmed token_places

@@ -1,0 +1,78 @@
+//! The inverse DCT of a block, four of its columns or rows at once (RFC 6386, section 14.3).
+
+ghost use Rattle.std.specs.Prelude.{◌≡◌, map};
+ghost use Rattle.std.specs.List.{range_with_len};
+ghost use Rattle.transforms.specs.Transforms.{dct_column, inverse_dct};
+
+use std::simd::prelude::*;
+use std::simd::{i16x4, i32x4};
+
+/// 35468 less 65536, so that a product has 32 bits: the product by 35468 is more by the number
+/// itself in 65,536ths.
+const SINE: i32 = -30068;
+const COSINE: i32 = 20091;
+
+/// What the first pass leaves of the coefficients: each of the four columns, with its rows in lanes.
+/// Numbers of 16 bits wrap, and so each is reduced to its low 16 bits.
+#[inline]
+pub fn columns_passed(coefficients: &[i16; 16]) -> (i16x4, i16x4, i16x4, i16x4)
+    ensures first { result.0 ≡ map (dct_column coefficients.now 0) (range_with_len 0 4) }
+    ensures second { result.1 ≡ map (dct_column coefficients.now 1) (range_with_len 0 4) }
+    ensures third { result.2 ≡ map (dct_column coefficients.now 2) (range_with_len 0 4) }
+    ensures fourth { result.3 ≡ map (dct_column coefficients.now 3) (range_with_len 0 4) }
+{
+    let at = coefficients;
+    let i0 = i16x4::from_array([at[0], at[1], at[2], at[3]]);
+    let i1 = i16x4::from_array([at[4], at[5], at[6], at[7]]);
+    let i2 = i16x4::from_array([at[8], at[9], at[10], at[11]]);
+    let i3 = i16x4::from_array([at[12], at[13], at[14], at[15]]);
+    let (sine, cosine) = (i32x4::splat(SINE), i32x4::splat(COSINE));
+    let sixteen = i32x4::splat(16);
+    let sine1 = i1 + ((i1.cast::<i32>() * sine) >> sixteen).cast::<i16>();
+    let sine3 = i3 + ((i3.cast::<i32>() * sine) >> sixteen).cast::<i16>();
+    let cosine1 = i1 + ((i1.cast::<i32>() * cosine) >> sixteen).cast::<i16>();
+    let cosine3 = i3 + ((i3.cast::<i32>() * cosine) >> sixteen).cast::<i16>();
+    let (a, b) = (i0 + i2, i0 - i2);
+    let (c, d) = (sine1 - cosine3, cosine1 + sine3);
+    let (even0, even1) = (a + d).interleave(b - c);
+    let (odd0, odd1) = (b + c).interleave(a - d);
+    let (column0, column1) = even0.interleave(odd0);
+    let (column2, column3) = even1.interleave(odd1);
+    (column0, column1, column2, column3)
+}
+
+/// The residuals of a block with these coefficients: each of its four rows.
+#[inline]
+pub fn residuals(coefficients: &[i16; 16]) -> ([i16; 4], [i16; 4], [i16; 4], [i16; 4])
+    ensures first { result.0 ≡ map (λ column. inverse_dct coefficients.now column 0) (range_with_len 0 4) }
+    ensures second { result.1 ≡ map (λ column. inverse_dct coefficients.now column 1) (range_with_len 0 4) }
+    ensures third { result.2 ≡ map (λ column. inverse_dct coefficients.now column 2) (range_with_len 0 4) }
+    ensures fourth { result.3 ≡ map (λ column. inverse_dct coefficients.now column 3) (range_with_len 0 4) }
+{
+    let (i0, i1, i2, i3) = columns_passed(coefficients);
+    let (i0, i2) = (i0.cast::<i32>(), i2.cast::<i32>());
+    let (i1, i3) = (i1.cast::<i32>(), i3.cast::<i32>());
+    let (sine, cosine) = (i32x4::splat(SINE), i32x4::splat(COSINE));
+    let sixteen = i32x4::splat(16);
+    let sine1 = i1 + ((i1 * sine) >> sixteen);
+    let sine3 = i3 + ((i3 * sine) >> sixteen);
+    let cosine1 = i1 + ((i1 * cosine) >> sixteen);
+    let cosine3 = i3 + ((i3 * cosine) >> sixteen);
+    let (a, b) = (i0 + i2, i0 - i2);
+    let (c, d) = (sine1 - cosine3, cosine1 + sine3);
+    let (half, three) = (i32x4::splat(4), i32x4::splat(3));
+    let column0 = ((a + d + half) >> three).cast::<i16>();
+    let column1 = ((b + c + half) >> three).cast::<i16>();
+    let column2 = ((b - c + half) >> three).cast::<i16>();
+    let column3 = ((a - d + half) >> three).cast::<i16>();
+    let (even0, even1) = column0.interleave(column2);
+    let (odd0, odd1) = column1.interleave(column3);
+    let (row0, row1) = even0.interleave(odd0);
+    let (row2, row3) = even1.interleave(odd1);
+    (
+        row0.to_array(),
+        row1.to_array(),
+        row2.to_array(),
+        row3.to_array(),
+    )
+}
