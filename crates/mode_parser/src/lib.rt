@@ -6,6 +6,8 @@ mod chroma_vectors;
 mod frame_modes;
 mod frame_records;
 mod inter_modes;
+#[cfg(test)]
+mod inter_tests;
 mod key_modes;
 mod key_sub_modes;
 pub mod laws;

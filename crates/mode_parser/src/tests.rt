@@ -39,7 +39,7 @@ const CHROMA_BITS: [&[(bool, u8)]; 4] = [
 ];
 
 /// The bits of each sub mode, in the order of `SUB`, and the node of each bit (section 11.2).
-const SUB_BITS: [(&[u8], &[u8]); 10] = [
+pub(crate) const SUB_BITS: [(&[u8], &[u8]); 10] = [
     (b"0", b"0"),
     (b"10", b"01"),
     (b"110", b"012"),
