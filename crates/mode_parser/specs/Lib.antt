@@ -8,3 +8,4 @@ pub mod InterRecords
 pub mod ChromaVectors
 pub mod FrameModes
 pub mod KeyShape
+pub mod Worked
