@@ -1,15 +1,19 @@
 -- One sub block more, and one macroblock more
-use Rattle.std.proofs.Common.{◌≡◌, ℕ, suc, ◌+◌, ◌<◌, List, [], ◌∷◌, ◌++◌, length, take, refl, add-one}
-use Rattle.std.specs.Prelude.{Option}
+use Rattle.std.proofs.Common.{◌≡◌, ℕ, zero, suc, ◌+◌, ◌<◌, ◌≤◌, true, List, [], ◌∷◌, ◌++◌, length, take, refl, add-one, arith}
+use Rattle.std.specs.Prelude.{Option, slice_index, nat_le}
+use Rattle.std.proofs.lemmas.Bool.{and_parts, leb-true}
 use Rattle.std.proofs.Math.ListN.{set}
 use Rattle.std.proofs.lemmas.List.{take_more_set}
 use Rattle.bool_coder.specs.Reader.{Reader}
 use Rattle.vp8_tables.specs.Tables.{TableEntries}
 use Rattle.intra_predict.specs.declared.modes.SubMode.{SubMode}
 use Rattle.mode_parser.specs.declared.records.MbMode.{MbMode}
-use Rattle.mode_parser.specs.SubModes.{mode_above, mode_left, key_sub_mode, first_sub_modes}
-use Rattle.mode_parser.specs.Records.{key_mode}
-use Rattle.mode_parser.specs.FrameModes.{record_above, record_left, first_modes}
+use Rattle.vp8_tables.specs.declared.modes.TheConstants.{INTER_SUB_PROBABILITIES}
+use Rattle.mode_parser.specs.Vectors.{MotionVector}
+use Rattle.mode_parser.specs.SubModes.{mode_above, mode_left, sub_mode, key_sub_mode, first_sub_modes}
+use Rattle.mode_parser.specs.InterRecords.{first_inter_sub_modes, block_vector, first_vectors, are_starts}
+use Rattle.frame_header.specs.declared.header.Header.{Header}
+use Rattle.mode_parser.specs.FrameModes.{mode_at, first_modes}
 
 pub first_sub_modes-none : (tables : TableEntries) (above left : Option MbMode) (start : Reader) → first_sub_modes 0 tables above left start ≡ ([], start)
 unfolding first_sub_modes
@@ -24,14 +28,44 @@ pub first_sub_modes-more : (n : ℕ) (tables : TableEntries) (above left : Optio
 first_sub_modes-more n tables above left modes mode start r s below done told =
     rw (take_more_set modes n mode below, add-one) (first_sub_modes-suc n tables above left (take n modes) mode start r s done told)
 
-pub first_modes-none : (tables : TableEntries) (skip_probability : Option ℕ) (columns : ℕ) (start : Reader) → first_modes 0 tables skip_probability columns start ≡ ([], start)
+pub first_modes-none : (tables : TableEntries) (header : Header) (columns rows : ℕ) (start : Reader) → first_modes 0 tables header columns rows start ≡ ([], start)
 unfolding first_modes
-first_modes-none tables skip_probability columns start = refl
+first_modes-none tables header columns rows start = refl
 
-first_modes-suc : (place : ℕ) (tables : TableEntries) (skip_probability : Option ℕ) (columns : ℕ) (before : List MbMode) (mode : MbMode) (start r s : Reader) → first_modes place tables skip_probability columns start ≡ (before, r) → key_mode tables skip_probability (record_above before columns place) (record_left before columns place) r ≡ (mode, s) → first_modes (suc place) tables skip_probability columns start ≡ (before ++ mode ∷ [], s)
+first_modes-suc : (place : ℕ) (tables : TableEntries) (header : Header) (columns rows : ℕ) (before : List MbMode) (mode : MbMode) (start r s : Reader) → first_modes place tables header columns rows start ≡ (before, r) → mode_at tables header columns rows place before r ≡ (mode, s) → first_modes (suc place) tables header columns rows start ≡ (before ++ mode ∷ [], s)
 unfolding first_modes
-first_modes-suc place tables skip_probability columns before mode start r s done told = rw (done, told) refl
+first_modes-suc place tables header columns rows before mode start r s done told = rw (done, told) refl
 
-pub first_modes-more : (place : ℕ) (tables : TableEntries) (skip_probability : Option ℕ) (columns : ℕ) (before : List MbMode) (mode : MbMode) (start r s : Reader) → first_modes place tables skip_probability columns start ≡ (before, r) → key_mode tables skip_probability (record_above before columns place) (record_left before columns place) r ≡ (mode, s) → first_modes (place + 1) tables skip_probability columns start ≡ (before ++ mode ∷ [], s)
-first_modes-more place tables skip_probability columns before mode start r s done told =
-    rw add-one (first_modes-suc place tables skip_probability columns before mode start r s done told)
+pub first_modes-more : (place : ℕ) (tables : TableEntries) (header : Header) (columns rows : ℕ) (before : List MbMode) (mode : MbMode) (start r s : Reader) → length before ≡ place → first_modes place tables header columns rows start ≡ (before, r) → mode_at tables header columns rows (length before) before r ≡ (mode, s) → first_modes (place + 1) tables header columns rows start ≡ (before ++ mode ∷ [], s)
+first_modes-more place tables header columns rows before mode start r s count done told =
+    rw add-one (first_modes-suc place tables header columns rows before mode start r s done (rw (← count) told))
+
+pub first_inter_sub_modes-none : (start : Reader) → first_inter_sub_modes 0 start ≡ ([], start)
+unfolding first_inter_sub_modes
+first_inter_sub_modes-none start = refl
+
+first_inter_sub_modes-suc : (n : ℕ) (before : List SubMode) (mode : SubMode) (start r s : Reader) → first_inter_sub_modes n start ≡ (before, r) → sub_mode INTER_SUB_PROBABILITIES r ≡ (mode, s) → first_inter_sub_modes (suc n) start ≡ (before ++ mode ∷ [], s)
+unfolding first_inter_sub_modes
+first_inter_sub_modes-suc n before mode start r s done told = rw (done, told) refl
+
+pub first_inter_sub_modes-more : (n : ℕ) (modes : List SubMode) (mode : SubMode) (start r s : Reader) → n < length modes → first_inter_sub_modes n start ≡ (take n modes, r) → sub_mode INTER_SUB_PROBABILITIES r ≡ (mode, s) → first_inter_sub_modes (n + 1) start ≡ (take (n + 1) (set modes n mode), s)
+first_inter_sub_modes-more n modes mode start r s below done told =
+    rw (take_more_set modes n mode below, add-one) (first_inter_sub_modes-suc n (take n modes) mode start r s done told)
+
+pub first_vectors-none : (starts : List ℕ) (probabilities : List (List ℕ)) (best : MotionVector) (above left : Option MbMode) (start : Reader) → first_vectors 0 starts probabilities best above left start ≡ ([], start)
+unfolding first_vectors
+first_vectors-none starts probabilities best above left start = refl
+
+first_vectors-suc : (n : ℕ) (starts : List ℕ) (probabilities : List (List ℕ)) (best : MotionVector) (above left : Option MbMode) (before : List MotionVector) (here : MotionVector) (start r s : Reader) → first_vectors n starts probabilities best above left start ≡ (before, r) → block_vector (slice_index starts n) probabilities best above left before n r ≡ (here, s) → first_vectors (suc n) starts probabilities best above left start ≡ (before ++ here ∷ [], s)
+unfolding first_vectors
+first_vectors-suc n starts probabilities best above left before here start r s done told = rw (done, told) refl
+
+pub first_vectors-more : (n : ℕ) (starts : List ℕ) (probabilities : List (List ℕ)) (best : MotionVector) (above left : Option MbMode) (vectors : List MotionVector) (here : MotionVector) (start r s : Reader) → n < length vectors → first_vectors n starts probabilities best above left start ≡ (take n vectors, r) → block_vector (slice_index starts n) probabilities best above left (take n vectors) n r ≡ (here, s) → first_vectors (n + 1) starts probabilities best above left start ≡ (take (n + 1) (set vectors n here), s)
+first_vectors-more n starts probabilities best above left vectors here start r s below done told =
+    rw (take_more_set vectors n here below, add-one) (first_vectors-suc n starts probabilities best above left (take n vectors) here start r s done told)
+
+-- a part starts at one of the blocks up to each of its own
+pub are_starts-at : (block : ℕ) (starts : List ℕ) (k : ℕ) → are_starts block starts ≡ true → slice_index starts k ≤ block + k
+are_starts-at block [] k are = omega arith
+are_starts-at block (start ∷ starts) zero are = let here : start ≤ block = leb-true start block (and_parts (nat_le start block) (are_starts (suc block) starts) are).0 in omega arith
+are_starts-at block (start ∷ starts) (suc k) are = let rest : are_starts (suc block) starts ≡ true = (and_parts (nat_le start block) (are_starts (suc block) starts) are).1 in let later : slice_index starts k ≤ suc block + k = are_starts-at (suc block) starts k rest in omega arith

@@ -12,13 +12,14 @@ use Rattle.intra_predict.specs.declared.modes.SubMode.{SubMode}
 use Rattle.intra_predict.specs.declared.modes.SubMode.TheVariants.{Dc}
 use Rattle.mode_parser.specs.declared.records.YMode.{YMode}
 use Rattle.mode_parser.specs.declared.records.YMode.TheVariants.{B}
+use Rattle.frame_header.specs.declared.header.Header.{Header}
 use Rattle.mode_parser.specs.declared.records.MbMode.{MbMode}
-use Rattle.mode_parser.specs.SubModes.{number_of, key_sub_mode, first_sub_modes}
-use Rattle.mode_parser.specs.Records.{skip, key_y_mode, key_uv_mode, no_sub_modes, key_sub_modes, key_mode}
-use Rattle.mode_parser.specs.FrameModes.{first_modes}
+use Rattle.mode_parser.specs.SubModes.{number_of, mode_above, mode_left, key_sub_mode, first_sub_modes}
+use Rattle.mode_parser.specs.Records.{skip, key_y_mode, chroma_mode, no_sub_modes, key_sub_modes, key_mode}
+use Rattle.mode_parser.specs.FrameModes.{mode_at, first_modes}
 use Rattle.mode_parser.specs.KeyShape.{ReadsZeros, dc_record}
 use Rattle.mode_parser.proofs.KeyShapes.{replicate-push}
-use Rattle.mode_parser.proofs.KeyTrees.{key_sub_mode-leaf, key_y_mode-leaf, key_uv_mode-leaf}
+use Rattle.mode_parser.proofs.KeyTrees.{sub_mode-leaf, key_y_mode-leaf, chroma_mode-leaf}
 use Rattle.mode_parser.proofs.Walks.{leaf_below-end}
 
 next-zero : (rest : List ℕ) → list_all (λ bit. bit == 0) rest ≡ true → next_bit rest ≡ 0
@@ -70,21 +71,22 @@ key_y_mode-zeros : (r : Reader) → ReadsZeros r → Gives (key_y_mode r) B
 key_y_mode-zeros r zeros =
     gives _ _ _ (key_y_mode-leaf _ _ _ (leaf_below-end 7 KEY_Y_TREE KEY_Y_PROBABILITIES 0 _ _ _ false (read-false 145 r zeros) refl refl)) (read-zeros 145 r zeros).zeros
 
-key_uv_mode-zeros : (r : Reader) → ReadsZeros r → Gives (key_uv_mode r) WholeDc
+key_uv_mode-zeros : (r : Reader) → ReadsZeros r → Gives (chroma_mode KEY_UV_PROBABILITIES r) WholeDc
 key_uv_mode-zeros r zeros =
-    gives _ _ _ (key_uv_mode-leaf _ _ _ (leaf_below-end 5 UV_TREE KEY_UV_PROBABILITIES 0 _ _ _ false (read-false 142 r zeros) refl refl)) (read-zeros 142 r zeros).zeros
+    gives _ _ _ (chroma_mode-leaf _ _ _ _ (leaf_below-end 5 UV_TREE KEY_UV_PROBABILITIES 0 _ _ _ false (read-false 142 r zeros) refl refl)) (read-zeros 142 r zeros).zeros
 
 key_sub_mode-zeros : (tables : TableEntries) (above left : SubMode) (r : Reader) → ReadsZeros r → Gives (key_sub_mode tables above left r) Dc
 key_sub_mode-zeros tables above left r zeros =
     let prob : ℕ = slice_index (key_sub_nodes_of tables (number_of above) (number_of left)) 0 in
-    gives _ _ _ (key_sub_mode-leaf tables above left _ _ _ _ _ _ refl refl refl (leaf_below-end 17 SUB_TREE _ 0 _ _ _ false (read-false prob r zeros) refl refl)) (read-zeros prob r zeros).zeros
+    gives _ _ _ (sub_mode-leaf _ _ _ _ (leaf_below-end 17 SUB_TREE _ 0 _ _ _ false (read-false prob r zeros) refl refl)) (read-zeros prob r zeros).zeros
 
 first_sub_modes-zeros : (n : ℕ) (tables : TableEntries) (above left : Option MbMode) (r : Reader) → ReadsZeros r → Gives (first_sub_modes n tables above left r) (replicate n Dc)
 unfolding first_sub_modes
 first_sub_modes-zeros zero tables above left r zeros = record { same = refl; zeros = zeros }
 first_sub_modes-zeros (suc n) tables above left r zeros =
     let before = first_sub_modes-zeros n tables above left r zeros in
-    let here = key_sub_mode-zeros tables _ _ _ before.zeros in
+    let modes : List SubMode = (first_sub_modes n tables above left r).0 in
+    let here = key_sub_mode-zeros tables (mode_above above modes n) (mode_left left modes n) _ before.zeros in
     record { same = rw (here.same, before.same) (replicate-push n Dc); zeros = here.zeros }
 
 key_sub_modes-zeros : (y_mode : YMode) (tables : TableEntries) (above left : Option MbMode) (r : Reader) → y_mode ≡ B → ReadsZeros r → Gives (key_sub_modes y_mode tables above left r) no_sub_modes
@@ -100,10 +102,13 @@ key_mode-zeros tables skip_probability above left r zeros =
     let chroma = key_uv_mode-zeros _ subs.zeros in
     record { same = rw (skipped.same, subs.same, chroma.same, luma.same) refl; zeros = chroma.zeros }
 
-pub first_modes-zeros : (count : ℕ) (tables : TableEntries) (skip_probability : Option ℕ) (columns : ℕ) (r : Reader) → ReadsZeros r → Gives (first_modes count tables skip_probability columns r) (replicate count dc_record)
+mode_at-zeros : (tables : TableEntries) (header : Header) (columns rows place : ℕ) (before : List MbMode) (r : Reader) → header.is_key ≡ true → ReadsZeros r → Gives (mode_at tables header columns rows place before r) dc_record
+mode_at-zeros tables header columns rows place before r key zeros = rw key (key_mode-zeros tables header.skip_probability _ _ r zeros)
+
+pub first_modes-zeros : (count : ℕ) (tables : TableEntries) (header : Header) (columns rows : ℕ) (r : Reader) → header.is_key ≡ true → ReadsZeros r → Gives (first_modes count tables header columns rows r) (replicate count dc_record)
 unfolding first_modes
-first_modes-zeros zero tables skip_probability columns r zeros = record { same = refl; zeros = zeros }
-first_modes-zeros (suc count) tables skip_probability columns r zeros =
-    let before = first_modes-zeros count tables skip_probability columns r zeros in
-    let here = key_mode-zeros tables skip_probability _ _ _ before.zeros in
+first_modes-zeros zero tables header columns rows r key zeros = record { same = refl; zeros = zeros }
+first_modes-zeros (suc count) tables header columns rows r key zeros =
+    let before = first_modes-zeros count tables header columns rows r key zeros in
+    let here = mode_at-zeros tables header columns rows count _ _ key before.zeros in
     record { same = rw (here.same, before.same) (replicate-push count dc_record); zeros = here.zeros }

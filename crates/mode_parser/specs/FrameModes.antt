@@ -1,10 +1,12 @@
--- The modes of a key frame: one record for each macroblock, in raster order.
-use Rattle.std.specs.Prelude.{ℕ, zero, suc, ◌-◌, ◌*◌, ◌%◌, ◌==◌, nat_lt, Option, None, List, [], ◌∷◌, ◌++◌, map, slice_get, if◌then◌else◌}
+-- The modes of a frame: one record for each macroblock, in raster order.
+use Rattle.std.specs.Prelude.{ℕ, zero, suc, ◌+◌, ◌-◌, ◌*◌, ◌/◌, ◌%◌, ◌==◌, ◌||◌, nat_lt, Bool, true, false, Option, Some, None, List, [], ◌∷◌, ◌++◌, replicate, slice_get, if◌then◌else◌}
 use Rattle.bool_coder.specs.Reading.{Reading, ◌>>=◌, give}
 use Rattle.vp8_tables.specs.Tables.{TableEntries}
 use Rattle.frame_header.specs.declared.header.Header.{Header}
 use Rattle.mode_parser.specs.declared.records.MbMode.{MbMode}
+use Rattle.mode_parser.specs.declared.nearby.MbPlace.{MbPlace}
 use Rattle.mode_parser.specs.Records.{key_mode}
+use Rattle.mode_parser.specs.InterRecords.{inter_mode}
 
 -- the records above and to the left of a place, among those before it in a frame of so many columns
 abbrev pub record_above : List MbMode → ℕ → ℕ → Option MbMode
@@ -13,22 +15,42 @@ record_above before columns place = if nat_lt place columns then None else slice
 abbrev pub record_left : List MbMode → ℕ → ℕ → Option MbMode
 record_left before columns place = if place % columns == 0 then None else slice_get before (place - 1)
 
+abbrev pub record_above_left : List MbMode → ℕ → ℕ → Option MbMode
+record_above_left before columns place = if nat_lt place columns || place % columns == 0 then None else slice_get before (place - columns - 1)
+
+abbrev pub place_of : ℕ → ℕ → ℕ → MbPlace
+place_of columns rows place = record { column = place % columns; row = place / columns; columns = columns; rows = rows }
+
+-- the record at a place below and to the right of those before it, in a frame of either kind
+abbrev pub mode_at : TableEntries → Header → ℕ → ℕ → ℕ → List MbMode → Reading MbMode
+mode_at tables header columns rows place before =
+    let above = record_above before columns place in
+    let left = record_left before columns place in
+    if header.is_key then key_mode tables header.skip_probability above left
+    else inter_mode header (place_of columns rows place) above left (record_above_left before columns place)
+
 -- the records of the first macroblocks, in raster order
-unfoldable pub first_modes : ℕ → TableEntries → Option ℕ → ℕ → Reading (List MbMode)
-first_modes zero tables skip_probability columns = give []
-first_modes (suc place) tables skip_probability columns = do
-  before ← first_modes place tables skip_probability columns
-  mode ← key_mode tables skip_probability (record_above before columns place) (record_left before columns place)
+unfoldable pub first_modes : ℕ → TableEntries → Header → ℕ → ℕ → Reading (List MbMode)
+first_modes zero tables header columns rows = give []
+first_modes (suc place) tables header columns rows = do
+  before ← first_modes place tables header columns rows
+  mode ← mode_at tables header columns rows place before
   give (before ++ mode ∷ [])
+
+-- the segment map behind a frame without segments: zeros behind a key frame, and else that before it (section 9.3)
+abbrev pub map_behind : Bool → ℕ → Option (List ℕ) → List ℕ
+map_behind true count before = replicate count 0
+map_behind false count None = replicate count 0
+map_behind false count (Some before) = before
 
 -- the records of a frame, and the segment of each macroblock behind it
 pub record FrameModes : Type 0 where
   pub records : List MbMode
   pub segment_map : List ℕ
 
-abbrev pub frame_of : List MbMode → FrameModes
-frame_of records = record { records = records; segment_map = map (λ m. m.segment) records }
-
--- the modes of a key frame without segments, of so many macroblocks each way (section 19.3)
-abbrev pub modes_of : TableEntries → Header → ℕ → ℕ → FrameModes
-modes_of tables header columns rows = frame_of (first_modes (columns * rows) tables header.skip_probability columns header.reader).0
+-- the modes of a frame without segments, of so many macroblocks each way, behind a segment map (section 19.3)
+abbrev pub modes_of : TableEntries → Header → ℕ → ℕ → Option (List ℕ) → FrameModes
+modes_of tables header columns rows before = record {
+  records = (first_modes (columns * rows) tables header columns rows header.reader).0;
+  segment_map = map_behind header.is_key (columns * rows) before;
+}

@@ -1,4 +1,11 @@
 pub mod SubModes
+pub mod Vectors
 pub mod Records
+pub mod NearVectors
+pub mod Neighbours
+pub mod VectorReading
+pub mod InterRecords
+pub mod ChromaVectors
 pub mod FrameModes
 pub mod KeyShape
+pub mod Worked

@@ -9,7 +9,7 @@ use Rattle.intra_predict.specs.declared.modes.WholeMode.TheVariants.{Dc as Whole
 use Rattle.intra_predict.specs.declared.modes.SubMode.{SubMode}
 use Rattle.intra_predict.specs.declared.modes.SubMode.TheVariants.{Dc, Tm, Ve, He, Ld, Rd, Vr, Vl, Hd, Hu}
 use Rattle.mode_parser.specs.declared.records.YMode.{YMode}
-use Rattle.mode_parser.specs.declared.records.YMode.TheVariants.{Whole, B}
+use Rattle.mode_parser.specs.declared.records.YMode.TheVariants.{Whole, B, Inter}
 use Rattle.mode_parser.specs.declared.records.MbMode.{MbMode}
 
 -- the modes of sub blocks in the order of their numbers, which are the leaves of their tree (section 11.2)
@@ -39,10 +39,12 @@ counterpart V = Ve
 counterpart H = He
 counterpart WholeTm = Tm
 
--- the mode of sub block n of a macroblock, as its neighbours take it; outside the frame it is DC (section 11.3)
+-- the mode of sub block n of a macroblock, as its neighbours take it; outside the frame it is DC (section 11.3). No macroblock
+-- of a key frame has a reference
 abbrev pub counted_mode : YMode → List SubMode → ℕ → SubMode
 counted_mode (Whole mode) modes n = counterpart mode
 counted_mode B modes n = slice_index_or modes n Dc
+counted_mode (Inter reference mode) modes n = Dc
 
 abbrev pub context_in : Option MbMode → ℕ → SubMode
 context_in None n = Dc
@@ -56,11 +58,15 @@ mode_above above before n = if nat_lt n 4 then context_in above (n + 12) else sl
 abbrev pub mode_left : Option MbMode → List SubMode → ℕ → SubMode
 mode_left left before n = if n % 4 == 0 then context_in left (n + 3) else slice_index_or before (n - 1) Dc
 
--- the mode of a sub block below and to the right of these (section 11.3)
-unfoldable pub key_sub_mode : TableEntries → SubMode → SubMode → Reading SubMode
-key_sub_mode tables above left = do
-  number ← leaf SUB_TREE (key_sub_nodes_of tables (number_of above) (number_of left))
+-- a mode by the probabilities of the tree's nodes (section 11.2)
+unfoldable pub sub_mode : List ℕ → Reading SubMode
+sub_mode nodes = do
+  number ← leaf SUB_TREE nodes
   give (sub_mode_of number)
+
+-- the mode of a sub block below and to the right of these (section 11.3)
+abbrev pub key_sub_mode : TableEntries → SubMode → SubMode → Reading SubMode
+key_sub_mode tables above left = sub_mode (key_sub_nodes_of tables (number_of above) (number_of left))
 
 -- the modes of the first n sub blocks, in raster order
 unfoldable pub first_sub_modes : ℕ → TableEntries → Option MbMode → Option MbMode → Reading (List SubMode)

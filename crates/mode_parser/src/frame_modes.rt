@@ -1,9 +1,10 @@
 //! The modes of a frame.
 
-ghost use Rattle.std.specs.Prelude.{◌≡◌, ◌≤◌, ◌*◌, length, map, IfOk, IsTrue};
-ghost use Rattle.mode_parser.specs.FrameModes.{modes_of};
+ghost use Rattle.std.specs.Prelude.{◌≡◌, ◌≤◌, ◌*◌, false, length, IfOk, IsSomeAnd};
+ghost use Rattle.std.specs.Option.{option_copied};
+ghost use Rattle.mode_parser.specs.FrameModes.{map_behind, modes_of};
 
-use crate::key_modes::read_records;
+use crate::frame_records::read_records;
 use crate::records::MbMode;
 use bool_coder::NoMemory;
 use frame_header::Header;
@@ -42,34 +43,43 @@ impl Modes {
     }
 }
 
-/// The segments that stand in the records.
-fn segment_map(alloc: Global, records: &[MbMode]) -> Result<Vec<u8>, NoMemory>
-    ensures { IfOk result (λ segments. segments.items ≡ map (λ m. m.segment) records.now) }
+/// The segment map behind a frame without segments: zeros behind a key frame, and else that before
+/// it.
+fn segment_map(
+    alloc: Global,
+    is_key: bool,
+    count: usize,
+    before: Option<&[u8]>,
+) -> Result<Vec<u8>, NoMemory>
+    ensures { IfOk result (λ segments. segments.items ≡ map_behind is_key count (option_copied before.entry)) }
 {
-    records.iter().map(|record| record.segment).collect(alloc)
+    match before {
+        Some(before) if !is_key => before.to_vec(alloc),
+        _ => vec![in alloc; 0; count],
+    }
 }
 
-/// The modes of a key frame without segments that has `columns` by `rows` macroblocks, each 1 to
-/// 1,024 (RFC 6386, section 19.3): one record for each, in raster order, and a segment map of
-/// zeros. No key frame looks at `_map`, the segment map before it. `NoMemory` where room for the
-/// records or for the map is refused.
+/// The modes of a frame without segments that has `columns` by `rows` macroblocks, each 1 to 1,024
+/// (RFC 6386, section 19.3): one record for each, in raster order, and the segment map behind the
+/// frame. `map` is the segment map before it, of one segment for each macroblock; no key frame
+/// looks at it. `NoMemory` where room for the records or for the map is refused.
 pub fn read_modes(
     alloc: Global,
     tables: &Tables,
     header: &Header,
     columns: usize,
     rows: usize,
-    _map: Option<&[u8]>,
+    map: Option<&[u8]>,
 ) -> Result<Modes, NoMemory>
-    requires key { IsTrue header.now.is_key }
     requires wide { (1 ≤ columns) × (columns ≤ 1024) }
     requires high { (1 ≤ rows) × (rows ≤ 1024) }
-    ensures value { IfOk result (λ modes. modes ≡ modes_of tables.now header.now columns rows) }
+    requires map { header.now.is_key ≡ false → IsSomeAnd (option_copied map) (λ before. length before ≡ columns * rows) }
+    ensures value { IfOk result (λ modes. modes ≡ modes_of tables.now header.now columns rows (option_copied map.entry)) }
     ensures count { IfOk result (λ modes. length modes.records ≡ columns * rows) }
+    ensures segments { IfOk result (λ modes. length modes.segment_map ≡ columns * rows) }
 {
-    let probability = header.skip_probability;
-    let records = read_records(alloc, &header.reader, tables, probability, columns, rows)?;
-    let segment_map = segment_map(alloc, &records)?;
+    let records = read_records(alloc, tables, header, columns, rows)?;
+    let segment_map = segment_map(alloc, header.is_key, columns * rows, map)?;
     Ok(Modes {
         records,
         segment_map,

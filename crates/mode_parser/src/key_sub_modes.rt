@@ -1,8 +1,8 @@
 //! The modes of a macroblock's sub blocks in a key frame.
 
-ghost use Rattle.std.specs.Prelude.{◌≡◌, ◌<◌, take};
+ghost use Rattle.std.specs.Prelude.{◌≡◌, ◌<◌, length, take};
 ghost use Rattle.std.specs.Option.{option_copied};
-ghost use Rattle.mode_parser.specs.SubModes.{number_of, counterpart, context_in, mode_above, mode_left, key_sub_mode, first_sub_modes};
+ghost use Rattle.mode_parser.specs.SubModes.{number_of, counterpart, context_in, mode_above, mode_left, sub_mode, key_sub_mode, first_sub_modes};
 
 use crate::records::{MbMode, YMode};
 use bool_coder::Decoder;
@@ -53,6 +53,7 @@ fn context_in(macroblock: Option<&MbMode>, n: usize) -> SubMode
         Some(macroblock) => match macroblock.y_mode {
             YMode::Whole(mode) => counterpart(mode),
             YMode::B => macroblock.sub_modes[n],
+            YMode::Inter(_, _) => SubMode::Dc,
         },
     }
 }
@@ -83,13 +84,13 @@ fn mode_left(left: Option<&MbMode>, modes: &[SubMode; 16], n: usize) -> SubMode
     }
 }
 
-/// The mode of a sub block below and to the right of these: the leaf of the sub mode tree, whose
-/// nodes are numbered from 0.
+/// A mode of a sub block by the 9 probabilities of its tree: the leaf of the tree, whose nodes are
+/// numbered from 0.
 #[inline]
-fn read_sub_mode(reader: &mut Decoder, tables: &Tables, above: SubMode, left: SubMode) -> SubMode
-    ensures { key_sub_mode tables.now above left reader.old ≡ (result, reader.new) }
+pub(crate) fn read_sub_mode(reader: &mut Decoder, nodes: &[u8]) -> SubMode
+    requires { length nodes.now ≡ 9 }
+    ensures { sub_mode nodes.now reader.old ≡ (result, reader.new) }
 {
-    let nodes = tables.key_sub_nodes(number_of(above), number_of(left));
     if !reader.bit(nodes[0]) {
         return SubMode::Dc;
     }
@@ -122,9 +123,23 @@ fn read_sub_mode(reader: &mut Decoder, tables: &Tables, above: SubMode, left: Su
     }
 }
 
+/// The mode of a sub block below and to the right of these.
+#[inline]
+fn read_key_sub_mode(
+    reader: &mut Decoder,
+    tables: &Tables,
+    above: SubMode,
+    left: SubMode,
+) -> SubMode
+    ensures { key_sub_mode tables.now above left reader.old ≡ (result, reader.new) }
+{
+    let nodes = tables.key_sub_nodes(number_of(above), number_of(left));
+    read_sub_mode(reader, nodes)
+}
+
 /// The modes of all sub blocks of a macroblock below and to the right of these.
 #[inline]
-pub(crate) fn read_sub_modes(
+pub(crate) fn read_key_sub_modes(
     reader: &mut Decoder,
     tables: &Tables,
     above: Option<&MbMode>,
@@ -136,7 +151,7 @@ pub(crate) fn read_sub_modes(
     for n in 0..16usize {
         let over = mode_above(above, &modes, n);
         let beside = mode_left(left, &modes, n);
-        modes[n] = read_sub_mode(reader, tables, over, beside);
+        modes[n] = read_key_sub_mode(reader, tables, over, beside);
     }
     modes
 }

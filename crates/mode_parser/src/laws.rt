@@ -1,6 +1,6 @@
 //! Laws that show that the definitions mean what they are to mean.
 
-ghost use Rattle.std.specs.Prelude.{◌≡◌, ◌+◌, ◌*◌, ◌<◌, ◌≤◌, ℕ, [], ◌∷◌, List, Option, Some, None, length, replicate, All, IsTrue};
+ghost use Rattle.std.specs.Prelude.{◌≡◌, ◌+◌, ◌*◌, ◌<◌, ◌≤◌, ℕ, ℤ, pos, neg_ℤ, [], ◌∷◌, List, Option, Some, None, length, map, replicate, slice_index_or, All, IsTrue};
 ghost use Rattle.bool_coder.specs.Trees.{is_tree};
 ghost use Rattle.vp8_tables.specs.declared.modes.TheConstants.{KEY_Y_TREE, KEY_Y_PROBABILITIES, UV_TREE, KEY_UV_PROBABILITIES, SUB_TREE};
 ghost use Rattle.intra_predict.specs.declared.modes.WholeMode.TheVariants.{Dc as WholeDc, V, H, Tm as WholeTm};
@@ -9,8 +9,20 @@ ghost use Rattle.intra_predict.specs.declared.modes.SubMode.TheVariants.{Dc, Tm,
 ghost use Rattle.mode_parser.specs.declared.records.YMode.TheVariants.{Whole, B};
 ghost use Rattle.mode_parser.specs.declared.records.MbMode.{MbMode};
 ghost use Rattle.mode_parser.specs.SubModes.{number_of, sub_mode_of, context_in, mode_above, mode_left};
-ghost use Rattle.mode_parser.specs.FrameModes.{record_above, record_left, modes_of};
-ghost use Rattle.mode_parser.specs.KeyShape.{HasKeyShape, ReadsZeros, dc_record};
+ghost use Rattle.bool_coder.specs.Reader.{started};
+ghost use Rattle.bool_coder.specs.CodeText.{code_text};
+ghost use Rattle.vp8_tables.specs.declared.modes.TheConstants.{INTER_Y_TREE, INTER_SUB_PROBABILITIES, VECTOR_MODE_TREE, SPLIT_TREE, SPLIT_PROBABILITIES, SPLIT_STARTS, PART_VECTOR_TREE};
+ghost use Rattle.vp8_tables.specs.declared.vectors.TheConstants.{DEFAULT_VECTOR_PROBABILITIES, SHORT_VECTOR_TREE};
+ghost use Rattle.frame_header.specs.declared.references.Reference.TheVariants.{Last, Golden, Altref};
+ghost use Rattle.mode_parser.specs.declared.records.VectorMode.TheVariants.{Zero, New, Split};
+ghost use Rattle.mode_parser.specs.Vectors.{zero_vector};
+ghost use Rattle.mode_parser.specs.NearVectors.{held, near_of};
+ghost use Rattle.mode_parser.specs.VectorReading.{new_vector};
+ghost use Rattle.mode_parser.specs.InterRecords.{are_starts};
+ghost use Rattle.mode_parser.specs.ChromaVectors.{chroma_component, first_luma, chroma_x_of};
+ghost use Rattle.mode_parser.specs.Worked.{right_by, moved, golden_biased, middle, near_right, down_by_16};
+ghost use Rattle.mode_parser.specs.FrameModes.{record_above, record_left, record_above_left, place_of, modes_of};
+ghost use Rattle.mode_parser.specs.KeyShape.{HasShape, HasKeyShape, ReadsZeros, dc_record};
 
 use frame_header::Header;
 use vp8_tables::Tables;
@@ -21,6 +33,55 @@ pub fn trees_are_trees()
     ensures luma { IsTrue (is_tree KEY_Y_TREE KEY_Y_PROBABILITIES) }
     ensures chroma { IsTrue (is_tree UV_TREE KEY_UV_PROBABILITIES) }
     ensures sub { (a b c d e f g h i : ℕ) → IsTrue (is_tree SUB_TREE (a ∷ b ∷ c ∷ d ∷ e ∷ f ∷ g ∷ h ∷ i ∷ [])) }
+    ensures inter_luma { (a b c d : ℕ) → IsTrue (is_tree INTER_Y_TREE (a ∷ b ∷ c ∷ d ∷ [])) }
+    ensures inter_chroma { (a b c : ℕ) → IsTrue (is_tree UV_TREE (a ∷ b ∷ c ∷ [])) }
+    ensures inter_sub { IsTrue (is_tree SUB_TREE INTER_SUB_PROBABILITIES) }
+    ensures vector_mode { (a b c d : ℕ) → IsTrue (is_tree VECTOR_MODE_TREE (a ∷ b ∷ c ∷ d ∷ [])) }
+    ensures split { IsTrue (is_tree SPLIT_TREE SPLIT_PROBABILITIES) }
+    ensures part { (a b c : ℕ) → IsTrue (is_tree PART_VECTOR_TREE (a ∷ b ∷ c ∷ [])) }
+    ensures short { (a b c d e f g : ℕ) → IsTrue (is_tree SHORT_VECTOR_TREE (a ∷ b ∷ c ∷ d ∷ e ∷ f ∷ g ∷ [])) }
+{}
+
+/// No block of a split macroblock is before the start of its part.
+pub fn parts_start_first()
+    ensures { (way : ℕ) → IsTrue (are_starts 0 (slice_index_or SPLIT_STARTS way [])) }
+{}
+
+/// The near vectors of a macroblock with the last frame as its reference: those above and to the
+/// left are the same; one to golden, which has a sign bias; the first one comes again as the third;
+/// the second weighs more; zero vectors weigh more; and neighbours are split.
+#[tactic(auto, unfolding(crate::specs::NearVectors::near_of, crate::specs::NearVectors::listing_of))]
+pub fn worked_near_vectors()
+    ensures same { near_of (Some (moved Last New (right_by (pos 8)))) (Some (moved Last New (right_by (pos 8)))) (Some dc_record) Last golden_biased middle ≡ near_right (0 ∷ 4 ∷ 0 ∷ 0 ∷ []) (pos 8) (pos 8) (pos 0) }
+    ensures bias { near_of (Some (moved Golden New (right_by (pos 8)))) None None Last golden_biased middle ≡ near_right (0 ∷ 2 ∷ 0 ∷ 0 ∷ []) (neg_ℤ (pos 8)) (neg_ℤ (pos 8)) (pos 0) }
+    ensures again { near_of (Some (moved Last New (right_by (pos 8)))) (Some (moved Last New (right_by (pos 5)))) (Some (moved Altref New (right_by (pos 8)))) Last golden_biased middle ≡ near_right (0 ∷ 3 ∷ 2 ∷ 0 ∷ []) (pos 8) (pos 8) (pos 5) }
+    ensures heavier { near_of (Some (moved Last New (right_by (pos 8)))) (Some (moved Last New (right_by (pos 5)))) (Some (moved Last New (right_by (pos 5)))) Last golden_biased middle ≡ near_right (0 ∷ 3 ∷ 2 ∷ 0 ∷ []) (pos 5) (pos 5) (pos 8) }
+    ensures zeros { near_of (Some (moved Last Zero zero_vector)) None (Some (moved Last New (right_by (pos 8)))) Last golden_biased middle ≡ near_right (2 ∷ 1 ∷ 0 ∷ 0 ∷ []) (pos 0) (pos 8) (pos 0) }
+    ensures split { near_of (Some (moved Last Split (right_by (pos 8)))) None (Some (moved Last Split (right_by (pos 8)))) Last golden_biased middle ≡ near_right (0 ∷ 3 ∷ 0 ∷ 3 ∷ []) (pos 8) (pos 8) (pos 0) }
+{}
+
+/// Where vectors are held in the middle of three columns and rows, and at both ends.
+pub fn worked_bounds()
+    ensures inside { held 1 3 (pos 127) ≡ pos 127 }
+    ensures right { held 1 3 (pos 129) ≡ pos 128 }
+    ensures left { held 1 3 (neg_ℤ (pos 129)) ≡ neg_ℤ (pos 128) }
+    ensures first { held 0 3 (neg_ℤ (pos 100)) ≡ neg_ℤ (pos 64) }
+    ensures last { held 2 3 (pos 100) ≡ pos 64 }
+{}
+
+/// Vectors as they are read: of zeros for good, of ones for good, and of what an encoder wrote.
+pub fn worked_vectors()
+    ensures zeros { (new_vector DEFAULT_VECTOR_PROBABILITIES (started [])).0 ≡ zero_vector }
+    ensures ones { (new_vector DEFAULT_VECTOR_PROBABILITIES (started (replicate 8 255))).0 ≡ record { x = neg_ℤ (pos 1023); y = neg_ℤ (pos 1023) } }
+    ensures written { (new_vector DEFAULT_VECTOR_PROBABILITIES (started (code_text down_by_16))).0 ≡ record { x = pos 0; y = pos 16 } }
+{}
+
+/// Rounded means of four components, and which luma blocks lie over the last chroma block.
+pub fn worked_chroma_vectors()
+    ensures sums { (version : ℕ) → version < 3 → map (λ sum. chroma_component sum version) (pos 1 ∷ pos 2 ∷ neg_ℤ (pos 1) ∷ neg_ℤ (pos 2) ∷ pos 38 ∷ []) ≡ pos 0 ∷ pos 1 ∷ pos 0 ∷ neg_ℤ (pos 1) ∷ pos 10 ∷ [] }
+    ensures whole { map (λ sum. chroma_component sum 3) (pos 38 ∷ neg_ℤ (pos 38) ∷ []) ≡ pos 8 ∷ neg_ℤ (pos 16) ∷ [] }
+    ensures first_blocks { map first_luma (0 ∷ 1 ∷ 2 ∷ 3 ∷ []) ≡ 0 ∷ 2 ∷ 8 ∷ 10 ∷ [] }
+    ensures same { (x : ℕ) → chroma_x_of (replicate 16 (right_by (pos x))) 0 3 ≡ pos x }
 {}
 
 /// Each mode of a sub block has a number below 10, by which it is found again.
@@ -61,19 +122,31 @@ pub fn worked_places()
     ensures first_column_left { (a b c : MbMode) → record_left (a ∷ b ∷ c ∷ []) 3 3 ≡ None }
     ensures inner { (a b c d e : MbMode) → record_above (a ∷ b ∷ c ∷ d ∷ e ∷ []) 3 5 ≡ Some c }
     ensures inner_left { (a b c d e : MbMode) → record_left (a ∷ b ∷ c ∷ d ∷ e ∷ []) 3 5 ≡ Some e }
+    ensures first_row_above_left { (a b : MbMode) → record_above_left (a ∷ b ∷ []) 3 2 ≡ None }
+    ensures first_column_above_left { (a b c : MbMode) → record_above_left (a ∷ b ∷ c ∷ []) 3 3 ≡ None }
+    ensures inner_above_left { (a b c d e : MbMode) → record_above_left (a ∷ b ∷ c ∷ d ∷ e ∷ []) 3 5 ≡ Some b }
+    ensures place { place_of 3 2 5 ≡ record { column = 2; row = 1; columns = 3; rows = 2 } }
 {}
 
-/// A key frame has a record for each macroblock, all in segment 0 and with 16 sub block modes,
-/// which are DC where luma is predicted as a whole.
+/// A frame has a record for each macroblock, all in segment 0 and with 16 sub block modes and 16
+/// vectors.
+pub fn records_have_shape(tables: &Tables, header: &Header, columns: usize, rows: usize)
+    ensures count { (map : Option (List ℕ)) → length (modes_of tables.now header.now columns rows map).records ≡ columns * rows }
+    ensures shape { (map : Option (List ℕ)) → All HasShape (modes_of tables.now header.now columns rows map).records }
+{}
+
+/// In a key frame the 16 sub block modes are DC where luma is predicted as a whole, no macroblock
+/// has vectors, and the segment map behind the frame is zeros, whatever that before it is.
 pub fn records_have_key_shape(tables: &Tables, header: &Header, columns: usize, rows: usize)
-    ensures count { length (modes_of tables.now header.now columns rows).records ≡ columns * rows }
-    ensures shape { All HasKeyShape (modes_of tables.now header.now columns rows).records }
-    ensures map { (modes_of tables.now header.now columns rows).segment_map ≡ replicate (columns * rows) 0 }
+    requires { IsTrue header.now.is_key }
+    ensures shape { (map : Option (List ℕ)) → All HasKeyShape (modes_of tables.now header.now columns rows map).records }
+    ensures map { (map : Option (List ℕ)) → (modes_of tables.now header.now columns rows map).segment_map ≡ replicate (columns * rows) 0 }
 {}
 
 /// Where only zeros stand behind the header of a key frame, every macroblock has sub blocks, and
 /// all modes are DC, whatever the tables and the probability of skipping are.
 pub fn zeros_are_dc(tables: &Tables, header: &Header, columns: usize, rows: usize)
-    requires { ReadsZeros header.now.reader }
-    ensures { (modes_of tables.now header.now columns rows).records ≡ replicate (columns * rows) dc_record }
+    requires key { IsTrue header.now.is_key }
+    requires zeros { ReadsZeros header.now.reader }
+    ensures { (map : Option (List ℕ)) → (modes_of tables.now header.now columns rows map).records ≡ replicate (columns * rows) dc_record }
 {}

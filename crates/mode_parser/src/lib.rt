@@ -1,13 +1,27 @@
-//! The prediction modes of a key frame's macroblocks (RFC 6386, sections 8.2, 11 and 19.3).
+//! The prediction modes and motion vectors of a frame's macroblocks (RFC 6386, sections 8.2, 11, 16,
+//! 17 and 19.3).
 #![tactic(auto)]
 
+mod chroma_vectors;
 mod frame_modes;
+mod frame_records;
+mod inter_modes;
+#[cfg(test)]
+mod inter_tests;
 mod key_modes;
 mod key_sub_modes;
 pub mod laws;
+mod nearby;
+mod neighbours;
 mod records;
+mod split_vectors;
 #[cfg(test)]
 mod tests;
+mod vector_reading;
+mod vectors;
 
+pub use chroma_vectors::chroma_vector;
 pub use frame_modes::{Modes, read_modes};
-pub use records::{MbMode, YMode};
+pub use nearby::{MbPlace, Near, near_vectors};
+pub use records::{MbMode, VectorMode, YMode};
+pub use vectors::Vector;

@@ -1,4 +1,4 @@
-use crate::{MbMode, YMode, read_modes};
+use crate::{MbMode, Vector, YMode, read_modes};
 use bool_coder::Encoder;
 use frame_header::read_header;
 use intra_predict::{SubMode, WholeMode};
@@ -39,7 +39,7 @@ const CHROMA_BITS: [&[(bool, u8)]; 4] = [
 ];
 
 /// The bits of each sub mode, in the order of `SUB`, and the node of each bit (section 11.2).
-const SUB_BITS: [(&[u8], &[u8]); 10] = [
+pub(crate) const SUB_BITS: [(&[u8], &[u8]); 10] = [
     (b"0", b"0"),
     (b"10", b"01"),
     (b"110", b"012"),
@@ -238,6 +238,7 @@ fn record_of(macroblock: &Written, skips: bool) -> MbMode {
         },
         sub_modes,
         uv_mode: WHOLE[macroblock.chroma % 4],
+        vectors: [Vector::ZERO; 16],
     }
 }
 

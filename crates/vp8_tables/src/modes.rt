@@ -1,5 +1,5 @@
 //! The trees and fixed probabilities of prediction modes (RFC 6386, sections 8.2, 11.2 to 11.4
-//! and 16.2).
+//! and 16.1 to 16.4).
 //!
 //! A tree is a list of pairs of entries, one pair for each node: an entry above 0 is the place of
 //! a later pair, any other is a leaf, kept as its negative (section 8.1).
@@ -33,3 +33,57 @@ pub const DEFAULT_Y_PROBABILITIES: [u8; 4] = [112, 86, 140, 37];
 /// The probabilities of chroma modes with which inter frames begin behind a key frame (RFC 6386,
 /// section 16.2).
 pub const DEFAULT_UV_PROBABILITIES: [u8; 3] = [162, 101, 204];
+
+/// The tree of an inter frame's luma modes. Leaves as those of `KEY_Y_TREE` (RFC 6386, section
+/// 16.1).
+pub const INTER_Y_TREE: [i8; 8] = [0, 2, 4, 6, -1, -2, -3, -4];
+
+/// The probabilities of `SUB_TREE` in an inter frame, one for each node, whatever stands above and
+/// to the left (RFC 6386, section 16.1).
+pub const INTER_SUB_PROBABILITIES: [u8; 9] = [120, 90, 79, 133, 87, 85, 80, 111, 151];
+
+/// The tree of the vector modes of a macroblock that is predicted from a reference. Leaves: 0
+/// `mv_zero`, 1 `mv_nearest`, 2 `mv_near`, 3 `mv_new`, 4 `mv_split` (RFC 6386, section 16.3).
+pub const VECTOR_MODE_TREE: [i8; 8] = [0, 2, -1, 4, -2, 6, -3, -4];
+
+/// The probabilities of `VECTOR_MODE_TREE`: column i is that of its node i, in the row of what the
+/// near vectors count for it, 0 to 5 (RFC 6386, section 16.3).
+pub const VECTOR_MODE_PROBABILITIES: [[u8; 4]; 6] = [
+    [7, 1, 1, 143],
+    [14, 18, 14, 107],
+    [135, 64, 57, 68],
+    [60, 56, 128, 65],
+    [159, 134, 128, 34],
+    [234, 188, 128, 28],
+];
+
+/// The tree of the ways to split a macroblock. Leaves: 0 top and bottom half, 1 left and right
+/// half, 2 quarters, 3 sixteenths (RFC 6386, section 16.4).
+pub const SPLIT_TREE: [i8; 6] = [-3, 2, -2, 4, 0, -1];
+
+/// The probabilities of `SPLIT_TREE`, one for each node (RFC 6386, section 16.4).
+pub const SPLIT_PROBABILITIES: [u8; 3] = [110, 111, 150];
+
+/// For each way to split a macroblock, numbered as the leaves of `SPLIT_TREE`, the first block, in
+/// raster order, of the part that each of its 16 blocks is in (RFC 6386, section 16.4).
+pub const SPLIT_STARTS: [[u8; 16]; 4] = [
+    [0, 0, 0, 0, 0, 0, 0, 0, 8, 8, 8, 8, 8, 8, 8, 8],
+    [0, 0, 2, 2, 0, 0, 2, 2, 0, 0, 2, 2, 0, 0, 2, 2],
+    [0, 0, 2, 2, 0, 0, 2, 2, 8, 8, 10, 10, 8, 8, 10, 10],
+    [0, 1, 2, 3, 4, 5, 6, 7, 8, 9, 10, 11, 12, 13, 14, 15],
+];
+
+/// The tree of the vector of one part of a split macroblock. Leaves: 0 that of the block to the
+/// left, 1 that of the block above, 2 zero, 3 a new one (RFC 6386, section 16.4).
+pub const PART_VECTOR_TREE: [i8; 6] = [0, 2, -1, 4, -2, -3];
+
+/// The probabilities of `PART_VECTOR_TREE`, one for each node, in five rows by the vectors to the
+/// left and above: any two, left zero, above zero, both the same, both zero (RFC 6386, section
+/// 16.4).
+pub const PART_VECTOR_PROBABILITIES: [[u8; 3]; 5] = [
+    [147, 136, 18],
+    [106, 145, 1],
+    [179, 121, 1],
+    [223, 1, 34],
+    [208, 1, 1],
+];

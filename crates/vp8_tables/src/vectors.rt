@@ -1,4 +1,7 @@
-//! The fixed probabilities of motion vectors (RFC 6386, section 17.2).
+//! The tree and the fixed probabilities of motion vectors (RFC 6386, sections 17.1 and 17.2).
+//!
+//! A component has 19 probabilities: 0 that it is short, 1 that of its sign, 2 to 8 those of the
+//! nodes of `SHORT_VECTOR_TREE`, and from 9 on those of the bits of a long one, bit 0 first.
 
 /// The probabilities of the parts of a motion vector with which inter frames begin behind a key
 /// frame: those of the row component, then those of the column component (RFC 6386, section 17.2).
@@ -11,6 +14,13 @@ pub const DEFAULT_VECTOR_PROBABILITIES: [[u8; 19]; 2] = [
         254,
     ],
 ];
+
+/// The tree of a short component's size. Leaves are the sizes 0 to 7 (RFC 6386, section 17.1).
+pub const SHORT_VECTOR_TREE: [i8; 14] = [2, 8, 4, 6, 0, -1, -2, -3, 10, 12, -4, -5, -6, -7];
+
+/// The bits of a long component's size in the order in which they are read, before bit 3, which
+/// comes last (RFC 6386, section 17.1).
+pub const LONG_VECTOR_BITS: [u8; 9] = [0, 1, 2, 9, 8, 7, 6, 5, 4];
 
 /// The probability that a frame changes each of them (RFC 6386, section 17.2), row, then column.
 pub const VECTOR_UPDATE_PROBABILITIES: [[u8; 19]; 2] = [

@@ -1,17 +1,17 @@
 use Rattle.std.proofs.Common.{true, false, refl, ◌∙◌}
-use Rattle.vp8_tables.specs.declared.modes.TheConstants.{UV_TREE, KEY_UV_PROBABILITIES}
+use Rattle.vp8_tables.specs.declared.modes.TheConstants.{UV_TREE}
 use Rattle.mode_parser.proofs.Walks.{leaf_below-on, leaf_below-end}
-use Rattle.mode_parser.proofs.KeyTrees.{key_uv_mode-leaf}
+use Rattle.mode_parser.proofs.KeyTrees.{chroma_mode-leaf}
 use Rattle.mode_parser.proofs.key_modes.read_uv_mode.Goals as goal
 
 pub returns-then-not-bit : goal.returns-then-not-bit
-returns-then-not-bit c = key_uv_mode-leaf _ _ _ (leaf_below-end 5 UV_TREE KEY_UV_PROBABILITIES 0 _ _ _ false c.bit.ensures c.if-not-bit.true refl)
+returns-then-not-bit c = chroma_mode-leaf _ _ _ _ (leaf_below-end 5 UV_TREE _ 0 _ _ _ false c.bit.ensures c.if-not-bit.true refl)
 
 pub returns-then-not-bit-2 : goal.returns-then-not-bit-2
-returns-then-not-bit-2 c = key_uv_mode-leaf _ _ _ (leaf_below-on 5 UV_TREE KEY_UV_PROBABILITIES 0 _ _ _ true c.bit.ensures c.if-not-bit.false refl ∙ leaf_below-end 4 UV_TREE KEY_UV_PROBABILITIES 2 _ _ _ false c.bit-2.ensures c.if-not-bit-2.true refl)
+returns-then-not-bit-2 c = chroma_mode-leaf _ _ _ _ (leaf_below-on 5 UV_TREE _ 0 _ _ _ true c.bit.ensures c.if-not-bit.false refl ∙ leaf_below-end 4 UV_TREE _ 2 _ _ _ false c.bit-2.ensures c.if-not-bit-2.true refl)
 
 pub returns-then-bit : goal.returns-then-bit
-returns-then-bit c = key_uv_mode-leaf _ _ _ (leaf_below-on 5 UV_TREE KEY_UV_PROBABILITIES 0 _ _ _ true c.bit.ensures c.if-not-bit.false refl ∙ leaf_below-on 4 UV_TREE KEY_UV_PROBABILITIES 2 _ _ _ true c.bit-2.ensures c.if-not-bit-2.false refl ∙ leaf_below-end 3 UV_TREE KEY_UV_PROBABILITIES 4 _ _ _ true c.bit-3.ensures c.if-bit.true refl)
+returns-then-bit c = chroma_mode-leaf _ _ _ _ (leaf_below-on 5 UV_TREE _ 0 _ _ _ true c.bit.ensures c.if-not-bit.false refl ∙ leaf_below-on 4 UV_TREE _ 2 _ _ _ true c.bit-2.ensures c.if-not-bit-2.false refl ∙ leaf_below-end 3 UV_TREE _ 4 _ _ _ true c.bit-3.ensures c.if-bit.true refl)
 
 pub returns-else-bit : goal.returns-else-bit
-returns-else-bit c = key_uv_mode-leaf _ _ _ (leaf_below-on 5 UV_TREE KEY_UV_PROBABILITIES 0 _ _ _ true c.bit.ensures c.if-not-bit.false refl ∙ leaf_below-on 4 UV_TREE KEY_UV_PROBABILITIES 2 _ _ _ true c.bit-2.ensures c.if-not-bit-2.false refl ∙ leaf_below-end 3 UV_TREE KEY_UV_PROBABILITIES 4 _ _ _ false c.bit-3.ensures c.if-bit.false refl)
+returns-else-bit c = chroma_mode-leaf _ _ _ _ (leaf_below-on 5 UV_TREE _ 0 _ _ _ true c.bit.ensures c.if-not-bit.false refl ∙ leaf_below-on 4 UV_TREE _ 2 _ _ _ true c.bit-2.ensures c.if-not-bit-2.false refl ∙ leaf_below-end 3 UV_TREE _ 4 _ _ _ false c.bit-3.ensures c.if-bit.false refl)

@@ -1,0 +1,40 @@
+-- Near vectors by the parts from which the code makes them
+use Rattle.std.proofs.Common.{◌≡◌, ℕ, ◌+◌, ◌-◌, ◌*◌, ◌<◌, ◌≤◌, true, false, ℤ, pos, neg_ℤ, refl, ◌∙◌, sym, arith}
+use Rattle.std.specs.Prelude.{Option, nat_lt, if◌then◌else◌}
+use Rattle.std.specs.Int.{int_max, int_min}
+use Rattle.std.proofs.lemmas.Bool.Decides.{nat_tests}
+use Rattle.frame_header.specs.declared.references.Reference.{Reference}
+use Rattle.frame_header.specs.declared.context.SignBiases.{SignBiases}
+use Rattle.mode_parser.specs.declared.records.MbMode.{MbMode}
+use Rattle.mode_parser.specs.declared.nearby.MbPlace.{MbPlace}
+use Rattle.mode_parser.specs.declared.nearby.Near.{Near}
+use Rattle.mode_parser.specs.declared.neighbours.Weighted.{Weighted}
+use Rattle.mode_parser.specs.declared.neighbours.Neighbours.{Neighbours}
+use Rattle.mode_parser.specs.Neighbours.{listed_in, listing_in}
+use Rattle.mode_parser.specs.NearVectors.{listing_of, splits, held, listed_at, first_in, near_in, near_of}
+
+pub held-is : (place count : ℕ) (z bits least most clamp result : ℤ) → least ≡ neg_ℤ (pos (64 * (place + 1))) → most ≡ pos (64 * (count - place)) → bits ≡ z → clamp ≡ int_max least (int_min bits most) → result ≡ clamp → result ≡ held place count z
+held-is place count z bits least most clamp result is_least is_most is_z clamps same = same ∙ clamps ∙ rw (is_least, is_most, is_z) refl
+
+near-is : (above left above_left : Option MbMode) (reference : Reference) (biases : SignBiases) (place : MbPlace) (neighbours : Neighbours) (first second : Weighted) (up beside corner : ℕ) →
+    listing_in neighbours ≡ listing_of above left above_left reference biases → first ≡ first_in (listed_in neighbours.listed) → second ≡ listed_at (listed_in neighbours.listed) 1 → up ≡ splits above → beside ≡ splits left → corner ≡ splits above_left →
+    near_of above left above_left reference biases place ≡ (if nat_lt first.weight second.weight then near_in place neighbours.zeros second first (2 * (up + beside) + corner) else near_in place neighbours.zeros first second (2 * (up + beside) + corner))
+unfolding near_of
+near-is above left above_left reference biases place neighbours first second up beside corner listing is_first is_second is_up is_beside is_corner =
+    rw (← listing, is_first, is_second, is_up, is_beside, is_corner) refl
+
+pub near-less : (above left above_left : Option MbMode) (reference : Reference) (biases : SignBiases) (place : MbPlace) (neighbours : Neighbours) (first second : Weighted) (up beside corner : ℕ) (result : Near) → first.weight < second.weight →
+    listing_in neighbours ≡ listing_of above left above_left reference biases → first ≡ first_in (listed_in neighbours.listed) → second ≡ listed_at (listed_in neighbours.listed) 1 → up ≡ splits above → beside ≡ splits left → corner ≡ splits above_left →
+    result ≡ near_in place neighbours.zeros second first (2 * (up + beside) + corner) → result ≡ near_of above left above_left reference biases place
+near-less above left above_left reference biases place neighbours first second up beside corner result order listing is_first is_second is_up is_beside is_corner is =
+    let test : nat_lt first.weight second.weight ≡ true = grind (arith, nat_tests) in
+    let told = near-is above left above_left reference biases place neighbours first second up beside corner listing is_first is_second is_up is_beside is_corner in
+    is ∙ sym (rw test at told)
+
+pub near-more : (above left above_left : Option MbMode) (reference : Reference) (biases : SignBiases) (place : MbPlace) (neighbours : Neighbours) (first second : Weighted) (up beside corner : ℕ) (result : Near) → second.weight ≤ first.weight →
+    listing_in neighbours ≡ listing_of above left above_left reference biases → first ≡ first_in (listed_in neighbours.listed) → second ≡ listed_at (listed_in neighbours.listed) 1 → up ≡ splits above → beside ≡ splits left → corner ≡ splits above_left →
+    result ≡ near_in place neighbours.zeros first second (2 * (up + beside) + corner) → result ≡ near_of above left above_left reference biases place
+near-more above left above_left reference biases place neighbours first second up beside corner result order listing is_first is_second is_up is_beside is_corner is =
+    let test : nat_lt first.weight second.weight ≡ false = grind (arith, nat_tests) in
+    let told = near-is above left above_left reference biases place neighbours first second up beside corner listing is_first is_second is_up is_beside is_corner in
+    is ∙ sym (rw test at told)

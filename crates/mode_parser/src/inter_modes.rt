@@ -1,0 +1,214 @@
+//! The record of a macroblock in an inter frame (RFC 6386, sections 16 and 19.3).
+
+ghost use Rattle.std.specs.Prelude.{◌≡◌, ◌<◌, ◌≤◌, All};
+ghost use Rattle.std.specs.Option.{option_copied};
+ghost use Rattle.mode_parser.specs.Vectors.{IsWithin};
+ghost use Rattle.mode_parser.specs.InterRecords.{inter_y_mode, first_inter_sub_modes, which_reference, counted_probabilities, vector_mode, vectors_by, intra_mode, referenced_mode, inter_mode};
+
+use crate::key_modes::{read_skip, read_uv_mode};
+use crate::key_sub_modes::read_sub_mode;
+use crate::nearby::{MbPlace, Near, near_vectors};
+use crate::records::{MbMode, VectorMode, YMode};
+use crate::split_vectors::read_split_vectors;
+use crate::vector_reading::read_vector;
+use crate::vectors::Vector;
+use bool_coder::Decoder;
+use frame_header::{Header, Probabilities, Reference, ReferenceProbabilities};
+use intra_predict::{SubMode, WholeMode};
+use vp8_tables::{INTER_SUB_PROBABILITIES, VECTOR_MODE_PROBABILITIES};
+
+/// The luma mode of a macroblock without a reference: the leaf of its tree.
+#[inline]
+fn read_y_mode(reader: &mut Decoder, probabilities: &[u8; 4]) -> YMode
+    ensures { inter_y_mode probabilities.now reader.old ≡ (result, reader.new) }
+{
+    if !reader.bit(probabilities[0]) {
+        return YMode::Whole(WholeMode::Dc);
+    }
+    if !reader.bit(probabilities[1]) {
+        return if reader.bit(probabilities[2]) {
+            YMode::Whole(WholeMode::H)
+        } else {
+            YMode::Whole(WholeMode::V)
+        };
+    }
+    if reader.bit(probabilities[3]) {
+        YMode::B
+    } else {
+        YMode::Whole(WholeMode::Tm)
+    }
+}
+
+/// The modes of all sub blocks of a macroblock, whatever stands beside it.
+fn read_sub_modes(reader: &mut Decoder) -> [SubMode; 16]
+    ensures { first_inter_sub_modes 16 reader.old ≡ (result, reader.new) }
+{
+    // A copy of its own keeps the reader in registers.
+    let mut local = reader.copied();
+    let mut modes = [SubMode::Dc; 16];
+    for n in 0..16usize {
+        modes[n] = read_sub_mode(&mut local, &INTER_SUB_PROBABILITIES);
+    }
+    *reader = local;
+    modes
+}
+
+/// The reference of a macroblock that has one.
+#[inline]
+#[tactic(auto, unfolding(crate::specs::InterRecords::which_reference))]
+fn read_reference(reader: &mut Decoder, probabilities: ReferenceProbabilities) -> Reference
+    ensures { which_reference probabilities reader.old ≡ (result, reader.new) }
+{
+    if !reader.bit(probabilities.last) {
+        return Reference::Last;
+    }
+    if reader.bit(probabilities.golden) {
+        Reference::Altref
+    } else {
+        Reference::Golden
+    }
+}
+
+/// The probabilities of the tree of vector modes: each stands in the row of what is counted for it.
+#[inline]
+fn counted_probabilities(counts: &[u8; 4]) -> [u8; 4]
+    requires { All (λ count. count ≤ 5) counts.now }
+    ensures { result ≡ counted_probabilities counts.now }
+{
+    [
+        VECTOR_MODE_PROBABILITIES[counts[0] as usize][0],
+        VECTOR_MODE_PROBABILITIES[counts[1] as usize][1],
+        VECTOR_MODE_PROBABILITIES[counts[2] as usize][2],
+        VECTOR_MODE_PROBABILITIES[counts[3] as usize][3],
+    ]
+}
+
+/// The vector mode of a macroblock whose near vectors have these counts: the leaf of its tree.
+#[inline]
+fn read_vector_mode(reader: &mut Decoder, counts: &[u8; 4]) -> VectorMode
+    requires { All (λ count. count ≤ 5) counts.now }
+    ensures { vector_mode counts.now reader.old ≡ (result, reader.new) }
+{
+    let nodes = counted_probabilities(counts);
+    if !reader.bit(nodes[0]) {
+        return VectorMode::Zero;
+    }
+    if !reader.bit(nodes[1]) {
+        return VectorMode::Nearest;
+    }
+    if !reader.bit(nodes[2]) {
+        return VectorMode::Near;
+    }
+    if reader.bit(nodes[3]) {
+        VectorMode::Split
+    } else {
+        VectorMode::New
+    }
+}
+
+/// The vectors of all blocks of a macroblock below and to the right of these.
+#[inline]
+#[tactic(auto, unfolding(crate::specs::InterRecords::vectors_by))]
+fn read_vectors(
+    reader: &mut Decoder,
+    mode: VectorMode,
+    near: &Near,
+    probabilities: &[[u8; 19]; 2],
+    above: Option<&MbMode>,
+    left: Option<&MbMode>,
+) -> [Vector; 16]
+    requires across { IsWithin 65536 near.now.best.x }
+    requires down { IsWithin 65536 near.now.best.y }
+    ensures { vectors_by mode near.now probabilities.now (option_copied above.entry) (option_copied left.entry) reader.old ≡ (result, reader.new) }
+{
+    match mode {
+        VectorMode::Zero => [Vector::ZERO; 16],
+        VectorMode::Nearest => [near.nearest; 16],
+        VectorMode::Near => [near.near; 16],
+        VectorMode::New => [near.best.plus(read_vector(reader, probabilities)); 16],
+        VectorMode::Split => read_split_vectors(reader, probabilities, near.best, above, left),
+    }
+}
+
+/// The record of a macroblock without a reference.
+#[inline]
+#[tactic(auto, unfolding(crate::specs::InterRecords::intra_mode, crate::specs::InterRecords::inter_sub_modes))]
+fn read_intra_mode(
+    reader: &mut Decoder,
+    is_skipped: bool,
+    probabilities: &Probabilities,
+) -> MbMode
+    ensures { intra_mode is_skipped probabilities.now reader.old ≡ (result, reader.new) }
+{
+    let y_mode = read_y_mode(reader, &probabilities.y_modes);
+    let sub_modes = match y_mode {
+        YMode::Whole(_) | YMode::Inter(_, _) => [SubMode::Dc; 16],
+        YMode::B => read_sub_modes(reader),
+    };
+    let uv_mode = read_uv_mode(reader, &probabilities.uv_modes);
+    MbMode {
+        segment: 0,
+        is_skipped,
+        y_mode,
+        sub_modes,
+        uv_mode,
+        vectors: [Vector::ZERO; 16],
+    }
+}
+
+/// The record of a macroblock with a reference, at `place`, below and to the right of these.
+#[inline]
+#[tactic(auto, unfolding(crate::specs::InterRecords::referenced_mode))]
+fn read_referenced_mode(
+    reader: &mut Decoder,
+    is_skipped: bool,
+    header: &Header,
+    place: MbPlace,
+    above: Option<&MbMode>,
+    left: Option<&MbMode>,
+    above_left: Option<&MbMode>,
+) -> MbMode
+    requires across { (place.column < place.columns) × (place.columns ≤ 1024) }
+    requires down { (place.row < place.rows) × (place.rows ≤ 1024) }
+    ensures { referenced_mode is_skipped header.now place (option_copied above.entry) (option_copied left.entry) (option_copied above_left.entry) reader.old ≡ (result, reader.new) }
+{
+    let context = &header.context;
+    let reference = read_reference(reader, header.reference_probabilities);
+    let biases = context.sign_biases;
+    let near = near_vectors(above, left, above_left, reference, biases, place);
+    let mode = read_vector_mode(reader, &near.counts);
+    let probabilities = &context.probabilities.vectors;
+    let vectors = read_vectors(reader, mode, &near, probabilities, above, left);
+    MbMode {
+        segment: 0,
+        is_skipped,
+        y_mode: YMode::Inter(reference, mode),
+        sub_modes: [SubMode::Dc; 16],
+        uv_mode: WholeMode::Dc,
+        vectors,
+    }
+}
+
+/// The record of a macroblock at `place`, below and to the right of these, in an inter frame without
+/// segments.
+#[inline]
+#[tactic(auto, unfolding(crate::specs::InterRecords::inter_mode))]
+pub(crate) fn read_inter_mode(
+    reader: &mut Decoder,
+    header: &Header,
+    place: MbPlace,
+    above: Option<&MbMode>,
+    left: Option<&MbMode>,
+    above_left: Option<&MbMode>,
+) -> MbMode
+    requires across { (place.column < place.columns) × (place.columns ≤ 1024) }
+    requires down { (place.row < place.rows) × (place.rows ≤ 1024) }
+    ensures { inter_mode header.now place (option_copied above.entry) (option_copied left.entry) (option_copied above_left.entry) reader.old ≡ (result, reader.new) }
+{
+    let is_skipped = read_skip(reader, header.skip_probability);
+    if reader.bit(header.reference_probabilities.inter) {
+        read_referenced_mode(reader, is_skipped, header, place, above, left, above_left)
+    } else {
+        read_intra_mode(reader, is_skipped, &header.context.probabilities)
+    }
+}

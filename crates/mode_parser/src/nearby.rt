@@ -1,0 +1,127 @@
+//! The vectors of the macroblocks beside one, as its own are told by (RFC 6386, section 16.3).
+
+ghost use Rattle.std.specs.Prelude.{◌≡◌, ◌<◌, ◌≤◌, All};
+ghost use Rattle.std.specs.Option.{option_copied};
+ghost use Rattle.mode_parser.specs.Vectors.{IsWithin};
+ghost use Rattle.mode_parser.specs.NearVectors.{held, clamped, best_in, near_in, near_of};
+
+use crate::neighbours::{Weighted, first_in, neighbours_of, second_in, splits};
+use crate::records::MbMode;
+use crate::vectors::Vector;
+use frame_header::{Reference, SignBiases};
+
+/// The place of a macroblock in a frame of so many columns and rows of macroblocks.
+#[derive(Clone, Copy, Debug, PartialEq, Eq)]
+pub struct MbPlace {
+    /// Its column, from 0.
+    pub column: usize,
+    /// Its row, from 0.
+    pub row: usize,
+    /// How many columns the frame has.
+    pub columns: usize,
+    /// How many rows the frame has.
+    pub rows: usize,
+}
+
+/// What the macroblocks above, to the left, and above and to the left say of a macroblock's vectors
+/// (RFC 6386, section 16.3). Each vector is held so that it points at most one macroblock out of
+/// the frame.
+#[derive(Clone, Copy, Debug, PartialEq, Eq)]
+pub struct Near {
+    /// The weights, each 0 to 5, by which its mode is read: of zero vectors, of `nearest`, of
+    /// `near`, and of split macroblocks.
+    pub counts: [u8; 4],
+    /// The vector to which a new one is added.
+    pub best: Vector,
+    /// The vector of most weight; zero where there is none.
+    pub nearest: Vector,
+    /// The vector of second most weight; zero where there is none.
+    pub near: Vector,
+}
+
+/// A component of a vector, held so that a macroblock that it moves along a row or column of `count`
+/// is at most one macroblock out of the frame.
+#[inline]
+fn held(place: usize, count: usize, component: i32) -> i32
+    requires inside { place < count }
+    requires most { count ≤ 1024 }
+    ensures value { result ≡ held place count component }
+    ensures within { IsWithin 65536 result }
+{
+    let least = -64 * (place as i32 + 1);
+    let most = 64 * (count - place) as i32;
+    component.clamp(least, most)
+}
+
+/// The vector held so that a macroblock at `place` that it moves is at most one macroblock out of
+/// the frame.
+#[inline]
+fn clamped(place: MbPlace, vector: Vector) -> Vector
+    requires across { (place.column < place.columns) × (place.columns ≤ 1024) }
+    requires down { (place.row < place.rows) × (place.rows ≤ 1024) }
+    ensures value { result ≡ clamped place vector }
+    ensures x { IsWithin 65536 result.x }
+    ensures y { IsWithin 65536 result.y }
+{
+    let x = held(place.column, place.columns, vector.x());
+    let y = held(place.row, place.rows, vector.y());
+    Vector::new(x, y)
+}
+
+/// The nearest vector, or zero where zero vectors weigh more.
+#[inline]
+fn best_in(zeros: u8, nearest: &Weighted) -> Vector
+    ensures { result ≡ best_in zeros nearest.now }
+{
+    if zeros <= nearest.weight {
+        nearest.vector
+    } else {
+        Vector::ZERO
+    }
+}
+
+/// The near vectors where zero vectors weigh `zeros` and split macroblocks `split`.
+#[inline]
+fn near_in(place: MbPlace, zeros: u8, nearest: &Weighted, near: &Weighted, split: u8) -> Near
+    requires across { (place.column < place.columns) × (place.columns ≤ 1024) }
+    requires down { (place.row < place.rows) × (place.rows ≤ 1024) }
+    ensures value { result ≡ near_in place zeros nearest.now near.now split }
+    ensures across { IsWithin 65536 result.best.x }
+    ensures down { IsWithin 65536 result.best.y }
+{
+    Near {
+        counts: [zeros, nearest.weight, near.weight, split],
+        best: clamped(place, best_in(zeros, nearest)),
+        nearest: clamped(place, nearest.vector),
+        near: clamped(place, near.vector),
+    }
+}
+
+/// The near vectors of a macroblock at `place`, whose neighbours are `above`, `left` and
+/// `above_left` and which is predicted from `reference` (RFC 6386, section 16.3). A neighbour
+/// outside the frame is `None`.
+pub fn near_vectors(
+    above: Option<&MbMode>,
+    left: Option<&MbMode>,
+    above_left: Option<&MbMode>,
+    reference: Reference,
+    biases: SignBiases,
+    place: MbPlace,
+) -> Near
+    requires across { (place.column < place.columns) × (place.columns ≤ 1024) }
+    requires down { (place.row < place.rows) × (place.rows ≤ 1024) }
+    ensures value { result ≡ near_of (option_copied above.entry) (option_copied left.entry) (option_copied above_left.entry) reference biases place }
+    ensures few { All (λ count. count ≤ 5) result.counts }
+    ensures across { IsWithin 65536 result.best.x }
+    ensures down { IsWithin 65536 result.best.y }
+{
+    let neighbours = neighbours_of(above, left, above_left, reference, biases);
+    let first = first_in(&neighbours.listed);
+    let second = second_in(&neighbours.listed);
+    let split = 2 * (splits(above) + splits(left)) + splits(above_left);
+    if first.weight < second.weight {
+        near_in(place, neighbours.zeros, &second, &first, split)
+    } else {
+        near_in(place, neighbours.zeros, &first, &second, split)
+    }
+}
