@@ -17,8 +17,8 @@ pub enum Reference {
     Altref,
 }
 
-/// What a frame does to the references behind it (RFC 6386, sections 9.7 and 9.8). The copies are
-/// of the references before the frame. A key frame refreshes all three.
+/// What a frame does to the references behind it (RFC 6386, sections 9.7 and 9.8): altref is copied
+/// first, then golden, and then come the refreshes. A key frame refreshes all three.
 #[derive(Clone, Copy, Debug, PartialEq, Eq)]
 pub struct ReferenceUpdates {
     /// The frame becomes the last frame.

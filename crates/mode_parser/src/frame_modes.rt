@@ -35,6 +35,13 @@ impl Modes {
         &self.records
     }
 
+    /// The segment map itself, without the records.
+    pub fn into_segment_map(self) -> Vec<u8>
+        ensures { result.items ≡ self.segment_map }
+    {
+        self.segment_map
+    }
+
     /// The segment of each macroblock, in raster order.
     pub fn segment_map(&self) -> &[u8]
         ensures { result.now ≡ self.now.segment_map }

@@ -10,7 +10,8 @@ use Rattle.std.proofs.lemmas.Simd.{length-put_chunk, get_or-chunk, get_or-put_ch
 use Rattle.pixel_planes.specs.Samples.{Samples, sample_at, row_of}
 use Rattle.pixel_planes.proofs.Rows.{row_fits, written_row, kept_row}
 use Rattle.reference_frames.specs.Unfiltered.{above, left, above_row, left_column, above_eight, sub_column, sub_row, right_row, block_row, with_span, with_block, with_block_rows}
-use Rattle.reference_frames.specs.UnfilteredLaws.{IsInSquare, WritesOneBlock}
+use Rattle.reference_frames.specs.PlacedBlocks.{IsInSquare}
+use Rattle.reference_frames.specs.UnfilteredLaws.{WritesOneBlock}
 use Rattle.reference_frames.proofs.Blocks.{part_length}
 
 -- ---- a span

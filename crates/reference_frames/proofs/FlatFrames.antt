@@ -16,11 +16,13 @@ use Rattle.pixel_planes.specs.PlaneSamples.{PlaneSamples}
 use Rattle.pixel_planes.proofs.Rows.{row_fits}
 use Rattle.mode_parser.specs.declared.records.MbMode.{MbMode}
 use Rattle.mode_parser.specs.declared.records.YMode.TheVariants.{B}
+use Rattle.mode_parser.specs.Vectors.{zero_vector}
 use Rattle.frame_header.specs.declared.header.Header.{Header}
 use Rattle.reference_frames.specs.Restored.{Residual}
 use Rattle.reference_frames.specs.FrameTokens.{TokenState, residual_at}
-use Rattle.reference_frames.specs.Unfiltered.{above, left, left_column, above_eight, above_side, left_side, sub_column, sub_row, sub_block_sample, whole_block_sample, with_block, predicted_sub_blocks, predicted_luma, predicted_whole, predicted_macroblock, predicted_macroblocks, empty_planes}
+use Rattle.reference_frames.specs.Unfiltered.{above, left, left_column, above_eight, above_side, left_side, sub_column, sub_row, sub_block_sample, whole_block_sample, with_block, predicted_sub_blocks, predicted_luma, predicted_whole, intra_macroblock, predicted_macroblock, predicted_macroblocks, empty_planes}
 use Rattle.reference_frames.specs.UnfilteredLaws.{luma_of_row, IsBlank, AreFlat}
+use Rattle.reference_frames.specs.declared.references.References.{References}
 use Rattle.reference_frames.proofs.Frames.{predicted_more}
 use Rattle.reference_frames.proofs.Flat.{IsPlane, IsPlane-with_block_rows, IsDone, IsDone-less, block_kept, block_more, above_row_is, left_column_is, above_eight_is, above_edge, left_edge, above_done, left_done}
 
@@ -308,26 +310,26 @@ record AreBlank (columns rows : ℕ) (modes : List MbMode) (residuals : ℕ → 
   pub none : (n : ℕ) → n < length modes → residuals n ≡ None
 
 abbrev blank : MbMode
-blank = record { segment = 0; is_skipped = true; y_mode = B; sub_modes = dcs; uv_mode = WholeDc }
+blank = record { segment = 0; is_skipped = true; y_mode = B; sub_modes = dcs; uv_mode = WholeDc; vectors = replicate 16 zero_vector }
 
-macroblock_done : (columns rows my mx : ℕ) (planes : PlaneSamples) (mode : MbMode) (residual : Residual) → IsBlank mode → residual ≡ None → mx < columns → my < rows → AreBegun columns rows my mx planes → AreBegun columns rows my (suc mx) (predicted_macroblock planes mx my mode residual)
-unfolding predicted_macroblock
-macroblock_done columns rows my mx planes mode residual is none in_row in_frame begun =
+macroblock_done : (version : ℕ) (references : Option References) (columns rows my mx : ℕ) (planes : PlaneSamples) (mode : MbMode) (residual : Residual) → IsBlank mode → residual ≡ None → mx < columns → my < rows → AreBegun columns rows my mx planes → AreBegun columns rows my (suc mx) (predicted_macroblock version references planes mx my mode residual)
+unfolding predicted_macroblock intra_macroblock
+macroblock_done version references columns rows my mx planes mode residual is none in_row in_frame begun =
     let luma : IsBegun luma_of_row 16 columns rows my (suc mx) (predicted_luma planes.luma mx my mode.y_mode mode.sub_modes residual) = rw (none, is.0, is.1) (luma_step columns rows my mx planes.luma in_row in_frame begun.luma) in
     let cb : IsBegun grey 8 columns rows my (suc mx) (predicted_whole planes.cb 8 mx my mode.uv_mode residual 16) = rw (none, is.2) (chroma_step columns rows my mx planes.cb in_row in_frame begun.cb) in
     let cr : IsBegun grey 8 columns rows my (suc mx) (predicted_whole planes.cr 8 mx my mode.uv_mode residual 20) = rw (none, is.2) (chroma_step columns rows my mx planes.cr in_row in_frame begun.cr) in
-    record { luma = luma; cb = cb; cr = cr }
+    rw is.0 (record { luma = rw is.0 at luma; cb = cb; cr = cr })
 
-row_done : (columns rows my n : ℕ) (planes : PlaneSamples) (modes : List MbMode) (residuals : ℕ → Residual) → AreBlank columns rows modes residuals → my < rows → n ≤ columns → AreBegun columns rows my 0 (predicted_macroblocks planes columns modes residuals (my * columns)) → AreBegun columns rows my n (predicted_macroblocks planes columns modes residuals (my * columns + n))
-row_done columns rows my zero planes modes residuals are in_frame in_row begun = rw add-zero begun
-row_done columns rows my (suc n) planes modes residuals are in_frame in_row begun =
+row_done : (version : ℕ) (references : Option References) (columns rows my n : ℕ) (planes : PlaneSamples) (modes : List MbMode) (residuals : ℕ → Residual) → AreBlank columns rows modes residuals → my < rows → n ≤ columns → AreBegun columns rows my 0 (predicted_macroblocks version references planes columns modes residuals (my * columns)) → AreBegun columns rows my n (predicted_macroblocks version references planes columns modes residuals (my * columns + n))
+row_done version references columns rows my zero planes modes residuals are in_frame in_row begun = rw add-zero begun
+row_done version references columns rows my (suc n) planes modes residuals are in_frame in_row begun =
     let place : ℕ = my * columns + n in
-    let before : AreBegun columns rows my n (predicted_macroblocks planes columns modes residuals place) = row_done columns rows my n planes modes residuals are in_frame (omega arith) begun in
+    let before : AreBegun columns rows my n (predicted_macroblocks version references planes columns modes residuals place) = row_done version references columns rows my n planes modes residuals are in_frame (omega arith) begun in
     let within : place < length modes = rw are.count (place_within columns rows my n (omega arith) in_frame) in
     let mode : MbMode = get_or modes place blank in
     let found : slice_get modes place ≡ Some mode = slice_get-get_or modes place blank within in
-    let after = macroblock_done columns rows my n (predicted_macroblocks planes columns modes residuals place) mode (residuals place) (are.each place mode found) (are.none place within) (omega arith) in_frame before in
-    let more = predicted_more planes (predicted_macroblocks planes columns modes residuals place) (predicted_macroblock (predicted_macroblocks planes columns modes residuals place) n my mode (residuals place)) columns n my place modes residuals blank refl refl refl (omega arith) within in
+    let after = macroblock_done version references columns rows my n (predicted_macroblocks version references planes columns modes residuals place) mode (residuals place) (are.each place mode found) (are.none place within) (omega arith) in_frame before in
+    let more = predicted_more version references planes (predicted_macroblocks version references planes columns modes residuals place) (predicted_macroblock version references (predicted_macroblocks version references planes columns modes residuals place) n my mode (residuals place)) columns n my place modes residuals mode found refl refl refl (omega arith) in
     let next : my * columns + suc n ≡ place + 1 = omega arith in
     rw (next, ← more) after
 
@@ -339,11 +341,11 @@ next_row of_row side columns rows my p begun = record {
   before = record { at = λ i j a b c d. absurd (omega arith) };
 }
 
-rows_done : (columns rows n : ℕ) (planes : PlaneSamples) (modes : List MbMode) (residuals : ℕ → Residual) → AreBlank columns rows modes residuals → n ≤ rows → AreBegun columns rows 0 0 planes → AreBegun columns rows n 0 (predicted_macroblocks planes columns modes residuals (n * columns))
+rows_done : (version : ℕ) (references : Option References) (columns rows n : ℕ) (planes : PlaneSamples) (modes : List MbMode) (residuals : ℕ → Residual) → AreBlank columns rows modes residuals → n ≤ rows → AreBegun columns rows 0 0 planes → AreBegun columns rows n 0 (predicted_macroblocks version references planes columns modes residuals (n * columns))
 unfolding predicted_macroblocks
-rows_done columns rows zero planes modes residuals are in_frame begun = rw zero-mul begun
-rows_done columns rows (suc n) planes modes residuals are in_frame begun =
-    let before = row_done columns rows n columns planes modes residuals are (omega arith) (omega arith) (rows_done columns rows n planes modes residuals are (omega arith) begun) in
+rows_done version references columns rows zero planes modes residuals are in_frame begun = rw zero-mul begun
+rows_done version references columns rows (suc n) planes modes residuals are in_frame begun =
+    let before = row_done version references columns rows n columns planes modes residuals are (omega arith) (omega arith) (rows_done version references columns rows n planes modes residuals are (omega arith) begun) in
     let next : suc n * columns ≡ n * columns + columns = omega arith in
     rw next (record {
       luma = next_row luma_of_row 16 columns rows n _ before.luma;
@@ -367,11 +369,11 @@ no_residuals header start columns modes each n within =
     rw (found, is.3) refl
 
 pub planes_flat : AreFlat
-planes_flat header start columns rows modes x y count each =
+planes_flat version references header start columns rows modes x y count each =
     let residuals : ℕ → Residual = residual_at header columns start modes in
     let none : (n : ℕ) → n < length modes → residuals n ≡ None = no_residuals header start columns modes each in
     let begun : AreBegun columns rows 0 0 (empty_planes columns rows) = record { luma = none_begun luma_of_row 16 columns rows; cb = none_begun grey 8 columns rows; cr = none_begun grey 8 columns rows } in
     let are : AreBlank columns rows modes residuals = record { count = count; each = each; none = none } in
     let all : length modes ≡ rows * columns = omega (arith, count) in
-    let done : AreBegun columns rows rows 0 (predicted_macroblocks (empty_planes columns rows) columns modes residuals (length modes)) = rw all (rows_done columns rows rows (empty_planes columns rows) modes residuals are (omega arith) begun) in
+    let done : AreBegun columns rows rows 0 (predicted_macroblocks version references (empty_planes columns rows) columns modes residuals (length modes)) = rw all (rows_done version references columns rows rows (empty_planes columns rows) modes residuals are (omega arith) begun) in
     (λ in_row in_frame. done.luma.upper.at x y in_row in_frame in_row in_frame, λ in_row in_frame. (done.cb.upper.at x y in_row in_frame in_row in_frame, done.cr.upper.at x y in_row in_frame in_row in_frame))

@@ -1,39 +1,53 @@
 -- Macroblocks in raster order.
-use Rattle.std.proofs.Common.{◌≡◌, ℕ, ◌+◌, ◌*◌, ◌/◌, ◌%◌, ◌<◌, List, Some, length, get_or, slice_get, refl, add-one}
+use Rattle.std.specs.Prelude.{Option}
+use Rattle.std.proofs.Common.{◌≡◌, ℕ, ◌+◌, ◌*◌, ◌/◌, ◌%◌, ◌<◌, List, Some, slice_get, refl, add-one}
 use Rattle.std.proofs.lemmas.Nat.{div-mul-add, mod-mul-add}
-use Rattle.std.proofs.lemmas.Option.{slice_get-get_or}
 use Rattle.mode_parser.specs.declared.records.MbMode.{MbMode}
 use Rattle.pixel_planes.specs.PlaneSamples.{PlaneSamples}
 use Rattle.frame_header.specs.declared.header.Header.{Header}
 use Rattle.transforms.specs.Factors.{factors_of}
 use Rattle.reference_frames.specs.FrameTokens.{TokenState, residual_at, residual_with, state_with, token_state, tokens_at}
 use Rattle.reference_frames.specs.Restored.{Residual}
-use Rattle.reference_frames.specs.Unfiltered.{predicted_macroblock, predicted_macroblocks}
+use Rattle.reference_frames.specs.declared.references.References.{References}
+use Rattle.frame_header.specs.declared.references.Reference.{Reference}
+use Rattle.intra_predict.specs.declared.modes.WholeMode.{WholeMode}
+use Rattle.mode_parser.specs.declared.records.YMode.{YMode}
+use Rattle.mode_parser.specs.declared.records.YMode.TheVariants.{Whole, B, Inter}
+use Rattle.mode_parser.specs.declared.records.VectorMode.{VectorMode}
+use Rattle.reference_frames.specs.Unfiltered.{predicted_by, intra_macroblock, referred_macroblock, predicted_macroblock, predicted_macroblocks}
 
 -- one macroblock more is predicted
-pub predicted_more : (start old new : PlaneSamples) (columns mx my n : ℕ) (modes : List MbMode) (residuals : ℕ → Residual) (d : MbMode) → old ≡ predicted_macroblocks start columns modes residuals n → new ≡ predicted_macroblock old mx my (get_or modes n d) (residuals n) → my * columns + mx ≡ n → mx < columns → n < length modes → new ≡ predicted_macroblocks start columns modes residuals (n + 1)
+pub predicted_more : (version : ℕ) (references : Option References) (start old new : PlaneSamples) (columns mx my n : ℕ) (modes : List MbMode) (residuals : ℕ → Residual) (mode : MbMode) → slice_get modes n ≡ Some mode → old ≡ predicted_macroblocks version references start columns modes residuals n → new ≡ predicted_macroblock version references old mx my mode (residuals n) → my * columns + mx ≡ n → mx < columns → new ≡ predicted_macroblocks version references start columns modes residuals (n + 1)
 unfolding predicted_macroblocks
-predicted_more start old new columns mx my n modes residuals d so_far here place in_row within =
-    let found : slice_get modes n ≡ Some (get_or modes n d) = slice_get-get_or modes n d within in
+predicted_more version references start old new columns mx my n modes residuals mode found so_far here place in_row =
     let column : n % columns ≡ mx = rw (← place) (mod-mul-add my columns mx in_row) in
     let row : n / columns ≡ my = rw (← place) (div-mul-add my columns mx in_row) in
     rw (add-one, found, column, row, ← so_far) here
 
 -- what stands behind one macroblock more, and the residual of that macroblock
-pub state_more : (header : Header) (start old new : TokenState) (columns mx my n : ℕ) (modes : List MbMode) (d : MbMode) → old ≡ token_state header columns start modes n →
-    new ≡ state_with old mx my (tokens_at header.context.probabilities.coefficients old mx my (get_or modes n d)) → my * columns + mx ≡ n → mx < columns → n < length modes → new ≡ token_state header columns start modes (n + 1)
+pub state_more : (header : Header) (start old new : TokenState) (columns mx my n : ℕ) (modes : List MbMode) (mode : MbMode) → slice_get modes n ≡ Some mode → old ≡ token_state header columns start modes n →
+    new ≡ state_with old mx my (tokens_at header.context.probabilities.coefficients old mx my mode) → my * columns + mx ≡ n → mx < columns → new ≡ token_state header columns start modes (n + 1)
 unfolding token_state
-state_more header start old new columns mx my n modes d so_far here place in_row within =
-    let found : slice_get modes n ≡ Some (get_or modes n d) = slice_get-get_or modes n d within in
+state_more header start old new columns mx my n modes mode found so_far here place in_row =
     let column : n % columns ≡ mx = rw (← place) (mod-mul-add my columns mx in_row) in
     let row : n / columns ≡ my = rw (← place) (div-mul-add my columns mx in_row) in
     rw (add-one, found, column, row, ← so_far) here
 
-pub residual_here : (header : Header) (start old : TokenState) (columns mx my n : ℕ) (modes : List MbMode) (d : MbMode) → old ≡ token_state header columns start modes n → my * columns + mx ≡ n → mx < columns → n < length modes →
-    residual_with (factors_of header (get_or modes n d).segment) (get_or modes n d) (tokens_at header.context.probabilities.coefficients old mx my (get_or modes n d)).0 ≡ residual_at header columns start modes n
+pub residual_here : (header : Header) (start old : TokenState) (columns mx my n : ℕ) (modes : List MbMode) (mode : MbMode) → slice_get modes n ≡ Some mode → old ≡ token_state header columns start modes n → my * columns + mx ≡ n → mx < columns →
+    residual_with (factors_of header mode.segment) mode (tokens_at header.context.probabilities.coefficients old mx my mode).0 ≡ residual_at header columns start modes n
 unfolding residual_at
-residual_here header start old columns mx my n modes d so_far place in_row within =
-    let found : slice_get modes n ≡ Some (get_or modes n d) = slice_get-get_or modes n d within in
+residual_here header start old columns mx my n modes mode found so_far place in_row =
     let column : n % columns ≡ mx = rw (← place) (mod-mul-add my columns mx in_row) in
     let row : n / columns ≡ my = rw (← place) (div-mul-add my columns mx in_row) in
     rw (found, column, row, ← so_far) refl
+
+-- how a macroblock is predicted goes by its luma mode
+pub by_whole : (y : YMode) (whole : WholeMode) (version : ℕ) (references : Option References) (planes : PlaneSamples) (mx my : ℕ) (mode : MbMode) (residual : Residual) → y ≡ Whole whole → predicted_by y version references planes mx my mode residual ≡ intra_macroblock planes mx my mode residual
+by_whole y whole version references planes mx my mode residual is = rw is refl
+
+pub by_sub_blocks : (y : YMode) (version : ℕ) (references : Option References) (planes : PlaneSamples) (mx my : ℕ) (mode : MbMode) (residual : Residual) → y ≡ B → predicted_by y version references planes mx my mode residual ≡ intra_macroblock planes mx my mode residual
+by_sub_blocks y version references planes mx my mode residual is = rw is refl
+
+pub by_reference : (y : YMode) (reference : Reference) (vector_mode : VectorMode) (version : ℕ) (references : Option References) (planes : PlaneSamples) (mx my : ℕ) (mode : MbMode) (residual : Residual) → y ≡ Inter reference vector_mode →
+    predicted_by y version references planes mx my mode residual ≡ referred_macroblock version references reference vector_mode planes mx my mode residual
+by_reference y reference vector_mode version references planes mx my mode residual is = rw is refl

@@ -1,3 +1,6 @@
+pub mod Squares
+pub mod Placed
+pub mod Quarters
 pub mod Added
 pub mod AddedFirst
 pub mod Blocks
@@ -5,3 +8,4 @@ pub mod Sides
 pub mod Frames
 pub mod Flat
 pub mod FlatFrames
+pub mod Behind

@@ -1,25 +1,27 @@
 -- The tokens of a frame (RFC 6386, sections 9.5 and 13): what stands between its macroblocks, and the residual that each has.
-use Rattle.std.specs.Prelude.{ℕ, zero, suc, ◌+◌, ◌%◌, ◌/◌, ◌==◌, nat_lt, Bool, true, false, if◌then◌else◌, List, [], map, length, replicate, slice_get, slice_index_or, slice_range, slice_set, Option, Some, None, ℤ, pos}
+use Rattle.std.specs.Prelude.{ℕ, zero, suc, ◌+◌, ◌%◌, ◌/◌, ◌==◌, nat_lt, Bool, true, false, not, if◌then◌else◌, List, [], map, length, replicate, slice_get, slice_index_or, slice_range, slice_set, Option, Some, None, ℤ, pos}
 use Rattle.std.specs.List.{range_with_len}
 use Rattle.bool_coder.specs.Reader.{Reader, started}
 use Rattle.frame_header.specs.declared.places.Place.{Place}
 use Rattle.frame_header.specs.declared.header.Header.{Header}
 use Rattle.mode_parser.specs.declared.records.MbMode.{MbMode}
 use Rattle.mode_parser.specs.declared.records.YMode.{YMode}
-use Rattle.mode_parser.specs.declared.records.YMode.TheVariants.{Whole, B}
+use Rattle.mode_parser.specs.declared.records.YMode.TheVariants.{Whole, B, Inter}
 use Rattle.token_parser.specs.Blocks.{macroblock, skipped, no_coefficients}
 use Rattle.token_parser.specs.declared.tokens.Tokens.{Tokens}
 use Rattle.transforms.specs.Factors.{dequantised, factors_of}
 use Rattle.transforms.specs.Transforms.{inverse_wht}
 use Rattle.transforms.specs.declared.factor_set.Factors.{Factors}
+use Rattle.reference_frames.specs.InterPrediction.{is_split}
 use Rattle.reference_frames.specs.Restored.{Residual}
 
 -- ---- the residual of a macroblock
 
--- every luma mode but B has a block Y2 of the first coefficients of luma (section 13)
+-- every luma mode but those of sub blocks and of split macroblocks has a block Y2 of the first coefficients of luma (section 13)
 abbrev pub has_y2 : YMode → Bool
 has_y2 (Whole mode) = true
 has_y2 B = false
+has_y2 (Inter reference mode) = not (is_split mode)
 
 -- a block, dequantised by its first factor and that of its others (section 14.1)
 unfoldable pub block_with : List ℤ → ℤ → ℤ → List ℤ

@@ -1,7 +1,11 @@
 pub mod Restored
 pub mod AddedBlocks
+pub mod PlacedBlocks
+pub mod InterPrediction
 pub mod FrameTokens
 pub mod FrameTokenValue
+pub mod References
+pub mod States
 pub mod Unfiltered
 pub mod UnfilteredLaws
 pub mod Steps

@@ -1,38 +1,77 @@
 -- One step of decoding: tables, a state or none, and a packet give a state and a picture, or a cause
 -- (RFC 6386, section 9).
-use Rattle.std.specs.Prelude.{ℕ, List, Option, Result, Ok, Err, ◌≡◌}
+use Rattle.std.specs.Prelude.{ℕ, List, Option, Some, None, Result, Ok, Err, ◌≡◌, if◌then◌else◌}
 use Rattle.std.specs.Option.{option_map}
 use Rattle.vp8_tables.specs.Tables.{TableEntries}
 use Rattle.frame_header.specs.declared.cause.Cause.{Cause}
 use Rattle.frame_header.specs.declared.header.Header.{Header}
 use Rattle.frame_header.specs.Header.{header_of}
-use Rattle.mode_parser.specs.FrameModes.{modes_of}
+use Rattle.frame_header.specs.Tags.{has_key_tag}
+use Rattle.mode_parser.specs.FrameModes.{FrameModes, modes_of}
 use Rattle.pixel_planes.specs.Pictures.{PictureSamples, macroblocks}
 use Rattle.mode_parser.specs.declared.records.MbMode.{MbMode}
 use Rattle.reference_frames.specs.FrameTokens.{residual_at, tokens_start}
+use Rattle.reference_frames.specs.References.{references_after}
 use Rattle.reference_frames.specs.Unfiltered.{unfiltered_picture}
-use Rattle.reference_frames.specs.declared.steps.State.{State}
+use Rattle.reference_frames.specs.declared.references.References.{References}
+use Rattle.reference_frames.specs.declared.states.State.{State}
 use Rattle.reference_frames.specs.declared.steps.StepFault.{StepFault}
 use Rattle.reference_frames.specs.declared.steps.StepFault.TheVariants.{Refused, NoMemory}
 
--- the picture of a key frame by these records: it has the size that its header tells, and the residuals that its token partitions give
-unfoldable pub decoded_picture : List ℕ → Header → List MbMode → PictureSamples
-decoded_picture packet header modes =
-    let columns = macroblocks header.width in
-    unfiltered_picture header.width header.height modes (residual_at header columns (tokens_start header.partitions.items packet columns) modes)
+-- the state that a packet goes on from: one with a key tag begins anew
+abbrev pub state_before : List ℕ → Option State → Option State
+state_before packet state = if has_key_tag packet then None else state
 
--- its records are the modes behind its header
-abbrev pub key_picture : TableEntries → List ℕ → Header → PictureSamples
-key_picture tables packet header = decoded_picture packet header (modes_of tables header (macroblocks header.width) (macroblocks header.height)).records
+abbrev pub references_before : Option State → Option References
+references_before before = option_map (λ s. s.references) before
 
--- what a header that is accepted gives; it is that of a key frame
-abbrev pub decoded_by : TableEntries → List ℕ → Result Header Cause → Result (State × PictureSamples) Cause
-decoded_by tables packet (Ok header) = Ok (record { context = header.context_after }, key_picture tables packet header)
-decoded_by tables packet (Err cause) = Err cause
+-- the shown size of a frame: that of its references, and a key frame's own
+abbrev pub width_of : Header → Option State → ℕ
+width_of header None = header.width
+width_of header (Some before) = before.references.last.width
+
+abbrev pub height_of : Header → Option State → ℕ
+height_of header None = header.height
+height_of header (Some before) = before.references.last.height
+
+-- the picture of a frame of this shown size, by its references, its records and the residuals that its token partitions give
+unfoldable pub decoded_picture : List ℕ → Header → Option References → ℕ → ℕ → List MbMode → PictureSamples
+decoded_picture packet header references width height modes =
+    let columns = macroblocks width in
+    unfiltered_picture header.version references width height modes (residual_at header columns (tokens_start header.partitions.items packet columns) modes)
+
+-- the modes of a frame, behind the segment map before it
+abbrev pub frame_modes : TableEntries → Header → Option State → FrameModes
+frame_modes tables header before =
+    modes_of tables header (macroblocks (width_of header before)) (macroblocks (height_of header before)) (option_map (λ s. s.segment_map) before)
+
+-- a key frame's picture becomes each of the references (section 9.7)
+abbrev pub references_behind : Header → PictureSamples → Option State → References
+references_behind header picture None = record { last = picture; golden = picture; altref = picture }
+references_behind header picture (Some before) = references_after header.references picture before.references
+
+abbrev pub state_with : Header → FrameModes → PictureSamples → Option State → State
+state_with header modes picture before = record {
+  context = header.context_after;
+  segment_map = modes.segment_map;
+  references = references_behind header picture before;
+}
+
+-- the state behind a frame, and its picture, which is the same whether it is kept or not
+abbrev pub decoded : TableEntries → List ℕ → Header → Option State → State × PictureSamples
+decoded tables packet header before =
+    let modes = frame_modes tables header before in
+    let picture = decoded_picture packet header (references_before before) (width_of header before) (height_of header before) modes.records in
+    (state_with header modes picture before, picture)
+
+-- what a header that is accepted gives
+abbrev pub decoded_by : TableEntries → List ℕ → Option State → Result Header Cause → Result (State × PictureSamples) Cause
+decoded_by tables packet state (Ok header) = Ok (decoded tables packet header (state_before packet state))
+decoded_by tables packet state (Err cause) = Err cause
 
 -- the step
 unfoldable pub step_of : TableEntries → Option State → List ℕ → Result (State × PictureSamples) Cause
-step_of tables state packet = decoded_by tables packet (header_of tables (option_map (λ s. s.context) state) packet)
+step_of tables state packet = decoded_by tables packet state (header_of tables (option_map (λ s. s.context) state) packet)
 
 -- the answer is the step's, or that there was no memory
 abbrev pub StepAnswers : Result (State × PictureSamples) Cause → Result (State × PictureSamples) StepFault → Type 0

@@ -1,4 +1,4 @@
--- The unfiltered picture of a frame of intra macroblocks: each is predicted by its record, and its residual is added, in raster order (RFC 6386, sections 12 and 14.5).
+-- The unfiltered picture of a frame: each macroblock is predicted by its record, from what stands round it or from a reference, and its residual is added, in raster order (RFC 6386, sections 12, 14.5 and 18).
 use Rattle.std.specs.Prelude.{◌≡◌, ℕ, zero, suc, ◌+◌, ◌-◌, ◌*◌, ◌/◌, ◌%◌, ◌≤◌, ◌==◌, nat_lt, min, if◌then◌else◌, List, map, length, slice_get, slice_index_or, Option, Some, None}
 use Rattle.std.specs.List.{range_with_len}
 use Rattle.std.specs.Simd.Lanes.{put_chunk}
@@ -12,8 +12,14 @@ use Rattle.pixel_planes.specs.Pictures.{PictureSamples, macroblocks}
 use Rattle.pixel_planes.specs.PlaneSamples.{PlaneSamples, picture_of}
 use Rattle.mode_parser.specs.declared.records.MbMode.{MbMode}
 use Rattle.mode_parser.specs.declared.records.YMode.{YMode}
-use Rattle.mode_parser.specs.declared.records.YMode.TheVariants.{Whole, B}
+use Rattle.mode_parser.specs.declared.records.YMode.TheVariants.{Whole, B, Inter}
+use Rattle.mode_parser.specs.declared.records.VectorMode.{VectorMode}
+use Rattle.mode_parser.specs.Vectors.{MotionVector}
+use Rattle.frame_header.specs.declared.references.Reference.{Reference}
+use Rattle.reference_frames.specs.InterPrediction.{kind_of, block_vector, luma_sample, chroma_sample}
+use Rattle.reference_frames.specs.References.{picture_in}
 use Rattle.reference_frames.specs.Restored.{Residual, restored}
+use Rattle.reference_frames.specs.declared.references.References.{References}
 
 -- a square of this side, with its first sample in column x of row y, lies in the plane, which has no side above 16,384
 abbrev pub HoldsSquare : Samples → ℕ → ℕ → ℕ → Type 0
@@ -128,24 +134,48 @@ predicted_whole p side mx my mode residual first = with_block p (side * mx) (sid
 abbrev pub predicted_luma : Samples → ℕ → ℕ → YMode → List SubMode → Residual → Samples
 predicted_luma p mx my (Whole mode) modes residual = predicted_whole p 16 mx my mode residual 0
 predicted_luma p mx my B modes residual = predicted_sub_blocks p mx my modes residual 16
+predicted_luma p mx my (Inter reference mode) modes residual = p
 
--- the planes after the macroblock in column mx of row my, by its record and its residual
-unfoldable pub predicted_macroblock : PlaneSamples → ℕ → ℕ → MbMode → Residual → PlaneSamples
-predicted_macroblock planes mx my mode residual = record {
+-- the planes after an intra macroblock in column mx of row my, by its record and its residual
+unfoldable pub intra_macroblock : PlaneSamples → ℕ → ℕ → MbMode → Residual → PlaneSamples
+intra_macroblock planes mx my mode residual = record {
   luma = predicted_luma planes.luma mx my mode.y_mode mode.sub_modes residual;
   cb = predicted_whole planes.cb 8 mx my mode.uv_mode residual 16;
   cr = predicted_whole planes.cr 8 mx my mode.uv_mode residual 20;
 }
 
+-- the planes after such a macroblock that a frame of this version predicts from a picture, by its vectors
+unfoldable pub inter_macroblock : ℕ → PictureSamples → PlaneSamples → ℕ → ℕ → VectorMode → List MotionVector → Residual → PlaneSamples
+inter_macroblock version from planes mx my mode vectors residual = record {
+  luma = with_block planes.luma (16 * mx) (16 * my) 16 (restored 16 0 residual (luma_sample (kind_of version) from.luma mx my (block_vector mode vectors)));
+  cb = with_block planes.cb (8 * mx) (8 * my) 8 (restored 8 16 residual (chroma_sample version from.cb mx my (block_vector mode vectors)));
+  cr = with_block planes.cr (8 * mx) (8 * my) 8 (restored 8 20 residual (chroma_sample version from.cr mx my (block_vector mode vectors)));
+}
+
+-- no key frame has references, and none of its macroblocks asks for one
+abbrev pub referred_macroblock : ℕ → Option References → Reference → VectorMode → PlaneSamples → ℕ → ℕ → MbMode → Residual → PlaneSamples
+referred_macroblock version None reference vector_mode planes mx my mode residual = planes
+referred_macroblock version (Some references) reference vector_mode planes mx my mode residual =
+    inter_macroblock version (picture_in references reference) planes mx my vector_mode mode.vectors residual
+
+-- the planes after the macroblock in column mx of row my of a frame of this version and with these references
+abbrev pub predicted_by : YMode → ℕ → Option References → PlaneSamples → ℕ → ℕ → MbMode → Residual → PlaneSamples
+predicted_by (Whole whole) version references planes mx my mode residual = intra_macroblock planes mx my mode residual
+predicted_by B version references planes mx my mode residual = intra_macroblock planes mx my mode residual
+predicted_by (Inter reference vector_mode) version references planes mx my mode residual = referred_macroblock version references reference vector_mode planes mx my mode residual
+
+unfoldable pub predicted_macroblock : ℕ → Option References → PlaneSamples → ℕ → ℕ → MbMode → Residual → PlaneSamples
+predicted_macroblock version references planes mx my mode residual = predicted_by mode.y_mode version references planes mx my mode residual
+
 -- the planes after the macroblock at this place of a frame of so many columns, if it has a record
-abbrev pub predicted_at : PlaneSamples → ℕ → ℕ → Option MbMode → Residual → PlaneSamples
-predicted_at planes columns place None residual = planes
-predicted_at planes columns place (Some mode) residual = predicted_macroblock planes (place % columns) (place / columns) mode residual
+abbrev pub predicted_at : ℕ → Option References → PlaneSamples → ℕ → ℕ → Option MbMode → Residual → PlaneSamples
+predicted_at version references planes columns place None residual = planes
+predicted_at version references planes columns place (Some mode) residual = predicted_macroblock version references planes (place % columns) (place / columns) mode residual
 
 -- the planes after the first n macroblocks, in raster order
-unfoldable pub predicted_macroblocks : PlaneSamples → ℕ → List MbMode → (ℕ → Residual) → ℕ → PlaneSamples
-predicted_macroblocks planes columns modes residuals zero = planes
-predicted_macroblocks planes columns modes residuals (suc n) = predicted_at (predicted_macroblocks planes columns modes residuals n) columns n (slice_get modes n) (residuals n)
+unfoldable pub predicted_macroblocks : ℕ → Option References → PlaneSamples → ℕ → List MbMode → (ℕ → Residual) → ℕ → PlaneSamples
+predicted_macroblocks version references planes columns modes residuals zero = planes
+predicted_macroblocks version references planes columns modes residuals (suc n) = predicted_at version references (predicted_macroblocks version references planes columns modes residuals n) columns n (slice_get modes n) (residuals n)
 
 -- the planes of a frame of this many macroblocks before any is predicted
 abbrev pub empty_planes : ℕ → ℕ → PlaneSamples
@@ -155,10 +185,10 @@ empty_planes columns rows = record {
   cr = uniform (8 * columns) (8 * rows) 0;
 }
 
--- the unfiltered planes of a frame of this many macroblocks, by their records and the residual at each place
-abbrev pub unfiltered : ℕ → ℕ → List MbMode → (ℕ → Residual) → PlaneSamples
-unfiltered columns rows modes residuals = predicted_macroblocks (empty_planes columns rows) columns modes residuals (length modes)
+-- the unfiltered planes of a frame of this version, with these references and this many macroblocks, by their records and the residual at each place
+abbrev pub unfiltered : ℕ → Option References → ℕ → ℕ → List MbMode → (ℕ → Residual) → PlaneSamples
+unfiltered version references columns rows modes residuals = predicted_macroblocks version references (empty_planes columns rows) columns modes residuals (length modes)
 
 -- the picture of a frame of this shown size, by the records and residuals of its macroblocks
-unfoldable pub unfiltered_picture : ℕ → ℕ → List MbMode → (ℕ → Residual) → PictureSamples
-unfiltered_picture width height modes residuals = picture_of width height (unfiltered (macroblocks width) (macroblocks height) modes residuals)
+unfoldable pub unfiltered_picture : ℕ → Option References → ℕ → ℕ → List MbMode → (ℕ → Residual) → PictureSamples
+unfiltered_picture version references width height modes residuals = picture_of width height (unfiltered version references (macroblocks width) (macroblocks height) modes residuals)

@@ -1,5 +1,5 @@
 -- What the definitions of the unfiltered picture come to, sample by sample.
-use Rattle.std.specs.Prelude.{◌≡◌, ℕ, ◌+◌, ◌-◌, ◌*◌, ◌<◌, ◌≤◌, nat_lt, if◌then◌else◌, true, List, length, replicate, slice_get, Some}
+use Rattle.std.specs.Prelude.{◌≡◌, ℕ, ◌-◌, ◌*◌, ◌<◌, nat_lt, if◌then◌else◌, true, List, length, replicate, slice_get, Option, Some}
 use Rattle.intra_predict.specs.declared.modes.SubMode.TheVariants.{Dc}
 use Rattle.intra_predict.specs.declared.modes.WholeMode.TheVariants.{Dc as WholeDc}
 use Rattle.mode_parser.specs.declared.records.MbMode.{MbMode}
@@ -7,11 +7,9 @@ use Rattle.mode_parser.specs.declared.records.YMode.TheVariants.{B}
 use Rattle.pixel_planes.specs.Samples.{Samples, IsWhole, sample_at}
 use Rattle.frame_header.specs.declared.header.Header.{Header}
 use Rattle.reference_frames.specs.FrameTokens.{TokenState, residual_at}
+use Rattle.reference_frames.specs.PlacedBlocks.{IsInSquare}
 use Rattle.reference_frames.specs.Unfiltered.{HoldsSquare, with_block, unfiltered}
-
--- column i of row j is in the square of this side that begins in column x of row y
-abbrev pub IsInSquare : ℕ → ℕ → ℕ → ℕ → ℕ → Type 0
-IsInSquare x y side i j = (x ≤ i) × (i < x + side) × (y ≤ j) × (j < y + side)
+use Rattle.reference_frames.specs.declared.references.References.{References}
 
 -- a block that is written has its samples, and every other sample is as it was
 abbrev pub WritesOneBlock : Type 0
@@ -30,6 +28,6 @@ IsBlank mode = (mode.y_mode ≡ B) × (mode.sub_modes ≡ replicate 16 Dc) × (m
 -- where each record is such, luma is 128 in the first four rows and 129 below them, and chroma is 128, whatever the token partitions hold
 abbrev pub AreFlat : Type 0
 AreFlat =
-    (header : Header) (start : TokenState) (columns rows : ℕ) (modes : List MbMode) (x y : ℕ) → length modes ≡ columns * rows → ((n : ℕ) (mode : MbMode) → slice_get modes n ≡ Some mode → IsBlank mode) →
-    (x < 16 * columns → y < 16 * rows → sample_at (unfiltered columns rows modes (residual_at header columns start modes)).luma x y ≡ luma_of_row y)
-    × (x < 8 * columns → y < 8 * rows → (sample_at (unfiltered columns rows modes (residual_at header columns start modes)).cb x y ≡ 128) × (sample_at (unfiltered columns rows modes (residual_at header columns start modes)).cr x y ≡ 128))
+    (version : ℕ) (references : Option References) (header : Header) (start : TokenState) (columns rows : ℕ) (modes : List MbMode) (x y : ℕ) → length modes ≡ columns * rows → ((n : ℕ) (mode : MbMode) → slice_get modes n ≡ Some mode → IsBlank mode) →
+    (x < 16 * columns → y < 16 * rows → sample_at (unfiltered version references columns rows modes (residual_at header columns start modes)).luma x y ≡ luma_of_row y)
+    × (x < 8 * columns → y < 8 * rows → (sample_at (unfiltered version references columns rows modes (residual_at header columns start modes)).cb x y ≡ 128) × (sample_at (unfiltered version references columns rows modes (residual_at header columns start modes)).cr x y ≡ 128))

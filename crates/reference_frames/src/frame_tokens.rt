@@ -8,6 +8,7 @@ ghost use Rattle.transforms.specs.Factors.{factors_of};
 ghost use Rattle.reference_frames.specs.FrameTokenValue.{state_of};
 ghost use Rattle.reference_frames.specs.FrameTokens.{has_y2 as has_y2_of, block_with, y2_results, block_of, blocks_of, reader_of, tokens_at, tokens_start, state_with, residual_with};
 
+use crate::inter::is_split;
 use crate::residuals::Blocks;
 use bool_coder::Decoder;
 use frame_header::{Header, Place};
@@ -25,6 +26,7 @@ fn has_y2(mode: &MbMode) -> bool
     match mode.y_mode {
         YMode::Whole(_) => true,
         YMode::B => false,
+        YMode::Inter(_, mode) => !is_split(mode),
     }
 }
 

@@ -1,11 +1,17 @@
 //! One step of decoding: what a packet leaves for the packets behind it, and its picture, predicted
-//! macroblock by macroblock (RFC 6386, sections 9 and 12).
+//! macroblock by macroblock (RFC 6386, sections 9 to 18).
 #![tactic(auto)]
 
+mod comparison;
 mod frame_tokens;
+mod inter;
 pub mod laws;
 mod prediction;
+mod references;
 mod residuals;
+mod states;
 mod steps;
 
-pub use steps::{State, StepFault, step};
+pub use references::References;
+pub use states::{State, same_state};
+pub use steps::{StepFault, step};

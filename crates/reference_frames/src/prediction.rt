@@ -8,13 +8,15 @@ ghost use Rattle.pixel_planes.specs.Samples.{sample_at};
 ghost use Rattle.reference_frames.specs.FrameTokens.{residual_at};
 ghost use Rattle.reference_frames.specs.FrameTokenValue.{state_of};
 ghost use Rattle.reference_frames.specs.Steps.{decoded_picture};
-ghost use Rattle.reference_frames.specs.Unfiltered.{HoldsSquare, HoldsMacroblock, HaveRoomFor, SameSides, SameShape, above, left, corner, above_row, left_column, above_eight, with_block, predicted_sub_block, predicted_sub_blocks, predicted_whole, predicted_luma, predicted_macroblock, predicted_macroblocks, empty_planes as empty_planes_of};
+ghost use Rattle.reference_frames.specs.Unfiltered.{HoldsSquare, HoldsMacroblock, HaveRoomFor, SameSides, SameShape, above, left, corner, above_row, left_column, above_eight, with_block, predicted_sub_block, predicted_sub_blocks, predicted_whole, predicted_luma, intra_macroblock, referred_macroblock, predicted_macroblock, predicted_macroblocks, empty_planes as empty_planes_of};
 
 use crate::frame_tokens::FrameTokens;
+use crate::inter::predict_inter;
+use crate::references::References;
 use crate::residuals::{Blocks, add_to_sub_block, add_to_whole};
-use frame_header::Header;
+use frame_header::{Header, Reference};
 use intra_predict::{BlockSize, SubMode, WholeMode, sub, whole};
-use mode_parser::{MbMode, YMode};
+use mode_parser::{MbMode, VectorMode, YMode};
 use pixel_planes::{NoMemory, Picture, Plane, Planes};
 use std::alloc::Global;
 
@@ -142,7 +144,7 @@ fn read_left(plane: &Plane, x: usize, y: usize, out: &mut [u8])
 
 /// Writes a block of `side` by `side` samples at column `x` of row `y`.
 #[inline(always)]
-fn write_block(plane: &mut Plane, x: usize, y: usize, side: usize, block: &[u8])
+pub(crate) fn write_block(plane: &mut Plane, x: usize, y: usize, side: usize, block: &[u8])
     requires within { HoldsSquare plane.old.shown x y side }
     requires small { side ≤ 16 }
     requires whole { length block.now ≡ side * side }
@@ -248,12 +250,13 @@ fn predict_luma(plane: &mut Plane, mx: usize, my: usize, mode: &MbMode, residual
     match mode.y_mode {
         YMode::Whole(whole) => predict_whole(plane, BlockSize::Sixteen, mx, my, whole, residual, 0),
         YMode::B => predict_sub_blocks(plane, mx, my, &mode.sub_modes, residual),
+        YMode::Inter(..) => {}
     }
 }
 
-/// Predicts the macroblock in column `mx` of row `my` from what stands round it, and adds its
+/// Predicts an intra macroblock in column `mx` of row `my` from what stands round it, and adds its
 /// residual, if it has one.
-fn predict_macroblock(
+fn predict_intra(
     planes: &mut Planes,
     mx: usize,
     my: usize,
@@ -261,7 +264,7 @@ fn predict_macroblock(
     residual: Option<&Blocks>,
 )
     requires { HoldsMacroblock (shown_of planes.old) mx my }
-    ensures value { shown_of planes.new ≡ predicted_macroblock (shown_of planes.old) mx my mode.now (option_copied residual.entry) }
+    ensures value { shown_of planes.new ≡ intra_macroblock (shown_of planes.old) mx my mode.now (option_copied residual.entry) }
     ensures sides { SameShape (shown_of planes.old) (shown_of planes.new) }
 {
     predict_luma(&mut planes.luma, mx, my, mode, residual);
@@ -285,10 +288,87 @@ fn predict_macroblock(
     );
 }
 
+/// What macroblocks are predicted from beside the picture in the making: the references, of which a
+/// key frame has none, by the filters of the frame's version.
+#[derive(Clone, Copy)]
+pub(crate) struct Sources<'a> {
+    pub(crate) version: u8,
+    pub(crate) references: Option<&'a References>,
+}
+
+/// Predicts a macroblock from a reference, by its vectors, and adds its residual. Where there are no
+/// references the planes stay as they are.
+fn predict_referred(
+    planes: &mut Planes,
+    sources: Sources,
+    reference: Reference,
+    vector_mode: VectorMode,
+    mx: usize,
+    my: usize,
+    mode: &MbMode,
+    residual: Option<&Blocks>,
+)
+    requires { HoldsMacroblock (shown_of planes.old) mx my }
+    ensures value { shown_of planes.new ≡ referred_macroblock sources.entry.version (option_copied sources.entry.references) reference vector_mode (shown_of planes.old) mx my mode.now (option_copied residual.entry) }
+    ensures sides { SameShape (shown_of planes.old) (shown_of planes.new) }
+{
+    match sources.references {
+        Some(references) => {
+            let from = references.picture(reference);
+            let version = sources.version;
+            let vectors = &mode.vectors;
+            predict_inter(
+                planes,
+                from,
+                mx,
+                my,
+                version,
+                vector_mode,
+                vectors,
+                residual,
+            );
+        }
+        None => {}
+    }
+}
+
+/// Predicts the macroblock in column `mx` of row `my`, from what stands round it or from a reference,
+/// and adds its residual, if it has one.
+fn predict_macroblock(
+    planes: &mut Planes,
+    sources: Sources,
+    mx: usize,
+    my: usize,
+    mode: &MbMode,
+    residual: Option<&Blocks>,
+)
+    requires { HoldsMacroblock (shown_of planes.old) mx my }
+    ensures value { shown_of planes.new ≡ predicted_macroblock sources.entry.version (option_copied sources.entry.references) (shown_of planes.old) mx my mode.now (option_copied residual.entry) }
+    ensures sides { SameShape (shown_of planes.old) (shown_of planes.new) }
+{
+    match mode.y_mode {
+        YMode::Whole(_) => predict_intra(planes, mx, my, mode, residual),
+        YMode::B => predict_intra(planes, mx, my, mode, residual),
+        YMode::Inter(reference, vector_mode) => {
+            predict_referred(
+                planes,
+                sources,
+                reference,
+                vector_mode,
+                mx,
+                my,
+                mode,
+                residual,
+            );
+        }
+    }
+}
+
 /// Predicts the macroblocks of a frame in raster order, each by its record, and adds the residual that
 /// its tokens give.
 fn predict_macroblocks(
     planes: &mut Planes,
+    sources: Sources,
     columns: usize,
     rows: usize,
     header: &Header,
@@ -299,14 +379,14 @@ fn predict_macroblocks(
     requires each { length modes.now ≡ columns * rows }
     requires some { 0 < length (state_of tokens.old).readers }
     requires above { length (state_of tokens.old).above ≡ columns }
-    ensures value { shown_of planes.new ≡ predicted_macroblocks (shown_of planes.old) columns modes.now (residual_at header.now columns (state_of tokens.old) modes.now) (length modes.now) }
+    ensures value { shown_of planes.new ≡ predicted_macroblocks sources.entry.version (option_copied sources.entry.references) (shown_of planes.old) columns modes.now (residual_at header.now columns (state_of tokens.old) modes.now) (length modes.now) }
     ensures sides { SameShape (shown_of planes.old) (shown_of planes.new) }
 {
     let mut mx = 0;
     let mut my = 0;
     for mode in modes {
         let residual = tokens.read(header, mx, my, mode);
-        predict_macroblock(planes, mx, my, mode, residual.as_ref());
+        predict_macroblock(planes, sources, mx, my, mode, residual.as_ref());
         mx += 1;
         if mx == columns {
             mx = 0;
@@ -338,28 +418,43 @@ fn empty_planes(alloc: Global, columns: usize, rows: usize) -> Result<Planes, No
     })
 }
 
-/// Makes the picture of a key frame from its packet, of which this is the header: each macroblock is
-/// predicted by its record, of which there is one for each in raster order, and the residual that its
-/// tokens give is added to it (RFC 6386, sections 12 to 14).
+/// Makes the picture of a frame of this shown size from its packet, of which this is the header: each
+/// macroblock is predicted by its record, of which there is one for each in raster order, and the
+/// residual that its tokens give is added to it (RFC 6386, sections 12 to 14 and 18).
 ///
 /// `NoMemory` where a plane or its shared block, or what stands between macroblocks, is refused.
-pub fn unfiltered_picture(
+pub(crate) fn unfiltered_picture(
     alloc: Global,
     packet: &[u8],
     header: &Header,
+    references: Option<&References>,
+    width: u16,
+    height: u16,
     modes: &[MbMode],
 ) -> Result<Picture, NoMemory>
-    requires wide { (0 < header.now.width) × (header.now.width ≤ 16383) }
-    requires high { (0 < header.now.height) × (header.now.height ≤ 16383) }
-    requires each { length modes.now ≡ macroblocks_of header.now.width * macroblocks_of header.now.height }
+    requires wide { (0 < width) × (width ≤ 16383) }
+    requires high { (0 < height) × (height ≤ 16383) }
+    requires each { length modes.now ≡ macroblocks_of width * macroblocks_of height }
     requires some { 0 < length header.now.partitions.items }
     requires inside { All (λ place. place.start + place.length ≤ length packet.now) header.now.partitions.items }
-    ensures { IfOk result (λ p. p ≡ decoded_picture packet.now header.now modes.now) }
+    ensures { IfOk result (λ p. p ≡ decoded_picture packet.now header.now (option_copied references.entry) width height modes.now) }
 {
-    let columns = macroblocks(header.width);
-    let rows = macroblocks(header.height);
+    let columns = macroblocks(width);
+    let rows = macroblocks(height);
+    let sources = Sources {
+        version: header.version,
+        references,
+    };
     let mut planes = empty_planes(alloc, columns, rows)?;
     let mut tokens = FrameTokens::new(alloc, packet, &header.partitions, columns)?;
-    predict_macroblocks(&mut planes, columns, rows, header, modes, &mut tokens);
-    Picture::share(alloc, planes, header.width, header.height)
+    predict_macroblocks(
+        &mut planes,
+        sources,
+        columns,
+        rows,
+        header,
+        modes,
+        &mut tokens,
+    );
+    Picture::share(alloc, planes, width, height)
 }

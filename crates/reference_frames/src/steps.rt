@@ -1,20 +1,16 @@
-ghost use Rattle.std.specs.Prelude.{◌≡◌, ◌+◌, ◌<◌, ◌≤◌, ◌*◌, length, All, IfOk, IsTrue};
-ghost use Rattle.std.specs.Option.{option_copied};
-ghost use Rattle.reference_frames.specs.Steps.{StepAnswers, key_picture, step_of};
+ghost use Rattle.std.specs.Prelude.{◌≡◌, false, ◌+◌, ◌<◌, ◌≤◌, ◌*◌, length, All, IfOk, IsTrue, IsSome};
+ghost use Rattle.std.specs.Option.{option_copied, option_map, ForSome};
+ghost use Rattle.reference_frames.specs.Steps.{StepAnswers, decoded, height_of, references_before, references_behind, step_of, width_of};
+ghost use Rattle.reference_frames.specs.States.{HasMap};
 
 use crate::prediction::{macroblocks, unfiltered_picture};
-use frame_header::{Cause, Context, Header, read_header};
+use crate::references::References;
+use crate::states::State;
+use frame_header::{Cause, Header, read_header};
 use mode_parser::read_modes;
 use pixel_planes::{NoMemory, Picture};
 use std::alloc::Global;
 use vp8_tables::Tables;
-
-/// What a packet leaves for the packets behind it.
-#[derive(Debug, Drop)]
-pub struct State {
-    /// What its header leaves.
-    pub context: Context,
-}
 
 /// Why a step gives nothing.
 #[derive(Clone, Copy, Debug, PartialEq, Eq)]
@@ -25,31 +21,102 @@ pub enum StepFault {
     NoMemory,
 }
 
-/// Reads the modes of a key frame behind its header, and makes its picture.
-fn read_picture(
+/// The shown size of a frame: that of its references, and a key frame's own.
+fn size_of(header: &Header, before: Option<&State>) -> (u16, u16)
+    requires behind { header.now.is_key ≡ false → IsSome before }
+    requires wide { IsTrue header.now.is_key → (1 ≤ header.now.width) × (header.now.width ≤ 16383) }
+    requires high { IsTrue header.now.is_key → (1 ≤ header.now.height) × (header.now.height ≤ 16383) }
+    ensures width { result.0 ≡ width_of header.now (option_copied before.entry) }
+    ensures height { result.1 ≡ height_of header.now (option_copied before.entry) }
+    ensures wide { (0 < result.0) × (result.0 ≤ 16383) }
+    ensures high { (0 < result.1) × (result.1 ≤ 16383) }
+{
+    match before {
+        None => (header.width, header.height),
+        Some(before) => {
+            let last = &before.references().last;
+            (last.width(), last.height())
+        }
+    }
+}
+
+/// The segment map before a frame, if it goes on from a state.
+fn map_before(before: Option<&State>) -> Option<&[u8]>
+    ensures value { option_copied result ≡ option_map (λ s. s.segment_map) (option_copied before.entry) }
+    ensures whole { ForSome before.entry (λ s. HasMap s.now) }
+{
+    match before {
+        Some(before) => Some(before.segment_map()),
+        None => None,
+    }
+}
+
+/// The references before a frame, if it goes on from a state.
+fn references_before(before: Option<&State>) -> Option<&References>
+    ensures { option_copied result ≡ references_before (option_copied before.entry) }
+{
+    match before {
+        Some(before) => Some(before.references()),
+        None => None,
+    }
+}
+
+/// The references behind a frame of this picture.
+fn references_behind(
+    header: &Header,
+    picture: &Picture,
+    before: Option<&State>,
+) -> Result<References, NoMemory>
+    ensures { IfOk result (λ r. r ≡ references_behind header.now picture.now (option_copied before.entry)) }
+{
+    match before {
+        None => References::all_of(picture),
+        Some(before) => before.references().after(&header.references, picture),
+    }
+}
+
+/// Decodes a frame behind its header: the state behind it, and its picture.
+fn decode(
     alloc: Global,
     tables: &Tables,
     packet: &[u8],
     header: &Header,
-) -> Result<Picture, NoMemory>
-    requires key { IsTrue header.now.is_key }
-    requires wide { (0 < header.now.width) × (header.now.width ≤ 16383) }
-    requires high { (0 < header.now.height) × (header.now.height ≤ 16383) }
+    before: Option<&State>,
+) -> Result<(State, Picture), NoMemory>
+    requires behind { header.now.is_key ≡ false → IsSome before }
+    requires wide { IsTrue header.now.is_key → (1 ≤ header.now.width) × (header.now.width ≤ 16383) }
+    requires high { IsTrue header.now.is_key → (1 ≤ header.now.height) × (header.now.height ≤ 16383) }
     requires some { 0 < length header.now.partitions.items }
     requires inside { All (λ place. place.start + place.length ≤ length packet.now) header.now.partitions.items }
-    ensures { IfOk result (λ p. p ≡ key_picture tables.now packet.now header.now) }
+    ensures { IfOk result (λ d. d ≡ decoded tables.now packet.now header.now (option_copied before.entry)) }
 {
-    let columns = macroblocks(header.width);
-    let rows = macroblocks(header.height);
-    let modes = read_modes(alloc, tables, header, columns, rows, None)?;
-    unfiltered_picture(alloc, packet, header, modes.records())
+    let (width, height) = size_of(header, before);
+    let map = map_before(before);
+    let references = references_before(before);
+    let columns = macroblocks(width);
+    let rows = macroblocks(height);
+    let modes = read_modes(alloc, tables, header, columns, rows, map)?;
+    let picture = unfiltered_picture(
+        alloc,
+        packet,
+        header,
+        references,
+        width,
+        height,
+        modes.records(),
+    )?;
+    let references = references_behind(header, &picture, before)?;
+    let segment_map = modes.into_segment_map();
+    let state = State::new(alloc, header.context_after, segment_map, references)?;
+    Ok((state, picture))
 }
 
 /// One step of decoding (RFC 6386, section 9): the state behind `packet` and its picture, from the
 /// state before it, or from none.
 ///
 /// `Refused` with the first cause against the packet; `NoMemory` where the modes, the readers of the
-/// token partitions, the flags between macroblocks, a plane or its shared block find no room.
+/// token partitions, the flags between macroblocks, a plane, a shared block or one more share of a
+/// plane find no room.
 #[tactic(auto, unfolding(crate::specs::Steps::step_of))]
 pub fn step(
     alloc: Global,
@@ -60,18 +127,16 @@ pub fn step(
     ensures { StepAnswers (step_of tables.now (option_copied state.entry) packet.now) result }
 {
     let context = match state {
-        Some(state) => Some(&state.context),
+        Some(state) => Some(state.context()),
         None => None,
     };
     let header = match read_header(tables, context, packet) {
         Ok(header) => header,
         Err(cause) => return Err(StepFault::Refused(cause)),
     };
-    let Ok(picture) = read_picture(alloc, tables, packet, &header) else {
-        return Err(StepFault::NoMemory);
-    };
-    let state = State {
-        context: header.context_after,
-    };
-    Ok((state, picture))
+    let before = if header.is_key { None } else { state };
+    match decode(alloc, tables, packet, &header, before) {
+        Ok(decoded) => Ok(decoded),
+        Err(_) => Err(StepFault::NoMemory),
+    }
 }

@@ -93,12 +93,12 @@ fn a_rate_of_zero_is_thirty(rt: HostRuntime) -> Result<(), Fail> {
 fn hidden_packets_have_no_number(rt: HostRuntime) -> Result<(), Fail> {
     let ran = run_packets(
         rt.alloc(),
-        &[KEY, HIDDEN, KEY, INTER],
-        b"frame 1\nframe 2\nframe 3\n",
+        &[KEY, HIDDEN, KEY],
+        b"frame 1\nframe 2\n",
     )?;
     let want = y4m_of(rt.alloc(), LINE, &[BLANK])?;
     assert_eq!(rt; ran.frames.as_slice(), want.as_slice());
-    let replies = b"served 1\nrefused packet 3 NotYet\nrefused NoSuchFrame\n";
+    let replies = b"served 1\nrefused NoSuchFrame\n";
     assert_eq!(rt; ran.replies.as_slice(), replies.as_slice());
     Ok(())
 }

@@ -10,6 +10,8 @@ mod fixtures;
 #[cfg(test)]
 mod frames;
 #[cfg(test)]
+mod inter;
+#[cfg(test)]
 mod modes;
 #[cfg(test)]
 mod packets;

@@ -3,6 +3,7 @@
 
 use bool_coder::Encoder;
 use std::alloc::{AllocError, Global};
+use vp8_tables::VECTOR_UPDATE_PROBABILITIES;
 
 /// The pairs of bit and probability of each luma mode of a key frame: DC, V, H, TM, B.
 const LUMA: [&[(bool, u8)]; 5] = [
@@ -147,4 +148,37 @@ pub fn write_y2(encoder: &mut Encoder, first: i8) -> Result<(), AllocError> {
         write_bits(encoder, b"0")?;
     }
     write_bits(encoder, b"000000000000000000000000")
+}
+
+/// A shown packet with no key tag that changes no probability and refreshes nothing, of these
+/// macroblocks, each a list of bits with their probabilities, with an empty token partition. The
+/// probabilities of skipping and of a reference are 1, that of the last frame 255, golden's 128.
+pub fn inter_packet(
+    alloc: Global,
+    macroblocks: &[&[(bool, u8)]],
+) -> Result<Vec<u8>, AllocError> {
+    let mut encoder = Encoder::new(alloc);
+    write_bits(&mut encoder, &[b'0'; 36])?;
+    for _ in 0..1056 {
+        encoder.bit(false, 128)?;
+    }
+    write_bits(&mut encoder, b"100000001")?;
+    write_bits(&mut encoder, b"000000011111111110000000")?;
+    write_bits(&mut encoder, b"00")?;
+    for component in VECTOR_UPDATE_PROBABILITIES {
+        for prob in component {
+            encoder.bit(false, prob)?;
+        }
+    }
+    for macroblock in macroblocks {
+        write_pairs(&mut encoder, macroblock)?;
+    }
+    let first = encoder.finish()?;
+    let size = first.len() as u64 % 524_288;
+    let mut packet = Vec::new(alloc);
+    packet.push((0x11 + size % 8 * 32) as u8)?;
+    packet.push((size / 8 % 256) as u8)?;
+    packet.push((size / 2048) as u8)?;
+    packet.extend_from_slice(first.as_slice())?;
+    Ok(packet)
 }

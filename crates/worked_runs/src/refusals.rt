@@ -59,11 +59,6 @@ fn token_partitions(rt: HostRuntime) -> Result<(), Fail> {
 
 #[test]
 fn not_yet(rt: HostRuntime) -> Result<(), Fail> {
-    let ran = run_packets(rt.alloc(), &[KEY, INTER], b"frame 1\n")?;
-    assert_eq!(rt;
-        ran.replies.as_slice(),
-        b"refused packet 1 NotYet\n".as_slice()
-    );
     // The third bit turns segments on; the sixth to the tenth are the low bits of the filter level.
     for fields in ["001", "0000000001"] {
         let mut encoder = Encoder::new(rt.alloc());

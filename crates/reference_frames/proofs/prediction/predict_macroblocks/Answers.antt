@@ -1,6 +1,8 @@
-use Rattle.std.proofs.Common.{◌≡◌, ◌+◌, ◌*◌, ◌<◌, ℕ, length, ap, ◌∙◌, refl, rules, arith}
+use Rattle.std.proofs.Common.{◌≡◌, ◌+◌, ◌*◌, ◌<◌, ℕ, length, slice_get, Some, ap, sym, ◌∙◌, refl, rules, arith}
 use Rattle.std.specs.Option.{option_copied}
 use Rattle.std.proofs.lemmas.List.{length-set}
+use Rattle.std.proofs.lemmas.Option.{slice_get-get_or}
+use Rattle.mode_parser.specs.declared.records.MbMode.{MbMode}
 use Rattle.pixel_planes.specs.PlaneSamples.{shown_of}
 use Rattle.reference_frames.specs.FrameTokens.{TokenState, residual_at, token_state}
 use Rattle.reference_frames.specs.FrameTokenValue.{state_of}
@@ -34,15 +36,17 @@ loop-mode-init c = record {
 pub loop-mode-preserved : goal.loop-mode-preserved
 loop-mode-preserved c =
     let column = c.loop-mode.invariant.column c.loop-mode-test.true in
+    let mode : MbMode = c.mode-item.result in
+    let found : slice_get c.args.modes.now c.loop-mode.mode-index ≡ Some mode = slice_get-get_or c.args.modes.now c.loop-mode.mode-index mode c.loop-mode-test.true ∙ ap Some (sym c.mode-item.is) in
     let state = c.read-residual.ensures.state in
     let residual : option_copied c.as_ref.result ≡ residual_at c.args.header.now c.args.columns (state_of c.args.tokens.now) c.args.modes.now c.loop-mode.mode-index =
     c.as_ref.ensures.value ∙ c.read-residual.ensures.residual
-    ∙ residual_here c.args.header.now (state_of c.args.tokens.now) (state_of c.loop-mode.tokens) c.args.columns c.loop-mode.mx c.loop-mode.my c.loop-mode.mode-index c.args.modes.now _ c.loop-mode.invariant.state c.loop-mode.invariant.place column c.loop-mode-test.true in
+    ∙ residual_here c.args.header.now (state_of c.args.tokens.now) (state_of c.loop-mode.tokens) c.args.columns c.loop-mode.mx c.loop-mode.my c.loop-mode.mode-index c.args.modes.now mode found c.loop-mode.invariant.state c.loop-mode.invariant.place column in
     let here = rw residual at c.predict_macroblock.ensures.value in
     record {
-      value = predicted_more (shown_of c.args.planes.now) (shown_of c.loop-mode.planes) (shown_of c.predict_macroblock.new.planes) c.args.columns c.loop-mode.mx c.loop-mode.my c.loop-mode.mode-index c.args.modes.now
-          (residual_at c.args.header.now c.args.columns (state_of c.args.tokens.now) c.args.modes.now) _ c.loop-mode.invariant.value here c.loop-mode.invariant.place column c.loop-mode-test.true;
-      state = state_more c.args.header.now (state_of c.args.tokens.now) (state_of c.loop-mode.tokens) (state_of c.read-residual.new.self) c.args.columns c.loop-mode.mx c.loop-mode.my c.loop-mode.mode-index c.args.modes.now _ c.loop-mode.invariant.state c.read-residual.ensures.state c.loop-mode.invariant.place column c.loop-mode-test.true;
+      value = predicted_more c.args.sources.version (option_copied c.args.sources.references) (shown_of c.args.planes.now) (shown_of c.loop-mode.planes) (shown_of c.predict_macroblock.new.planes) c.args.columns c.loop-mode.mx c.loop-mode.my c.loop-mode.mode-index c.args.modes.now
+          (residual_at c.args.header.now c.args.columns (state_of c.args.tokens.now) c.args.modes.now) mode found c.loop-mode.invariant.value here c.loop-mode.invariant.place column;
+      state = state_more c.args.header.now (state_of c.args.tokens.now) (state_of c.loop-mode.tokens) (state_of c.read-residual.new.self) c.args.columns c.loop-mode.mx c.loop-mode.my c.loop-mode.mode-index c.args.modes.now mode found c.loop-mode.invariant.state c.read-residual.ensures.state c.loop-mode.invariant.place column;
       readers = (let same = ap (λ (t : TokenState). length t.readers) state ∙ length-set _ _ _ in omega (arith, same, c.loop-mode.invariant.readers));
       above = ap (λ (t : TokenState). length t.above) state ∙ length-set _ _ _ ∙ c.loop-mode.invariant.above;
       sides = search rules;

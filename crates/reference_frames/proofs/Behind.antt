@@ -1,0 +1,52 @@
+-- What stands behind a frame.
+use Rattle.std.specs.Prelude.{Option, Some, None, if◌then◌else◌}
+use Rattle.std.proofs.Common.{◌≡◌, ℕ, Bool, true, false, ◌*◌, List, length, refl, ap, ◌∙◌}
+use Rattle.vp8_tables.specs.Tables.{TableEntries}
+use Rattle.frame_header.specs.declared.header.Header.{Header}
+use Rattle.mode_parser.specs.FrameModes.{FrameModes}
+use Rattle.mode_parser.specs.declared.records.MbMode.{MbMode}
+use Rattle.pixel_planes.specs.Pictures.{PictureSamples, macroblocks}
+use Rattle.reference_frames.specs.States.{StateValue, HasMap}
+use Rattle.reference_frames.specs.Steps.{decoded, decoded_picture, frame_modes, height_of, references_before, references_behind, width_of}
+use Rattle.reference_frames.specs.Unfiltered.{unfiltered_picture}
+use Rattle.reference_frames.specs.declared.references.References.{References}
+use Rattle.reference_frames.specs.declared.states.State.{State}
+
+-- one of two pictures of a size has it
+one_wide : (b : Bool) (one other : PictureSamples) (n : ℕ) → one.width ≡ n → other.width ≡ n → (if b then one else other).width ≡ n
+one_wide true one other n a b = a
+one_wide false one other n a b = b
+
+one_high : (b : Bool) (one other : PictureSamples) (n : ℕ) → one.height ≡ n → other.height ≡ n → (if b then one else other).height ≡ n
+one_high true one other n a b = a
+one_high false one other n a b = b
+
+behind_wide : (header : Header) (picture : PictureSamples) (before : Option State) → picture.width ≡ width_of header before → (references_behind header picture before).last.width ≡ width_of header before
+behind_wide header picture None is = is
+behind_wide header picture (Some state) is = one_wide header.references.refreshes_last picture state.references.last state.references.last.width is refl
+
+behind_high : (header : Header) (picture : PictureSamples) (before : Option State) → picture.height ≡ height_of header before → (references_behind header picture before).last.height ≡ height_of header before
+behind_high header picture None is = is
+behind_high header picture (Some state) is = one_high header.references.refreshes_last picture state.references.last state.references.last.height is refl
+
+decoded_wide : (packet : List ℕ) (header : Header) (references : Option References) (width height : ℕ) (modes : List MbMode) → (decoded_picture packet header references width height modes).width ≡ width
+unfolding decoded_picture unfiltered_picture
+decoded_wide packet header references width height modes = refl
+
+decoded_high : (packet : List ℕ) (header : Header) (references : Option References) (width height : ℕ) (modes : List MbMode) → (decoded_picture packet header references width height modes).height ≡ height
+unfolding decoded_picture unfiltered_picture
+decoded_high packet header references width height modes = refl
+
+-- the last reference behind a frame has the size of the frame, and so the segment map that goes with it
+pub has_map : (packet : List ℕ) (header : Header) (before : Option State) (sources : Option References) (width height columns rows : ℕ) (modes : List MbMode) (picture : PictureSamples) (state : StateValue) →
+    width ≡ width_of header before → height ≡ height_of header before → picture ≡ decoded_picture packet header sources width height modes → state.references ≡ references_behind header picture before → columns ≡ macroblocks width → rows ≡ macroblocks height → length state.segment_map ≡ columns * rows → HasMap state
+has_map packet header before sources width height columns rows modes picture state wide high picture_is references_are columns_are rows_are long =
+    let across : picture.width ≡ width_of header before = ap (λ (p : PictureSamples). p.width) picture_is ∙ decoded_wide packet header sources width height modes ∙ wide in
+    let down : picture.height ≡ height_of header before = ap (λ (p : PictureSamples). p.height) picture_is ∙ decoded_high packet header sources width height modes ∙ high in
+    rw (references_are, behind_wide header picture before across, behind_high header picture before down, ← wide, ← high, ← columns_are, ← rows_are) long
+
+-- what the parts of a frame come to
+pub decoded_whole : (tables : TableEntries) (packet : List ℕ) (header : Header) (before : Option State) (modes : FrameModes) (picture : PictureSamples) (references : References) (map : List ℕ) (state : StateValue) →
+    modes ≡ frame_modes tables header before → picture ≡ decoded_picture packet header (references_before before) (width_of header before) (height_of header before) modes.records → references ≡ references_behind header picture before → map ≡ modes.segment_map →
+    state ≡ record { context = header.context_after; segment_map = map; references = references } → (state, picture) ≡ decoded tables packet header before
+decoded_whole tables packet header before modes picture references map state modes_are picture_is references_are map_is state_is = rw (state_is, map_is, references_are, picture_is, modes_are) refl

@@ -1,0 +1,67 @@
+-- Places in a square, and in what begins with one of them.
+use Rattle.std.specs.Prelude.{slice_index}
+use Rattle.std.proofs.Common.{◌≡◌, ℕ, ◌+◌, ◌-◌, ◌*◌, ◌<◌, ◌≤◌, List, ◌++◌, length, get_or, take, drop, ap, ◌∙◌, arith}
+use Rattle.std.proofs.lemmas.List.{length-take-le, length-drop, length-append, get_or-take, get_or-drop, get_or_append_left, get_or-append_right}
+use Rattle.intra_predict.proofs.Rows.{row_fits}
+
+index_from : (side i d column row : ℕ) → column ≤ i → (row + d) * side + i ≡ side * row + column + (d * side + (i - column))
+index_from side i d column row a = omega arith
+
+pub index_in : (side i j column row : ℕ) → column ≤ i → row ≤ j → j * side + i ≡ side * row + column + ((j - row) * side + (i - column))
+index_in side i j column row a b =
+    let e : j ≡ row + (j - row) = omega arith in
+    ap (λ n. n * side + i) e ∙ index_from side i (j - row) column row a
+
+-- a sample left of the block stands at the end of a row of what begins with the block
+index_left : (side i d column row : ℕ) → column ≤ side → (row + (d + 1)) * side + i ≡ side * row + column + (d * side + (side + i - column))
+index_left side i d column row a = omega arith
+
+pub index_before : (side i j column row : ℕ) → column ≤ side → row < j → j * side + i ≡ side * row + column + ((j - row - 1) * side + (side + i - column))
+index_before side i j column row a b =
+    let e : j ≡ row + (j - row - 1 + 1) = omega arith in
+    ap (λ n. n * side + i) e ∙ index_left side i (j - row - 1) column row a
+
+above_start : (side i j e column : ℕ) → i < side → j * side + i < side * (j + 1 + e) + column
+above_start side i j e column a = omega arith
+
+pub index_above : (side i j column row : ℕ) → i < side → j < row → j * side + i < side * row + column
+index_above side i j column row a b =
+    let e : row ≡ j + 1 + (row - j - 1) = omega arith in
+    rw e (above_start side i j (row - j - 1) column a)
+
+-- each index of a square is within it
+pub index_within : (side i j : ℕ) → i < side → j < side → j * side + i < side * side
+index_within side i j a b = let fits : j * side + side ≤ side * side = row_fits side j b in omega (arith, fits)
+
+-- what stands behind the start of a part stands in the part
+pub part_old : (old : List ℕ) (start k : ℕ) → start + k < length old → slice_index (take (length old - start) (drop start old)) k ≡ slice_index old (start + k)
+part_old old start k within = get_or-take (length old - start) (drop start old) k 0 (omega arith) ∙ get_or-drop start old k 0
+
+pub part_new : (old part rest : List ℕ) (start k : ℕ) → length part ≡ length (take (length old - start) (drop start old)) → start + k < length old → slice_index (take start old ++ (part ++ rest)) (start + k) ≡ slice_index part k
+part_new old part rest start k whole within =
+    let front : length (take start old) ≡ start = length-take-le start old (omega arith) in
+    let long : length (take (length old - start) (drop start old)) ≡ length old - start = length-take-le (length old - start) (drop start old) (omega (arith, length-drop start old)) in
+    let less : k < length part = omega (arith, whole, long) in
+    let place : start + k - start ≡ k = omega arith in
+    get_or-append_right (take start old) (part ++ rest) start (start + k) 0 front (omega arith) ∙ ap (λ n. get_or (part ++ rest) n 0) place ∙ get_or_append_left part rest 0 k less
+
+pub part_before : (old tail : List ℕ) (start k : ℕ) → start ≤ length old → k < start → slice_index (take start old ++ tail) k ≡ slice_index old k
+part_before old tail start k inside before =
+    let front : length (take start old) ≡ start = length-take-le start old inside in
+    get_or_append_left (take start old) tail 0 k (omega (arith, front)) ∙ get_or-take start old k 0 before
+
+-- a sample behind the start of a block that is as it was in the part is as it was in the square
+pub part_kept : (old part rest : List ℕ) (start k n : ℕ) → length part ≡ length (take (length old - start) (drop start old)) → n ≡ start + k → n < length old → slice_index part k ≡ slice_index (take (length old - start) (drop start old)) k → slice_index (take start old ++ (part ++ rest)) n ≡ slice_index old n
+part_kept old part rest start k n whole place within same =
+    let inside : start + k < length old = omega (arith, place) in
+    rw place (part_new old part rest start k whole inside ∙ same ∙ part_old old start k inside)
+
+pub whole_put : (old part rest : List ℕ) (start : ℕ) → start ≤ length old → length part ≡ length (take (length old - start) (drop start old)) → rest ≡ drop (length old - start) (drop start old) → length (take start old ++ (part ++ rest)) ≡ length old
+whole_put old part rest start room whole behind =
+    let front : length (take start old) ≡ start = length-take-le start old room in
+    let long : length (take (length old - start) (drop start old)) ≡ length old - start = length-take-le (length old - start) (drop start old) (omega (arith, length-drop start old)) in
+    let none : length rest ≡ 0 = ap (λ (r : List ℕ). length r) behind ∙ length-drop (length old - start) (drop start old) ∙ omega (arith, length-drop start old) in
+    omega (arith, length-append (take start old) (part ++ rest), length-append part rest, front, whole, long, none)
+
+pub start_within : (side column row : ℕ) → column < side → row < side → side * row + column < side * side
+start_within side column row across down = let less = index_within side column row across down in omega (arith, less)

@@ -1,0 +1,341 @@
+//! Macroblocks that are predicted from a reference (RFC 6386, sections 16.3 and 18).
+
+ghost use Rattle.std.specs.Prelude.{◌≡◌, ◌+◌, ◌*◌, ◌/◌, ◌%◌, ◌<◌, ◌≤◌, IsTrue, length, slice_index_or, pos, ◌+ℤ◌, ◌*ℤ◌};
+ghost use Rattle.std.specs.Option.{option_copied};
+ghost use Rattle.inter_predict.specs.InterSample.{inter_sample};
+ghost use Rattle.intra_predict.specs.Blocks.{IsBlock};
+ghost use Rattle.mode_parser.specs.Vectors.{IsWithin, zero_vector};
+ghost use Rattle.pixel_planes.specs.PlaneSamples.{shown_of};
+ghost use Rattle.reference_frames.specs.InterPrediction.{kind_of, is_split, block_vector, luma_sample, chroma_sample, group_vector};
+ghost use Rattle.reference_frames.specs.PlacedBlocks.{IsPlaced};
+ghost use Rattle.reference_frames.specs.Restored.{restored};
+ghost use Rattle.reference_frames.specs.Unfiltered.{HoldsMacroblock, HoldsSquare, SameShape, SameSides, inter_macroblock, with_block};
+
+use crate::prediction::write_block;
+use crate::residuals::{Blocks, add_to_whole};
+use inter_predict::{Kind, block_in};
+use intra_predict::BlockSize;
+use mode_parser::{Vector, VectorMode, chroma_vector};
+use pixel_planes::{Picture, Plane, Planes};
+
+/// The filters of a version (RFC 6386, section 9.1).
+fn kind_of(version: u8) -> Kind
+    ensures { result ≡ kind_of version }
+{
+    if version == 0 {
+        Kind::SixTap
+    } else {
+        Kind::Bilinear
+    }
+}
+
+/// Whether each block of a macroblock has a vector of its own (RFC 6386, section 16.3).
+#[inline]
+pub(crate) fn is_split(mode: VectorMode) -> bool
+    ensures { result ≡ is_split mode }
+{
+    match mode {
+        VectorMode::Split => true,
+        VectorMode::Zero | VectorMode::Nearest | VectorMode::Near | VectorMode::New => false,
+    }
+}
+
+/// Predicts a square of the samples of a block that stands at column `x` of row `y` of a plane and has
+/// `across` samples each way: the one of this side that begins in this column and row of the block.
+/// The vector is in eighths of a sample.
+#[inline]
+fn predict_square(
+    from: &Plane,
+    x: usize,
+    y: usize,
+    vector: (i32, i32),
+    kind: Kind,
+    side: usize,
+    column: usize,
+    row: usize,
+    samples: &mut [u8],
+    across: usize,
+)
+    requires place { (x ≤ 16384) × (y ≤ 16384) }
+    requires side { (0 < side) × (side ≤ 16) }
+    requires across { across ≤ 16 }
+    requires column { column + side ≤ across }
+    requires row { row + side ≤ across }
+    requires square { length samples.old ≡ across * across }
+    ensures { IsPlaced (λ i j. inter_sample kind from.now.shown (pos (x + i)) (pos (y + j)) vector.0 vector.1) across side column row samples.old samples.new }
+{
+    let (left, top) = ((x + column) as i32, (y + row) as i32);
+    let samples = &mut samples[across * row + column..];
+    block_in(from, left, top, vector, kind, side, side, samples, across);
+}
+
+/// The vector of luma block `n`, in eighths of a luma sample.
+#[inline]
+fn eighths(vectors: &[Vector; 16], n: usize) -> (i32, i32)
+    requires { n < 16 }
+    ensures x { result.0 ≡ pos 2 *ℤ (slice_index_or vectors.now n zero_vector).x }
+    ensures y { result.1 ≡ pos 2 *ℤ (slice_index_or vectors.now n zero_vector).y }
+{
+    let vector = vectors[n];
+    (2 * vector.x(), 2 * vector.y())
+}
+
+/// Whether two vectors are the same.
+#[inline]
+fn are_same(a: (i32, i32), b: (i32, i32)) -> bool
+    ensures x { IsTrue result → a.0 ≡ b.0 }
+    ensures y { IsTrue result → a.1 ≡ b.1 }
+{
+    a.0 == b.0 && a.1 == b.1
+}
+
+/// Predicts a quarter of a split macroblock's luma, of which the macroblock stands in column `mx` of
+/// row `my`: as one block, where its four vectors are the same.
+fn predict_quarter(
+    from: &Plane,
+    mx: usize,
+    my: usize,
+    kind: Kind,
+    vectors: &[Vector; 16],
+    quarter: usize,
+    samples: &mut [u8],
+)
+    requires place { (16 * mx ≤ 16384) × (16 * my ≤ 16384) }
+    requires quarter { quarter < 4 }
+    requires square { length samples.old ≡ 256 }
+    ensures { IsPlaced (luma_sample kind from.now.shown mx my (λ n. slice_index_or vectors.now n zero_vector)) 16 8 (8 * (quarter % 2)) (8 * (quarter / 2)) samples.old samples.new }
+{
+    let (x, y) = (16 * mx, 16 * my);
+    let (column, row) = (8 * (quarter % 2), 8 * (quarter / 2));
+    let n = 8 * (quarter / 2) + 2 * (quarter % 2);
+    let first = eighths(vectors, n);
+    let second = eighths(vectors, n + 1);
+    let third = eighths(vectors, n + 4);
+    let fourth = eighths(vectors, n + 5);
+    if are_same(first, second) && are_same(first, third) && are_same(first, fourth) {
+        predict_square(from, x, y, first, kind, 8, column, row, samples, 16);
+        return;
+    }
+    predict_square(from, x, y, first, kind, 4, column, row, samples, 16);
+    predict_square(from, x, y, second, kind, 4, column + 4, row, samples, 16);
+    predict_square(from, x, y, third, kind, 4, column, row + 4, samples, 16);
+    predict_square(
+        from,
+        x,
+        y,
+        fourth,
+        kind,
+        4,
+        column + 4,
+        row + 4,
+        samples,
+        16,
+    );
+}
+
+/// Predicts the luma of the macroblock in column `mx` of row `my`: as one block, or where it is split
+/// by its quarters.
+fn luma_samples(
+    from: &Plane,
+    mx: usize,
+    my: usize,
+    kind: Kind,
+    mode: VectorMode,
+    vectors: &[Vector; 16],
+    samples: &mut [u8],
+)
+    requires place { (16 * mx ≤ 16384) × (16 * my ≤ 16384) }
+    requires square { length samples.old ≡ 256 }
+    ensures { IsBlock 16 (luma_sample kind from.now.shown mx my (block_vector mode vectors.now)) samples.new }
+{
+    if is_split(mode) {
+        predict_quarter(from, mx, my, kind, vectors, 0, samples);
+        predict_quarter(from, mx, my, kind, vectors, 1, samples);
+        predict_quarter(from, mx, my, kind, vectors, 2, samples);
+        predict_quarter(from, mx, my, kind, vectors, 3, samples);
+        return;
+    }
+    predict_square(
+        from,
+        16 * mx,
+        16 * my,
+        eighths(vectors, 15),
+        kind,
+        16,
+        0,
+        0,
+        samples,
+        16,
+    );
+}
+
+/// The vector of luma block `n` of a macroblock (RFC 6386, section 16.3).
+#[inline]
+fn block_vector(mode: VectorMode, vectors: &[Vector; 16], n: usize) -> Vector
+    requires { n < 16 }
+    ensures { result ≡ block_vector mode vectors.now n }
+{
+    if is_split(mode) {
+        vectors[n]
+    } else {
+        vectors[15]
+    }
+}
+
+/// The sum of a component over four vectors.
+#[inline]
+fn sum_of(a: i32, b: i32, c: i32, d: i32) -> i32
+    requires a { IsWithin 70000 a }
+    requires b { IsWithin 70000 b }
+    requires c { IsWithin 70000 c }
+    requires d { IsWithin 70000 d }
+    ensures { result ≡ a +ℤ b +ℤ c +ℤ d }
+{
+    a + b + c + d
+}
+
+/// The vector of group `group` of two by two luma blocks, in eighths of a chroma sample
+/// (RFC 6386, section 18).
+fn group_vector(mode: VectorMode, vectors: &[Vector; 16], group: usize, version: u8) -> (i32, i32)
+    requires { group < 4 }
+    ensures x { result.0 ≡ (group_vector version (block_vector mode vectors.now) group).0 }
+    ensures y { result.1 ≡ (group_vector version (block_vector mode vectors.now) group).1 }
+{
+    let n = 8 * (group / 2) + 2 * (group % 2);
+    let first = block_vector(mode, vectors, n);
+    let second = block_vector(mode, vectors, n + 1);
+    let third = block_vector(mode, vectors, n + 4);
+    let fourth = block_vector(mode, vectors, n + 5);
+    let x = sum_of(first.x(), second.x(), third.x(), fourth.x());
+    let y = sum_of(first.y(), second.y(), third.y(), fourth.y());
+    (chroma_vector(x, version), chroma_vector(y, version))
+}
+
+/// Predicts a chroma plane's samples of the macroblock in column `mx` of row `my`: as one block, or
+/// where it is split by four.
+fn chroma_samples(
+    from: &Plane,
+    mx: usize,
+    my: usize,
+    version: u8,
+    mode: VectorMode,
+    vectors: &[Vector; 16],
+    samples: &mut [u8],
+)
+    requires place { (8 * mx ≤ 16384) × (8 * my ≤ 16384) }
+    requires square { length samples.old ≡ 64 }
+    ensures { IsBlock 8 (chroma_sample version from.now.shown mx my (block_vector mode vectors.now)) samples.new }
+{
+    let kind = kind_of(version);
+    let (x, y) = (8 * mx, 8 * my);
+    let first = group_vector(mode, vectors, 0, version);
+    if is_split(mode) {
+        let second = group_vector(mode, vectors, 1, version);
+        let third = group_vector(mode, vectors, 2, version);
+        let fourth = group_vector(mode, vectors, 3, version);
+        predict_square(from, x, y, first, kind, 4, 0, 0, samples, 8);
+        predict_square(from, x, y, second, kind, 4, 4, 0, samples, 8);
+        predict_square(from, x, y, third, kind, 4, 0, 4, samples, 8);
+        predict_square(from, x, y, fourth, kind, 4, 4, 4, samples, 8);
+        return;
+    }
+    predict_square(from, x, y, first, kind, 8, 0, 0, samples, 8);
+}
+
+/// Predicts the luma of a macroblock from a reference's, and adds its residual.
+fn predict_luma(
+    plane: &mut Plane,
+    from: &Plane,
+    mx: usize,
+    my: usize,
+    version: u8,
+    mode: VectorMode,
+    vectors: &[Vector; 16],
+    residual: Option<&Blocks>,
+)
+    requires { HoldsSquare plane.old.shown (16 * mx) (16 * my) 16 }
+    ensures value { plane.new.shown ≡ with_block plane.old.shown (16 * mx) (16 * my) 16 (restored 16 0 (option_copied residual.entry) (luma_sample (kind_of version) from.now.shown mx my (block_vector mode vectors.now))) }
+    ensures sides { SameSides plane.old.shown plane.new.shown }
+{
+    let mut samples = [0; 256];
+    luma_samples(from, mx, my, kind_of(version), mode, vectors, &mut samples);
+    add_to_whole(residual, 0, BlockSize::Sixteen, &mut samples);
+    write_block(plane, 16 * mx, 16 * my, 16, &samples);
+}
+
+/// Predicts a macroblock's samples of a chroma plane from a reference's, and adds its residual, whose
+/// blocks are numbered from `first` on.
+fn predict_chroma(
+    plane: &mut Plane,
+    from: &Plane,
+    mx: usize,
+    my: usize,
+    version: u8,
+    mode: VectorMode,
+    vectors: &[Vector; 16],
+    residual: Option<&Blocks>,
+    first: usize,
+)
+    requires first { first + 4 ≤ 24 }
+    requires within { HoldsSquare plane.old.shown (8 * mx) (8 * my) 8 }
+    ensures value { plane.new.shown ≡ with_block plane.old.shown (8 * mx) (8 * my) 8 (restored 8 first (option_copied residual.entry) (chroma_sample version from.now.shown mx my (block_vector mode vectors.now))) }
+    ensures sides { SameSides plane.old.shown plane.new.shown }
+{
+    let mut samples = [0; 64];
+    chroma_samples(from, mx, my, version, mode, vectors, &mut samples);
+    add_to_whole(residual, first, BlockSize::Eight, &mut samples);
+    write_block(plane, 8 * mx, 8 * my, 8, &samples);
+}
+
+/// Predicts the macroblock in column `mx` of row `my` of a frame of this version from a picture, by
+/// its vectors, and adds its residual, if it has one.
+pub(crate) fn predict_inter(
+    planes: &mut Planes,
+    from: &Picture,
+    mx: usize,
+    my: usize,
+    version: u8,
+    mode: VectorMode,
+    vectors: &[Vector; 16],
+    residual: Option<&Blocks>,
+)
+    requires { HoldsMacroblock (shown_of planes.old) mx my }
+    ensures value { shown_of planes.new ≡ inter_macroblock version from.now (shown_of planes.old) mx my mode vectors.now (option_copied residual.entry) }
+    ensures sides { SameShape (shown_of planes.old) (shown_of planes.new) }
+{
+    let luma = from.luma();
+    predict_luma(
+        &mut planes.luma,
+        luma,
+        mx,
+        my,
+        version,
+        mode,
+        vectors,
+        residual,
+    );
+    let cb = from.cb();
+    predict_chroma(
+        &mut planes.cb,
+        cb,
+        mx,
+        my,
+        version,
+        mode,
+        vectors,
+        residual,
+        16,
+    );
+    let cr = from.cr();
+    predict_chroma(
+        &mut planes.cr,
+        cr,
+        mx,
+        my,
+        version,
+        mode,
+        vectors,
+        residual,
+        20,
+    );
+}
