@@ -4,8 +4,8 @@ use std::hint::black_box;
 use std::time::Instant;
 
 const WINDOWS: usize = 64;
-const ROUNDS: usize = 2_000;
-const RUNS: usize = 9;
+const ROUNDS: usize = 300;
+const RUNS: usize = 41;
 const STRIDE: usize = 32;
 
 unsafe extern "C" {

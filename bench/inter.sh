@@ -65,3 +65,6 @@ for level in v2 v3; do
         -L "$(dirname "$vpx")" -l static=vpx -l m
     "$room/inter"
 done
+echo "block itself, x86-64-v2"
+(cd "$room/crates/block_times" && rt run --jobs 1 < /dev/null) > "$room/build.log" 2>&1 || { tail -n 20 "$room/build.log"; exit 1; }
+"$room/crates/block_times/out/block_times"
