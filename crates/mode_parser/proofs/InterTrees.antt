@@ -1,10 +1,9 @@
 -- Modes and vectors of inter frames by the leaf to which a walk leads
-use Rattle.std.proofs.Common.{◌≡◌, ℕ, ◌<◌, ◌≤◌, true, false, List, [], ◌∷◌, length, take, slice_index_or, refl, ◌∙◌, arith}
+use Rattle.std.proofs.Common.{◌≡◌, ℕ, ◌<◌, ◌≤◌, true, false, List, [], length, take, slice_index_or, refl, ◌∙◌, arith}
 use Rattle.std.specs.Prelude.{Option, nat_eq}
 use Rattle.std.proofs.lemmas.Bool.Decides.{nat_tests}
 use Rattle.std.proofs.lemmas.List.{get_or-take, get_or_default}
 use Rattle.bool_coder.specs.Reader.{Reader}
-use Rattle.bool_coder.specs.Reading.{Reading, give}
 use Rattle.bool_coder.specs.Trees.{leaf_below, leaf}
 use Rattle.vp8_tables.specs.declared.modes.TheConstants.{INTER_Y_TREE, VECTOR_MODE_TREE, SPLIT_TREE, SPLIT_PROBABILITIES, SPLIT_STARTS, PART_VECTOR_TREE, PART_VECTOR_PROBABILITIES}
 use Rattle.mode_parser.specs.declared.records.MbMode.{MbMode}

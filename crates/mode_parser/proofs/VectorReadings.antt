@@ -1,5 +1,5 @@
 -- Short sizes by the leaf to which a walk leads
-use Rattle.std.proofs.Common.{◌≡◌, ℕ, List, refl}
+use Rattle.std.proofs.Common.{◌≡◌, ℕ, List}
 use Rattle.std.specs.Prelude.{slice_range}
 use Rattle.bool_coder.specs.Reader.{Reader}
 use Rattle.bool_coder.specs.Trees.{leaf_below, leaf}

@@ -4,7 +4,6 @@ use Rattle.std.specs.Int.{from_bool, int_min, int_max}
 use Rattle.frame_header.specs.declared.references.Reference.{Reference}
 use Rattle.frame_header.specs.declared.context.SignBiases.{SignBiases}
 use Rattle.mode_parser.specs.Vectors.{MotionVector, zero_vector, is_same, toward}
-use Rattle.mode_parser.specs.declared.records.VectorMode.{VectorMode}
 use Rattle.mode_parser.specs.declared.records.VectorMode.TheVariants.{Zero, Nearest, Near as NearMode, New, Split}
 use Rattle.mode_parser.specs.declared.records.YMode.{YMode}
 use Rattle.mode_parser.specs.declared.records.YMode.TheVariants.{Whole, B, Inter}

@@ -1,5 +1,5 @@
 -- How the code holds what neighbours have.
-use Rattle.std.specs.Prelude.{◌≡◌, ℕ, ◌+◌, ◌≤◌, List, [], ◌∷◌}
+use Rattle.std.specs.Prelude.{◌≡◌, ℕ, ◌+◌, List, [], ◌∷◌}
 use Rattle.mode_parser.specs.declared.neighbours.Weighted.{Weighted}
 use Rattle.mode_parser.specs.declared.neighbours.Listed.{Listed}
 use Rattle.mode_parser.specs.declared.neighbours.Listed.TheVariants.{Nothing, One, Two, Three}

@@ -133,11 +133,7 @@ fn read_vectors(
 /// The record of a macroblock without a reference.
 #[inline]
 #[tactic(auto, unfolding(crate::specs::InterRecords::intra_mode, crate::specs::InterRecords::inter_sub_modes))]
-fn read_intra_mode(
-    reader: &mut Decoder,
-    is_skipped: bool,
-    probabilities: &Probabilities,
-) -> MbMode
+fn read_intra_mode(reader: &mut Decoder, is_skipped: bool, probabilities: &Probabilities) -> MbMode
     ensures { intra_mode is_skipped probabilities.now reader.old ≡ (result, reader.new) }
 {
     let y_mode = read_y_mode(reader, &probabilities.y_modes);

@@ -1,7 +1,7 @@
 use crate::tests::SUB_BITS;
 use crate::{MbMode, Vector, VectorMode, YMode, chroma_vector, read_modes};
 use bool_coder::Encoder;
-use frame_header::{Header, Reference, SignBiases, read_header};
+use frame_header::{Reference, read_header};
 use intra_predict::{SubMode, WholeMode};
 use std::alloc::{AllocError, Global};
 use std::process::Abort;
@@ -10,6 +10,11 @@ use vp8_tables::{Tables, VECTOR_UPDATE_PROBABILITIES};
 
 /// A bit, and the probability with which it is written.
 type Pair = (u8, u8);
+
+/// The place of the sign bias of golden among the first bits of an inter frame whose fields are 0,
+/// from 0: behind 14 bits of segments, filter and partitions, 12 of quantizers and 6 of references
+/// (RFC 6386, section 19.2).
+const GOLDEN_BIAS: usize = 32;
 
 fn write_pairs(encoder: &mut Encoder, pairs: &[Pair]) -> Result<(), AllocError> {
     for (bit, prob) in pairs {
@@ -25,8 +30,8 @@ fn write_byte(encoder: &mut Encoder, byte: u8) -> Result<(), AllocError> {
     Ok(())
 }
 
-/// A packet of a tag, and of a first partition that begins with so many fields of 0 and without a
-/// change of coefficients.
+/// A packet of a tag, and of a first partition that begins with so many bits of 0, but 1 for the
+/// sign bias of golden, and without a change of coefficients.
 fn packet_of(
     alloc: Global,
     tables: &Tables,
@@ -36,8 +41,8 @@ fn packet_of(
     probabilities: Option<[u8; 4]>,
 ) -> Result<Vec<u8>, AllocError> {
     let mut encoder = Encoder::new(alloc);
-    for _field in 0..zeros {
-        encoder.bit(false, 128)?;
+    for field in 0..zeros {
+        encoder.bit(field == GOLDEN_BIAS, 128)?;
     }
     for prob in tables.updates() {
         encoder.bit(false, *prob)?;
@@ -84,12 +89,8 @@ fn check_frame(
     let key = read_header(&tables, None, key.as_slice()).expect(rt, "a key packet");
     let packet = packet_of(alloc, &tables, &[], 36, macroblocks, Some(probabilities))?;
     let header = read_header(&tables, Some(&key.context_after), packet.as_slice());
-    let mut header = header.expect(rt, "an inter packet");
+    let header = header.expect(rt, "an inter packet");
     assert!(rt; !header.is_key);
-    header.context.sign_biases = SignBiases {
-        golden: true,
-        altref: false,
-    };
     assert!(rt; 1 <= columns && columns <= 16);
     assert!(rt; records.len() <= 16);
     let rows = records.len() / columns;
@@ -152,24 +153,36 @@ fn intra(y_mode: YMode, sub_modes: [SubMode; 16], uv_mode: WholeMode) -> MbMode 
 const PROBABILITIES: [u8; 4] = [77, 200, 100, 150];
 
 const INTRA: &[Pair] = &[(0, 77), (0, 200)];
+
 const LAST: &[Pair] = &[(0, 77), (1, 200), (0, 100)];
+
 const GOLDEN: &[Pair] = &[(0, 77), (1, 200), (1, 100), (0, 150)];
+
 const SKIPPED_GOLDEN: &[Pair] = &[(1, 77), (1, 200), (1, 100), (0, 150)];
+
 const ALTREF: &[Pair] = &[(0, 77), (1, 200), (1, 100), (1, 150)];
 
 // The modes where neighbours count nothing, and where one is listed, with a weight of 2, which is the
 // only one.
 const NEW_OF_NONE: &[Pair] = &[(1, 7), (1, 1), (1, 1), (0, 143)];
+
 const ZERO_OF_ONE: &[Pair] = &[(0, 7)];
+
 const NEAREST_OF_ONE: &[Pair] = &[(1, 7), (0, 64)];
+
 const NEAR_OF_ONE: &[Pair] = &[(1, 7), (1, 64), (0, 1)];
+
 const NEW_OF_ONE: &[Pair] = &[(1, 7), (1, 64), (1, 1), (0, 143)];
+
 const SPLIT_OF_ONE: &[Pair] = &[(1, 7), (1, 64), (1, 1), (1, 143)];
 
 // Components of vectors: rows and columns.
 const ROW_0: &[Pair] = &[(0, 162), (0, 225), (0, 146), (0, 172)];
+
 const ROW_1: &[Pair] = &[(0, 162), (0, 225), (0, 146), (1, 172), (0, 128)];
+
 const ROW_MINUS_3: &[Pair] = &[(0, 162), (0, 225), (1, 146), (1, 147), (1, 128)];
+
 const ROW_16: &[Pair] = &[
     (1, 162),
     (0, 128),
@@ -184,6 +197,7 @@ const ROW_16: &[Pair] = &[
     (0, 75),
     (0, 128),
 ];
+
 const ROW_MINUS_700: &[Pair] = &[
     (1, 162),
     (0, 128),
@@ -198,8 +212,11 @@ const ROW_MINUS_700: &[Pair] = &[
     (1, 75),
     (1, 128),
 ];
+
 const COLUMN_0: &[Pair] = &[(0, 164), (0, 204), (0, 170), (0, 119)];
+
 const COLUMN_5: &[Pair] = &[(0, 164), (1, 204), (0, 140), (1, 230), (0, 128)];
+
 const COLUMN_8: &[Pair] = &[
     (1, 164),
     (0, 128),
@@ -213,6 +230,7 @@ const COLUMN_8: &[Pair] = &[
     (0, 148),
     (0, 128),
 ];
+
 const COLUMN_MINUS_9: &[Pair] = &[
     (1, 164),
     (1, 128),
@@ -226,6 +244,7 @@ const COLUMN_MINUS_9: &[Pair] = &[
     (0, 148),
     (1, 128),
 ];
+
 const COLUMN_1000: &[Pair] = &[
     (1, 164),
     (0, 128),

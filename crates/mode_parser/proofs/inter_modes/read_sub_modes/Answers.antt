@@ -1,5 +1,4 @@
-use Rattle.std.proofs.Common.{◌≡◌, ◌<◌, length, arith, ◌∙◌, refl, length-set}
-use Rattle.std.proofs.Math.Seq.{take-length}
+use Rattle.std.proofs.Common.{◌<◌, length, arith, refl, length-set}
 use Rattle.mode_parser.proofs.Steps.{first_inter_sub_modes-none, first_inter_sub_modes-more}
 use Rattle.mode_parser.proofs.inter_modes.read_sub_modes.Goals as goal
 

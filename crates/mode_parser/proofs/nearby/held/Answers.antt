@@ -1,4 +1,4 @@
-use Rattle.std.proofs.Common.{◌≡◌, ℤ, ◌+ℤ◌, ◌*ℤ◌, ◌-◌, ◌+◌, ◌*◌, pos, negsuc, neg_ℤ, refl, arith, ℕ, to_z, of_z, w32, ◌∙◌}
+use Rattle.std.proofs.Common.{◌≡◌, ◌+ℤ◌, ◌*ℤ◌, ◌-◌, ◌+◌, ◌*◌, pos, negsuc, neg_ℤ, arith, to_z, of_z, w32}
 use Rattle.std.proofs.lemmas.Int.{ints}
 use Rattle.mode_parser.proofs.NearLemmas.{held-is}
 use Rattle.mode_parser.proofs.nearby.held.Goals as goal

@@ -1,4 +1,4 @@
-use Rattle.std.proofs.Common.{◌≡◌, ◌<◌, length, arith, refl}
+use Rattle.std.proofs.Common.{arith}
 use Rattle.mode_parser.proofs.InterTrees.{block_vector-later, block_vector-first}
 use Rattle.mode_parser.proofs.split_vectors.read_block_vector.Goals as goal
 

@@ -1,5 +1,4 @@
-use Rattle.std.proofs.Common.{◌≡◌, ◌<◌, length, arith, ◌∙◌, refl, length-set}
-use Rattle.std.proofs.Math.Seq.{take-length}
+use Rattle.std.proofs.Common.{◌<◌, length, arith, refl, length-set}
 use Rattle.mode_parser.proofs.Steps.{first_vectors-none, first_vectors-more, are_starts-at}
 use Rattle.mode_parser.proofs.split_vectors.read_block_vectors.Goals as goal
 

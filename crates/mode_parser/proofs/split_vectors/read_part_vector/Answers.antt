@@ -1,5 +1,5 @@
-use Rattle.std.proofs.Common.{◌≡◌, true, false, refl, ◌∙◌, [], slice_index_or}
-use Rattle.vp8_tables.specs.declared.modes.TheConstants.{PART_VECTOR_TREE, PART_VECTOR_PROBABILITIES}
+use Rattle.std.proofs.Common.{true, false, refl, ◌∙◌}
+use Rattle.vp8_tables.specs.declared.modes.TheConstants.{PART_VECTOR_TREE}
 use Rattle.mode_parser.proofs.Walks.{leaf_below-on, leaf_below-end}
 use Rattle.mode_parser.proofs.InterTrees.{part_vector-left, part_vector-above, part_vector-zero, part_vector-new}
 use Rattle.mode_parser.proofs.split_vectors.read_part_vector.Goals as goal

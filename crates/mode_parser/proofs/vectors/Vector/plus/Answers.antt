@@ -1,4 +1,4 @@
-use Rattle.std.proofs.Common.{◌≡◌, ℤ, ◌+ℤ◌, arith, to_z, of_z, w32, refl, ◌∙◌, sym}
+use Rattle.std.proofs.Common.{◌≡◌, ◌+ℤ◌, arith, to_z, of_z, w32, refl, ◌∙◌}
 use Rattle.std.proofs.lemmas.Int.{ints}
 use Rattle.mode_parser.proofs.vectors.Vector.plus.Goals as goal
 
