@@ -1,4 +1,4 @@
-//! Times the inverse transforms of a block beside libvpx's own. README.md says more.
+//! Times dequantisation and the inverse transforms of a block beside libvpx's own. README.md says more.
 
 use std::hint::black_box;
 use std::time::Instant;
@@ -12,12 +12,26 @@ unsafe extern "C" {
     fn proved_dct_add(coefficients: *const i16, samples: *mut u8);
     fn proved_dct_add_first(first: i16, samples: *mut u8);
     fn proved_wht(coefficients: *const i16, out: *mut i16);
+    fn proved_dequantise(coefficients: *const i16, dc: i16, ac: i16, out: *mut i16);
     fn vp8_short_idct4x4llm_mmx(input: *const i16, pred: *const u8, pred_stride: i32, out: *mut u8, stride: i32);
     fn vp8_short_idct4x4llm_c(input: *const i16, pred: *const u8, pred_stride: i32, out: *mut u8, stride: i32);
     fn vp8_dc_only_idct_add_mmx(first: i16, pred: *const u8, pred_stride: i32, out: *mut u8, stride: i32);
     fn vp8_dc_only_idct_add_c(first: i16, pred: *const u8, pred_stride: i32, out: *mut u8, stride: i32);
     fn vp8_short_inv_walsh4x4_sse2(input: *const i16, out: *mut i16);
     fn vp8_short_inv_walsh4x4_c(input: *const i16, out: *mut i16);
+    fn vp8_dequantize_b_impl_mmx(input: *const i16, out: *mut i16, factors: *const i16);
+}
+
+const DC: i16 = 57;
+const AC: i16 = 33;
+const FACTORS: Coefficients = Coefficients([DC, AC, AC, AC, AC, AC, AC, AC, AC, AC, AC, AC, AC, AC, AC, AC]);
+
+/// What libvpx's C does: each coefficient times its factor.
+#[inline(never)]
+extern "C" fn plain_dequantise(input: &[i16; 16], factors: &[i16; 16], out: &mut [i16; 256]) {
+    for place in 0..16 {
+        out[place] = input[place].wrapping_mul(factors[place]);
+    }
 }
 
 /// What is timed.
@@ -26,6 +40,7 @@ enum Kernel {
     Dct,
     First,
     Wht,
+    Dequantise,
 }
 
 /// Whose body is timed.
@@ -67,6 +82,9 @@ fn run(kernel: Kernel, way: Way, coefficients: &Coefficients, samples: &mut Samp
             (Kernel::Wht, Way::Proved) => proved_wht(input, to),
             (Kernel::Wht, Way::Lanes) => vp8_short_inv_walsh4x4_sse2(input, to),
             (Kernel::Wht, Way::Plain) => vp8_short_inv_walsh4x4_c(input, to),
+            (Kernel::Dequantise, Way::Proved) => proved_dequantise(input, DC, AC, to),
+            (Kernel::Dequantise, Way::Lanes) => vp8_dequantize_b_impl_mmx(input, to, FACTORS.0.as_ptr()),
+            (Kernel::Dequantise, Way::Plain) => plain_dequantise(&coefficients.0, &FACTORS.0, &mut numbers.0),
         }
     }
 }
@@ -111,6 +129,9 @@ fn compare(kernel: Kernel, block: &Coefficients) {
     run(kernel, Way::Proved, block, &mut ours, &mut numbers);
     run(kernel, Way::Plain, block, &mut theirs, &mut expected);
     assert!(ours == theirs, "the samples differ");
+    if kernel == Kernel::Dequantise {
+        assert!(numbers.0[..16] == expected.0[..16], "the products differ");
+    }
     if kernel == Kernel::Wht {
         for place in 0..16 {
             assert!(numbers.0[place] == expected.0[16 * place], "the numbers differ");
@@ -125,6 +146,7 @@ fn main() {
         ("dct_add", Kernel::Dct),
         ("dct_add_first", Kernel::First),
         ("wht", Kernel::Wht),
+        ("dequantise", Kernel::Dequantise),
     ] {
         for block in &blocks {
             compare(kernel, block);

@@ -22,7 +22,7 @@ END
 cat > "$room/crates/transform_times/src/lib.rt" <<'END'
 #![tactic(auto)]
 
-use transforms::{dct_add, dct_add_first, wht};
+use transforms::{dct_add, dct_add_first, dequantise, wht};
 
 #[unsafe(no_mangle)]
 pub extern "C" fn proved_dct_add(coefficients: &[i16; 16], samples: &mut [u8; 64]) {
@@ -38,9 +38,17 @@ pub extern "C" fn proved_dct_add_first(first: i16, samples: &mut [u8; 64]) {
 pub extern "C" fn proved_wht(coefficients: &[i16; 16], out: &mut [i16; 16]) {
     *out = wht(coefficients);
 }
+
+#[unsafe(no_mangle)]
+pub extern "C" fn proved_dequantise(coefficients: &[i16; 16], dc: i16, ac: i16, out: &mut [i16; 16]) {
+    *out = dequantise(coefficients, dc, ac);
+}
 END
-(cd "$room/crates/transform_times" && rt lib --jobs 1 < /dev/null) > "$room/build.log" 2>&1 || { tail -n 20 "$room/build.log"; exit 1; }
-rustc -O --edition 2024 -C target-cpu=x86-64-v2 -o "$room/kernels" "$here/kernels.rs" \
-    -L "$room/crates/transform_times/out" -l static=transform_times -L "$kit/c" -l static=libc_c \
-    -L "$(dirname "$vpx")" -l static=vpx -l m
-"$room/kernels"
+for cpu in x86-64-v2 x86-64-v3; do
+    (cd "$room/crates/transform_times" && rt lib --jobs 1 --cpu "$cpu" < /dev/null) > "$room/build.log" 2>&1 || { tail -n 20 "$room/build.log"; exit 1; }
+    rustc -O --edition 2024 -C target-cpu="$cpu" -o "$room/kernels" "$here/kernels.rs" \
+        -L "$room/crates/transform_times/out" -l static=transform_times -L "$kit/c" -l static=libc_c \
+        -L "$(dirname "$vpx")" -l static=vpx -l m
+    echo "$cpu"
+    "$room/kernels"
+done
