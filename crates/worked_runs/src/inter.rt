@@ -63,7 +63,7 @@ fn the_last_frame_holds(rt: HostRuntime) -> Result<(), Fail> {
 #[test]
 fn a_vector_moves_rows(rt: HostRuntime) -> Result<(), Fail> {
     let key: &[u8] = &[0x10, 0, 0, 0x9D, 1, 0x2A, 0x10, 0, 0x20, 0];
-    let moved = inter_packet(rt.alloc(), &[FOUR_DOWN, ZERO_BELOW])?;
+    let moved = inter_packet(rt.alloc(), &[FOUR_DOWN, ZERO])?;
     let ran = run_packets(rt.alloc(), &[key, moved.as_slice()], b"frame 1")?;
     let line = b"YUV4MPEG2 W16 H32 F30:1 Ip C420jpeg\n";
     let want = y4m_of(rt.alloc(), line, &[&[(512, 0x81), (256, 0x80)]])?;
