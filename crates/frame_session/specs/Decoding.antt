@@ -4,7 +4,7 @@ use Rattle.vp8_tables.specs.declared.tables.Tables.{Tables}
 use Rattle.frame_header.specs.declared.cause.Cause.{Cause}
 use Rattle.frame_header.specs.Tags.{has_key_tag, is_shown}
 use Rattle.pixel_planes.specs.Pictures.{PictureSamples}
-use Rattle.reference_frames.specs.declared.steps.State.{State}
+use Rattle.reference_frames.specs.declared.states.State.{State}
 use Rattle.reference_frames.specs.Steps.{step_of}
 use Rattle.frame_session.specs.declared.decoding.Broken.{Broken}
 use Rattle.frame_session.specs.declared.decoding.DecodeFault.{DecodeFault}

@@ -65,15 +65,16 @@ fn standing_behind(
 {
     let mut standing = Ok(None);
     for (place, packet) in packets.iter().enumerate() {
-        standing = match outcome(
+        let outcome = outcome(
             alloc,
             tables,
             place,
             &standing,
             packet.bytes.as_slice(),
             steps,
-        ) {
-            Ok((state, _)) => Ok(Some(state)),
+        );
+        standing = match outcome {
+            Ok((state, _picture)) => Ok(Some(state)),
             Err(DecodeFault::Refused(broken)) => Err(broken),
             Err(DecodeFault::NoMemory) => return Err(NoMemory),
         };

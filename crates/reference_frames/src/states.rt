@@ -91,3 +91,106 @@ pub fn same_state(a: &State, b: &State) -> bool
         && same_bytes(&a.segment_map, &b.segment_map)
         && a.references.same(&b.references)
 }
+
+#[cfg(test)]
+mod tests {
+    use super::*;
+    use crate::steps::step;
+    use bool_coder::Encoder;
+    use std::process::Abort;
+    use std::test::Fail;
+    use vp8_tables::Tables;
+
+    /// A key packet of 16 by 16 samples that reads 0 at every bit.
+    const KEY: [u8; 10] = [0x10, 0, 0, 0x9D, 1, 0x2A, 0x10, 0, 0x10, 0];
+
+    /// The state behind the key packet.
+    fn key_state(rt: &impl Abort, alloc: Global) -> State {
+        let decoded = step(alloc, &Tables::flat(), None, &KEY);
+        decoded.expect(rt, "a key packet").0
+    }
+
+    /// A packet with no key tag whose fields are 0 up to its quantizers, and go on with these digits
+    /// and then with zeros. Its picture is 128 throughout, which the key packet's is not.
+    fn inter_packet(alloc: Global, digits: &[u8]) -> Result<Vec<u8>, NoMemory> {
+        let mut encoder = Encoder::new(alloc);
+        for _ in 0..26 {
+            encoder.bit(false, 128)?;
+        }
+        for digit in digits {
+            encoder.bit(*digit == b'1', 128)?;
+        }
+        let first = encoder.finish()?;
+        let mut packet = Vec::new(alloc);
+        packet.push((0x11 + first.len() % 8 * 32) as u8)?;
+        packet.extend_from_slice(&[(first.len() / 8 % 256) as u8, 0])?;
+        packet.extend_from_slice(first.as_slice())?;
+        Ok(packet)
+    }
+
+    /// Whether the state behind such a packet is that before it.
+    fn keeps(rt: &impl Abort, alloc: Global, digits: &[u8]) -> Result<bool, Fail> {
+        let state = key_state(rt, alloc);
+        let packet = inter_packet(alloc, digits)?;
+        let decoded = step(alloc, &Tables::flat(), Some(&state), packet.as_slice());
+        let (new, _) = decoded.expect(rt, "a packet behind a state");
+        Ok(same_state(&state, &new))
+    }
+
+    // Golden and altref are refreshed or copied, then come their sign biases, refresh_entropy and
+    // refresh_last. All references are one picture here, so that a copy changes nothing.
+    #[test]
+    fn references_change_alone(rt: HostRuntime) -> Result<(), Fail> {
+        let alloc = rt.alloc();
+        assert!(rt; keeps(&rt, alloc, b"0000000000")?);
+        assert!(rt; keeps(&rt, alloc, b"0010100000")?);
+        assert!(rt; !keeps(&rt, alloc, b"10000000")?);
+        assert!(rt; !keeps(&rt, alloc, b"01000000")?);
+        assert!(rt; !keeps(&rt, alloc, b"0000000001")?);
+        assert!(rt; !keeps(&rt, alloc, b"0000001000")?);
+        assert!(rt; !keeps(&rt, alloc, b"0000000100")?);
+        Ok(())
+    }
+
+    /// What a field of the context is changed by.
+    fn change(context: &mut Context, field: usize) {
+        match field {
+            0 => context.probabilities.coefficients[1055] = 7,
+            1 => context.probabilities.vectors[0][18] = 7,
+            2 => context.probabilities.vectors[1][0] = 7,
+            3 => context.probabilities.y_modes[3] = 7,
+            4 => context.probabilities.uv_modes[2] = 7,
+            5 => context.segments.is_absolute = true,
+            6 => context.segments.quantizers[3] = -7,
+            7 => context.segments.levels[0] = -7,
+            8 => context.deltas.reference[2] = -7,
+            9 => context.deltas.mode[3] = -7,
+            10 => context.sign_biases.golden = true,
+            _ => context.sign_biases.altref = true,
+        }
+    }
+
+    #[test]
+    fn context_changes_alone(rt: HostRuntime) -> Result<(), Fail> {
+        let state = key_state(&rt, rt.alloc());
+        for field in 0..12 {
+            let mut other = state.again()?;
+            assert!(rt; same_state(&state, &other));
+            change(&mut other.context, field);
+            assert!(rt; !same_state(&state, &other));
+        }
+        Ok(())
+    }
+
+    #[test]
+    fn segment_map_changes_alone(rt: HostRuntime) -> Result<(), Fail> {
+        let alloc = rt.alloc();
+        let state = key_state(&rt, alloc);
+        let mut other = state.again()?;
+        let map = vec![in alloc; 3; state.segment_map.len()]?;
+        other.segment_map = Rc::new(alloc, map)?;
+        assert_eq!(rt; state.segment_map(), [0].as_slice());
+        assert!(rt; !same_state(&state, &other));
+        Ok(())
+    }
+}
