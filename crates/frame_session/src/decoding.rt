@@ -65,15 +65,14 @@ fn standing_behind(
 {
     let mut standing = Ok(None);
     for (place, packet) in packets.iter().enumerate() {
-        let outcome = outcome(
+        standing = match outcome(
             alloc,
             tables,
             place,
             &standing,
             packet.bytes.as_slice(),
             steps,
-        );
-        standing = match outcome {
+        ) {
             Ok((state, _picture)) => Ok(Some(state)),
             Err(DecodeFault::Refused(broken)) => Err(broken),
             Err(DecodeFault::NoMemory) => return Err(NoMemory),
