@@ -1,4 +1,4 @@
-ghost use Rattle.std.specs.Prelude.{◌≡◌, ℕ, ◌<◌, ℤ, pos, ◌+ℤ◌, ◌-ℤ◌, IsTrue};
+ghost use Rattle.std.specs.Prelude.{◌≡◌, ℕ, ◌<◌, ℤ, pos, ◌+ℤ◌, ◌-ℤ◌, ◌↔◌, IsTrue};
 ghost use Rattle.inter_predict.specs.InterSample.{between};
 ghost use Rattle.inter_predict.specs.Kernels.{IsTaps, tapped, taps_of};
 
@@ -74,7 +74,7 @@ impl Taps {
     /// Whether the taps leave each sample as it is.
     #[inline]
     pub fn are_whole(&self) -> bool
-        ensures { IsTrue result → self.now.c ≡ 128 }
+        ensures { IsTrue result ↔ (self.now.c ≡ 128) }
     {
         self.c == 128
     }

@@ -7,19 +7,19 @@ pub returns-in-true-true : goal.returns-in-true-true
 returns-in-true-true g c =
     let xs = c.args.samples.now in
     same_strip _ (λ column row. tapped_twice c.args.across c.args.down xs c.args.stride (c.args.first + column) row) c.args.first g.row.N c.args.height c.args.out_stride c.args.out.now c.copy.new.out c.copy.ensures
-    (λ column row inside below. copied c.args.across c.args.down xs c.args.stride c.args.first column row c.requires.across c.requires.down (c.in-true-true.ensures refl) (c.in-true-true.ensures' refl) (λ k. (c.type_inv.samples k).fits))
+    (λ column row inside below. copied c.args.across c.args.down xs c.args.stride c.args.first column row c.requires.across c.requires.down (c.in-true-true.ensures.0 refl) (c.in-true-true.ensures'.0 refl) (λ k. (c.type_inv.samples k).fits))
 
 pub returns-in-true-false : goal.returns-in-true-false
 returns-in-true-false g c =
     let xs = c.args.samples.now in
     same_strip _ (λ column row. tapped_twice c.args.across c.args.down xs c.args.stride (c.args.first + column) row) c.args.first g.row.N c.args.height c.args.out_stride c.args.out.now c.pass.new.out c.pass.ensures
-    (λ column row inside below. down_alone c.args.across c.args.down xs c.args.stride c.args.first column row c.requires.across (c.in-true-false.ensures refl) (λ k. (c.type_inv.samples k).fits))
+    (λ column row inside below. down_alone c.args.across c.args.down xs c.args.stride c.args.first column row c.requires.across (c.in-true-false.ensures.0 refl) (λ k. (c.type_inv.samples k).fits))
 
 pub returns-in-false-true : goal.returns-in-false-true
 returns-in-false-true g c =
     let xs = c.args.samples.now in
     same_strip _ (λ column row. tapped_twice c.args.across c.args.down xs c.args.stride (c.args.first + column) row) c.args.first g.row.N c.args.height c.args.out_stride c.args.out.now c.pass-in-false-true.new.out c.pass-in-false-true.ensures
-    (λ column row inside below. across_alone c.args.across c.args.down xs c.args.stride c.args.first column row c.requires.down (c.in-false-true.ensures' refl))
+    (λ column row inside below. across_alone c.args.across c.args.down xs c.args.stride c.args.first column row c.requires.down (c.in-false-true.ensures'.0 refl))
 
 pub returns-in-false-false : goal.returns-in-false-false
 returns-in-false-false g c =
