@@ -45,7 +45,7 @@ def cause(packet, has_state):
         if packet[3:6] != bytes([0x9D, 0x01, 0x2A]):
             return "StartCode"
         return "FirstPartition" if packet[0] >> 5 else None
-    return "NotYet" if has_state else "NoKeyFrame"
+    return None if has_state else "NoKeyFrame"
 
 
 class Model:
@@ -66,7 +66,8 @@ class Model:
                 continue
             fault = cause(packet, size is not None and not has_key_tag)
             broken = (place, fault) if fault else None
-            size = None if fault else struct.unpack("<HH", packet[6:10])
+            if fault or has_key_tag:
+                size = None if fault else struct.unpack("<HH", packet[6:10])
         if broken:
             return f"refused packet {broken[0]} {broken[1]}"
         if self.size not in (None, size):

@@ -57,7 +57,9 @@ def compare(room, choose):
     width, height = choose.choice([(176, 144), (64, 64), (33, 17), (160, 96), (1, 1), (97, 51)])
     source, words = choose.choice(SOURCES), settings(choose)
     clip = room / "clip.y4m"
-    run(["ffmpeg", "-y", "-v", "error", "-f", "lavfi", "-i", drawn(source, width, height), "-frames:v", str(FRAMES), "-pix_fmt", "yuv420p", clip])
+    picture = drawn(source, max(width, 64), max(height, 64))
+    shape = ["-vf", f"scale={width}:{height}", "-frames:v", str(FRAMES), "-pix_fmt", "yuv420p"]
+    run(["ffmpeg", "-y", "-v", "error", "-f", "lavfi", "-i", picture, *shape, clip])
     run(["vpxenc", *words, "-o", room / "coded.ivf", clip])
     packets = list(packets_of((room / "coded.ivf").read_bytes()))
     kept = next((n for n, packet in enumerate(packets) if not is_decoded(packet)), len(packets))

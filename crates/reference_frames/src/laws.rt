@@ -1,5 +1,10 @@
 //! Laws over the definitions of this crate: each is the contract of a function that does nothing.
 
+ghost use Rattle.std.specs.Prelude.{◌≡◌, true, false, Some, None};
+ghost use Rattle.frame_header.specs.declared.references.Reference.TheVariants.{Last, Golden, Altref};
+ghost use Rattle.pixel_planes.specs.Pictures.{PictureSamples};
+ghost use Rattle.reference_frames.specs.References.{references_after};
+ghost use Rattle.reference_frames.specs.declared.references.References.{References};
 ghost use Rattle.reference_frames.specs.StepLaws.{KeysStepFromNone};
 ghost use Rattle.reference_frames.specs.UnfilteredLaws.{AreFlat, WritesOneBlock};
 
@@ -9,6 +14,12 @@ pub fn keys_step_from_none()
 {
     frame_header::laws::keys_take_no_context();
 }
+
+/// References are copied before any is refreshed, and altref before golden (RFC 6386, section 9.7).
+pub fn references_are_copied_first()
+    ensures altref_first { (picture : PictureSamples) (r : References) → references_after (record { refreshes_last = false; refreshes_golden = false; refreshes_altref = false; golden_copy = Some Altref; altref_copy = Some Golden }) picture r ≡ record { last = r.last; golden = r.golden; altref = r.golden } }
+    ensures then_refreshed { (picture : PictureSamples) (r : References) → references_after (record { refreshes_last = true; refreshes_golden = false; refreshes_altref = false; golden_copy = Some Last; altref_copy = None }) picture r ≡ record { last = picture; golden = r.last; altref = r.altref } }
+{}
 
 /// A block that is written has its samples, and every other sample is as it was.
 pub fn block_write_is_local()
