@@ -91,11 +91,7 @@ fn a_rate_of_zero_is_thirty(rt: HostRuntime) -> Result<(), Fail> {
 // A hidden packet has no number among the frames.
 #[test]
 fn hidden_packets_have_no_number(rt: HostRuntime) -> Result<(), Fail> {
-    let ran = run_packets(
-        rt.alloc(),
-        &[KEY, HIDDEN, KEY],
-        b"frame 1\nframe 2\n",
-    )?;
+    let ran = run_packets(rt.alloc(), &[KEY, HIDDEN, KEY], b"frame 1\nframe 2\n")?;
     let want = y4m_of(rt.alloc(), LINE, &[BLANK])?;
     assert_eq!(rt; ran.frames.as_slice(), want.as_slice());
     let replies = b"served 1\nrefused NoSuchFrame\n";

@@ -9,6 +9,7 @@ const LINE: &[u8] = b"YUV4MPEG2 W16 H16 F30:1 Ip C420jpeg\n";
 /// What packets that read 0 at every bit make of 16 by 16 samples: a key packet sub blocks of 128 and
 /// 129, any other packet one block of 128.
 const BLANK: &[(usize, u8)] = &[(64, 0x80), (192, 0x81), (128, 0x80)];
+
 const GREY: &[(usize, u8)] = &[(384, 0x80)];
 
 /// The pairs of a macroblock that is skipped and has a zero vector into the last frame, where none above

@@ -153,10 +153,7 @@ pub fn write_y2(encoder: &mut Encoder, first: i8) -> Result<(), AllocError> {
 /// A shown packet with no key tag that changes no probability and refreshes nothing, of these
 /// macroblocks, each a list of bits with their probabilities, with an empty token partition. The
 /// probabilities of skipping and of a reference are 1, that of the last frame 255, golden's 128.
-pub fn inter_packet(
-    alloc: Global,
-    macroblocks: &[&[(bool, u8)]],
-) -> Result<Vec<u8>, AllocError> {
+pub fn inter_packet(alloc: Global, macroblocks: &[&[(bool, u8)]]) -> Result<Vec<u8>, AllocError> {
     let mut encoder = Encoder::new(alloc);
     write_bits(&mut encoder, &[b'0'; 36])?;
     for _ in 0..1056 {
