@@ -12,6 +12,9 @@ const BLANK: &[(usize, u8)] = &[(64, 0x80), (192, 0x81), (128, 0x80)];
 
 const GREY: &[(usize, u8)] = &[(384, 0x80)];
 
+/// A key packet of 16 by 32 samples that reads 0 at every bit.
+const HIGH_KEY: &[u8] = &[0x10, 0, 0, 0x9D, 1, 0x2A, 0x10, 0, 0x20, 0];
+
 /// The pairs of a macroblock that is skipped and has a zero vector into the last frame, where none above
 /// it or to its left has one.
 const ZERO: &[(bool, u8)] = &[(true, 1), (true, 1), (false, 255), (false, 7)];
@@ -63,9 +66,8 @@ fn the_last_frame_holds(rt: HostRuntime) -> Result<(), Fail> {
 // Of 32 rows the first 4 are 128 and the others 129; taken four rows down they are 129 throughout.
 #[test]
 fn a_vector_moves_rows(rt: HostRuntime) -> Result<(), Fail> {
-    let key: &[u8] = &[0x10, 0, 0, 0x9D, 1, 0x2A, 0x10, 0, 0x20, 0];
     let moved = inter_packet(rt.alloc(), &[FOUR_DOWN, ZERO])?;
-    let ran = run_packets(rt.alloc(), &[key, moved.as_slice()], b"frame 1")?;
+    let ran = run_packets(rt.alloc(), &[HIGH_KEY, moved.as_slice()], b"frame 1")?;
     let line = b"YUV4MPEG2 W16 H32 F30:1 Ip C420jpeg\n";
     let want = y4m_of(rt.alloc(), line, &[&[(512, 0x81), (256, 0x80)]])?;
     assert_eq!(rt; ran.frames.as_slice(), want.as_slice());
