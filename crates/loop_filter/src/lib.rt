@@ -1,0 +1,8 @@
+//! The loop filter of VP8 (RFC 6386, section 15).
+#![tactic(auto)]
+
+mod edges;
+mod limits;
+mod pairs;
+
+pub use limits::Limits;
