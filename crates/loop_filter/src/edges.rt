@@ -2,7 +2,7 @@ ghost use Rattle.std.specs.Prelude.{◌≡◌, ◌+◌, ◌*◌, ◌<◌, ◌≤
 ghost use Rattle.loop_filter.specs.Lines.{filtered_line};
 ghost use Rattle.loop_filter.specs.Edges.{lines_filtered};
 
-use crate::limits::{EdgeFilter, EdgeLimits};
+use crate::edge_limits::{EdgeFilter, EdgeLimits};
 
 /// Filters the 16 columns across an edge between rows.
 ///

@@ -4,7 +4,7 @@ ghost use Rattle.std.specs.Prelude.{◌≡◌, ◌+◌, ◌*◌, ◌<◌, ◌≤
 ghost use Rattle.loop_filter.specs.Lines.{filtered_line};
 ghost use Rattle.loop_filter.specs.Edges.{lines_filtered};
 
-use crate::limits::{EdgeFilter, EdgeLimits};
+use crate::edge_limits::{EdgeFilter, EdgeLimits};
 
 /// Filters the eight columns across an edge between rows in each of two planes.
 ///
