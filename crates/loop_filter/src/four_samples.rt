@@ -1,6 +1,6 @@
 //! The simple filter on a line of four samples (RFC 6386, section 15.2).
 
-ghost use Rattle.std.specs.Prelude.{◌≡◌, ◌≤◌, ◌≤ℤ◌, ◌-ℤ◌, pos, negsuc, true};
+ghost use Rattle.std.specs.Prelude.{◌≡◌, ◌≤◌, ◌≤ℤ◌, ◌+ℤ◌, ◌-ℤ◌, ◌*ℤ◌, pos, negsuc, true};
 ghost use Rattle.loop_filter.specs.Lines.{signed, held, sample, raised, lowered, is_small_step, lack, eighth, line_of_four};
 ghost use Rattle.loop_filter.specs.FourSamples.{simple_four};
 
@@ -73,6 +73,25 @@ fn difference(a: u8, b: u8) -> i16
     signed(a) - signed(b)
 }
 
+/// Three times a difference.
+fn thrice(difference: i16) -> i16
+    requires { (negsuc 255 ≤ℤ difference) × (difference ≤ℤ pos 255) }
+    ensures value { result ≡ pos 3 *ℤ difference }
+    ensures within { (negsuc 767 ≤ℤ result) × (result ≤ℤ pos 765) }
+{
+    3 * difference
+}
+
+/// The sum of two numbers, held.
+fn held_sum(first: i16, second: i16) -> i16
+    requires first { (negsuc 127 ≤ℤ first) × (first ≤ℤ pos 127) }
+    requires second { (negsuc 767 ≤ℤ second) × (second ≤ℤ pos 765) }
+    ensures value { result ≡ held (first +ℤ second) }
+    ensures within { (negsuc 127 ≤ℤ result) × (result ≤ℤ pos 127) }
+{
+    held(first + second)
+}
+
 /// What the samples at the edge lack of each other, three times, with the difference of the outer two.
 #[tactic(auto, unfolding(crate::specs::Lines::lack))]
 fn lack(samples: &[u8; 4]) -> i16
@@ -81,8 +100,7 @@ fn lack(samples: &[u8; 4]) -> i16
 {
     let [p1, p0, q0, q1] = *samples;
     let outer = held(difference(p1, q1));
-    let inner = difference(q0, p0);
-    held(outer + 3 * inner)
+    held_sum(outer, thrice(difference(q0, p0)))
 }
 
 /// Filters the four samples p1, p0, q0 and q1 of a line across an edge, which stands between p0 and
