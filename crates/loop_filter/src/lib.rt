@@ -1,0 +1,18 @@
+//! The loop filter of VP8 (RFC 6386, section 15).
+#![tactic(auto)]
+
+mod blocks;
+mod chroma_blocks;
+mod edge_limits;
+mod edges;
+mod four_samples;
+mod frames;
+mod levels;
+mod pairs;
+mod strengths;
+
+pub use edge_limits::Limits;
+pub use four_samples::simple;
+pub use frames::frame;
+pub use levels::level;
+pub use strengths::limits;
