@@ -7,6 +7,7 @@ mod edge_limits;
 mod edges;
 mod four_samples;
 mod frames;
+pub mod laws;
 mod levels;
 mod pairs;
 mod strengths;
