@@ -1,0 +1,3 @@
+pub mod LaneLemmas
+pub mod OneLine
+pub mod Scalars

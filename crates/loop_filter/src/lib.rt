@@ -2,6 +2,8 @@
 #![tactic(auto)]
 
 mod edges;
+mod kernels;
+mod lanes;
 mod limits;
 mod pairs;
 
