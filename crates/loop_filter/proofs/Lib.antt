@@ -1,2 +1,5 @@
 pub mod Places
 pub mod Folds
+pub mod LaneLemmas
+pub mod OneLine
+pub mod Scalars

@@ -7,3 +7,4 @@ pub mod Blocks
 pub mod Frames
 pub mod Macroblocks
 pub mod Laws
+pub mod Lanes

@@ -7,6 +7,8 @@ mod edge_limits;
 mod edges;
 mod four_samples;
 mod frames;
+mod kernels;
+mod lanes;
 pub mod laws;
 mod levels;
 mod pairs;
