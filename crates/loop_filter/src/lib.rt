@@ -13,6 +13,8 @@ pub mod laws;
 mod levels;
 mod pairs;
 mod strengths;
+#[cfg(test)]
+mod tests;
 
 pub use edge_limits::Limits;
 pub use four_samples::simple;
