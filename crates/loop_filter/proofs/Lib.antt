@@ -3,3 +3,4 @@ pub mod Folds
 pub mod LaneLemmas
 pub mod OneLine
 pub mod Scalars
+pub mod Raster
