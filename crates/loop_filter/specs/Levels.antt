@@ -1,6 +1,7 @@
 -- The level of the loop filter for a macroblock (RFC 6386, sections 9.3, 9.4 and 15).
-use Rattle.std.specs.Prelude.{ℕ, min, if◌then◌else◌, slice_index_or, ℤ, pos, negsuc, ◌+ℤ◌}
+use Rattle.std.specs.Prelude.{ℕ, Bool, min, if◌then◌else◌, slice_index_or, ℤ, pos, negsuc, ◌+ℤ◌}
 use Rattle.frame_header.specs.declared.context.FilterDeltas.{FilterDeltas}
+use Rattle.frame_header.specs.declared.context.Segments.{Segments}
 use Rattle.frame_header.specs.declared.header.Header.{Header}
 use Rattle.frame_header.specs.declared.references.Reference.{Reference}
 use Rattle.frame_header.specs.declared.references.Reference.TheVariants.{Last, Golden, Altref}
@@ -15,17 +16,11 @@ abbrev pub held_level : ℤ → ℕ
 held_level (pos n) = min n 63
 held_level (negsuc n) = 0
 
--- what a frame says of the level in one of its four segments (section 9.3)
-abbrev pub level_in_segment : Header → ℕ → ℤ
-level_in_segment header segment = slice_index_or header.context.segments.levels segment (pos 0)
-
--- the level in a segment: the frame's; or with segments the segment's, which stands in its place or is added to it (section 9.3)
-abbrev pub segment_level : Header → ℕ → ℕ
-segment_level header segment =
-    held_level
-    (if header.segmentation.is_enabled
-    then (if header.context.segments.is_absolute then level_in_segment header segment else pos header.filter.level +ℤ level_in_segment header segment)
-    else pos header.filter.level)
+-- the level in one of four segments: the frame's; or with segments that of the segment, which stands in its place or is added to it (section 9.3)
+abbrev pub level_in : ℕ → Bool → Segments → ℕ → ℕ
+level_in level has_segments segments segment =
+    let of_segment = slice_index_or segments.levels segment (pos 0) in
+    held_level (if has_segments then (if segments.is_absolute then of_segment else pos level +ℤ of_segment) else pos level)
 
 -- which change by reference a macroblock has: the first where it is predicted from its own frame (section 9.4)
 abbrev pub number_of_reference : Reference → ℕ
@@ -55,9 +50,12 @@ mode_delta deltas (Whole mode) = pos 0
 mode_delta deltas B = slice_index_or deltas.mode 0 (pos 0)
 mode_delta deltas (Inter reference mode) = vector_mode_delta deltas mode
 
--- the level of a macroblock: that in its segment; where the frame adjusts it, changed by reference and by mode and held again
+-- a level changed by reference and by mode
+abbrev pub changed_level : FilterDeltas → YMode → ℕ → ℕ
+changed_level deltas mode level = held_level ((pos level +ℤ reference_delta deltas mode) +ℤ mode_delta deltas mode)
+
+-- the level of a macroblock: that in its segment, changed where the frame adjusts it
 unfoldable pub level_of : Header → MbMode → ℕ
 level_of header mode =
-    if header.adjusts_level
-    then held_level ((pos (segment_level header mode.segment) +ℤ reference_delta header.context.deltas mode.y_mode) +ℤ mode_delta header.context.deltas mode.y_mode)
-    else segment_level header mode.segment
+    let level = level_in header.filter.level header.segmentation.is_enabled header.context.segments mode.segment in
+    if header.adjusts_level then changed_level header.context.deltas mode.y_mode level else level

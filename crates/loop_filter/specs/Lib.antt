@@ -6,3 +6,5 @@ pub mod FourSamples
 pub mod Blocks
 pub mod Frames
 pub mod Macroblocks
+pub mod Laws
+pub mod Lanes

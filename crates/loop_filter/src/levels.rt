@@ -1,7 +1,7 @@
-ghost use Rattle.std.specs.Prelude.{◌≡◌, ◌≤◌, pos, ◌+ℤ◌};
-ghost use Rattle.loop_filter.specs.Levels.{held_level, level_in_segment, segment_level, reference_delta, mode_delta, level_of};
+ghost use Rattle.std.specs.Prelude.{◌≡◌, ◌≤◌, pos, ◌+ℤ◌, slice_index_or};
+ghost use Rattle.loop_filter.specs.Levels.{held_level, level_in, reference_delta, mode_delta, changed_level, level_of};
 
-use frame_header::{FilterDeltas, Header, Reference};
+use frame_header::{FilterDeltas, Header, Reference, Segments};
 use mode_parser::{MbMode, VectorMode, YMode};
 
 /// A level held within 0 to 63.
@@ -12,8 +12,8 @@ fn held(level: i16) -> u8
     level.clamp(0, 63) as u8
 }
 
-/// A level with two changes.
-fn changed(level: u8, by_reference: i8, by_mode: i8) -> u8
+/// A level with two changes, held.
+fn with_changes(level: u8, by_reference: i8, by_mode: i8) -> u8
     ensures value { result ≡ held_level ((pos level +ℤ by_reference) +ℤ by_mode) }
     ensures small { result ≤ 63 }
 {
@@ -21,27 +21,27 @@ fn changed(level: u8, by_reference: i8, by_mode: i8) -> u8
     held(i16::from(level) + change)
 }
 
-/// What the frame says of the level in a segment, 0 where there is no such segment.
-fn level_in_segment(header: &Header, segment: u8) -> i8
-    ensures { result ≡ level_in_segment header.now segment }
+/// The level of one of the four segments; 0 where there is no such segment.
+fn level_of_segment(segments: &Segments, segment: u8) -> i8
+    ensures { result ≡ slice_index_or segments.now.levels segment (pos 0) }
 {
-    match header.context.segments.levels.get(usize::from(segment)) {
+    match segments.levels.get(usize::from(segment)) {
         Some(level) => *level,
         None => 0,
     }
 }
 
-/// The level in a segment before it is changed by reference and mode.
-fn segment_level(header: &Header, segment: u8) -> u8
-    ensures value { result ≡ segment_level header.now segment }
+/// The level in a segment of a frame of this level, which may have segments or none.
+fn level_in(level: u8, has_segments: bool, segments: &Segments, segment: u8) -> u8
+    ensures value { result ≡ level_in level has_segments segments.now segment }
     ensures small { result ≤ 63 }
 {
-    let level = i16::from(header.filter.level);
-    if !header.segmentation.is_enabled {
+    let level = i16::from(level);
+    if !has_segments {
         return held(level);
     }
-    let of_segment = i16::from(level_in_segment(header, segment));
-    if header.context.segments.is_absolute {
+    let of_segment = i16::from(level_of_segment(segments, segment));
+    if segments.is_absolute {
         held(of_segment)
     } else {
         held(level + of_segment)
@@ -74,21 +74,36 @@ fn mode_delta(deltas: &FilterDeltas, mode: YMode) -> i8
     }
 }
 
+/// A level, up to 63, changed by reference and mode.
+fn changed_level(deltas: &FilterDeltas, mode: YMode, level: u8) -> u8
+    ensures value { result ≡ changed_level deltas.now mode level }
+    ensures small { result ≤ 63 }
+{
+    let by_reference = reference_delta(deltas, mode);
+    let by_mode = mode_delta(deltas, mode);
+    with_changes(level, by_reference, by_mode)
+}
+
 /// The level of the loop filter for a macroblock, 0 to 63 (RFC 6386, sections 9.3, 9.4 and 15).
 ///
-/// It is the frame's, or with segments that of its segment, held within 0 to 63; where the frame
-/// adjusts it, it is then changed by reference and mode, and held again.
+/// It is the frame's, or with segments that of its segment or their sum, held within 0 to 63. Where
+/// the frame adjusts it, it is then changed by reference and mode, and held again.
 #[tactic(auto, unfolding(crate::specs::Levels::level_of))]
 pub fn level(header: &Header, mode: &MbMode) -> u8
     ensures value { result ≡ level_of header.now mode.now }
     ensures small { result ≤ 63 }
 {
-    let level = segment_level(header, mode.segment);
-    if !header.adjusts_level {
-        return level;
+    let context = &header.context;
+    let has_segments = header.segmentation.is_enabled;
+    let level = level_in(
+        header.filter.level,
+        has_segments,
+        &context.segments,
+        mode.segment,
+    );
+    if header.adjusts_level {
+        changed_level(&context.deltas, mode.y_mode, level)
+    } else {
+        level
     }
-    let deltas = &header.context.deltas;
-    let by_reference = reference_delta(deltas, mode.y_mode);
-    let by_mode = mode_delta(deltas, mode.y_mode);
-    changed(level, by_reference, by_mode)
 }

@@ -7,9 +7,14 @@ mod edge_limits;
 mod edges;
 mod four_samples;
 mod frames;
+mod kernels;
+mod lanes;
+pub mod laws;
 mod levels;
 mod pairs;
 mod strengths;
+#[cfg(test)]
+mod tests;
 
 pub use edge_limits::Limits;
 pub use four_samples::simple;

@@ -1,0 +1,108 @@
+-- What each operation on lanes makes of one lane.
+use Rattle.std.specs.Prelude.{min, max, replicate, slice_index, nat_eq}
+use Rattle.std.proofs.Common.{◌≡◌, ℕ, ◌+◌, ◌-◌, ◌*◌, ◌/◌, ◌%◌, ◌^◌, ◌<◌, ◌≤◌, Bool, true, false, cond, ltb, leb, eqb, List, [], ◌∷◌, map, length, get_or, refl, ap, subst, ◌∙◌, arith, w8, Fits}
+use lib.Lanes.{Each1, zip2, sel_l}
+use Rattle.std.proofs.lemmas.Bool.Decides.{nat_tests}
+use Rattle.std.proofs.Math.Nat.{mul-le-mul_right}
+use Rattle.std.proofs.lemmas.Simd.{get_or-zip2, length-zip2, get_or-sel_l}
+use Rattle.std.proofs.lemmas.List.{get_or-replicate, get_or-map, length-map}
+use Rattle.loop_filter.specs.Lanes.{sum_of, either_of, share_of}
+
+-- two lists that begin alike and go on alike
+same_lanes : (x y : ℕ) (xs ys : List ℕ) → x ≡ y → xs ≡ ys → x ∷ xs ≡ y ∷ ys
+same_lanes x y xs ys first rest = ap (λ (z : ℕ). z ∷ xs) first ∙ ap (λ (l : List ℕ). y ∷ l) rest
+
+-- the top bit of a mask tells what was compared
+mask_tells : (b : Bool) → leb 128 (cond b 255 0) ≡ b
+mask_tells true = refl
+mask_tells false = refl
+
+-- one lane of a sum that is held at 255, of a rest that is held at 0, and of the greater of two
+sum_lane : (a b : ℕ) → a < 256 → (a + cond (leb 128 (cond (ltb b (255 - a)) 255 0)) b (255 - a)) % 256 ≡ min (a + b) 255
+sum_lane a b small = rw mask_tells (grind (arith, nat_tests))
+
+rest_lane : (a b : ℕ) → a < 256 → b < 256 → (cond (leb 128 (cond (ltb a b) 255 0)) b a + (256 - b)) % 256 ≡ a - b
+rest_lane a b small small' = rw mask_tells (grind (arith, nat_tests))
+
+greater_lane : (a b : ℕ) → cond (leb 128 (cond (ltb a b) 255 0)) b a ≡ max a b
+greater_lane a b = rw mask_tells (grind (arith, nat_tests))
+
+-- all of them
+sum_lanes : (xs ys : List ℕ) → Each1 (Fits w8) xs → zip2 (λ a b. (a + b) % 256) xs (sel_l (map (λ m. leb 128 m) (zip2 (λ b n. cond (ltb b n) 255 0) ys (map (λ a. 255 - a) xs))) ys (map (λ a. 255 - a) xs)) ≡ zip2 sum_of xs ys
+sum_lanes [] ys fits = refl
+sum_lanes (x ∷ xs) [] fits = refl
+sum_lanes (x ∷ xs) (y ∷ ys) fits = same_lanes _ _ _ _ (sum_lane x y fits.0.fits) (sum_lanes xs ys fits.1)
+
+rest_lanes : (xs ys : List ℕ) → Each1 (Fits w8) xs → Each1 (Fits w8) ys → zip2 (λ a b. (a + (256 - b)) % 256) (sel_l (map (λ m. leb 128 m) (zip2 (λ a b. cond (ltb a b) 255 0) xs ys)) ys xs) ys ≡ zip2 (λ a b. a - b) xs ys
+rest_lanes [] ys fits fits' = refl
+rest_lanes (x ∷ xs) [] fits fits' = refl
+rest_lanes (x ∷ xs) (y ∷ ys) fits fits' = same_lanes _ _ _ _ (rest_lane x y fits.0.fits fits'.0.fits) (rest_lanes xs ys fits.1 fits'.1)
+
+greater_lanes : (xs ys : List ℕ) → sel_l (map (λ m. leb 128 m) (zip2 (λ a b. cond (ltb a b) 255 0) xs ys)) ys xs ≡ zip2 max xs ys
+greater_lanes [] ys = refl
+greater_lanes (x ∷ xs) [] = refl
+greater_lanes (x ∷ xs) (y ∷ ys) = same_lanes _ _ _ _ (greater_lane x y) (greater_lanes xs ys)
+
+-- each of them, at its place
+lane2 : (f : ℕ → ℕ → ℕ) (xs ys : List ℕ) (i : ℕ) → length xs ≡ 16 → length ys ≡ 16 → i < 16 → slice_index (zip2 f xs ys) i ≡ f (slice_index xs i) (slice_index ys i)
+lane2 f xs ys i long long' less = get_or-zip2 f xs ys i 0 0 0 (omega (arith, long)) (omega (arith, long'))
+
+pub sum_at : (xs ys : List ℕ) (i : ℕ) → (length xs ≡ 16) × Each1 (Fits w8) xs → length ys ≡ 16 → i < 16 → slice_index (zip2 (λ a b. (a + b) % 256) xs (sel_l (map (λ m. leb 128 m) (zip2 (λ b n. cond (ltb b n) 255 0) ys (map (λ a. 255 - a) xs))) ys (map (λ a. 255 - a) xs))) i ≡ sum_of (slice_index xs i) (slice_index ys i)
+sum_at xs ys i fits long less = ap (λ l. slice_index l i) (sum_lanes xs ys fits.1) ∙ lane2 sum_of xs ys i fits.0 long less
+
+pub rest_at : (xs ys : List ℕ) (i : ℕ) → (length xs ≡ 16) × Each1 (Fits w8) xs → (length ys ≡ 16) × Each1 (Fits w8) ys → i < 16 → slice_index (zip2 (λ a b. (a + (256 - b)) % 256) (sel_l (map (λ m. leb 128 m) (zip2 (λ a b. cond (ltb a b) 255 0) xs ys)) ys xs) ys) i ≡ slice_index xs i - slice_index ys i
+rest_at xs ys i fits fits' less = ap (λ l. slice_index l i) (rest_lanes xs ys fits.1 fits'.1) ∙ lane2 (λ a b. a - b) xs ys i fits.0 fits'.0 less
+
+pub greater_at : (xs ys : List ℕ) (i : ℕ) → length xs ≡ 16 → length ys ≡ 16 → i < 16 → slice_index (sel_l (map (λ m. leb 128 m) (zip2 (λ a b. cond (ltb a b) 255 0) xs ys)) ys xs) i ≡ max (slice_index xs i) (slice_index ys i)
+greater_at xs ys i long long' less = ap (λ l. slice_index l i) (greater_lanes xs ys) ∙ lane2 max xs ys i long long' less
+
+-- a shift
+pub shifted_at : (n : ℕ) (xs : List ℕ) (i : ℕ) → length xs ≡ 16 → i < 16 → slice_index (zip2 (λ a b. a / 2 ^ b) xs (replicate 16 n)) i ≡ slice_index xs i / 2 ^ n
+shifted_at n xs i long less = lane2 (λ a b. a / 2 ^ b) xs (replicate 16 n) i long refl less ∙ ap (λ k. slice_index xs i / 2 ^ k) (get_or-replicate 16 i n 0 less)
+
+-- a choice by whether a lane is 0
+pub either_at : (ts xs ys : List ℕ) (i : ℕ) → length ts ≡ 16 → length xs ≡ 16 → length ys ≡ 16 → i < 16 → slice_index (sel_l (map (λ m. leb 128 m) (zip2 (λ a b. cond (eqb a b) 255 0) ts (replicate 16 0))) xs ys) i ≡ either_of (slice_index ts i) (slice_index xs i) (slice_index ys i)
+either_at ts xs ys i long long' long'' less =
+    let masks : List ℕ = zip2 (λ a b. cond (eqb a b) 255 0) ts (replicate 16 0) in
+    let sixteen : length masks ≡ 16 = length-zip2 _ ts (replicate 16 0) (omega (arith, long)) ∙ long in
+    let told : length (map (λ m. leb 128 m) masks) ≡ 16 = length-map masks (λ m. leb 128 m) ∙ sixteen in
+    get_or-sel_l (map (λ m. leb 128 m) masks) xs ys i 0 (omega (arith, told)) (omega (arith, long')) (omega (arith, long''))
+    ∙ ap (λ (b : Bool). cond b (slice_index xs i) (slice_index ys i)) (get_or-map (λ m. leb 128 m) masks i 0 false (omega (arith, sixteen)) ∙ ap (leb 128) (lane2 (λ a b. cond (eqb a b) 255 0) ts (replicate 16 0) i long refl less ∙ ap (λ n. cond (eqb (slice_index ts i) n) 255 0) (get_or-replicate 16 i 0 0 less)) ∙ mask_tells _)
+
+-- shares, in lanes of 16 bits
+share_lane : (k x : ℕ) → k ≤ 27 → x < 256 → ((x * k) % 65536 + 63) % 65536 / 128 ≡ share_of k x
+unfolding share_of
+share_lane k x few small =
+    let most : x * k ≤ 255 * k = mul-le-mul_right k (omega arith) in
+    let product : (x * k) % 65536 ≡ x * k = omega arith in
+    let sum : (x * k + 63) % 65536 ≡ x * k + 63 = omega arith in
+    rw (product, sum) refl
+
+share_small : (k x : ℕ) → k ≤ 27 → x < 256 → share_of k x < 256
+unfolding share_of
+share_small k x few small =
+    let most : x * k ≤ 255 * k = mul-le-mul_right k (omega arith) in
+    omega arith
+
+abbrev pub products_shifted : ℕ → ℕ → List ℕ → List ℕ
+products_shifted n k xs = zip2 (λ a b. a / 2 ^ b) (zip2 (λ a b. (a + b) % 65536) (zip2 (λ a b. a * b % 65536) (map (λ (a : ℕ). a) xs) (replicate n k)) (replicate n 63)) (replicate n 7)
+
+share_lanes : (k : ℕ) (xs : List ℕ) → k ≤ 27 → Each1 (Fits w8) xs → products_shifted (length xs) k xs ≡ map (share_of k) xs
+share_lanes k [] few fits = refl
+share_lanes k (x ∷ xs) few fits = same_lanes _ _ _ _ (share_lane k x few fits.0.fits) (share_lanes k xs few fits.1)
+
+share_fits : (k : ℕ) (xs : List ℕ) → k ≤ 27 → Each1 (Fits w8) xs → Each1 (Fits w8) (map (share_of k) xs)
+share_fits k [] few fits = tt
+share_fits k (x ∷ xs) few fits = (record { fits = share_small k x few fits.0.fits }, share_fits k xs few fits.1)
+
+same_map : (xs : List ℕ) → map (λ (a : ℕ). a) xs ≡ xs
+same_map [] = refl
+same_map (x ∷ xs) = ap (λ (l : List ℕ). x ∷ l) (same_map xs)
+
+pub shares_fit : (k : ℕ) (xs : List ℕ) → k ≤ 27 → (length xs ≡ 16) × Each1 (Fits w8) xs → Each1 (Fits w8) (products_shifted 16 k xs)
+shares_fit k xs few fits = subst (λ (n : ℕ). Each1 (Fits w8) (products_shifted n k xs)) fits.0 (rw (share_lanes k xs few fits.1) (share_fits k xs few fits.1))
+
+pub shares_at : (k : ℕ) (xs : List ℕ) (i : ℕ) → k ≤ 27 → (length xs ≡ 16) × Each1 (Fits w8) xs → i < 16 → slice_index (map (λ (a : ℕ). a) (products_shifted 16 k xs)) i ≡ share_of k (slice_index xs i)
+shares_at k xs i few fits less =
+    let all : products_shifted 16 k xs ≡ map (share_of k) xs = subst (λ (n : ℕ). products_shifted n k xs ≡ map (share_of k) xs) fits.0 (share_lanes k xs few fits.1) in
+    ap (λ l. slice_index l i) (same_map _ ∙ all) ∙ get_or-map (share_of k) xs i 0 0 (omega (arith, fits.0))

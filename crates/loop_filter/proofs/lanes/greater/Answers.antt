@@ -1,0 +1,5 @@
+use Rattle.loop_filter.proofs.LaneLemmas.{greater_at}
+use Rattle.loop_filter.proofs.lanes.greater.Goals as goal
+
+pub returns : goal.returns
+returns c = λ i less. greater_at c.args.a c.args.b i c.fits-a.0 c.fits-b.0 less

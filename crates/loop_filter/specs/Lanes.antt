@@ -1,0 +1,81 @@
+-- The filters in numbers of 8 bits, as sixteen lanes hold them: a number that may be below 0 stands there with an offset added, as a sample does with 128.
+use Rattle.std.specs.Prelude.{◌≡◌, ℕ, ◌+◌, ◌-◌, ◌*◌, ◌/◌, ◌<◌, min, max, Bool, if◌then◌else◌, nat_eq, List, slice_index}
+use Rattle.std.specs.Int.{abs_diff}
+use Rattle.loop_filter.specs.Lines.{Line}
+use Rattle.loop_filter.specs.declared.edge_limits.EdgeLimits.{EdgeLimits}
+use Rattle.loop_filter.specs.declared.kernels.Taps.{Taps}
+
+-- each of the sixteen lanes of a result is what f makes of those of one vector, or of two
+abbrev pub Each : (ℕ → ℕ) → List ℕ → List ℕ → Type 0
+Each f a result = (i : ℕ) → i < 16 → slice_index result i ≡ f (slice_index a i)
+
+abbrev pub Each2 : (ℕ → ℕ → ℕ) → List ℕ → List ℕ → List ℕ → Type 0
+Each2 f a b result = (i : ℕ) → i < 16 → slice_index result i ≡ f (slice_index a i) (slice_index b i)
+
+-- each lane has 8 bits
+abbrev pub AreSamples : List ℕ → Type 0
+AreSamples a = (i : ℕ) → i < 16 → slice_index a i < 256
+
+-- the sum of two numbers, held at 255
+abbrev pub sum_of : ℕ → ℕ → ℕ
+sum_of x y = min (x + y) 255
+
+-- a sample with a number added that stands at an offset, and with it taken away
+unfoldable pub raised_by : ℕ → ℕ → ℕ → ℕ
+raised_by offset x d = sum_of x (d - offset) - (offset - d)
+
+unfoldable pub lowered_by : ℕ → ℕ → ℕ → ℕ
+lowered_by offset x d = sum_of x (offset - d) - (d - offset)
+
+-- the difference of two samples, at offset 128
+unfoldable pub difference_of : ℕ → ℕ → ℕ
+difference_of x y = sum_of 128 (x - y) - (y - x)
+
+-- three times what p0 lacks of q0, added to a number
+unfoldable pub lack_from : ℕ → ℕ → ℕ → ℕ
+lack_from start p0 q0 = sum_of (sum_of (sum_of start (q0 - p0)) (q0 - p0)) (q0 - p0) - (p0 - q0) - (p0 - q0) - (p0 - q0)
+
+-- an eighth of a number at offset 128 that n was added to, at offset 16
+unfoldable pub eighth_of : ℕ → ℕ → ℕ
+eighth_of n w = sum_of w n / 8
+
+-- half of an eighth, rounded, at offset 8
+unfoldable pub half_of : ℕ → ℕ
+half_of e = (e + 1) / 2
+
+-- a number at offset 128 times k, in 128ths, at offset k
+unfoldable pub share_of : ℕ → ℕ → ℕ
+share_of k w = (w * k + 63) / 128
+
+-- how far the step at the edge is over its limit: 0 where it is not
+unfoldable pub step_over_of : ℕ → ℕ → ℕ → ℕ → ℕ → ℕ
+step_over_of limit p1 p0 q0 q1 = sum_of (sum_of (abs_diff p0 q0) (abs_diff p0 q0)) (abs_diff p1 q1 / 2) - limit
+
+-- how far the greatest of the differences on one side of the edge is over the limit
+unfoldable pub side_over_of : ℕ → ℕ → ℕ → ℕ → ℕ → ℕ
+side_over_of limit s3 s2 s1 s0 = max (max (abs_diff s3 s2) (abs_diff s2 s1)) (abs_diff s1 s0) - limit
+
+-- how far the greater of two differences is over the threshold
+unfoldable pub variance_over_of : ℕ → ℕ → ℕ → ℕ → ℕ → ℕ
+variance_over_of threshold p1 p0 q0 q1 = max (abs_diff p1 p0) (abs_diff q1 q0) - threshold
+
+-- how far what a normal filter asks of a line is not met: 0 where it is
+unfoldable pub roughness_of : EdgeLimits → Line → ℕ
+roughness_of limits l = sum_of (step_over_of limits.edge l.p1 l.p0 l.q0 l.q1) (sum_of (side_over_of limits.interior l.p3 l.p2 l.p1 l.p0) (side_over_of limits.interior l.q3 l.q2 l.q1 l.q0))
+
+-- one of two numbers, by whether a test left 0
+abbrev pub either_of : ℕ → ℕ → ℕ → ℕ
+either_of test none other = if nat_eq test 0 then none else other
+
+-- line i of the sixteen
+abbrev pub line_at : Taps → ℕ → Line
+line_at t i = record {
+  p3 = slice_index t.p3 i;
+  p2 = slice_index t.p2 i;
+  p1 = slice_index t.p1 i;
+  p0 = slice_index t.p0 i;
+  q0 = slice_index t.q0 i;
+  q1 = slice_index t.q1 i;
+  q2 = slice_index t.q2 i;
+  q3 = slice_index t.q3 i;
+}

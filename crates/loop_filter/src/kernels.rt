@@ -1,0 +1,136 @@
+//! The filters, each over sixteen lines at once (RFC 6386, sections 15.2 and 15.3).
+
+ghost use Rattle.std.specs.Prelude.{◌≡◌, ℕ, ◌+◌, ◌<◌, slice_index};
+ghost use Rattle.loop_filter.specs.Lines.{simple_line, inner_line, macroblock_line, filtered_line};
+ghost use Rattle.loop_filter.specs.Lanes.{line_at, roughness_of};
+
+use crate::edge_limits::{EdgeFilter, EdgeLimits};
+use crate::lanes::{
+    all, difference, eighths_after, either, halves, lack, lowered, more, raised, shares, side_over,
+    step_over, variance_over,
+};
+use std::simd::u8x16;
+
+/// Sixteen lines of samples across an edge, each line in a lane: `p0` and `q0` stand at the edge.
+#[derive(Clone, Copy)]
+pub struct Taps {
+    pub p3: u8x16,
+    pub p2: u8x16,
+    pub p1: u8x16,
+    pub p0: u8x16,
+    pub q0: u8x16,
+    pub q1: u8x16,
+    pub q2: u8x16,
+    pub q3: u8x16,
+}
+
+/// Filters sixteen lines by the filter of their edge.
+#[inline(always)]
+pub fn filter(filter: EdgeFilter, limits: EdgeLimits, taps: Taps) -> Taps
+    requires limit { limits.edge < 255 }
+    ensures { (i : ℕ) → i < 16 → line_at result i ≡ filtered_line filter limits (line_at taps i) }
+{
+    match filter {
+        EdgeFilter::Simple => simple(limits.edge, taps),
+        EdgeFilter::Inner => inner(limits, taps),
+        EdgeFilter::Macroblock => macroblock(limits, taps),
+    }
+}
+
+/// Filters sixteen lines by the simple filter.
+#[inline(always)]
+fn simple(limit: u8, taps: Taps) -> Taps
+    requires limit { limit < 255 }
+    ensures { (i : ℕ) → i < 16 → line_at result i ≡ simple_line limit (line_at taps i) }
+{
+    let (p1, p0, q0, q1) = (taps.p1, taps.p0, taps.q0, taps.q1);
+    let over = step_over(limit, p1, p0, q0, q1);
+    let outer = difference(p1, q1);
+    let full = lack(outer, p0, q0);
+    let none = all(128);
+    let number = either(over, full, none);
+    let up = eighths_after(3, number);
+    let down = eighths_after(4, number);
+    Taps {
+        p0: raised(16, p0, up),
+        q0: lowered(16, q0, down),
+        ..taps
+    }
+}
+
+/// How far what a normal filter asks of sixteen lines is not met: 0 where it is.
+#[inline(always)]
+#[tactic(auto, unfolding(crate::specs::Lanes::roughness_of))]
+fn roughness(limits: EdgeLimits, taps: Taps) -> u8x16
+    ensures { (i : ℕ) → i < 16 → slice_index result i ≡ roughness_of limits (line_at taps i) }
+{
+    let (p3, p2, p1, p0) = (taps.p3, taps.p2, taps.p1, taps.p0);
+    let (q3, q2, q1, q0) = (taps.q3, taps.q2, taps.q1, taps.q0);
+    let step = step_over(limits.edge, p1, p0, q0, q1);
+    let before = side_over(limits.interior, p3, p2, p1, p0);
+    let behind = side_over(limits.interior, q3, q2, q1, q0);
+    let sides = more(before, behind);
+    more(step, sides)
+}
+
+/// Filters sixteen lines by the normal filter of an edge between blocks of one macroblock.
+#[inline(always)]
+fn inner(limits: EdgeLimits, taps: Taps) -> Taps
+    requires limit { limits.edge < 255 }
+    ensures { (i : ℕ) → i < 16 → line_at result i ≡ inner_line limits (line_at taps i) }
+{
+    let (p1, p0, q0, q1) = (taps.p1, taps.p0, taps.q0, taps.q1);
+    let rough = roughness(limits, taps);
+    let varied = variance_over(limits.variance, p1, p0, q0, q1);
+    let none = all(128);
+    let difference = difference(p1, q1);
+    let outer = either(varied, none, difference);
+    let full = lack(outer, p0, q0);
+    let number = either(rough, full, none);
+    let up = eighths_after(3, number);
+    let down = eighths_after(4, number);
+    let half = halves(down);
+    let stay = all(8);
+    let outer_move = either(varied, half, stay);
+    Taps {
+        p1: raised(8, p1, outer_move),
+        p0: raised(16, p0, up),
+        q0: lowered(16, q0, down),
+        q1: lowered(8, q1, outer_move),
+        ..taps
+    }
+}
+
+/// Filters sixteen lines by the normal filter of an edge between macroblocks.
+#[inline(always)]
+fn macroblock(limits: EdgeLimits, taps: Taps) -> Taps
+    requires limit { limits.edge < 255 }
+    ensures { (i : ℕ) → i < 16 → line_at result i ≡ macroblock_line limits (line_at taps i) }
+{
+    let (p2, p1, p0) = (taps.p2, taps.p1, taps.p0);
+    let (q2, q1, q0) = (taps.q2, taps.q1, taps.q0);
+    let rough = roughness(limits, taps);
+    let varied = variance_over(limits.variance, p1, p0, q0, q1);
+    let none = all(128);
+    let outer = difference(p1, q1);
+    let full = lack(outer, p0, q0);
+    let number = either(rough, full, none);
+    let narrow = either(varied, none, number);
+    let wide = either(varied, number, none);
+    let up = eighths_after(3, narrow);
+    let down = eighths_after(4, narrow);
+    let near = shares(27, wide);
+    let middle = shares(18, wide);
+    let far = shares(9, wide);
+    let p0_narrow = raised(16, p0, up);
+    let q0_narrow = lowered(16, q0, down);
+    Taps {
+        p2: raised(9, p2, far),
+        p1: raised(18, p1, middle),
+        p0: raised(27, p0_narrow, near),
+        q0: lowered(27, q0_narrow, near),
+        q1: lowered(18, q1, middle),
+        q2: lowered(9, q2, far),
+        ..taps
+    }
+}

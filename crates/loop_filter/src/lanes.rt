@@ -1,0 +1,212 @@
+//! What is done with sixteen samples at once: lanes of 8 bits without signs.
+
+ghost use Rattle.std.specs.Prelude.{◌≡◌, ℕ, ◌-◌, ◌/◌, ◌<◌, ◌≤◌, max, slice_index};
+ghost use Rattle.std.specs.Int.{abs_diff};
+ghost use Rattle.loop_filter.specs.Lanes.{Each, Each2, AreSamples, sum_of, raised_by, lowered_by, difference_of, lack_from, eighth_of, half_of, share_of, either_of, step_over_of, side_over_of, variance_over_of};
+
+use std::simd::prelude::*;
+use std::simd::{u8x16, u16x16};
+
+/// The same value in all lanes.
+#[inline(always)]
+pub fn all(value: u8) -> u8x16
+    ensures { (i : ℕ) → i < 16 → slice_index result i ≡ value }
+{
+    u8x16::splat(value)
+}
+
+/// The lanes of both added, held at 255.
+#[inline(always)]
+pub fn more(a: u8x16, b: u8x16) -> u8x16
+    ensures { Each2 sum_of a b result }
+{
+    a.saturating_add(b)
+}
+
+/// The lanes of `a` less those of `b`, held at 0.
+#[inline(always)]
+fn less(a: u8x16, b: u8x16) -> u8x16
+    ensures { Each2 (λ x y. x - y) a b result }
+{
+    a.saturating_sub(b)
+}
+
+/// The greater of each two lanes.
+#[inline(always)]
+fn greater(a: u8x16, b: u8x16) -> u8x16
+    ensures { Each2 max a b result }
+{
+    a.simd_max(b)
+}
+
+/// How far each two lanes are apart.
+#[inline(always)]
+fn apart(a: u8x16, b: u8x16) -> u8x16
+    ensures { Each2 abs_diff a b result }
+{
+    let above = less(a, b);
+    let below = less(b, a);
+    more(above, below)
+}
+
+/// The lanes of `none` where `test` is 0, and those of `other` elsewhere.
+#[inline(always)]
+pub fn either(test: u8x16, none: u8x16, other: u8x16) -> u8x16
+    ensures { (i : ℕ) → i < 16 → slice_index result i ≡ either_of (slice_index test i) (slice_index none i) (slice_index other i) }
+{
+    test.simd_eq(u8x16::splat(0)).select(none, other)
+}
+
+/// A half of each lane, rounded down.
+#[inline(always)]
+fn halved(a: u8x16) -> u8x16
+    ensures { Each (λ x. x / 2) a result }
+{
+    a >> u8x16::splat(1)
+}
+
+/// An eighth of each lane, rounded down.
+#[inline(always)]
+fn eighths(a: u8x16) -> u8x16
+    ensures { Each (λ x. x / 8) a result }
+{
+    a >> u8x16::splat(3)
+}
+
+/// Samples with numbers added that stand at an offset.
+#[inline(always)]
+#[tactic(auto, unfolding(crate::specs::Lanes::raised_by))]
+pub fn raised(offset: u8, samples: u8x16, numbers: u8x16) -> u8x16
+    ensures value { Each2 (raised_by offset) samples numbers result }
+    ensures samples { AreSamples samples }
+{
+    let offset = all(offset);
+    let above = less(numbers, offset);
+    let below = less(offset, numbers);
+    let sum = more(samples, above);
+    less(sum, below)
+}
+
+/// Samples with numbers taken away that stand at an offset.
+#[inline(always)]
+#[tactic(auto, unfolding(crate::specs::Lanes::lowered_by))]
+pub fn lowered(offset: u8, samples: u8x16, numbers: u8x16) -> u8x16
+    ensures value { Each2 (lowered_by offset) samples numbers result }
+    ensures samples { AreSamples samples }
+{
+    let offset = all(offset);
+    let above = less(numbers, offset);
+    let below = less(offset, numbers);
+    let sum = more(samples, below);
+    less(sum, above)
+}
+
+/// The differences of samples, held within -128 to 127, at offset 128.
+#[inline(always)]
+#[tactic(auto, unfolding(crate::specs::Lanes::difference_of))]
+pub fn difference(a: u8x16, b: u8x16) -> u8x16
+    ensures value { Each2 difference_of a b result }
+    ensures first { AreSamples a }
+    ensures second { AreSamples b }
+{
+    let offset = all(128);
+    let above = less(a, b);
+    let below = less(b, a);
+    let sum = more(offset, above);
+    less(sum, below)
+}
+
+/// Three times what `p0` lacks of `q0`, added to numbers at offset 128 and held within -128 to 127.
+#[inline(always)]
+#[tactic(auto, unfolding(crate::specs::Lanes::lack_from))]
+pub fn lack(start: u8x16, p0: u8x16, q0: u8x16) -> u8x16
+    ensures { (i : ℕ) → i < 16 → slice_index result i ≡ lack_from (slice_index start i) (slice_index p0 i) (slice_index q0 i) }
+{
+    let above = less(q0, p0);
+    let below = less(p0, q0);
+    let once = more(start, above);
+    let twice = more(once, above);
+    let thrice = more(twice, above);
+    let less_once = less(thrice, below);
+    let less_twice = less(less_once, below);
+    less(less_twice, below)
+}
+
+/// An eighth of numbers at offset 128 that `n` was added to, rounded down, at offset 16.
+#[inline(always)]
+#[tactic(auto, unfolding(crate::specs::Lanes::eighth_of))]
+pub fn eighths_after(n: u8, numbers: u8x16) -> u8x16
+    ensures { Each (eighth_of n) numbers result }
+{
+    let added = all(n);
+    let sum = more(numbers, added);
+    eighths(sum)
+}
+
+/// Half of numbers at offset 16, rounded, at offset 8.
+#[inline(always)]
+#[tactic(auto, unfolding(crate::specs::Lanes::half_of))]
+pub fn halves(numbers: u8x16) -> u8x16
+    requires small { (i : ℕ) → i < 16 → slice_index numbers i < 255 }
+    ensures { Each half_of numbers result }
+{
+    let one = all(1);
+    let sum = more(numbers, one);
+    halved(sum)
+}
+
+/// Numbers at offset 128 times `k`, in 128ths, rounded, at offset `k`.
+#[inline(always)]
+pub fn shares(k: u16, numbers: u8x16) -> u8x16
+    requires small { k ≤ 27 }
+    ensures { Each (share_of k) numbers result }
+{
+    let products = numbers.cast::<u16>() * u16x16::splat(k);
+    let rounded = products + u16x16::splat(63);
+    (rounded >> u16x16::splat(7)).cast::<u8>()
+}
+
+/// How far the step at the edge of each line is over `limit`: 0 where it is within.
+#[inline(always)]
+#[tactic(auto, unfolding(crate::specs::Lanes::step_over_of))]
+pub fn step_over(limit: u8, p1: u8x16, p0: u8x16, q0: u8x16, q1: u8x16) -> u8x16
+    ensures { (i : ℕ) → i < 16 → slice_index result i ≡ step_over_of limit (slice_index p1 i) (slice_index p0 i) (slice_index q0 i) (slice_index q1 i) }
+{
+    let limit = all(limit);
+    let nearest = apart(p0, q0);
+    let outer = apart(p1, q1);
+    let twice = more(nearest, nearest);
+    let half = halved(outer);
+    let step = more(twice, half);
+    less(step, limit)
+}
+
+/// How far the greatest difference of samples side by side, on one side of the edge of each line,
+/// is over `limit`: 0 where all are within.
+#[inline(always)]
+#[tactic(auto, unfolding(crate::specs::Lanes::side_over_of))]
+pub fn side_over(limit: u8, s3: u8x16, s2: u8x16, s1: u8x16, s0: u8x16) -> u8x16
+    ensures { (i : ℕ) → i < 16 → slice_index result i ≡ side_over_of limit (slice_index s3 i) (slice_index s2 i) (slice_index s1 i) (slice_index s0 i) }
+{
+    let limit = all(limit);
+    let outer = apart(s3, s2);
+    let middle = apart(s2, s1);
+    let inner = apart(s1, s0);
+    let outermost = greater(outer, middle);
+    let greatest = greater(outermost, inner);
+    less(greatest, limit)
+}
+
+/// How far the greater difference of a sample at the edge and its neighbour is over `threshold`: 0
+/// where the edge of a line is of no high variance.
+#[inline(always)]
+#[tactic(auto, unfolding(crate::specs::Lanes::variance_over_of))]
+pub fn variance_over(threshold: u8, p1: u8x16, p0: u8x16, q0: u8x16, q1: u8x16) -> u8x16
+    ensures { (i : ℕ) → i < 16 → slice_index result i ≡ variance_over_of threshold (slice_index p1 i) (slice_index p0 i) (slice_index q0 i) (slice_index q1 i) }
+{
+    let threshold = all(threshold);
+    let before = apart(p1, p0);
+    let behind = apart(q1, q0);
+    let most = greater(before, behind);
+    less(most, threshold)
+}
