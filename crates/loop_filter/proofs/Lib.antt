@@ -1,3 +1,4 @@
 pub mod LaneLemmas
 pub mod OneLine
 pub mod Scalars
+pub mod Transposed

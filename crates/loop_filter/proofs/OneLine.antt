@@ -34,7 +34,7 @@ pub simple_lane : (limit : ℕ) (l : Line) → limit < 255 → IsNear l
 unfolding simple_line
 simple_lane limit l low near =
     rw (step_is limit l.p1 l.p0 l.q0 l.q1 low, lack_true l near.p1 near.p0 near.q0 near.q1)
-      (simple_by (is_small_step limit l) (lack_from (difference_of l.p1 l.q1) l.p0 l.q0) l (lack_small _ _ _) near.p0 near.q0)
+    (simple_by (is_small_step limit l) (lack_from (difference_of l.p1 l.q1) l.p0 l.q0) l (lack_small _ _ _) near.p0 near.q0)
 
 -- the normal filter between blocks of one macroblock
 abbrev pub inner_moved : ℕ → ℕ → Line → Line
@@ -65,16 +65,20 @@ inner_by false false l near = inner_stays_halved l near
 
 pub inner_lane : (limits : EdgeLimits) (l : Line) → limits.edge < 255 → IsNear l
     → (let v = variance_over_of limits.variance l.p1 l.p0 l.q0 l.q1 in
-      let w = either_of (roughness_of limits l) (lack_from (either_of v 128 (difference_of l.p1 l.q1)) l.p0 l.q0) 128 in
-      inner_moved w (either_of v (half_of (eighth_of 4 w)) 8) l ≡ inner_line limits l)
+    let w = either_of (roughness_of limits l) (lack_from (either_of v 128 (difference_of l.p1 l.q1)) l.p0 l.q0) 128 in
+    inner_moved w (either_of v (half_of (eighth_of 4 w)) 8) l ≡ inner_line limits l)
 unfolding inner_line
 inner_lane limits l low near = rw (filtered_is limits l low, varied_is limits.variance l) (inner_by (is_filtered limits l) (is_varied limits.variance l) l near)
 
 -- the normal filter between macroblocks
 abbrev pub wide_moved : ℕ → ℕ → Line → Line
 wide_moved narrow wide l = record l {
-  p2 = raised_by 9 l.p2 (share_of 9 wide); p1 = raised_by 18 l.p1 (share_of 18 wide); p0 = raised_by 27 (raised_by 16 l.p0 (eighth_of 3 narrow)) (share_of 27 wide);
-  q0 = lowered_by 27 (lowered_by 16 l.q0 (eighth_of 4 narrow)) (share_of 27 wide); q1 = lowered_by 18 l.q1 (share_of 18 wide); q2 = lowered_by 9 l.q2 (share_of 9 wide);
+  p2 = raised_by 9 l.p2 (share_of 9 wide);
+  p1 = raised_by 18 l.p1 (share_of 18 wide);
+  p0 = raised_by 27 (raised_by 16 l.p0 (eighth_of 3 narrow)) (share_of 27 wide);
+  q0 = lowered_by 27 (lowered_by 16 l.q0 (eighth_of 4 narrow)) (share_of 27 wide);
+  q1 = lowered_by 18 l.q1 (share_of 18 wide);
+  q2 = lowered_by 9 l.q2 (share_of 9 wide);
 }
 
 -- the samples that it moves have 8 bits
@@ -86,22 +90,49 @@ pub record IsWide (l : Line) : Type 0 where
 wide_narrow : (w : ℕ) (l : Line) → w < 256 → IsWide l → wide_moved w 128 l ≡ adjusted (off 128 w) l
 unfolding share_of
 wide_narrow w l small wide =
-    rw (eighth3_is w small, eighth4_is w small, raised_is 16 l.p0 (eighth_of 3 w) wide.near.p0, lowered_is 16 l.q0 (eighth_of 4 w) wide.near.q0,
-      raised_none 9 l.p2 wide.p2, raised_none 18 l.p1 wide.near.p1, lowered_none 18 l.q1 wide.near.q1, lowered_none 9 l.q2 wide.q2,
-      raised_none 27 (raised_by 16 l.p0 (eighth_of 3 w)) (raised_small _ _ _ wide.near.p0), lowered_none 27 (lowered_by 16 l.q0 (eighth_of 4 w)) (lowered_small _ _ _ wide.near.q0)) refl
+    rw (
+      eighth3_is w small,
+      eighth4_is w small,
+      raised_is 16 l.p0 (eighth_of 3 w) wide.near.p0,
+      lowered_is 16 l.q0 (eighth_of 4 w) wide.near.q0,
+      raised_none 9 l.p2 wide.p2,
+      raised_none 18 l.p1 wide.near.p1,
+      lowered_none 18 l.q1 wide.near.q1,
+      lowered_none 9 l.q2 wide.q2,
+      raised_none 27 (raised_by 16 l.p0 (eighth_of 3 w)) (raised_small _ _ _ wide.near.p0),
+      lowered_none 27 (lowered_by 16 l.q0 (eighth_of 4 w)) (lowered_small _ _ _ wide.near.q0),
+    ) refl
 
 wide_smooth : (w : ℕ) (l : Line) → w < 256 → IsWide l → wide_moved 128 w l ≡ smoothed (off 128 w) l
 unfolding eighth_of
 wide_smooth w l small wide =
-    rw (raised_none 16 l.p0 wide.near.p0, lowered_none 16 l.q0 wide.near.q0, share27_is w small, share18_is w small, share9_is w small,
-      raised_is 9 l.p2 (share_of 9 w) wide.p2, raised_is 18 l.p1 (share_of 18 w) wide.near.p1, raised_is 27 l.p0 (share_of 27 w) wide.near.p0,
-      lowered_is 27 l.q0 (share_of 27 w) wide.near.q0, lowered_is 18 l.q1 (share_of 18 w) wide.near.q1, lowered_is 9 l.q2 (share_of 9 w) wide.q2) refl
+    rw (
+      raised_none 16 l.p0 wide.near.p0,
+      lowered_none 16 l.q0 wide.near.q0,
+      share27_is w small,
+      share18_is w small,
+      share9_is w small,
+      raised_is 9 l.p2 (share_of 9 w) wide.p2,
+      raised_is 18 l.p1 (share_of 18 w) wide.near.p1,
+      raised_is 27 l.p0 (share_of 27 w) wide.near.p0,
+      lowered_is 27 l.q0 (share_of 27 w) wide.near.q0,
+      lowered_is 18 l.q1 (share_of 18 w) wide.near.q1,
+      lowered_is 9 l.q2 (share_of 9 w) wide.q2,
+    ) refl
 
 wide_stays : (l : Line) → IsWide l → wide_moved 128 128 l ≡ l
 unfolding eighth_of share_of
 wide_stays l wide =
-    rw (raised_none 16 l.p0 wide.near.p0, lowered_none 16 l.q0 wide.near.q0, raised_none 9 l.p2 wide.p2, raised_none 18 l.p1 wide.near.p1, raised_none 27 l.p0 wide.near.p0,
-      lowered_none 27 l.q0 wide.near.q0, lowered_none 18 l.q1 wide.near.q1, lowered_none 9 l.q2 wide.q2) refl
+    rw (
+      raised_none 16 l.p0 wide.near.p0,
+      lowered_none 16 l.q0 wide.near.q0,
+      raised_none 9 l.p2 wide.p2,
+      raised_none 18 l.p1 wide.near.p1,
+      raised_none 27 l.p0 wide.near.p0,
+      lowered_none 27 l.q0 wide.near.q0,
+      lowered_none 18 l.q1 wide.near.q1,
+      lowered_none 9 l.q2 wide.q2,
+    ) refl
 
 wide_by : (b v : Bool) (n : ℕ) (l : Line) → n < 256 → IsWide l
     → wide_moved (cond (not v) 128 (cond b n 128)) (cond (not v) (cond b n 128) 128) l ≡ cond b (cond v (adjusted (off 128 n) l) (smoothed (off 128 n) l)) l
@@ -112,9 +143,9 @@ wide_by false false n l small wide = wide_stays l wide
 
 pub macroblock_lane : (limits : EdgeLimits) (l : Line) → limits.edge < 255 → IsWide l
     → (let v = variance_over_of limits.variance l.p1 l.p0 l.q0 l.q1 in
-      let w = either_of (roughness_of limits l) (lack_from (difference_of l.p1 l.q1) l.p0 l.q0) 128 in
-      wide_moved (either_of v 128 w) (either_of v w 128) l ≡ macroblock_line limits l)
+    let w = either_of (roughness_of limits l) (lack_from (difference_of l.p1 l.q1) l.p0 l.q0) 128 in
+    wide_moved (either_of v 128 w) (either_of v w 128) l ≡ macroblock_line limits l)
 unfolding macroblock_line
 macroblock_lane limits l low wide =
     rw (filtered_is limits l low, varied_is limits.variance l, lack_true l wide.near.p1 wide.near.p0 wide.near.q0 wide.near.q1)
-      (wide_by (is_filtered limits l) (is_varied limits.variance l) (lack_from (difference_of l.p1 l.q1) l.p0 l.q0) l (lack_small _ _ _) wide)
+    (wide_by (is_filtered limits l) (is_varied limits.variance l) (lack_from (difference_of l.p1 l.q1) l.p0 l.q0) l (lack_small _ _ _) wide)

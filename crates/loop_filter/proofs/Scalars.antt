@@ -54,7 +54,7 @@ lack_down start p q small less =
     rw (none, flat, wide) (held_down start (p - q) small)
 
 lack_is : (start p q : ℕ) → start < 256 → p < 256 → q < 256 → held (off 128 start +ℤ (pos 3 *ℤ (signed q -ℤ signed p))) ≡ off 128 (lack_from start p q)
-lack_is start p q small small' small'' = elim (cases_lt p q) [ | inl less ↦ lack_up start p q small less small'' | inr from ↦ lack_down start p q small from ]
+lack_is start p q small small' small'' = elim (cases_lt p q) [ inl less ↦ lack_up start p q small less small'' | inr from ↦ lack_down start p q small from ]
 
 pub lack_true : (l : Line) → l.p1 < 256 → l.p0 < 256 → l.q0 < 256 → l.q1 < 256 → lack true l ≡ off 128 (lack_from (difference_of l.p1 l.q1) l.p0 l.q0)
 unfolding lack
@@ -146,4 +146,4 @@ unfolding roughness_of side_over_of is_filtered
 filtered_is limits l low =
     let within : ℕ → ℕ → Bool = λ (x y : ℕ). nat_le (abs_diff x y) limits.interior in
     rw (both_zero, step_is limits.edge l.p1 l.p0 l.q0 l.q1 low) (ap (λ (b : Bool). is_small_step limits.edge l && b)
-      (both_zero _ _ ∙ rw (side_is limits.interior (abs_diff l.p3 l.p2) (abs_diff l.p2 l.p1) (abs_diff l.p1 l.p0), side_is limits.interior (abs_diff l.q3 l.q2) (abs_diff l.q2 l.q1) (abs_diff l.q1 l.q0)) (and_joined (within l.p3 l.p2) (within l.p2 l.p1) (within l.p1 l.p0) (within l.q1 l.q0) (within l.q2 l.q1) (within l.q3 l.q2))))
+    (both_zero _ _ ∙ rw (side_is limits.interior (abs_diff l.p3 l.p2) (abs_diff l.p2 l.p1) (abs_diff l.p1 l.p0), side_is limits.interior (abs_diff l.q3 l.q2) (abs_diff l.q2 l.q1) (abs_diff l.q1 l.q0)) (and_joined (within l.p3 l.p2) (within l.p2 l.p1) (within l.p1 l.p0) (within l.q1 l.q0) (within l.q2 l.q1) (within l.q3 l.q2))))

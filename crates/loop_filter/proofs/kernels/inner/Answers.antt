@@ -8,8 +8,23 @@ halves-half-requires c = record { small = λ i less. rw (c.eighths_after-down.en
 
 pub returns : goal.returns
 returns c = λ i less.
-    rw (c.raised.ensures.value i less, c.raised-2.ensures.value i less, c.lowered.ensures.value i less, c.lowered-2.ensures.value i less, c.either-outer_move.ensures i less, c.halves-half.ensures i less, c.all-stay.ensures i less,
-      c.eighths_after-up.ensures i less, c.eighths_after-down.ensures i less, c.either-number.ensures i less, c.lack-full.ensures i less, c.either-outer.ensures i less, c.difference-difference.ensures.value i less, c.all-none.ensures i less,
-      c.variance_over-varied.ensures i less, c.roughness-rough.ensures i less)
-      (inner_lane c.args.limits (line_at c.args.taps i) c.requires.limit
-        (record { p1 = c.raised.ensures.samples i less; p0 = c.raised-2.ensures.samples i less; q0 = c.lowered.ensures.samples i less; q1 = c.lowered-2.ensures.samples i less }))
+    rw (
+      c.raised.ensures.value i less,
+      c.raised-2.ensures.value i less,
+      c.lowered.ensures.value i less,
+      c.lowered-2.ensures.value i less,
+      c.either-outer_move.ensures i less,
+      c.halves-half.ensures i less,
+      c.all-stay.ensures i less,
+      c.eighths_after-up.ensures i less,
+      c.eighths_after-down.ensures i less,
+      c.either-number.ensures i less,
+      c.lack-full.ensures i less,
+      c.either-outer.ensures i less,
+      c.difference-difference.ensures.value i less,
+      c.all-none.ensures i less,
+      c.variance_over-varied.ensures i less,
+      c.roughness-rough.ensures i less,
+    )
+    (inner_lane c.args.limits (line_at c.args.taps i) c.requires.limit
+    (record { p1 = c.raised.ensures.samples i less; p0 = c.raised-2.ensures.samples i less; q0 = c.lowered.ensures.samples i less; q1 = c.lowered-2.ensures.samples i less }))
