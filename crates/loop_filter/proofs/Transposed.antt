@@ -53,3 +53,19 @@ pub odd_lane : (a b : List ℕ) → length a ≡ 8 → (k : ℕ) → k < 8 → s
 odd_lane a b long =
     let at : (m : ℕ) → get_or (a ++ b) (m + 8) 0 ≡ get_or b m 0 = λ (m : ℕ). get_or-append_right a b 8 (m + 8) 0 long (omega arith) ∙ (let same : m + 8 - 8 ≡ m = omega arith in ap (λ (i : ℕ). get_or b i 0) same) in
     below_eight (λ k. slice_index (in_turn (a ++ b)) (2 * k + 1) ≡ slice_index b k) (at 0) (at 1) (at 2) (at 3) (at 4) (at 5) (at 6) (at 7)
+
+-- two vectors of eight lanes, one behind the other
+abbrev pub in_order : List ℕ → List ℕ
+in_order ab =
+    get_or ab 0 0 ∷ get_or ab 1 0 ∷ get_or ab 2 0 ∷ get_or ab 3 0 ∷ get_or ab 4 0 ∷ get_or ab 5 0 ∷ get_or ab 6 0 ∷ get_or ab 7 0
+    ∷ get_or ab 8 0 ∷ get_or ab 9 0 ∷ get_or ab 10 0 ∷ get_or ab 11 0 ∷ get_or ab 12 0 ∷ get_or ab 13 0 ∷ get_or ab 14 0 ∷ get_or ab 15 0 ∷ []
+
+pub first_lane : (a b : List ℕ) → length a ≡ 8 → (k : ℕ) → k < 8 → slice_index (in_order (a ++ b)) k ≡ slice_index a k
+first_lane a b long =
+    let at : (m : ℕ) → m < 8 → get_or (a ++ b) m 0 ≡ get_or a m 0 = λ (m : ℕ) (less : m < 8). get_or_append_left a b 0 m (omega (arith, long)) in
+    below_eight (λ k. slice_index (in_order (a ++ b)) k ≡ slice_index a k) (at 0 (omega arith)) (at 1 (omega arith)) (at 2 (omega arith)) (at 3 (omega arith)) (at 4 (omega arith)) (at 5 (omega arith)) (at 6 (omega arith)) (at 7 (omega arith))
+
+pub second_lane : (a b : List ℕ) → length a ≡ 8 → (k : ℕ) → k < 8 → slice_index (in_order (a ++ b)) (8 + k) ≡ slice_index b k
+second_lane a b long =
+    let at : (m : ℕ) → get_or (a ++ b) (m + 8) 0 ≡ get_or b m 0 = λ (m : ℕ). get_or-append_right a b 8 (m + 8) 0 long (omega arith) ∙ (let same : m + 8 - 8 ≡ m = omega arith in ap (λ (i : ℕ). get_or b i 0) same) in
+    below_eight (λ k. slice_index (in_order (a ++ b)) (8 + k) ≡ slice_index b k) (at 0) (at 1) (at 2) (at 3) (at 4) (at 5) (at 6) (at 7)

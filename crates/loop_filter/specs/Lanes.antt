@@ -100,6 +100,15 @@ row_of i columns = map (λ lanes. slice_index lanes i) columns
 abbrev pub eight_from : ℕ → List ℕ → List ℕ
 eight_from first lanes = map (λ k. slice_index lanes (first + k)) (0 ∷ 1 ∷ 2 ∷ 3 ∷ 4 ∷ 5 ∷ 6 ∷ 7 ∷ [])
 
+-- the rows of vectors that hold two each, one behind the other
+abbrev pub rows_of : List (List ℕ) → List (List ℕ)
+rows_of [] = []
+rows_of (pair ∷ pairs) = eight_from 0 pair ∷ eight_from 8 pair ∷ rows_of pairs
+
+-- row i of them
+abbrev pub row_in_pairs : List (List ℕ) → ℕ → List ℕ
+row_in_pairs pairs i = slice_index_or (rows_of pairs) i []
+
 -- the samples with `n` rows written, the first at `start` and each further one `stride` places behind the last
 unfoldable pub rows_put : List ℕ → ℕ → ℕ → (ℕ → List ℕ) → ℕ → List ℕ
 rows_put samples start stride row zero = samples

@@ -2,7 +2,8 @@
 
 ghost use Rattle.std.specs.Prelude.{◌≡◌, ℕ, ◌+◌, ◌*◌, ◌<◌, ◌≤◌, [], ◌∷◌, ◌++◌, length, slice_index};
 ghost use Rattle.std.specs.Simd.Lanes.{put_chunk};
-ghost use Rattle.loop_filter.specs.Lanes.{column_of, row_of, eight_from};
+ghost use Rattle.loop_filter.specs.Edges.{line_in};
+ghost use Rattle.loop_filter.specs.Lanes.{line_at, column_of, row_of, eight_from, row_in_pairs, rows_put};
 
 use crate::kernels::Taps;
 use std::simd::prelude::*;
@@ -10,7 +11,7 @@ use std::simd::{u8x8, u8x16};
 
 /// The lanes of two vectors, one of `a` and one of `b` in turn.
 #[inline(always)]
-pub fn woven(a: u8x8, b: u8x8) -> u8x16
+fn woven(a: u8x8, b: u8x8) -> u8x16
     ensures a { (k : ℕ) → k < 8 → slice_index result (2 * k) ≡ slice_index a k }
     ensures b { (k : ℕ) → k < 8 → slice_index result (2 * k + 1) ≡ slice_index b k }
 {
@@ -19,7 +20,7 @@ pub fn woven(a: u8x8, b: u8x8) -> u8x16
 
 /// Turns sixteen lines of eight samples: vector `w0` holds lines 0 and 8, woven, and so on.
 #[inline(always)]
-pub fn columns(
+fn columns(
     w0: u8x16,
     w1: u8x16,
     w2: u8x16,
@@ -98,13 +99,66 @@ pub fn row_pairs(
     (r0, r2, r4, r6, r8, r10, r12, r14)
 }
 
+/// Eight samples from a place on in one list, woven with eight of another.
+#[inline(always)]
+fn load_pair(a: &[u8], b: &[u8], a_at: usize, b_at: usize) -> u8x16
+    requires room_a { a_at + 8 ≤ length a.now }
+    requires room_b { b_at + 8 ≤ length b.now }
+    ensures a { (k : ℕ) → k < 8 → slice_index result (2 * k) ≡ slice_index a.now (a_at + k) }
+    ensures b { (k : ℕ) → k < 8 → slice_index result (2 * k + 1) ≡ slice_index b.now (b_at + k) }
+{
+    let first = u8x8::from_slice(&a[a_at..]);
+    let second = u8x8::from_slice(&b[b_at..]);
+    woven(first, second)
+}
+
+/// Takes eight lines of samples side by side from each of two lists; in both, each line stands
+/// `stride` places behind the last.
+#[inline(always)]
+pub fn load_lines(a: &[u8], b: &[u8], a_start: usize, b_start: usize, stride: usize) -> Taps
+    requires room_a { a_start + 7 * stride + 8 ≤ length a.now }
+    requires room_b { b_start + 7 * stride + 8 ≤ length b.now }
+    ensures a { (i : ℕ) → i < 8 → line_at result i ≡ line_in a.now (a_start + i * stride) 1 }
+    ensures b { (i : ℕ) → i < 8 → line_at result (8 + i) ≡ line_in b.now (b_start + i * stride) 1 }
+{
+    let w0 = load_pair(a, b, a_start, b_start);
+    let w1 = load_pair(a, b, a_start + stride, b_start + stride);
+    let w2 = load_pair(a, b, a_start + 2 * stride, b_start + 2 * stride);
+    let w3 = load_pair(a, b, a_start + 3 * stride, b_start + 3 * stride);
+    let w4 = load_pair(a, b, a_start + 4 * stride, b_start + 4 * stride);
+    let w5 = load_pair(a, b, a_start + 5 * stride, b_start + 5 * stride);
+    let w6 = load_pair(a, b, a_start + 6 * stride, b_start + 6 * stride);
+    let w7 = load_pair(a, b, a_start + 7 * stride, b_start + 7 * stride);
+    columns(w0, w1, w2, w3, w4, w5, w6, w7)
+}
+
 /// Writes two lines that stand in one vector, the second `stride` places behind the first.
 #[inline(always)]
-pub fn store_pair(samples: &mut [u8], at: usize, stride: usize, rows: u8x16)
+fn store_pair(samples: &mut [u8], at: usize, stride: usize, rows: u8x16)
     requires room { at + stride + 8 ≤ length samples.old }
     ensures { samples.new ≡ put_chunk (at + stride) (put_chunk at samples.old (eight_from 0 rows)) (eight_from 8 rows) }
 {
     rows.extract::<0, 8>().copy_to_slice(&mut samples[at..]);
     rows.extract::<8, 8>()
         .copy_to_slice(&mut samples[at + stride..]);
+}
+
+/// Writes eight lines, two in each vector, each line `stride` places behind the last.
+#[inline(always)]
+pub fn store_lines(
+    samples: &mut [u8],
+    start: usize,
+    stride: usize,
+    r0: u8x16,
+    r2: u8x16,
+    r4: u8x16,
+    r6: u8x16,
+)
+    requires room { start + 7 * stride + 8 ≤ length samples.old }
+    ensures { samples.new ≡ rows_put samples.old start stride (row_in_pairs (r0 ∷ r2 ∷ r4 ∷ r6 ∷ [])) 8 }
+{
+    store_pair(samples, start, stride, r0);
+    store_pair(samples, start + 2 * stride, stride, r2);
+    store_pair(samples, start + 4 * stride, stride, r4);
+    store_pair(samples, start + 6 * stride, stride, r6);
 }
