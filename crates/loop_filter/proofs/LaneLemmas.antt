@@ -1,6 +1,6 @@
 -- What each operation on lanes makes of one lane.
-use Rattle.std.specs.Prelude.{min, max, replicate, slice_index, nat_eq}
-use Rattle.std.proofs.Common.{◌≡◌, ℕ, ◌+◌, ◌-◌, ◌*◌, ◌/◌, ◌%◌, ◌^◌, ◌<◌, ◌≤◌, Bool, true, false, cond, ltb, leb, eqb, List, [], ◌∷◌, map, length, get_or, refl, ap, subst, ◌∙◌, arith, w8, Fits}
+use Rattle.std.specs.Prelude.{min, max, replicate, slice_index}
+use Rattle.std.proofs.Common.{◌≡◌, ℕ, ◌+◌, ◌-◌, ◌*◌, ◌/◌, ◌%◌, ◌^◌, ◌<◌, ◌≤◌, Bool, true, false, cond, ltb, leb, eqb, List, [], ◌∷◌, map, length, refl, ap, subst, ◌∙◌, arith, w8, Fits}
 use lib.Lanes.{Each1, zip2, sel_l}
 use Rattle.std.proofs.lemmas.Bool.Decides.{nat_tests}
 use Rattle.std.proofs.Math.Nat.{mul-le-mul_right}

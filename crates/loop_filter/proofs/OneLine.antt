@@ -1,6 +1,5 @@
 -- One line behind each filter, as a lane of each vector holds it.
-use Rattle.std.specs.Prelude.{nat_eq}
-use Rattle.std.proofs.Common.{◌≡◌, ℕ, ◌+◌, ◌<◌, Bool, true, false, cond, not, refl, sym, ◌∙◌, arith, ℤ}
+use Rattle.std.proofs.Common.{◌≡◌, ℕ, ◌<◌, Bool, true, false, cond, not, refl}
 use Rattle.loop_filter.specs.declared.edge_limits.EdgeLimits.{EdgeLimits}
 use Rattle.loop_filter.specs.Lines.{Line, is_filtered, is_varied, is_small_step, lack, adjusted, outer_adjusted, smoothed, simple_line, inner_line, macroblock_line}
 use Rattle.loop_filter.specs.Lanes.{raised_by, lowered_by, difference_of, lack_from, eighth_of, half_of, share_of, step_over_of, variance_over_of, roughness_of, either_of}

@@ -1,12 +1,12 @@
 -- The numbers of a filter and what stands for them in a lane.
-use Rattle.std.specs.Prelude.{min, max, nat_eq, nat_le, nat_lt, unsigned_abs}
-use Rattle.std.specs.Int.{abs_diff, int_shr, saturate_to_bits}
-use Rattle.std.proofs.Common.{◌≡◌, ℕ, ◌+◌, ◌-◌, ◌*◌, ◌/◌, ◌<◌, ◌≤◌, Bool, true, false, cond, not, ◌&&◌, ◌||◌, refl, ap, subst, ◌∙◌, arith, ℤ, pos, negsuc, neg_ℤ, inl, inr, ◌+ℤ◌, ◌-ℤ◌, ◌*ℤ◌}
+use Rattle.std.specs.Prelude.{max, nat_eq, nat_le}
+use Rattle.std.specs.Int.{abs_diff, int_shr}
+use Rattle.std.proofs.Common.{◌≡◌, ℕ, ◌+◌, ◌-◌, ◌*◌, ◌/◌, ◌<◌, ◌≤◌, Bool, true, false, not, ◌&&◌, refl, ap, ◌∙◌, arith, ℤ, pos, inl, inr, ◌+ℤ◌, ◌-ℤ◌, ◌*ℤ◌}
 use Rattle.std.proofs.lemmas.Int.{ints}
 use Rattle.std.proofs.lemmas.Bool.Decides.{nat_tests}
 use Rattle.std.proofs.lemmas.Bool.{cases_lt}
 use Rattle.loop_filter.specs.declared.edge_limits.EdgeLimits.{EdgeLimits}
-use Rattle.loop_filter.specs.Lines.{Line, signed, held, sample, raised, lowered, is_small_step, is_smooth, is_filtered, is_varied, lack, eighth, share}
+use Rattle.loop_filter.specs.Lines.{Line, signed, held, raised, lowered, is_small_step, is_filtered, is_varied, lack, eighth, share}
 use Rattle.loop_filter.specs.Lanes.{sum_of, raised_by, lowered_by, difference_of, lack_from, eighth_of, half_of, share_of, step_over_of, side_over_of, variance_over_of, roughness_of}
 
 -- what a number at an offset stands for

@@ -1,5 +1,6 @@
 -- The filters in numbers of 8 bits, as sixteen lanes hold them: a number that may be below 0 stands there with an offset added, as a sample does with 128.
-use Rattle.std.specs.Prelude.{◌≡◌, ℕ, ◌+◌, ◌-◌, ◌*◌, ◌/◌, ◌<◌, min, max, Bool, if◌then◌else◌, nat_eq, List, slice_index}
+use Rattle.std.specs.Prelude.{◌≡◌, ℕ, ◌+◌, ◌-◌, ◌*◌, ◌/◌, ◌<◌, min, max, zero, suc, if◌then◌else◌, nat_eq, List, [], ◌∷◌, ◌++◌, map, slice_index, slice_index_or}
+use Rattle.std.specs.Simd.Lanes.{put_chunk}
 use Rattle.std.specs.Int.{abs_diff}
 use Rattle.loop_filter.specs.Lines.{Line}
 use Rattle.loop_filter.specs.declared.edge_limits.EdgeLimits.{EdgeLimits}
@@ -79,3 +80,36 @@ line_at t i = record {
   q2 = slice_index t.q2 i;
   q3 = slice_index t.q3 i;
 }
+
+-- the eight vectors of sixteen lines: number k holds sample k of each line
+abbrev pub vectors : Taps → List (List ℕ)
+vectors t = t.p3 ∷ t.p2 ∷ t.p1 ∷ t.p0 ∷ t.q0 ∷ t.q1 ∷ t.q2 ∷ t.q3 ∷ []
+
+abbrev pub vector : Taps → ℕ → List ℕ
+vector t k = slice_index_or (vectors t) k []
+
+-- sample k of sixteen lines, where number i of eight vectors holds lines i and i + 8, sample beside sample
+abbrev pub column_of : ℕ → List (List ℕ) → List ℕ
+column_of k woven = map (λ lanes. slice_index lanes (2 * k)) woven ++ map (λ lanes. slice_index lanes (2 * k + 1)) woven
+
+-- line i of sixteen, where number k of eight vectors holds sample k of each
+abbrev pub row_of : ℕ → List (List ℕ) → List ℕ
+row_of i columns = map (λ lanes. slice_index lanes i) columns
+
+-- eight lanes of a vector, from one on
+abbrev pub eight_from : ℕ → List ℕ → List ℕ
+eight_from first lanes = map (λ k. slice_index lanes (first + k)) (0 ∷ 1 ∷ 2 ∷ 3 ∷ 4 ∷ 5 ∷ 6 ∷ 7 ∷ [])
+
+-- the rows of vectors that hold two each, one behind the other
+abbrev pub rows_of : List (List ℕ) → List (List ℕ)
+rows_of [] = []
+rows_of (pair ∷ pairs) = eight_from 0 pair ∷ eight_from 8 pair ∷ rows_of pairs
+
+-- row i of them
+abbrev pub row_in_pairs : List (List ℕ) → ℕ → List ℕ
+row_in_pairs pairs i = slice_index_or (rows_of pairs) i []
+
+-- the samples with `n` rows written, the first at `start` and each further one `stride` places behind the last
+unfoldable pub rows_put : List ℕ → ℕ → ℕ → (ℕ → List ℕ) → ℕ → List ℕ
+rows_put samples start stride row zero = samples
+rows_put samples start stride row (suc n) = put_chunk (start + n * stride) (rows_put samples start stride row n) (row n)

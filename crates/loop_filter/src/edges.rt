@@ -1,8 +1,49 @@
-ghost use Rattle.std.specs.Prelude.{◌≡◌, ◌+◌, ◌*◌, ◌<◌, ◌≤◌, length};
-ghost use Rattle.loop_filter.specs.Lines.{filtered_line};
-ghost use Rattle.loop_filter.specs.Edges.{lines_filtered};
+//! Edges of sixteen lines.
 
+ghost use Rattle.std.specs.Prelude.{◌≡◌, ℕ, ◌+◌, ◌*◌, ◌<◌, ◌≤◌, length};
+ghost use Rattle.loop_filter.specs.Lines.{filtered_line};
+ghost use Rattle.loop_filter.specs.Edges.{line_in, lines_filtered};
+ghost use Rattle.loop_filter.specs.Lanes.{line_at, vector, rows_put};
+
+use crate::columns::{load_lines, row_pairs, store_lines};
+use crate::kernels::{Taps, filter as filtered};
+use crate::lanes::{load, store};
 use crate::edge_limits::{EdgeFilter, EdgeLimits};
+
+/// Takes sixteen columns of eight samples, in rows `stride` places apart.
+#[inline(always)]
+fn load_rows(samples: &[u8], start: usize, stride: usize) -> Taps
+    requires room { start + 7 * stride + 16 ≤ length samples.now }
+    ensures { (i : ℕ) → i < 16 → line_at result i ≡ line_in samples.now (start + i) stride }
+{
+    Taps {
+        p3: load(samples, start),
+        p2: load(samples, start + stride),
+        p1: load(samples, start + 2 * stride),
+        p0: load(samples, start + 3 * stride),
+        q0: load(samples, start + 4 * stride),
+        q1: load(samples, start + 5 * stride),
+        q2: load(samples, start + 6 * stride),
+        q3: load(samples, start + 7 * stride),
+    }
+}
+
+/// Writes sixteen columns of eight samples, in rows `stride` places apart.
+#[inline(always)]
+fn store_rows(taps: Taps, samples: &mut [u8], start: usize, stride: usize)
+    requires room { start + 7 * stride + 16 ≤ length samples.old }
+    ensures value { samples.new ≡ rows_put samples.old start stride (vector taps) 8 }
+    ensures whole { (k : ℕ) → k < 8 → length (vector taps k) ≡ 16 }
+{
+    store(samples, start, taps.p3);
+    store(samples, start + stride, taps.p2);
+    store(samples, start + 2 * stride, taps.p1);
+    store(samples, start + 3 * stride, taps.p0);
+    store(samples, start + 4 * stride, taps.q0);
+    store(samples, start + 5 * stride, taps.q1);
+    store(samples, start + 6 * stride, taps.q2);
+    store(samples, start + 7 * stride, taps.q3);
+}
 
 /// Filters the 16 columns across an edge between rows.
 ///
@@ -20,7 +61,9 @@ pub fn filter_rows(
     requires room { start + 7 * stride + 16 ≤ length samples.old }
     ensures { samples.new ≡ lines_filtered (filtered_line filter limits) start 1 stride samples.old 16 }
 {
-    let _ = (filter, limits, samples.len(), start, stride);
+    let taps = load_rows(samples, start, stride);
+    let changed = filtered(filter, limits, taps);
+    store_rows(changed, samples, start, stride);
 }
 
 /// Filters the 16 rows across an edge between columns.
@@ -40,5 +83,12 @@ pub fn filter_columns(
     requires room { start + 15 * stride + 8 ≤ length samples.old }
     ensures { samples.new ≡ lines_filtered (filtered_line filter limits) start stride 1 samples.old 16 }
 {
-    let _ = (filter, limits, samples.len(), start, stride);
+    let lower = start + 8 * stride;
+    let taps = load_lines(samples, samples, start, lower, stride);
+    let t = filtered(filter, limits, taps);
+    let (r0, r2, r4, r6, r8, r10, r12, r14) = row_pairs(
+        t.p3, t.p2, t.p1, t.p0, t.q0, t.q1, t.q2, t.q3,
+    );
+    store_lines(samples, start, stride, r0, r2, r4, r6);
+    store_lines(samples, lower, stride, r8, r10, r12, r14);
 }

@@ -1,11 +1,31 @@
 //! What is done with sixteen samples at once: lanes of 8 bits without signs.
 
-ghost use Rattle.std.specs.Prelude.{◌≡◌, ℕ, ◌-◌, ◌/◌, ◌<◌, ◌≤◌, max, slice_index};
+ghost use Rattle.std.specs.Prelude.{◌≡◌, ℕ, ◌+◌, ◌-◌, ◌/◌, ◌<◌, ◌≤◌, max, length, slice_index};
+ghost use Rattle.std.specs.Simd.Lanes.{put_chunk};
 ghost use Rattle.std.specs.Int.{abs_diff};
 ghost use Rattle.loop_filter.specs.Lanes.{Each, Each2, AreSamples, sum_of, raised_by, lowered_by, difference_of, lack_from, eighth_of, half_of, share_of, either_of, step_over_of, side_over_of, variance_over_of};
 
 use std::simd::prelude::*;
 use std::simd::{u8x16, u16x16};
+
+/// The sixteen samples from `at` on.
+#[inline(always)]
+pub fn load(samples: &[u8], at: usize) -> u8x16
+    requires room { at + 16 ≤ length samples.now }
+    ensures { (i : ℕ) → i < 16 → slice_index result i ≡ slice_index samples.now (at + i) }
+{
+    u8x16::from_slice(&samples[at..])
+}
+
+/// Writes sixteen samples from `at` on.
+#[inline(always)]
+pub fn store(samples: &mut [u8], at: usize, row: u8x16)
+    requires room { at + 16 ≤ length samples.old }
+    ensures value { samples.new ≡ put_chunk at samples.old row }
+    ensures whole { length row ≡ 16 }
+{
+    row.copy_to_slice(&mut samples[at..]);
+}
 
 /// The same value in all lanes.
 #[inline(always)]

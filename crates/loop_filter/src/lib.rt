@@ -3,6 +3,7 @@
 
 mod blocks;
 mod chroma_blocks;
+mod columns;
 mod edge_limits;
 mod edges;
 mod four_samples;

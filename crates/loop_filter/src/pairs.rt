@@ -1,10 +1,88 @@
 //! Edges of the two chroma planes, which are filtered together: eight lines of each.
 
-ghost use Rattle.std.specs.Prelude.{◌≡◌, ◌+◌, ◌*◌, ◌<◌, ◌≤◌, length};
+ghost use Rattle.std.specs.Prelude.{◌≡◌, ℕ, ◌+◌, ◌*◌, ◌<◌, ◌≤◌, length, slice_index};
+ghost use Rattle.std.specs.Simd.Lanes.{put_chunk};
 ghost use Rattle.loop_filter.specs.Lines.{filtered_line};
-ghost use Rattle.loop_filter.specs.Edges.{lines_filtered};
+ghost use Rattle.loop_filter.specs.Edges.{line_in, lines_filtered};
+ghost use Rattle.loop_filter.specs.Lanes.{line_at, vector, eight_from, rows_put};
 
+use crate::columns::{load_lines, row_pairs, store_lines};
+use crate::kernels::{Taps, filter as filtered};
 use crate::edge_limits::{EdgeFilter, EdgeLimits};
+use std::simd::prelude::*;
+use std::simd::{u8x8, u8x16};
+
+/// The lanes of `a`, and those of `b` behind them.
+#[inline(always)]
+fn joined(a: u8x8, b: u8x8) -> u8x16
+    ensures a { (i : ℕ) → i < 8 → slice_index result i ≡ slice_index a i }
+    ensures b { (i : ℕ) → i < 8 → slice_index result (8 + i) ≡ slice_index b i }
+{
+    a.shuffle(b, [0, 1, 2, 3, 4, 5, 6, 7, 8, 9, 10, 11, 12, 13, 14, 15])
+}
+
+/// The eight samples from `at` on in `u`, and those in `v` behind them.
+#[inline(always)]
+fn load_both(u: &[u8], v: &[u8], at: usize) -> u8x16
+    requires room_u { at + 8 ≤ length u.now }
+    requires room_v { at + 8 ≤ length v.now }
+    ensures u { (i : ℕ) → i < 8 → slice_index result i ≡ slice_index u.now (at + i) }
+    ensures v { (i : ℕ) → i < 8 → slice_index result (8 + i) ≡ slice_index v.now (at + i) }
+{
+    let first = u8x8::from_slice(&u[at..]);
+    let second = u8x8::from_slice(&v[at..]);
+    joined(first, second)
+}
+
+/// Writes eight samples from `at` on in `u`, and eight in `v`.
+#[inline(always)]
+fn store_both(u: &mut [u8], v: &mut [u8], at: usize, row: u8x16)
+    requires room_u { at + 8 ≤ length u.old }
+    requires room_v { at + 8 ≤ length v.old }
+    ensures u { u.new ≡ put_chunk at u.old (eight_from 0 row) }
+    ensures v { v.new ≡ put_chunk at v.old (eight_from 8 row) }
+{
+    row.extract::<0, 8>().copy_to_slice(&mut u[at..]);
+    row.extract::<8, 8>().copy_to_slice(&mut v[at..]);
+}
+
+/// Takes eight columns of eight samples from each plane, in rows `stride` places apart.
+#[inline(always)]
+fn load_rows(u: &[u8], v: &[u8], start: usize, stride: usize) -> Taps
+    requires room_u { start + 7 * stride + 8 ≤ length u.now }
+    requires room_v { start + 7 * stride + 8 ≤ length v.now }
+    ensures u { (i : ℕ) → i < 8 → line_at result i ≡ line_in u.now (start + i) stride }
+    ensures v { (i : ℕ) → i < 8 → line_at result (8 + i) ≡ line_in v.now (start + i) stride }
+{
+    Taps {
+        p3: load_both(u, v, start),
+        p2: load_both(u, v, start + stride),
+        p1: load_both(u, v, start + 2 * stride),
+        p0: load_both(u, v, start + 3 * stride),
+        q0: load_both(u, v, start + 4 * stride),
+        q1: load_both(u, v, start + 5 * stride),
+        q2: load_both(u, v, start + 6 * stride),
+        q3: load_both(u, v, start + 7 * stride),
+    }
+}
+
+/// Writes eight columns of eight samples into each plane, in rows `stride` places apart.
+#[inline(always)]
+fn store_rows(taps: Taps, u: &mut [u8], v: &mut [u8], start: usize, stride: usize)
+    requires room_u { start + 7 * stride + 8 ≤ length u.old }
+    requires room_v { start + 7 * stride + 8 ≤ length v.old }
+    ensures u { u.new ≡ rows_put u.old start stride (λ k. eight_from 0 (vector taps k)) 8 }
+    ensures v { v.new ≡ rows_put v.old start stride (λ k. eight_from 8 (vector taps k)) 8 }
+{
+    store_both(u, v, start, taps.p3);
+    store_both(u, v, start + stride, taps.p2);
+    store_both(u, v, start + 2 * stride, taps.p1);
+    store_both(u, v, start + 3 * stride, taps.p0);
+    store_both(u, v, start + 4 * stride, taps.q0);
+    store_both(u, v, start + 5 * stride, taps.q1);
+    store_both(u, v, start + 6 * stride, taps.q2);
+    store_both(u, v, start + 7 * stride, taps.q3);
+}
 
 /// Filters the eight columns across an edge between rows in each of two planes.
 ///
@@ -25,7 +103,9 @@ pub fn filter_row_pairs(
     ensures u { u.new ≡ lines_filtered (filtered_line filter limits) start 1 stride u.old 8 }
     ensures v { v.new ≡ lines_filtered (filtered_line filter limits) start 1 stride v.old 8 }
 {
-    let _ = (filter, limits, u.len(), v.len(), start, stride);
+    let taps = load_rows(u, v, start, stride);
+    let changed = filtered(filter, limits, taps);
+    store_rows(changed, u, v, start, stride);
 }
 
 /// Filters the eight rows across an edge between columns in each of two planes.
@@ -48,5 +128,11 @@ pub fn filter_column_pairs(
     ensures u { u.new ≡ lines_filtered (filtered_line filter limits) start stride 1 u.old 8 }
     ensures v { v.new ≡ lines_filtered (filtered_line filter limits) start stride 1 v.old 8 }
 {
-    let _ = (filter, limits, u.len(), v.len(), start, stride);
+    let taps = load_lines(u, v, start, start, stride);
+    let t = filtered(filter, limits, taps);
+    let (u0, u2, u4, u6, v0, v2, v4, v6) = row_pairs(
+        t.p3, t.p2, t.p1, t.p0, t.q0, t.q1, t.q2, t.q3,
+    );
+    store_lines(u, start, stride, u0, u2, u4, u6);
+    store_lines(v, start, stride, v0, v2, v4, v6);
 }

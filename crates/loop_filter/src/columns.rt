@@ -1,0 +1,164 @@
+//! Lines that lie in rows of samples, turned into columns and back.
+
+ghost use Rattle.std.specs.Prelude.{◌≡◌, ℕ, ◌+◌, ◌*◌, ◌<◌, ◌≤◌, [], ◌∷◌, ◌++◌, length, slice_index};
+ghost use Rattle.std.specs.Simd.Lanes.{put_chunk};
+ghost use Rattle.loop_filter.specs.Edges.{line_in};
+ghost use Rattle.loop_filter.specs.Lanes.{line_at, column_of, row_of, eight_from, row_in_pairs, rows_put};
+
+use crate::kernels::Taps;
+use std::simd::prelude::*;
+use std::simd::{u8x8, u8x16};
+
+/// The lanes of two vectors, one of `a` and one of `b` in turn.
+#[inline(always)]
+fn woven(a: u8x8, b: u8x8) -> u8x16
+    ensures a { (k : ℕ) → k < 8 → slice_index result (2 * k) ≡ slice_index a k }
+    ensures b { (k : ℕ) → k < 8 → slice_index result (2 * k + 1) ≡ slice_index b k }
+{
+    a.shuffle(b, [0, 8, 1, 9, 2, 10, 3, 11, 4, 12, 5, 13, 6, 14, 7, 15])
+}
+
+/// Turns sixteen lines of eight samples: vector `w0` holds lines 0 and 8, woven, and so on.
+#[inline(always)]
+fn columns(
+    w0: u8x16,
+    w1: u8x16,
+    w2: u8x16,
+    w3: u8x16,
+    w4: u8x16,
+    w5: u8x16,
+    w6: u8x16,
+    w7: u8x16,
+) -> Taps
+    ensures p3 { result.p3 ≡ column_of 0 (w0 ∷ w1 ∷ w2 ∷ w3 ∷ w4 ∷ w5 ∷ w6 ∷ w7 ∷ []) }
+    ensures p2 { result.p2 ≡ column_of 1 (w0 ∷ w1 ∷ w2 ∷ w3 ∷ w4 ∷ w5 ∷ w6 ∷ w7 ∷ []) }
+    ensures p1 { result.p1 ≡ column_of 2 (w0 ∷ w1 ∷ w2 ∷ w3 ∷ w4 ∷ w5 ∷ w6 ∷ w7 ∷ []) }
+    ensures p0 { result.p0 ≡ column_of 3 (w0 ∷ w1 ∷ w2 ∷ w3 ∷ w4 ∷ w5 ∷ w6 ∷ w7 ∷ []) }
+    ensures q0 { result.q0 ≡ column_of 4 (w0 ∷ w1 ∷ w2 ∷ w3 ∷ w4 ∷ w5 ∷ w6 ∷ w7 ∷ []) }
+    ensures q1 { result.q1 ≡ column_of 5 (w0 ∷ w1 ∷ w2 ∷ w3 ∷ w4 ∷ w5 ∷ w6 ∷ w7 ∷ []) }
+    ensures q2 { result.q2 ≡ column_of 6 (w0 ∷ w1 ∷ w2 ∷ w3 ∷ w4 ∷ w5 ∷ w6 ∷ w7 ∷ []) }
+    ensures q3 { result.q3 ≡ column_of 7 (w0 ∷ w1 ∷ w2 ∷ w3 ∷ w4 ∷ w5 ∷ w6 ∷ w7 ∷ []) }
+{
+    let (left04, right04) = w0.interleave(w4);
+    let (left15, right15) = w1.interleave(w5);
+    let (left26, right26) = w2.interleave(w6);
+    let (left37, right37) = w3.interleave(w7);
+    let (even01, even23) = left04.interleave(left26);
+    let (even45, even67) = right04.interleave(right26);
+    let (odd01, odd23) = left15.interleave(left37);
+    let (odd45, odd67) = right15.interleave(right37);
+    let (p3, p2) = even01.interleave(odd01);
+    let (p1, p0) = even23.interleave(odd23);
+    let (q0, q1) = even45.interleave(odd45);
+    let (q2, q3) = even67.interleave(odd67);
+    Taps {
+        p3,
+        p2,
+        p1,
+        p0,
+        q0,
+        q1,
+        q2,
+        q3,
+    }
+}
+
+/// Turns sixteen lines back: each vector holds two of them, one behind the other.
+#[inline(always)]
+pub fn row_pairs(
+    p3: u8x16,
+    p2: u8x16,
+    p1: u8x16,
+    p0: u8x16,
+    q0: u8x16,
+    q1: u8x16,
+    q2: u8x16,
+    q3: u8x16,
+) -> (u8x16, u8x16, u8x16, u8x16, u8x16, u8x16, u8x16, u8x16)
+    ensures r0 { result.0 ≡ row_of 0 (p3 ∷ p2 ∷ p1 ∷ p0 ∷ q0 ∷ q1 ∷ q2 ∷ q3 ∷ []) ++ row_of 1 (p3 ∷ p2 ∷ p1 ∷ p0 ∷ q0 ∷ q1 ∷ q2 ∷ q3 ∷ []) }
+    ensures r2 { result.1 ≡ row_of 2 (p3 ∷ p2 ∷ p1 ∷ p0 ∷ q0 ∷ q1 ∷ q2 ∷ q3 ∷ []) ++ row_of 3 (p3 ∷ p2 ∷ p1 ∷ p0 ∷ q0 ∷ q1 ∷ q2 ∷ q3 ∷ []) }
+    ensures r4 { result.2 ≡ row_of 4 (p3 ∷ p2 ∷ p1 ∷ p0 ∷ q0 ∷ q1 ∷ q2 ∷ q3 ∷ []) ++ row_of 5 (p3 ∷ p2 ∷ p1 ∷ p0 ∷ q0 ∷ q1 ∷ q2 ∷ q3 ∷ []) }
+    ensures r6 { result.3 ≡ row_of 6 (p3 ∷ p2 ∷ p1 ∷ p0 ∷ q0 ∷ q1 ∷ q2 ∷ q3 ∷ []) ++ row_of 7 (p3 ∷ p2 ∷ p1 ∷ p0 ∷ q0 ∷ q1 ∷ q2 ∷ q3 ∷ []) }
+    ensures r8 { result.4 ≡ row_of 8 (p3 ∷ p2 ∷ p1 ∷ p0 ∷ q0 ∷ q1 ∷ q2 ∷ q3 ∷ []) ++ row_of 9 (p3 ∷ p2 ∷ p1 ∷ p0 ∷ q0 ∷ q1 ∷ q2 ∷ q3 ∷ []) }
+    ensures r10 { result.5 ≡ row_of 10 (p3 ∷ p2 ∷ p1 ∷ p0 ∷ q0 ∷ q1 ∷ q2 ∷ q3 ∷ []) ++ row_of 11 (p3 ∷ p2 ∷ p1 ∷ p0 ∷ q0 ∷ q1 ∷ q2 ∷ q3 ∷ []) }
+    ensures r12 { result.6 ≡ row_of 12 (p3 ∷ p2 ∷ p1 ∷ p0 ∷ q0 ∷ q1 ∷ q2 ∷ q3 ∷ []) ++ row_of 13 (p3 ∷ p2 ∷ p1 ∷ p0 ∷ q0 ∷ q1 ∷ q2 ∷ q3 ∷ []) }
+    ensures r14 { result.7 ≡ row_of 14 (p3 ∷ p2 ∷ p1 ∷ p0 ∷ q0 ∷ q1 ∷ q2 ∷ q3 ∷ []) ++ row_of 15 (p3 ∷ p2 ∷ p1 ∷ p0 ∷ q0 ∷ q1 ∷ q2 ∷ q3 ∷ []) }
+{
+    let (upper04, lower04) = p3.interleave(q0);
+    let (upper15, lower15) = p2.interleave(q1);
+    let (upper26, lower26) = p1.interleave(q2);
+    let (upper37, lower37) = p0.interleave(q3);
+    let (even0, even4) = upper04.interleave(upper26);
+    let (even8, even12) = lower04.interleave(lower26);
+    let (odd0, odd4) = upper15.interleave(upper37);
+    let (odd8, odd12) = lower15.interleave(lower37);
+    let (r0, r2) = even0.interleave(odd0);
+    let (r4, r6) = even4.interleave(odd4);
+    let (r8, r10) = even8.interleave(odd8);
+    let (r12, r14) = even12.interleave(odd12);
+    (r0, r2, r4, r6, r8, r10, r12, r14)
+}
+
+/// Eight samples from a place on in one list, woven with eight of another.
+#[inline(always)]
+fn load_pair(a: &[u8], b: &[u8], a_at: usize, b_at: usize) -> u8x16
+    requires room_a { a_at + 8 ≤ length a.now }
+    requires room_b { b_at + 8 ≤ length b.now }
+    ensures a { (k : ℕ) → k < 8 → slice_index result (2 * k) ≡ slice_index a.now (a_at + k) }
+    ensures b { (k : ℕ) → k < 8 → slice_index result (2 * k + 1) ≡ slice_index b.now (b_at + k) }
+{
+    let first = u8x8::from_slice(&a[a_at..]);
+    let second = u8x8::from_slice(&b[b_at..]);
+    woven(first, second)
+}
+
+/// Takes eight lines of samples side by side from each of two lists; in both, each line stands
+/// `stride` places behind the last.
+#[inline(always)]
+pub fn load_lines(a: &[u8], b: &[u8], a_start: usize, b_start: usize, stride: usize) -> Taps
+    requires room_a { a_start + 7 * stride + 8 ≤ length a.now }
+    requires room_b { b_start + 7 * stride + 8 ≤ length b.now }
+    ensures a { (i : ℕ) → i < 8 → line_at result i ≡ line_in a.now (a_start + i * stride) 1 }
+    ensures b { (i : ℕ) → i < 8 → line_at result (8 + i) ≡ line_in b.now (b_start + i * stride) 1 }
+{
+    let w0 = load_pair(a, b, a_start, b_start);
+    let w1 = load_pair(a, b, a_start + stride, b_start + stride);
+    let w2 = load_pair(a, b, a_start + 2 * stride, b_start + 2 * stride);
+    let w3 = load_pair(a, b, a_start + 3 * stride, b_start + 3 * stride);
+    let w4 = load_pair(a, b, a_start + 4 * stride, b_start + 4 * stride);
+    let w5 = load_pair(a, b, a_start + 5 * stride, b_start + 5 * stride);
+    let w6 = load_pair(a, b, a_start + 6 * stride, b_start + 6 * stride);
+    let w7 = load_pair(a, b, a_start + 7 * stride, b_start + 7 * stride);
+    columns(w0, w1, w2, w3, w4, w5, w6, w7)
+}
+
+/// Writes two lines that stand in one vector, the second `stride` places behind the first.
+#[inline(always)]
+fn store_pair(samples: &mut [u8], at: usize, stride: usize, rows: u8x16)
+    requires room { at + stride + 8 ≤ length samples.old }
+    ensures { samples.new ≡ put_chunk (at + stride) (put_chunk at samples.old (eight_from 0 rows)) (eight_from 8 rows) }
+{
+    rows.extract::<0, 8>().copy_to_slice(&mut samples[at..]);
+    rows.extract::<8, 8>()
+        .copy_to_slice(&mut samples[at + stride..]);
+}
+
+/// Writes eight lines, two in each vector, each line `stride` places behind the last.
+#[inline(always)]
+pub fn store_lines(
+    samples: &mut [u8],
+    start: usize,
+    stride: usize,
+    r0: u8x16,
+    r2: u8x16,
+    r4: u8x16,
+    r6: u8x16,
+)
+    requires room { start + 7 * stride + 8 ≤ length samples.old }
+    ensures { samples.new ≡ rows_put samples.old start stride (row_in_pairs (r0 ∷ r2 ∷ r4 ∷ r6 ∷ [])) 8 }
+{
+    store_pair(samples, start, stride, r0);
+    store_pair(samples, start + 2 * stride, stride, r2);
+    store_pair(samples, start + 4 * stride, stride, r4);
+    store_pair(samples, start + 6 * stride, stride, r6);
+}
