@@ -3,6 +3,8 @@
 
 mod columns;
 mod edges;
+#[cfg(test)]
+mod kernel_tests;
 mod kernels;
 mod lanes;
 mod limits;
