@@ -1,10 +1,10 @@
 pub mod Places
 pub mod Folds
-pub mod Raster
 pub mod EdgeFold
 pub mod LaneLemmas
 pub mod Loaded
 pub mod OneLine
 pub mod RowsPut
 pub mod Scalars
+pub mod Raster
 pub mod Transposed

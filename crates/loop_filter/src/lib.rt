@@ -8,6 +8,8 @@ mod edge_limits;
 mod edges;
 mod four_samples;
 mod frames;
+#[cfg(test)]
+mod kernel_tests;
 mod kernels;
 mod lanes;
 pub mod laws;

@@ -172,7 +172,9 @@ fn frames_are_as_filtered_line_by_line(rt: HostRuntime) -> Result<(), Fail> {
     assert_eq!(rt; key, [4001412256, 2907775819, 3147428101]);
     let sharp = filtered(&rt, alloc, true, filter_of(false, 16, 6), 5)?;
     assert_eq!(rt; sharp, [60536307, 2998177979, 2386045581]);
-    let plain = filtered(&rt, alloc, true, filter_of(true, 9, 0), 32)?;
+    let plain = filtered(&rt, alloc, false, filter_of(true, 9, 0), 32)?;
     assert_eq!(rt; plain, [1622233841, 1544107334, 364200630]);
+    let plain_key = filtered(&rt, alloc, true, filter_of(true, 30, 7), 32)?;
+    assert_eq!(rt; plain_key, [1571220149, 1544107334, 364200630]);
     Ok(())
 }
