@@ -1,4 +1,4 @@
-"""The bit encoder of RFC 6386, section 7.3, and key packets written with it, from lists of modes."""
+"""The bit encoder and decoder of RFC 6386, section 7, and key packets written with it, from lists of modes."""
 
 import struct
 
@@ -41,6 +41,29 @@ class Encoder:
         bits = self.shifts + 8
         padding = -bits % 8
         return (self.low << padding).to_bytes((bits + padding) // 8, "big")
+
+
+class Reader:
+    """Reads numbers at even odds from the start of a partition."""
+
+    def __init__(self, text):
+        self.text, self.place, self.d, self.range = text, 8, text[0] if text else 0, 255
+
+    def bit(self, prob):
+        split = 1 + ((self.range - 1) * prob >> 8)
+        bit = self.d >= split
+        self.d, self.range = (self.d - split, self.range - split) if bit else (self.d, split)
+        while self.range < 128:
+            byte = self.text[self.place >> 3] if self.place >> 3 < len(self.text) else 0
+            self.d, self.range = 2 * self.d + (byte >> 7 - self.place % 8 & 1), 2 * self.range
+            self.place += 1
+        return int(bit)
+
+    def number(self, count):
+        value = 0
+        for _ in range(count):
+            value = 2 * value + self.bit(128)
+        return value
 
 
 def path_to(tree, value, node=0):

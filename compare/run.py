@@ -3,7 +3,7 @@
 
 Run by hand, not in the gate. It needs the built program (see README.md), vpxdec (Debian's vpx-tools)
 and ffmpeg. Each stream has two key packets whose partitions hold zero bytes only, enough of them that
-no decoder finds a partition cut: that is what is decoded so far.
+no decoder finds a partition cut.
 """
 
 import pathlib
