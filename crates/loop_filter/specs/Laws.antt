@@ -1,5 +1,5 @@
 -- Examples and statements that laws speak of.
-use Rattle.std.specs.Prelude.{◌≡◌, ℕ, zero, suc, ◌*◌, ◌/◌, ◌%◌, ◌<◌, Bool, true, false, if◌then◌else◌, List, [], ◌∷◌, ℤ, pos, negsuc, Option, None, IfSome}
+use Rattle.std.specs.Prelude.{◌≡◌, ℕ, zero, suc, ◌*◌, ◌/◌, ◌%◌, ◌<◌, Bool, false, if◌then◌else◌, List, [], ◌∷◌, pos, negsuc, Option, None, IfSome}
 use Rattle.frame_header.specs.declared.context.FilterDeltas.{FilterDeltas}
 use Rattle.frame_header.specs.declared.context.Segments.{Segments}
 use Rattle.frame_header.specs.declared.header.Header.{Header}
