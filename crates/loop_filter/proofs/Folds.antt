@@ -1,5 +1,5 @@
 -- One more macroblock, one more row, and the planes of a frame written back.
-use Rattle.std.proofs.Common.{◌≡◌, ℕ, ◌+◌, ◌*◌, ◌==◌, Bool, true, false, List, length, Option, ap, refl, sym, ◌∙◌, add-one}
+use Rattle.std.proofs.Common.{◌≡◌, ℕ, ◌+◌, ◌*◌, ◌==◌, Bool, true, false, List, length, Option, refl, sym, ◌∙◌, add-one}
 use Rattle.std.specs.Simd.Lanes.{put_chunk}
 use Rattle.std.proofs.lemmas.Simd.{put_chunk_whole}
 use Rattle.frame_header.specs.declared.header.Header.{Header}

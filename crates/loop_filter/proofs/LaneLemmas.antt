@@ -70,13 +70,47 @@ either_at ts xs ys i long long' long'' less =
     ∙ ap (λ (b : Bool). cond b (slice_index xs i) (slice_index ys i)) (get_or-map (λ m. leb 128 m) masks i 0 false (omega (arith, sixteen)) ∙ ap (leb 128) (lane2 (λ a b. cond (eqb a b) 255 0) ts (replicate 16 0) i long refl less ∙ ap (λ n. cond (eqb (slice_index ts i) n) 255 0) (get_or-replicate 16 i 0 0 less)) ∙ mask_tells _)
 
 -- shares, in lanes of 16 bits
-share_lane : (k x : ℕ) → k ≤ 27 → x < 256 → ((x * k) % 65536 + 63) % 65536 / 128 ≡ share_of k x
+abbrev pub nines : ℕ → List ℕ → List ℕ
+nines n xs = zip2 (λ a b. a * b % 65536) (map (λ (a : ℕ). a) xs) (replicate n 9)
+
+abbrev pub plus : List ℕ → List ℕ → List ℕ
+plus xs ys = zip2 (λ a b. (a + b) % 65536) xs ys
+
+abbrev pub shifted : ℕ → List ℕ → List ℕ
+shifted n xs = zip2 (λ a b. a / 2 ^ b) xs (replicate n 7)
+
+abbrev pub far : ℕ → List ℕ → List ℕ
+far n xs = plus (nines n xs) (replicate n 63)
+
+abbrev pub middle : ℕ → List ℕ → List ℕ
+middle n xs = plus (far n xs) (nines n xs)
+
+abbrev pub near : ℕ → List ℕ → List ℕ
+near n xs = plus (middle n xs) (nines n xs)
+
+far_lane : (x : ℕ) → x < 256 → (x * 9 % 65536 + 63) % 65536 / 128 ≡ share_of 9 x
 unfolding share_of
-share_lane k x few small =
-    let most : x * k ≤ 255 * k = mul-le-mul_right k (omega arith) in
-    let product : (x * k) % 65536 ≡ x * k = omega arith in
-    let sum : (x * k + 63) % 65536 ≡ x * k + 63 = omega arith in
-    rw (product, sum) refl
+far_lane x small = omega arith
+
+middle_lane : (x : ℕ) → x < 256 → ((x * 9 % 65536 + 63) % 65536 + x * 9 % 65536) % 65536 / 128 ≡ share_of 18 x
+unfolding share_of
+middle_lane x small = omega arith
+
+near_lane : (x : ℕ) → x < 256 → (((x * 9 % 65536 + 63) % 65536 + x * 9 % 65536) % 65536 + x * 9 % 65536) % 65536 / 128 ≡ share_of 27 x
+unfolding share_of
+near_lane x small = omega arith
+
+far_lanes : (xs : List ℕ) → Each1 (Fits w8) xs → shifted (length xs) (far (length xs) xs) ≡ map (share_of 9) xs
+far_lanes [] fits = refl
+far_lanes (x ∷ xs) fits = same_lanes _ _ _ _ (far_lane x fits.0.fits) (far_lanes xs fits.1)
+
+middle_lanes : (xs : List ℕ) → Each1 (Fits w8) xs → shifted (length xs) (middle (length xs) xs) ≡ map (share_of 18) xs
+middle_lanes [] fits = refl
+middle_lanes (x ∷ xs) fits = same_lanes _ _ _ _ (middle_lane x fits.0.fits) (middle_lanes xs fits.1)
+
+near_lanes : (xs : List ℕ) → Each1 (Fits w8) xs → shifted (length xs) (near (length xs) xs) ≡ map (share_of 27) xs
+near_lanes [] fits = refl
+near_lanes (x ∷ xs) fits = same_lanes _ _ _ _ (near_lane x fits.0.fits) (near_lanes xs fits.1)
 
 share_small : (k x : ℕ) → k ≤ 27 → x < 256 → share_of k x < 256
 unfolding share_of
@@ -84,25 +118,29 @@ share_small k x few small =
     let most : x * k ≤ 255 * k = mul-le-mul_right k (omega arith) in
     omega arith
 
-abbrev pub products_shifted : ℕ → ℕ → List ℕ → List ℕ
-products_shifted n k xs = zip2 (λ a b. a / 2 ^ b) (zip2 (λ a b. (a + b) % 65536) (zip2 (λ a b. a * b % 65536) (map (λ (a : ℕ). a) xs) (replicate n k)) (replicate n 63)) (replicate n 7)
-
-share_lanes : (k : ℕ) (xs : List ℕ) → k ≤ 27 → Each1 (Fits w8) xs → products_shifted (length xs) k xs ≡ map (share_of k) xs
-share_lanes k [] few fits = refl
-share_lanes k (x ∷ xs) few fits = same_lanes _ _ _ _ (share_lane k x few fits.0.fits) (share_lanes k xs few fits.1)
-
 share_fits : (k : ℕ) (xs : List ℕ) → k ≤ 27 → Each1 (Fits w8) xs → Each1 (Fits w8) (map (share_of k) xs)
 share_fits k [] few fits = tt
 share_fits k (x ∷ xs) few fits = (record { fits = share_small k x few fits.0.fits }, share_fits k xs few fits.1)
+
+-- of sixteen lanes
+abbrev pub Shared : ℕ → List ℕ → List ℕ → Type 0
+Shared k xs ys = ys ≡ map (share_of k) xs
+
+pub far_shared : (xs : List ℕ) → (length xs ≡ 16) × Each1 (Fits w8) xs → Shared 9 xs (shifted 16 (far 16 xs))
+far_shared xs fits = subst (λ (n : ℕ). Shared 9 xs (shifted n (far n xs))) fits.0 (far_lanes xs fits.1)
+
+pub middle_shared : (xs : List ℕ) → (length xs ≡ 16) × Each1 (Fits w8) xs → Shared 18 xs (shifted 16 (middle 16 xs))
+middle_shared xs fits = subst (λ (n : ℕ). Shared 18 xs (shifted n (middle n xs))) fits.0 (middle_lanes xs fits.1)
+
+pub near_shared : (xs : List ℕ) → (length xs ≡ 16) × Each1 (Fits w8) xs → Shared 27 xs (shifted 16 (near 16 xs))
+near_shared xs fits = subst (λ (n : ℕ). Shared 27 xs (shifted n (near n xs))) fits.0 (near_lanes xs fits.1)
 
 same_map : (xs : List ℕ) → map (λ (a : ℕ). a) xs ≡ xs
 same_map [] = refl
 same_map (x ∷ xs) = ap (λ (l : List ℕ). x ∷ l) (same_map xs)
 
-pub shares_fit : (k : ℕ) (xs : List ℕ) → k ≤ 27 → (length xs ≡ 16) × Each1 (Fits w8) xs → Each1 (Fits w8) (products_shifted 16 k xs)
-shares_fit k xs few fits = subst (λ (n : ℕ). Each1 (Fits w8) (products_shifted n k xs)) fits.0 (rw (share_lanes k xs few fits.1) (share_fits k xs few fits.1))
+pub shares_fit : (k : ℕ) (xs ys : List ℕ) → k ≤ 27 → Each1 (Fits w8) xs → Shared k xs ys → Each1 (Fits w8) ys
+shares_fit k xs ys few fits is = rw is (share_fits k xs few fits)
 
-pub shares_at : (k : ℕ) (xs : List ℕ) (i : ℕ) → k ≤ 27 → (length xs ≡ 16) × Each1 (Fits w8) xs → i < 16 → slice_index (map (λ (a : ℕ). a) (products_shifted 16 k xs)) i ≡ share_of k (slice_index xs i)
-shares_at k xs i few fits less =
-    let all : products_shifted 16 k xs ≡ map (share_of k) xs = subst (λ (n : ℕ). products_shifted n k xs ≡ map (share_of k) xs) fits.0 (share_lanes k xs few fits.1) in
-    ap (λ l. slice_index l i) (same_map _ ∙ all) ∙ get_or-map (share_of k) xs i 0 0 (omega (arith, fits.0))
+pub shares_at : (k : ℕ) (xs ys : List ℕ) (i : ℕ) → length xs ≡ 16 → Shared k xs ys → i < 16 → slice_index (map (λ (a : ℕ). a) ys) i ≡ share_of k (slice_index xs i)
+shares_at k xs ys i long is less = ap (λ l. slice_index l i) (same_map ys ∙ is) ∙ get_or-map (share_of k) xs i 0 0 (omega (arith, long))

@@ -2,8 +2,8 @@
 use Rattle.std.proofs.Common.{◌≡◌, ℕ, ◌<◌, Bool, true, false, cond, not, refl}
 use Rattle.loop_filter.specs.declared.edge_limits.EdgeLimits.{EdgeLimits}
 use Rattle.loop_filter.specs.Lines.{Line, is_filtered, is_varied, is_small_step, lack, adjusted, outer_adjusted, smoothed, simple_line, inner_line, macroblock_line}
-use Rattle.loop_filter.specs.Lanes.{raised_by, lowered_by, difference_of, lack_from, eighth_of, half_of, share_of, step_over_of, variance_over_of, roughness_of, either_of}
-use Rattle.loop_filter.proofs.Scalars.{off, raised_is, lowered_is, eighth3_is, eighth4_is, half_is, share27_is, share18_is, share9_is, raised_none, lowered_none, raised_small, lowered_small, lack_true, lack_false, lack_small, step_is, filtered_is, varied_is}
+use Rattle.loop_filter.specs.Lanes.{sum_of, raised_by, lowered_by, difference_of, lack_from, eighth_of, half_of, share_of, step_over_of, variance_over_of, roughness_of, either_of}
+use Rattle.loop_filter.proofs.Scalars.{off, raised_is, lowered_is, eighth3_is, eighth4_is, half_is, share27_is, share18_is, share9_is, raised_none, lowered_none, raised_first, raised_second, lowered_first, lowered_second, eighth_small, share_small, lack_true, lack_false, lack_small, step_is, filtered_is, varied_is}
 
 -- the four samples next to the edge have 8 bits
 pub record IsNear (l : Line) : Type 0 where
@@ -74,8 +74,8 @@ abbrev pub wide_moved : ℕ → ℕ → Line → Line
 wide_moved narrow wide l = record l {
   p2 = raised_by 9 l.p2 (share_of 9 wide);
   p1 = raised_by 18 l.p1 (share_of 18 wide);
-  p0 = raised_by 27 (raised_by 16 l.p0 (eighth_of 3 narrow)) (share_of 27 wide);
-  q0 = lowered_by 27 (lowered_by 16 l.q0 (eighth_of 4 narrow)) (share_of 27 wide);
+  p0 = raised_by 43 l.p0 (sum_of (share_of 27 wide) (eighth_of 3 narrow));
+  q0 = lowered_by 43 l.q0 (sum_of (share_of 27 wide) (eighth_of 4 narrow));
   q1 = lowered_by 18 l.q1 (share_of 18 wide);
   q2 = lowered_by 9 l.q2 (share_of 9 wide);
 }
@@ -90,6 +90,8 @@ wide_narrow : (w : ℕ) (l : Line) → w < 256 → IsWide l → wide_moved w 128
 unfolding share_of
 wide_narrow w l small wide =
     rw (
+      raised_first l.p0 (eighth_of 3 w) (eighth_small 3 w),
+      lowered_first l.q0 (eighth_of 4 w) (eighth_small 4 w),
       eighth3_is w small,
       eighth4_is w small,
       raised_is 16 l.p0 (eighth_of 3 w) wide.near.p0,
@@ -98,16 +100,14 @@ wide_narrow w l small wide =
       raised_none 18 l.p1 wide.near.p1,
       lowered_none 18 l.q1 wide.near.q1,
       lowered_none 9 l.q2 wide.q2,
-      raised_none 27 (raised_by 16 l.p0 (eighth_of 3 w)) (raised_small _ _ _ wide.near.p0),
-      lowered_none 27 (lowered_by 16 l.q0 (eighth_of 4 w)) (lowered_small _ _ _ wide.near.q0),
     ) refl
 
 wide_smooth : (w : ℕ) (l : Line) → w < 256 → IsWide l → wide_moved 128 w l ≡ smoothed (off 128 w) l
 unfolding eighth_of
 wide_smooth w l small wide =
     rw (
-      raised_none 16 l.p0 wide.near.p0,
-      lowered_none 16 l.q0 wide.near.q0,
+      raised_second l.p0 (share_of 27 w) (share_small w small),
+      lowered_second l.q0 (share_of 27 w) (share_small w small),
       share27_is w small,
       share18_is w small,
       share9_is w small,
@@ -123,12 +123,10 @@ wide_stays : (l : Line) → IsWide l → wide_moved 128 128 l ≡ l
 unfolding eighth_of share_of
 wide_stays l wide =
     rw (
-      raised_none 16 l.p0 wide.near.p0,
-      lowered_none 16 l.q0 wide.near.q0,
+      raised_none 43 l.p0 wide.near.p0,
+      lowered_none 43 l.q0 wide.near.q0,
       raised_none 9 l.p2 wide.p2,
       raised_none 18 l.p1 wide.near.p1,
-      raised_none 27 l.p0 wide.near.p0,
-      lowered_none 27 l.q0 wide.near.q0,
       lowered_none 18 l.q1 wide.near.q1,
       lowered_none 9 l.q2 wide.q2,
     ) refl

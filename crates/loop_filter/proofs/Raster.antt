@@ -1,14 +1,13 @@
 -- Filtering plane by plane is filtering macroblock by macroblock.
-use Rattle.std.proofs.Common.{◌≡◌, ℕ, zero, suc, ◌+◌, ◌*◌, ◌/◌, ◌%◌, ◌<◌, ◌≤◌, ◌==◌, Bool, true, false, List, Option, ap, refl, sym, ◌∙◌, add-one, arith}
+use Rattle.std.proofs.Common.{◌≡◌, ℕ, zero, suc, ◌+◌, ◌*◌, ◌/◌, ◌%◌, ◌<◌, ◌≤◌, ◌==◌, Bool, true, false, List, Option, ap, refl, sym, ◌∙◌, arith}
 use Rattle.std.proofs.lemmas.Nat.{div-mul-add, mod-mul-add}
 use Rattle.frame_header.specs.declared.header.Header.{Header}
 use Rattle.mode_parser.specs.declared.records.MbMode.{MbMode}
 use Rattle.pixel_planes.specs.PlaneSamples.{PlaneSamples}
 use Rattle.loop_filter.specs.Blocks.{luma, chroma}
-use Rattle.loop_filter.specs.Frames.{plane_filtered, planes_filtered, row_filtered, rows_filtered, strength_at, columns_in, rows_in, filtered_planes}
+use Rattle.loop_filter.specs.Frames.{planes_filtered, row_filtered, rows_filtered, strength_at, columns_in, rows_in, filtered_planes}
 use Rattle.loop_filter.specs.Laws.{macroblock_in_planes, macroblocks_in_planes}
 use Rattle.loop_filter.specs.declared.strengths.Strength.{Strength}
-use Rattle.loop_filter.proofs.Folds.{row_more, rows_more}
 
 -- the planes behind the first macroblocks of row my
 row_of_planes : Bool → (ℕ → Option Strength) → ℕ → ℕ → PlaneSamples → ℕ → PlaneSamples

@@ -7,7 +7,7 @@ use Rattle.std.proofs.lemmas.Bool.Decides.{nat_tests}
 use Rattle.std.proofs.lemmas.Bool.{cases_lt}
 use Rattle.loop_filter.specs.declared.edge_limits.EdgeLimits.{EdgeLimits}
 use Rattle.loop_filter.specs.Lines.{Line, signed, held, raised, lowered, is_small_step, is_filtered, is_varied, lack, eighth, share}
-use Rattle.loop_filter.specs.Lanes.{sum_of, raised_by, lowered_by, difference_of, lack_from, eighth_of, half_of, share_of, step_over_of, side_over_of, variance_over_of, roughness_of}
+use Rattle.loop_filter.specs.Lanes.{sum_of, raised_by, lowered_by, difference_of, lack_from, eighth_of, half_of, share_of, step_over_of, side_of, variance_over_of, roughness_of}
 
 -- what a number at an offset stands for
 abbrev pub off : ℕ → ℕ → ℤ
@@ -72,7 +72,7 @@ pub eighth4_is : (w : ℕ) → w < 256 → eighth 4 (off 128 w) ≡ off 16 (eigh
 unfolding eighth eighth_of
 eighth4_is w small = grind (arith, ints)
 
-pub eighth_small : (n w : ℕ) → eighth_of n w < 255
+pub eighth_small : (n w : ℕ) → eighth_of n w < 32
 unfolding eighth_of
 eighth_small n w = omega arith
 
@@ -101,6 +101,27 @@ pub lowered_none : (offset s : ℕ) → s < 256 → lowered_by offset s offset �
 unfolding lowered_by
 lowered_none offset s small = grind arith
 
+pub share_small : (w : ℕ) → w < 256 → share_of 27 w < 128
+unfolding share_of
+share_small w small = omega arith
+
+-- a sample that is moved by two numbers one of which is 0
+pub raised_first : (s e : ℕ) → e < 32 → raised_by 43 s (sum_of 27 e) ≡ raised_by 16 s e
+unfolding raised_by
+raised_first s e small = grind arith
+
+pub raised_second : (s n : ℕ) → n < 128 → raised_by 43 s (sum_of n 16) ≡ raised_by 27 s n
+unfolding raised_by
+raised_second s n small = grind arith
+
+pub lowered_first : (s e : ℕ) → e < 32 → lowered_by 43 s (sum_of 27 e) ≡ lowered_by 16 s e
+unfolding lowered_by
+lowered_first s e small = grind arith
+
+pub lowered_second : (s n : ℕ) → n < 128 → lowered_by 43 s (sum_of n 16) ≡ lowered_by 27 s n
+unfolding lowered_by
+lowered_second s n small = grind arith
+
 -- what is moved has 8 bits
 pub raised_small : (offset s d : ℕ) → s < 256 → raised_by offset s d < 256
 unfolding raised_by
@@ -125,6 +146,9 @@ pub varied_is : (threshold : ℕ) (l : Line) → nat_eq (variance_over_of thresh
 unfolding variance_over_of is_varied
 varied_is threshold l = grind (arith, nat_tests)
 
+sides_are : (limit a b : ℕ) → nat_eq (max a b - limit) 0 ≡ (nat_eq (a - limit) 0 && nat_eq (b - limit) 0)
+sides_are limit a b = grind (arith, nat_tests)
+
 and_turned : (d e f : Bool) → (f && e && d) ≡ (d && e && f)
 and_turned true true true = refl
 and_turned true true false = refl
@@ -142,8 +166,8 @@ and_joined true true false d e f = refl
 and_joined true true true d e f = and_turned d e f
 
 pub filtered_is : (limits : EdgeLimits) (l : Line) → limits.edge < 255 → nat_eq (roughness_of limits l) 0 ≡ is_filtered limits l
-unfolding roughness_of side_over_of is_filtered
+unfolding roughness_of side_of is_filtered
 filtered_is limits l low =
     let within : ℕ → ℕ → Bool = λ (x y : ℕ). nat_le (abs_diff x y) limits.interior in
     rw (both_zero, step_is limits.edge l.p1 l.p0 l.q0 l.q1 low) (ap (λ (b : Bool). is_small_step limits.edge l && b)
-    (both_zero _ _ ∙ rw (side_is limits.interior (abs_diff l.p3 l.p2) (abs_diff l.p2 l.p1) (abs_diff l.p1 l.p0), side_is limits.interior (abs_diff l.q3 l.q2) (abs_diff l.q2 l.q1) (abs_diff l.q1 l.q0)) (and_joined (within l.p3 l.p2) (within l.p2 l.p1) (within l.p1 l.p0) (within l.q1 l.q0) (within l.q2 l.q1) (within l.q3 l.q2))))
+    (sides_are limits.interior _ _ ∙ rw (side_is limits.interior (abs_diff l.p3 l.p2) (abs_diff l.p2 l.p1) (abs_diff l.p1 l.p0), side_is limits.interior (abs_diff l.q3 l.q2) (abs_diff l.q2 l.q1) (abs_diff l.q1 l.q0)) (and_joined (within l.p3 l.p2) (within l.p2 l.p1) (within l.p1 l.p0) (within l.q1 l.q0) (within l.q2 l.q1) (within l.q3 l.q2))))

@@ -52,9 +52,9 @@ share_of k w = (w * k + 63) / 128
 unfoldable pub step_over_of : ℕ → ℕ → ℕ → ℕ → ℕ → ℕ
 step_over_of limit p1 p0 q0 q1 = sum_of (sum_of (abs_diff p0 q0) (abs_diff p0 q0)) (abs_diff p1 q1 / 2) - limit
 
--- how far the greatest of the differences on one side of the edge is over the limit
-unfoldable pub side_over_of : ℕ → ℕ → ℕ → ℕ → ℕ → ℕ
-side_over_of limit s3 s2 s1 s0 = max (max (abs_diff s3 s2) (abs_diff s2 s1)) (abs_diff s1 s0) - limit
+-- the greatest of the differences on one side of the edge
+unfoldable pub side_of : ℕ → ℕ → ℕ → ℕ → ℕ
+side_of s3 s2 s1 s0 = max (max (abs_diff s3 s2) (abs_diff s2 s1)) (abs_diff s1 s0)
 
 -- how far the greater of two differences is over the threshold
 unfoldable pub variance_over_of : ℕ → ℕ → ℕ → ℕ → ℕ → ℕ
@@ -62,7 +62,7 @@ variance_over_of threshold p1 p0 q0 q1 = max (abs_diff p1 p0) (abs_diff q1 q0) -
 
 -- how far what a normal filter asks of a line is not met: 0 where it is
 unfoldable pub roughness_of : EdgeLimits → Line → ℕ
-roughness_of limits l = sum_of (step_over_of limits.edge l.p1 l.p0 l.q0 l.q1) (sum_of (side_over_of limits.interior l.p3 l.p2 l.p1 l.p0) (side_over_of limits.interior l.q3 l.q2 l.q1 l.q0))
+roughness_of limits l = sum_of (step_over_of limits.edge l.p1 l.p0 l.q0 l.q1) (max (side_of l.p3 l.p2 l.p1 l.p0) (side_of l.q3 l.q2 l.q1 l.q0) - limits.interior)
 
 -- one of two numbers, by whether a test left 0
 abbrev pub either_of : ℕ → ℕ → ℕ → ℕ

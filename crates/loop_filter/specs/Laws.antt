@@ -1,5 +1,5 @@
 -- Examples and statements that laws speak of.
-use Rattle.std.specs.Prelude.{◌≡◌, ℕ, zero, suc, ◌*◌, ◌/◌, ◌%◌, ◌<◌, Bool, true, false, if◌then◌else◌, List, [], ◌∷◌, ℤ, pos, negsuc, Option, None, IfSome}
+use Rattle.std.specs.Prelude.{◌≡◌, ℕ, zero, suc, ◌*◌, ◌/◌, ◌%◌, ◌<◌, Bool, false, if◌then◌else◌, List, [], ◌∷◌, pos, negsuc, Option, None, IfSome}
 use Rattle.frame_header.specs.declared.context.FilterDeltas.{FilterDeltas}
 use Rattle.frame_header.specs.declared.context.Segments.{Segments}
 use Rattle.frame_header.specs.declared.header.Header.{Header}
@@ -10,7 +10,7 @@ use Rattle.pixel_planes.specs.Samples.{Samples}
 use Rattle.pixel_planes.specs.PlaneSamples.{PlaneSamples}
 use Rattle.loop_filter.specs.Levels.{level_of}
 use Rattle.loop_filter.specs.Blocks.{Shape, luma, chroma, filtered_by}
-use Rattle.loop_filter.specs.Frames.{block_at, strength_at, strength_of, columns_in, rows_in, filtered_planes}
+use Rattle.loop_filter.specs.Frames.{HaveBlocks, block_at, strength_at, strength_of, columns_in, rows_in, filtered_planes}
 use Rattle.loop_filter.specs.declared.edge_limits.Limits.{Limits}
 use Rattle.loop_filter.specs.declared.strengths.Strength.{Strength}
 
@@ -63,3 +63,7 @@ abbrev pub GoesMacroblockByMacroblock : Type 0
 GoesMacroblockByMacroblock =
     (header : Header) (records : List MbMode) (flags : List Bool) (planes : PlaneSamples) → 0 < header.filter.level →
     filtered_planes header records flags planes ≡ macroblocks_in_planes header.filter.is_simple (strength_at header records flags) (columns_in planes) planes (columns_in planes * rows_in planes)
+
+-- the sides of planes of so many macroblocks tell how many there are
+abbrev pub SidesTellMacroblocks : Type 0
+SidesTellMacroblocks = (planes : PlaneSamples) (columns rows : ℕ) → HaveBlocks planes columns rows → (columns_in planes ≡ columns) × (rows_in planes ≡ rows)

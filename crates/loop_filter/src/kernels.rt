@@ -6,8 +6,8 @@ ghost use Rattle.loop_filter.specs.Lanes.{line_at, roughness_of};
 
 use crate::edge_limits::{EdgeFilter, EdgeLimits};
 use crate::lanes::{
-    all, difference, eighths_after, either, halves, lack, lowered, more, raised, shares, side_over,
-    step_over, variance_over,
+    all, difference, eighths_after, either, greater, halves, lack, less, lowered, more, raised,
+    shares, side, step_over, variance_over,
 };
 use std::simd::u8x16;
 
@@ -67,10 +67,12 @@ fn roughness(limits: EdgeLimits, taps: Taps) -> u8x16
     let (p3, p2, p1, p0) = (taps.p3, taps.p2, taps.p1, taps.p0);
     let (q3, q2, q1, q0) = (taps.q3, taps.q2, taps.q1, taps.q0);
     let step = step_over(limits.edge, p1, p0, q0, q1);
-    let before = side_over(limits.interior, p3, p2, p1, p0);
-    let behind = side_over(limits.interior, q3, q2, q1, q0);
-    let sides = more(before, behind);
-    more(step, sides)
+    let before = side(p3, p2, p1, p0);
+    let behind = side(q3, q2, q1, q0);
+    let sides = greater(before, behind);
+    let interior = all(limits.interior);
+    let sides_over = less(sides, interior);
+    more(step, sides_over)
 }
 
 /// Filters sixteen lines by the normal filter of an edge between blocks of one macroblock.
@@ -102,6 +104,9 @@ fn inner(limits: EdgeLimits, taps: Taps) -> Taps
 }
 
 /// Filters sixteen lines by the normal filter of an edge between macroblocks.
+///
+/// A line is moved by an eighth or by shares, and the other number is 0 at its offset: `p0` and `q0`
+/// are moved by the sum of both, at the sum of their offsets.
 #[inline(always)]
 fn macroblock(limits: EdgeLimits, taps: Taps) -> Taps
     requires limit { limits.edge < 255 }
@@ -119,16 +124,14 @@ fn macroblock(limits: EdgeLimits, taps: Taps) -> Taps
     let wide = either(varied, number, none);
     let up = eighths_after(3, narrow);
     let down = eighths_after(4, narrow);
-    let near = shares(27, wide);
-    let middle = shares(18, wide);
-    let far = shares(9, wide);
-    let p0_narrow = raised(16, p0, up);
-    let q0_narrow = lowered(16, q0, down);
+    let (far, middle, near) = shares(wide);
+    let p0_move = more(near, up);
+    let q0_move = more(near, down);
     Taps {
         p2: raised(9, p2, far),
         p1: raised(18, p1, middle),
-        p0: raised(27, p0_narrow, near),
-        q0: lowered(27, q0_narrow, near),
+        p0: raised(43, p0, p0_move),
+        q0: lowered(43, q0, q0_move),
         q1: lowered(18, q1, middle),
         q2: lowered(9, q2, far),
         ..taps

@@ -3,7 +3,7 @@
 ghost use Rattle.std.specs.Prelude.{◌≡◌, ℕ, ◌+◌, ◌-◌, ◌/◌, ◌<◌, ◌≤◌, max, length, slice_index};
 ghost use Rattle.std.specs.Simd.Lanes.{put_chunk};
 ghost use Rattle.std.specs.Int.{abs_diff};
-ghost use Rattle.loop_filter.specs.Lanes.{Each, Each2, AreSamples, sum_of, raised_by, lowered_by, difference_of, lack_from, eighth_of, half_of, share_of, either_of, step_over_of, side_over_of, variance_over_of};
+ghost use Rattle.loop_filter.specs.Lanes.{Each, Each2, AreSamples, sum_of, raised_by, lowered_by, difference_of, lack_from, eighth_of, half_of, share_of, either_of, step_over_of, side_of, variance_over_of};
 
 use std::simd::prelude::*;
 use std::simd::{u8x16, u16x16};
@@ -45,7 +45,7 @@ pub fn more(a: u8x16, b: u8x16) -> u8x16
 
 /// The lanes of `a` less those of `b`, held at 0.
 #[inline(always)]
-fn less(a: u8x16, b: u8x16) -> u8x16
+pub fn less(a: u8x16, b: u8x16) -> u8x16
     ensures { Each2 (λ x y. x - y) a b result }
 {
     a.saturating_sub(b)
@@ -53,7 +53,7 @@ fn less(a: u8x16, b: u8x16) -> u8x16
 
 /// The greater of each two lanes.
 #[inline(always)]
-fn greater(a: u8x16, b: u8x16) -> u8x16
+pub fn greater(a: u8x16, b: u8x16) -> u8x16
     ensures { Each2 max a b result }
 {
     a.simd_max(b)
@@ -175,15 +175,21 @@ pub fn halves(numbers: u8x16) -> u8x16
     halved(sum)
 }
 
-/// Numbers at offset 128 times `k`, in 128ths, rounded, at offset `k`.
+/// 9, 18 and 27 128ths of numbers at offset 128, rounded, at offsets 9, 18 and 27.
 #[inline(always)]
-pub fn shares(k: u16, numbers: u8x16) -> u8x16
-    requires small { k ≤ 27 }
-    ensures { Each (share_of k) numbers result }
+pub fn shares(numbers: u8x16) -> (u8x16, u8x16, u8x16)
+    ensures far { Each (share_of 9) numbers result.0 }
+    ensures middle { Each (share_of 18) numbers result.1 }
+    ensures near { Each (share_of 27) numbers result.2 }
 {
-    let products = numbers.cast::<u16>() * u16x16::splat(k);
-    let rounded = products + u16x16::splat(63);
-    (rounded >> u16x16::splat(7)).cast::<u8>()
+    let nine = numbers.cast::<u16>() * u16x16::splat(9);
+    let far = nine + u16x16::splat(63);
+    let middle = far + nine;
+    let near = middle + nine;
+    let far = far >> u16x16::splat(7);
+    let middle = middle >> u16x16::splat(7);
+    let near = near >> u16x16::splat(7);
+    (far.cast::<u8>(), middle.cast::<u8>(), near.cast::<u8>())
 }
 
 /// How far the step at the edge of each line is over `limit`: 0 where it is within.
@@ -201,20 +207,17 @@ pub fn step_over(limit: u8, p1: u8x16, p0: u8x16, q0: u8x16, q1: u8x16) -> u8x16
     less(step, limit)
 }
 
-/// How far the greatest difference of samples side by side, on one side of the edge of each line,
-/// is over `limit`: 0 where all are within.
+/// The greatest difference of samples side by side, on one side of the edge of each line.
 #[inline(always)]
-#[tactic(auto, unfolding(crate::specs::Lanes::side_over_of))]
-pub fn side_over(limit: u8, s3: u8x16, s2: u8x16, s1: u8x16, s0: u8x16) -> u8x16
-    ensures { (i : ℕ) → i < 16 → slice_index result i ≡ side_over_of limit (slice_index s3 i) (slice_index s2 i) (slice_index s1 i) (slice_index s0 i) }
+#[tactic(auto, unfolding(crate::specs::Lanes::side_of))]
+pub fn side(s3: u8x16, s2: u8x16, s1: u8x16, s0: u8x16) -> u8x16
+    ensures { (i : ℕ) → i < 16 → slice_index result i ≡ side_of (slice_index s3 i) (slice_index s2 i) (slice_index s1 i) (slice_index s0 i) }
 {
-    let limit = all(limit);
     let outer = apart(s3, s2);
     let middle = apart(s2, s1);
     let inner = apart(s1, s0);
     let outermost = greater(outer, middle);
-    let greatest = greater(outermost, inner);
-    less(greatest, limit)
+    greater(outermost, inner)
 }
 
 /// How far the greater difference of a sample at the edge and its neighbour is over `threshold`: 0

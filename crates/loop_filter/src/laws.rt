@@ -8,7 +8,7 @@ ghost use Rattle.mode_parser.specs.declared.records.YMode.TheVariants.{Whole, B,
 ghost use Rattle.loop_filter.specs.Levels.{level_in, changed_level};
 ghost use Rattle.loop_filter.specs.Strengths.{limits_of};
 ghost use Rattle.loop_filter.specs.FourSamples.{simple_four};
-ghost use Rattle.loop_filter.specs.Laws.{worked_deltas, worked_segments, limits_are, LeavesFramesOfLevel0, LeavesMacroblocksOfLevel0, LeavesInnerEdges, GoesMacroblockByMacroblock};
+ghost use Rattle.loop_filter.specs.Laws.{worked_deltas, worked_segments, limits_are, LeavesFramesOfLevel0, LeavesMacroblocksOfLevel0, LeavesInnerEdges, GoesMacroblockByMacroblock, SidesTellMacroblocks};
 
 /// Levels of 20 and 60 in segments, and changed by each reference and mode: of the modes inside the
 /// frame B alone has a change of its own. A sum of frame and segment is held before it is changed:
@@ -54,6 +54,11 @@ pub fn what_is_left()
 /// filtered in all three planes before the next (RFC 6386, section 15.1).
 pub fn filters_macroblock_by_macroblock()
     ensures { GoesMacroblockByMacroblock }
+{}
+
+/// Planes of so many macroblocks each way are what `frame` takes them for.
+pub fn sides_tell_macroblocks()
+    ensures { SidesTellMacroblocks }
 {}
 
 /// The simple filter of a step of 10, which is measured as 25 (RFC 6386, section 15.2).

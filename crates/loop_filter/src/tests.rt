@@ -158,7 +158,7 @@ fn filtered(
     Ok([total(&planes.luma), total(&planes.cb), total(&planes.cr)])
 }
 
-/// The totals are those of a plain program of RFC 6386, section 15, line by line.
+/// The totals are those that compare/filters.py prints, a plain program of RFC 6386, section 15.
 #[test]
 fn frames_are_as_filtered_line_by_line(rt: HostRuntime) -> Result<(), Fail> {
     let alloc = rt.alloc();

@@ -1,4 +1,4 @@
-use Rattle.std.proofs.Common.{◌≡◌, length}
+use Rattle.std.proofs.Common.{◌≡◌}
 use Rattle.loop_filter.specs.Blocks.{chroma}
 use Rattle.loop_filter.specs.Macroblocks.{rows_of_all}
 use Rattle.loop_filter.proofs.frames.filter_chroma.Given as goal

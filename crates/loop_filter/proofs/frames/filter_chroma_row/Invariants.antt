@@ -1,4 +1,4 @@
-use Rattle.std.proofs.Common.{◌≡◌, length}
+use Rattle.std.proofs.Common.{◌≡◌}
 use Rattle.loop_filter.specs.Blocks.{chroma}
 use Rattle.loop_filter.specs.Macroblocks.{row_of_all}
 use Rattle.loop_filter.proofs.frames.filter_chroma_row.Given as goal

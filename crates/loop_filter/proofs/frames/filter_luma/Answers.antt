@@ -1,4 +1,4 @@
-use Rattle.std.proofs.Common.{◌≡◌, ap, sym, refl, ◌∙◌}
+use Rattle.std.proofs.Common.{ap, sym, refl, ◌∙◌}
 use Rattle.loop_filter.specs.Blocks.{luma}
 use Rattle.loop_filter.specs.Frames.{rows_filtered}
 use Rattle.loop_filter.specs.Macroblocks.{strengths, row_of_all}

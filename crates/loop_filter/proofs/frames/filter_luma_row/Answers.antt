@@ -1,4 +1,4 @@
-use Rattle.std.proofs.Common.{◌≡◌, ap, sym, refl, ◌∙◌}
+use Rattle.std.proofs.Common.{ap, sym, refl, ◌∙◌}
 use Rattle.loop_filter.specs.Blocks.{luma}
 use Rattle.loop_filter.specs.Frames.{row_filtered}
 use Rattle.loop_filter.specs.Macroblocks.{strengths, macroblock_filtered}

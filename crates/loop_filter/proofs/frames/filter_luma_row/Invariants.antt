@@ -1,4 +1,4 @@
-use Rattle.std.proofs.Common.{◌≡◌, length}
+use Rattle.std.proofs.Common.{◌≡◌}
 use Rattle.loop_filter.specs.Blocks.{luma}
 use Rattle.loop_filter.specs.Macroblocks.{row_of_all}
 use Rattle.loop_filter.proofs.frames.filter_luma_row.Given as goal

@@ -1,4 +1,4 @@
-use Rattle.std.proofs.Common.{◌≡◌, ◌==◌, ℕ, length, false, ap, rules, ◌∙◌}
+use Rattle.std.proofs.Common.{◌≡◌, ◌==◌, length, false, ap, rules, ◌∙◌}
 use Rattle.pixel_planes.specs.PlaneSamples.{shown_of}
 use Rattle.loop_filter.proofs.Folds.{normal_frame, simple_frame}
 use Rattle.loop_filter.proofs.frames.frame.Goals as goal

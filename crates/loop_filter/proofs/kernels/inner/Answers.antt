@@ -1,10 +1,12 @@
+use Rattle.std.specs.Prelude.{slice_index}
+use Rattle.std.proofs.Common.{arith}
 use Rattle.loop_filter.specs.Lanes.{line_at}
 use Rattle.loop_filter.proofs.OneLine.{inner_lane}
 use Rattle.loop_filter.proofs.Scalars.{eighth_small}
 use Rattle.loop_filter.proofs.kernels.inner.Goals as goal
 
 pub halves-half-requires : goal.halves-half-requires
-halves-half-requires c = record { small = λ i less. rw (c.eighths_after-down.ensures i less) (eighth_small 4 _) }
+halves-half-requires c = record { small = λ i less. let e = eighth_small 4 (slice_index c.either-number.result i) in rw (c.eighths_after-down.ensures i less) (omega (arith, e)) }
 
 pub returns : goal.returns
 returns c = λ i less.

@@ -8,14 +8,14 @@ returns c = λ i less.
       c.raised.ensures.value i less,
       c.raised-2.ensures.value i less,
       c.raised-3.ensures.value i less,
-      c.raised-p0_narrow.ensures.value i less,
       c.lowered.ensures.value i less,
-      c.lowered-q0_narrow.ensures.value i less,
       c.lowered-2.ensures.value i less,
       c.lowered-3.ensures.value i less,
-      c.shares-near.ensures i less,
-      c.shares-middle.ensures i less,
-      c.shares-far.ensures i less,
+      c.more-p0_move.ensures i less,
+      c.more-q0_move.ensures i less,
+      c.shares.ensures.near i less,
+      c.shares.ensures.middle i less,
+      c.shares.ensures.far i less,
       c.eighths_after-up.ensures i less,
       c.eighths_after-down.ensures i less,
       c.either-narrow.ensures i less,
@@ -29,7 +29,7 @@ returns c = λ i less.
     )
     (macroblock_lane c.args.limits (line_at c.args.taps i) c.requires.limit
     (record {
-      near = record { p1 = c.raised-2.ensures.samples i less; p0 = c.raised-p0_narrow.ensures.samples i less; q0 = c.lowered-q0_narrow.ensures.samples i less; q1 = c.lowered-2.ensures.samples i less };
+      near = record { p1 = c.raised-2.ensures.samples i less; p0 = c.raised-3.ensures.samples i less; q0 = c.lowered.ensures.samples i less; q1 = c.lowered-2.ensures.samples i less };
       p2 = c.raised.ensures.samples i less;
       q2 = c.lowered-3.ensures.samples i less;
     }))
