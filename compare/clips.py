@@ -9,6 +9,7 @@ import collections
 import pathlib
 import random
 import struct
+import subprocess
 import sys
 import tempfile
 
@@ -90,7 +91,10 @@ def compare(room, choose, told):
     picture = drawn(source, max(width, 64), max(height, 64))
     shape = ["-vf", f"scale={width}:{height}", "-frames:v", str(FRAMES), "-pix_fmt", "yuv420p"]
     run(["ffmpeg", "-y", "-v", "error", "-f", "lavfi", "-i", picture, *shape, clip])
-    run(["vpxenc", *words, "-o", coded, clip])
+    try:
+        run(["vpxenc", *words, "-o", coded, clip])
+    except subprocess.CalledProcessError:
+        return None
     packets = list(packets_of(coded.read_bytes()))
     for packet in packets:
         told.update(kinds_of(packet))
@@ -115,8 +119,13 @@ def main():
     told = collections.Counter()
     frames = differing = 0
     with tempfile.TemporaryDirectory() as name:
-        for _ in range(count):
-            shown, fault = compare(pathlib.Path(name), choose, told)
+        compared = 0
+        while compared < count:
+            result = compare(pathlib.Path(name), choose, told)
+            if result is None:  # vpxenc does not take these settings together at this size
+                continue
+            shown, fault = result
+            compared += 1
             frames += shown
             if fault:
                 differing += 1
