@@ -1,0 +1,5 @@
+pub mod Turns
+pub mod Risen
+pub mod Mapped
+pub mod Shown
+pub mod Ids

@@ -1,9 +1,9 @@
-ghost use Rattle.std.specs.Prelude.{◌≡◌, ◌<◌, ◌≤◌, ◌+◌, ◌-◌, ◌∷◌, [], All, Some, false, is_ok, if◌then◌else◌, length, map, slice_get, slice_index, slice_set, take};
+ghost use Rattle.std.specs.Prelude.{◌≡◌, ◌<◌, ◌≤◌, [], Some, false, is_ok, if◌then◌else◌, length, slice_get, slice_set, take};
 ghost use Rattle.std.specs.List.{insert, remove};
 ghost use Rattle.packet_edits.specs.Edits.{moved};
 ghost use Rattle.packet_edits.specs.FrameCounts.{places_from};
 
-use crate::moves::move_within;
+use crate::counts::{count_before, lower, move_repeated, raise};
 use pixel_planes::NoMemory;
 use std::alloc::Global;
 use std::marker::Model;
@@ -57,13 +57,13 @@ impl FrameIndex {
         requires { at < length self.old }
         ensures { self.new ≡ slice_set self.old at is_shown }
     {
-        if self.is_shown(at) == is_shown {
-            return;
-        }
+        let was_shown = self.is_shown(at);
         if is_shown {
-            raise(&mut self.counts[at..]);
-        } else {
-            lower(&mut self.counts[at..]);
+            if !was_shown {
+                raise(&mut self.counts, at);
+            }
+        } else if was_shown {
+            lower(&mut self.counts, at);
         }
     }
 
@@ -108,8 +108,7 @@ impl FrameIndex {
         requires hidden { slice_get self.old from ≡ Some false }
         ensures { self.new ≡ moved from to self.old }
     {
-        move_within(&mut self.counts, from, to);
-        self.counts[to] = count_before(self.counts.as_slice(), to);
+        move_repeated(&mut self.counts, from, to);
     }
 
     /// Keeps the first `len` packets.
@@ -136,32 +135,5 @@ impl FrameIndex {
         ensures { result ≡ length (places_from 0 self.now) }
     {
         count_before(self.counts.as_slice(), self.counts.len()) as usize
-    }
-}
-
-/// How many packets are shown before place `at`.
-fn count_before(counts: &[u32], at: usize) -> u32
-    requires { at ≤ length counts.now }
-    ensures { result ≡ slice_index (0 ∷ counts.now) at }
-{
-    if at == 0 { 0 } else { counts[at - 1] }
-}
-
-/// One more is shown up to each place.
-fn raise(counts: &mut [u32])
-    requires { All (λ count. count < 4294967295) counts.old }
-    ensures { counts.new ≡ map (λ count. count + 1) counts.old }
-{
-    for count in counts.iter_mut() {
-        *count += 1;
-    }
-}
-
-/// One less is shown up to each place.
-fn lower(counts: &mut [u32])
-    ensures { counts.new ≡ map (λ count. count - 1) counts.old }
-{
-    for count in counts.iter_mut() {
-        *count = count.saturating_sub(1);
     }
 }

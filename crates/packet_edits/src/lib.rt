@@ -1,6 +1,7 @@
 //! The packets of a stream as they stand, their edits, and which of them are shown.
 #![tactic(auto)]
 
+mod counts;
 mod entry;
 mod fault;
 mod frame_index;
