@@ -3,3 +3,4 @@ pub mod Risen
 pub mod Mapped
 pub mod Shown
 pub mod Ids
+pub mod Indexed

@@ -1,5 +1,5 @@
 -- How counts of shown packets follow what is put in, taken out, moved, shown and hidden.
-use Rattle.std.proofs.Common.{◌≡◌, ℕ, zero, suc, ◌+◌, ◌-◌, ◌<◌, ◌≤◌, Bool, true, false, cond, nat_lt, List, [], ◌∷◌, ◌++◌, length, map, take, drop, get_or, slice_get, slice_set, Option, Some, None, refl, sym, ap, ◌∙◌, subst, arith, rules, add-one, add-zero, zero-add, All}
+use Rattle.std.proofs.Common.{◌≡◌, ℕ, zero, suc, ◌+◌, ◌-◌, ◌<◌, ◌≤◌, Bool, true, false, nat_lt, List, [], ◌∷◌, ◌++◌, length, map, take, drop, get_or, slice_get, slice_set, Some, None, refl, sym, ap, ◌∙◌, subst, arith, rules, add-zero, zero-add, All}
 use Rattle.std.specs.List.{insert, remove}
 use Rattle.packet_edits.specs.Edits.{moved}
 use Rattle.packet_edits.specs.FrameCounts.{AreCounts, count_with, counts_from, flags_from, places_from}

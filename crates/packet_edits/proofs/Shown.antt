@@ -1,5 +1,5 @@
 -- The shown list: its laws, and how an index tells it.
-use Rattle.std.proofs.Common.{◌≡◌, ℕ, suc, zero, ◌+◌, ◌<◌, List, [], ◌∷◌, Bool, true, false, cond, Some, map, length, slice_get, refl, sym, ap, ◌∙◌, arith, add-zero, zero-add}
+use Rattle.std.proofs.Common.{◌≡◌, ℕ, suc, zero, ◌+◌, ◌<◌, List, [], ◌∷◌, Bool, true, false, cond, Option, Some, None, IfSome, map, length, slice_get, refl, sym, ap, ◌∙◌, arith, add-zero, zero-add}
 use Rattle.frame_header.specs.Tags.{is_shown}
 use Rattle.packet_edits.specs.declared.entry.Entry.{Entry}
 use Rattle.packet_edits.specs.FrameCounts.{places_from}
@@ -89,3 +89,7 @@ place_within es n place e =
     let at : place ≡ 0 + l.index = l.at in
     let within = packet_within es l.index l.packet l.here in
     omega (arith, at, within)
+
+pub answer_within : (es : List Entry) (n : ℕ) (answer : Option ℕ) → answer ≡ slice_get (shown_places (map (λ e. e.bytes) es)) n → IfSome answer (λ place. place < length es)
+answer_within es n None told = tt
+answer_within es n (Some place) told = place_within es n place (sym told)

@@ -1,5 +1,5 @@
 -- How many packets are shown up to each place: what a store keeps to find frames by.
-use Rattle.std.specs.Prelude.{◌≡◌, ℕ, ◌+◌, ◌≤◌, Bool, true, false, nat_lt, List, [], ◌∷◌, length, if◌then◌else◌}
+use Rattle.std.specs.Prelude.{◌≡◌, ℕ, ◌+◌, ◌≤◌, Bool, nat_lt, List, [], ◌∷◌, length, if◌then◌else◌}
 
 -- one more where a packet is shown
 abbrev pub count_with : ℕ → Bool → ℕ

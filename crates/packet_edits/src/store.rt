@@ -64,13 +64,13 @@ impl Store {
         self.may_push(&packets)?;
         let len = self.entries.len();
         let next_id = self.next_id + packets.len() as u64;
-        if push_flags(&mut self.shown, &packets).is_err() {
+        let Ok(()) = push_flags(&mut self.shown, &packets) else {
             return Err(EditFault::NoMemory);
-        }
-        if push_entries(&mut self.entries, self.next_id, packets).is_err() {
+        };
+        let Ok(()) = push_entries(&mut self.entries, self.next_id, packets) else {
             self.shown.truncate(len);
             return Err(EditFault::NoMemory);
-        }
+        };
         self.next_id = next_id;
         Ok(())
     }
@@ -85,22 +85,18 @@ impl Store {
     {
         self.may_insert(at)?;
         let place = at as usize;
-        if self
-            .shown
-            .insert(place, is_shown(bytes.as_slice()))
-            .is_err()
-        {
+        let Ok(()) = self.shown.insert(place, is_shown(bytes.as_slice())) else {
             return Err(EditFault::NoMemory);
-        }
+        };
         let entry = Entry {
             id: self.next_id,
             stamp,
             bytes,
         };
-        if self.entries.insert(place, entry).is_err() {
+        let Ok(()) = self.entries.insert(place, entry) else {
             self.shown.remove(place);
             return Err(EditFault::NoMemory);
-        }
+        };
         self.next_id += 1;
         Ok(())
     }
@@ -287,10 +283,10 @@ fn push_entries(entries: &mut Vec<Entry>, first_id: u64, packets: Packets) -> Re
             stamp: packet.stamp,
             bytes: packet.bytes,
         };
-        if entries.push(entry).is_err() {
+        let Ok(()) = entries.push(entry) else {
             entries.truncate(len);
             return Err(NoMemory);
-        }
+        };
         id += 1;
     }
     Ok(())

@@ -1,4 +1,4 @@
-use Rattle.std.proofs.Common.{◌≡◌, length, arith, rules}
+use Rattle.std.proofs.Common.{◌≡◌, length, arith}
 use Rattle.packet_edits.proofs.Risen.{flag_told, length_seen}
 use Rattle.packet_edits.proofs.frame_index.FrameIndex.is_shown.Goals as goal
 

@@ -1,4 +1,4 @@
-use Rattle.std.proofs.Common.{◌≡◌, ◌∙◌, sym, ap, length, arith}
+use Rattle.std.proofs.Common.{arith}
 use Rattle.packet_edits.proofs.Risen.{length_seen}
 use Rattle.packet_edits.proofs.frame_index.FrameIndex.len.Goals as goal
 

@@ -1,4 +1,4 @@
-use Rattle.std.proofs.Common.{◌≡◌, ◌∙◌, false, ap, slice_set}
+use Rattle.std.proofs.Common.{◌∙◌, false, ap, slice_set}
 use Rattle.packet_edits.specs.Edits.{moved}
 use Rattle.packet_edits.proofs.Mapped.{moved_set}
 use Rattle.packet_edits.proofs.frame_index.FrameIndex.move_to.Goals as goal

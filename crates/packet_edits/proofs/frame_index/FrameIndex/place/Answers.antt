@@ -1,4 +1,4 @@
-use Rattle.std.proofs.Common.{◌≡◌, ◌<◌, ◌≤◌, ◌∙◌, ℕ, length, get_or, leb, arith, rules}
+use Rattle.std.proofs.Common.{◌<◌, ◌≤◌, ℕ, length, get_or, leb, arith, rules}
 use Rattle.std.proofs.lemmas.Bool.{leb-true, leb-false}
 use Rattle.std.proofs.lemmas.List.Sorted.{IsPartitionPoint-from_clause, IsPartitionedBy-leb, IsNonDecreasingBy-from_default}
 use Rattle.packet_edits.proofs.Risen.{place_told, none_told, never_falls}
@@ -12,8 +12,8 @@ returns-then-place-len c =
     let point = IsPartitionPoint-from_clause (λ (y : ℕ). leb y c.args.n) counts p (rw c.deref.ensures.value at c.partition_point-place.ensures.partitioned) sorted (λ a r f' k. search rules) in
     let within : p < length counts = search (rules, arith) in
     place_told counts c.args.self.now c.args.n p c.self.invariant c.self.view_is within
-        (λ i less. leb-true (get_or counts i 0) c.args.n (point.0 i 0 (omega arith) less))
-        (leb-false (get_or counts p 0) c.args.n (point.1 p 0 (omega arith) within))
+    (λ i less. leb-true (get_or counts i 0) c.args.n (point.0 i 0 (omega arith) less))
+    (leb-false (get_or counts p 0) c.args.n (point.1 p 0 (omega arith) within))
 
 pub returns-else-place-len : goal.returns-else-place-len
 returns-else-place-len c =
@@ -23,4 +23,4 @@ returns-else-place-len c =
     let point = IsPartitionPoint-from_clause (λ (y : ℕ). leb y c.args.n) counts p (rw c.deref.ensures.value at c.partition_point-place.ensures.partitioned) sorted (λ a r f' k. search rules) in
     let within : length counts ≤ p = search (rules, arith) in
     none_told counts c.args.self.now c.args.n p c.self.invariant c.self.view_is within
-        (λ i less. leb-true (get_or counts i 0) c.args.n (point.0 i 0 (omega arith) less))
+    (λ i less. leb-true (get_or counts i 0) c.args.n (point.0 i 0 (omega arith) less))

@@ -24,7 +24,7 @@ invariant_of-self c =
     let few : length bs ≤ 1048576 = few_flags c.self.inside.counts.items bs c.self.invariant c.self.view_is in
     let long : length (slice_set bs c.args.at true) ≡ length bs = length_set bs c.args.at true in
     are_counts c.raise.new.counts.items (slice_set bs c.args.at true)
-        (after_shown c.self.inside.counts.items c.raise.new.counts.items bs c.args.at c.self.invariant c.self.view_is hidden c.raise.ensures) (omega (arith, few, long))
+    (after_shown c.self.inside.counts.items c.raise.new.counts.items bs c.args.at c.self.invariant c.self.view_is hidden c.raise.ensures) (omega (arith, few, long))
 
 pub returns-then-not-was_shown : goal.returns-then-not-was_shown
 returns-then-not-was_shown c =
@@ -32,7 +32,7 @@ returns-then-not-was_shown c =
     let was : c.is_shown-was_shown.result ≡ false = search rules in
     let hidden : slice_get bs c.args.at ≡ Some false = c.is_shown-was_shown.ensures ∙ ap (λ (b : Bool). Some b) was in
     rw c.if-is_shown.true (seen_flags c.raise.new.counts.items (slice_set bs c.args.at true)
-        (after_shown c.self.inside.counts.items c.raise.new.counts.items bs c.args.at c.self.invariant c.self.view_is hidden c.raise.ensures))
+    (after_shown c.self.inside.counts.items c.raise.new.counts.items bs c.args.at c.self.invariant c.self.view_is hidden c.raise.ensures))
 
 pub returns-else-not-was_shown : goal.returns-else-not-was_shown
 returns-else-not-was_shown c =
@@ -47,7 +47,7 @@ invariant_of-self-then-was_shown c =
     let few : length bs ≤ 1048576 = few_flags c.self.inside.counts.items bs c.self.invariant c.self.view_is in
     let long : length (slice_set bs c.args.at false) ≡ length bs = length_set bs c.args.at false in
     are_counts c.lower.new.counts.items (slice_set bs c.args.at false)
-        (after_hidden c.self.inside.counts.items c.lower.new.counts.items bs c.args.at c.self.invariant c.self.view_is shown c.lower.ensures) (omega (arith, few, long))
+    (after_hidden c.self.inside.counts.items c.lower.new.counts.items bs c.args.at c.self.invariant c.self.view_is shown c.lower.ensures) (omega (arith, few, long))
 
 pub returns-then-was_shown : goal.returns-then-was_shown
 returns-then-was_shown c =
@@ -55,7 +55,7 @@ returns-then-was_shown c =
     let was : c.is_shown-was_shown.result ≡ true = search rules in
     let shown : slice_get bs c.args.at ≡ Some true = c.is_shown-was_shown.ensures ∙ ap (λ (b : Bool). Some b) was in
     rw c.if-is_shown.false (seen_flags c.lower.new.counts.items (slice_set bs c.args.at false)
-        (after_hidden c.self.inside.counts.items c.lower.new.counts.items bs c.args.at c.self.invariant c.self.view_is shown c.lower.ensures))
+    (after_hidden c.self.inside.counts.items c.lower.new.counts.items bs c.args.at c.self.invariant c.self.view_is shown c.lower.ensures))
 
 pub returns-else-was_shown : goal.returns-else-was_shown
 returns-else-was_shown c =

@@ -1,6 +1,5 @@
-use Rattle.std.proofs.Common.{◌≡◌, ◌≤◌, ◌∙◌, ap, sym, length, take, arith}
+use Rattle.std.proofs.Common.{◌∙◌, ap, sym, take, arith}
 use Rattle.packet_edits.proofs.Risen.{are_counts, counts_of_flags, counts_taken, few_flags, length_taken, seen_flags}
-use Rattle.packet_edits.specs.FrameCounts.{counts_from}
 use Rattle.packet_edits.proofs.frame_index.FrameIndex.truncate.Goals as goal
 
 pub invariant_of-self : goal.invariant_of-self
