@@ -126,9 +126,8 @@ impl Store {
         if at >= self.entries.len() as u64 {
             return Err(EditFault::Place);
         }
-        let place = at as usize;
-        self.shown.remove(place);
-        self.entries.remove(place);
+        self.shown.remove(at as usize);
+        self.entries.remove(at as usize);
         Ok(())
     }
 
