@@ -10,7 +10,9 @@ use Rattle.frame_session.specs.declared.refusal.Refusal.TheVariants as refusals
 use Rattle.frame_session.specs.declared.size.Size.{Size}
 use Rattle.frame_session.specs.Decoding.{Outcome}
 use Rattle.frame_session.specs.Gives.{Gives}
-use Rattle.frame_session.specs.Edits.{Listing, edit_of, unless_refused}
+use Rattle.packet_edits.specs.declared.fault.EditFault.TheVariants as faults
+use Rattle.packet_edits.specs.Edits.{Listing}
+use Rattle.frame_session.specs.Edits.{edit_of, unless_refused}
 use Rattle.frame_session.specs.Replies.{refused_line, served_line, ok_line, edit_line, count_line, stats_line}
 use Rattle.frame_session.specs.Sessions.{Now, after_frame, behind_edit, frame_count, frame_from, frame_of, has_size, outcome_of, packet_count}
 use Rattle.frame_session.specs.Answers.{Answer, Answers, Run, answer_to_frame, told}
@@ -73,20 +75,20 @@ full_told = record { gives = refl; enough = refusal_told refusals.Full (λ h. cc
 spent_told : IsTold (Err refusals.Spent)
 spent_told = record { gives = refl; enough = refusal_told refusals.Spent (λ h. cc) }
 
-id_told : (spent : Bool) (count : ℕ) → IsTold (unless_refused (cond spent (Some refusals.Spent) None) count)
+id_told : (spent : Bool) (count : ℕ) → IsTold (unless_refused (cond spent (Some faults.Spent) None) count)
 id_told true count = spent_told
 id_told false count = ok_told count
 
-insertion_told : (outside full spent : Bool) (count : ℕ) → IsTold (unless_refused (cond outside (Some refusals.Place) (cond full (Some refusals.Full) (cond spent (Some refusals.Spent) None))) count)
+insertion_told : (outside full spent : Bool) (count : ℕ) → IsTold (unless_refused (cond outside (Some faults.Place) (cond full (Some faults.Full) (cond spent (Some faults.Spent) None))) count)
 insertion_told true full spent count = place_told
 insertion_told false true spent count = full_told
 insertion_told false false spent count = id_told spent count
 
-replacement_told : (inside spent : Bool) (count : ℕ) → IsTold (unless_refused (cond inside (cond spent (Some refusals.Spent) None) (Some refusals.Place)) count)
+replacement_told : (inside spent : Bool) (count : ℕ) → IsTold (unless_refused (cond inside (cond spent (Some faults.Spent) None) (Some faults.Place)) count)
 replacement_told true spent count = id_told spent count
 replacement_told false spent count = place_told
 
-place_or_told : (inside : Bool) (count : ℕ) → IsTold (unless_refused (cond inside None (Some refusals.Place)) count)
+place_or_told : (inside : Bool) (count : ℕ) → IsTold (unless_refused (cond inside None (Some faults.Place)) count)
 place_or_told true count = ok_told count
 place_or_told false count = place_told
 

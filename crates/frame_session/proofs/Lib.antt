@@ -4,9 +4,6 @@ pub mod Splits
 pub mod Numbers
 pub mod Served
 pub mod Determined
-pub mod Shown
 pub mod Answered
-pub mod Moves
 pub mod HexWords
 pub mod Kept
-pub mod Ids

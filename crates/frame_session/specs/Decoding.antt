@@ -2,7 +2,7 @@
 use Rattle.std.specs.Prelude.{ℕ, ◌+◌, List, [], ◌∷◌, Option, Some, None, Result, Ok, Err, if◌then◌else◌, ◌≡◌}
 use Rattle.vp8_tables.specs.declared.tables.Tables.{Tables}
 use Rattle.frame_header.specs.declared.cause.Cause.{Cause}
-use Rattle.frame_header.specs.Tags.{has_key_tag, is_shown}
+use Rattle.frame_header.specs.Tags.{has_key_tag}
 use Rattle.pixel_planes.specs.Pictures.{PictureSamples}
 use Rattle.reference_frames.specs.declared.states.State.{State}
 use Rattle.reference_frames.specs.Steps.{step_of}
@@ -52,16 +52,6 @@ outcomes_from tables place standing (packet ∷ packets) =
 -- the outcome at each place of a stream
 abbrev pub outcomes : Tables → List (List ℕ) → List Outcome
 outcomes tables packets = outcomes_from tables 0 (Ok None) packets
-
--- the places of the shown packets, of which the first has this place
-abbrev pub shown_from : ℕ → List (List ℕ) → List ℕ
-shown_from place [] = []
-shown_from place (packet ∷ packets) =
-    if is_shown packet then place ∷ shown_from (place + 1) packets else shown_from (place + 1) packets
-
--- the shown list: the places of the packets whose tag has the show bit, and of those under 3 bytes
-abbrev pub shown_places : List (List ℕ) → List ℕ
-shown_places packets = shown_from 0 packets
 
 -- the answer is this outcome, or that there was no memory
 abbrev pub OutcomeAnswers : Outcome → Result (State × PictureSamples) DecodeFault → Type 0

@@ -1,14 +1,14 @@
 -- What the definitions of decoding and of a request list come to, as laws over them.
-use Rattle.std.specs.Prelude.{◌≡◌, ℕ, ◌<◌, ◌≤◌, true, List, [], ◌∷◌, length, Some, None, Err, slice_get}
+use Rattle.std.specs.Prelude.{◌≡◌, ℕ, ◌≤◌, true, List, [], ◌∷◌, length, Some, None, Err, slice_get}
 use Rattle.vp8_tables.specs.declared.tables.Tables.{Tables}
-use Rattle.frame_header.specs.Tags.{has_key_tag, is_shown}
+use Rattle.frame_header.specs.Tags.{has_key_tag}
 use Rattle.reference_frames.specs.Steps.{step_of}
 use Rattle.frame_session.specs.declared.decoding.Broken.{Broken}
 use Rattle.frame_session.specs.declared.lines.Line.{Line}
 use Rattle.frame_session.specs.declared.lines.Line.TheVariants.{Stats}
 use Rattle.frame_session.specs.declared.refusal.Refusal.{Refusal}
 use Rattle.frame_session.specs.declared.refusal.Refusal.TheVariants as refusals
-use Rattle.frame_session.specs.Decoding.{outcomes, shown_places, told_at}
+use Rattle.frame_session.specs.Decoding.{outcomes, told_at}
 use Rattle.frame_session.specs.Replies.{refused_line, stats_line}
 use Rattle.frame_session.specs.Sessions.{Now}
 use Rattle.frame_session.specs.Answers.{Answer, Answers, Run, told}
@@ -27,15 +27,6 @@ BreaksAreNamed = (tables : Tables) (packets : List (List ℕ)) (i : ℕ) (broken
 abbrev pub KeysBeginAnew : Type 0
 KeysBeginAnew = (tables : Tables) (packets : List (List ℕ)) (i : ℕ) (packet : List ℕ) → slice_get packets i ≡ Some packet → has_key_tag packet ≡ true
     → slice_get (outcomes tables packets) i ≡ Some (told_at i (step_of tables None packet))
-
--- the shown list has the places of the shown packets, of each of them and of no other, in their order
-pub record IsShownList : Type 0 where
-  pub each_is_shown : (packets : List (List ℕ)) (n place : ℕ) → slice_get (shown_places packets) n ≡ Some place
-      → (packet : List ℕ) × (slice_get packets place ≡ Some packet) × (is_shown packet ≡ true)
-  pub each_is_listed : (packets : List (List ℕ)) (place : ℕ) (packet : List ℕ) → slice_get packets place ≡ Some packet → is_shown packet ≡ true
-      → (n : ℕ) × (slice_get (shown_places packets) n ≡ Some place)
-  pub ascends : (packets : List (List ℕ)) (n m first later : ℕ) → slice_get (shown_places packets) n ≡ Some first → slice_get (shown_places packets) m ≡ Some later
-      → n < m → first < later
 
 -- no answer tells of want of memory
 abbrev pub HaveMemory : List Answer → Type 0

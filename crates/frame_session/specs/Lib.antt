@@ -7,4 +7,3 @@ pub mod Replies
 pub mod Sessions
 pub mod Answers
 pub mod Laws
-pub mod EditLaws

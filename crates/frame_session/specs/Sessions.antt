@@ -8,8 +8,10 @@ use Rattle.frame_session.specs.declared.refusal.Refusal.{Refusal}
 use Rattle.frame_session.specs.declared.refusal.Refusal.TheVariants as refusals
 use Rattle.frame_session.specs.declared.size.Size.{Size}
 use Rattle.frame_session.specs.declared.edit.Edit.{Edit}
-use Rattle.frame_session.specs.Decoding.{Outcome, outcomes, shown_places}
-use Rattle.frame_session.specs.Edits.{Listing, after_edit, listing_of}
+use Rattle.frame_session.specs.Decoding.{Outcome, outcomes}
+use Rattle.packet_edits.specs.Edits.{Listing, listing_of}
+use Rattle.packet_edits.specs.Shown.{shown_places}
+use Rattle.frame_session.specs.Edits.{after_edit}
 
 -- what the answers to requests depend on: the tables, the file's head, the packet list as it stands, the bytes that
 -- the file had behind its records, the size that the first frame served has fixed, and the number of steps made

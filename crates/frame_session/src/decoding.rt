@@ -1,8 +1,9 @@
-ghost use Rattle.std.specs.Prelude.{◌≡◌, ◌≤◌, ◌<◌, map, length, take, slice_get, Ok, None, Some, IfOk, IfSome, Option};
-ghost use Rattle.frame_session.specs.Decoding.{Outcome, OutcomeAnswers, outcome, outcomes, shown_places, standing_after};
+ghost use Rattle.std.specs.Prelude.{◌≡◌, ◌≤◌, ◌<◌, length, take, slice_get, Ok, None, Some, IfOk, Option};
+ghost use Rattle.packet_edits.specs.Shown.{stream_of};
+ghost use Rattle.frame_session.specs.Decoding.{Outcome, OutcomeAnswers, outcome, outcomes, standing_after};
 
-use crate::entry::Entry;
-use frame_header::{Cause, has_key_tag, is_shown};
+use frame_header::{Cause, has_key_tag};
+use packet_edits::Store;
 use pixel_planes::{NoMemory, Picture};
 use reference_frames::{State, StepFault, step};
 use std::alloc::Global;
@@ -53,26 +54,22 @@ fn outcome(
     }
 }
 
-/// What stands behind packets from the stream's start.
+/// What stands behind the first `count` packets.
 fn standing_behind(
     alloc: Global,
     tables: &Tables,
-    packets: &[Entry],
+    packets: &Store,
+    count: usize,
     steps: &mut u64,
 ) -> Result<Before, NoMemory>
-    ensures stands { IfOk result (λ standing. standing ≡ standing_after tables.now 0 (Ok None) (map (λ p. p.bytes) packets.now)) }
+    requires { count ≤ length packets.now.entries }
+    ensures stands { IfOk result (λ standing. standing ≡ standing_after tables.now 0 (Ok None) (take count (stream_of packets.now))) }
     ensures counted { steps.old ≤ steps.new }
 {
     let mut standing = Ok(None);
-    for (place, packet) in packets.iter().enumerate() {
-        standing = match outcome(
-            alloc,
-            tables,
-            place,
-            &standing,
-            packet.bytes.as_slice(),
-            steps,
-        ) {
+    for place in 0..count {
+        let packet = packets.packet(place);
+        standing = match outcome(alloc, tables, place, &standing, packet, steps) {
             Ok((state, _picture)) => Ok(Some(state)),
             Err(DecodeFault::Refused(broken)) => Err(broken),
             Err(DecodeFault::NoMemory) => return Err(NoMemory),
@@ -86,55 +83,18 @@ fn standing_behind(
 pub fn decode(
     alloc: Global,
     tables: &Tables,
-    packets: &[Entry],
+    packets: &Store,
     place: usize,
     steps: &mut u64,
 ) -> Result<(State, Picture), DecodeFault>
-    requires { place < length packets.now }
-    ensures answers { (want : Outcome) × (slice_get (outcomes tables.now (map (λ p. p.bytes) packets.now)) place ≡ Some want) × OutcomeAnswers want result }
+    requires { place < length packets.now.entries }
+    ensures answers { (want : Outcome) × (slice_get (outcomes tables.now (stream_of packets.now)) place ≡ Some want) × OutcomeAnswers want result }
     ensures counted { steps.old ≤ steps.new }
 {
-    let standing = match standing_behind(alloc, tables, &packets[..place], steps) {
+    let standing = match standing_behind(alloc, tables, packets, place, steps) {
         Ok(standing) => standing,
         Err(_) => return Err(DecodeFault::NoMemory),
     };
-    outcome(
-        alloc,
-        tables,
-        place,
-        &standing,
-        packets[place].bytes.as_slice(),
-        steps,
-    )
-}
-
-/// The place of shown packet `n`, counted from 0, or `None` where fewer are shown. A packet is shown
-/// where its tag has the show bit, or where it is under 3 bytes.
-pub fn shown_place(packets: &[Entry], n: u64) -> Option<usize>
-    ensures within { IfSome result (λ place. place < length packets.now) }
-    ensures place { result ≡ slice_get (shown_places (map (λ p. p.bytes) packets.now)) n }
-{
-    let mut before = 0u64;
-    for (place, packet) in packets.iter().enumerate() {
-        if is_shown(packet.bytes.as_slice()) {
-            if before == n {
-                return Some(place);
-            }
-            before += 1;
-        }
-    }
-    None
-}
-
-/// How many packets are shown.
-pub fn shown_count(packets: &[Entry]) -> u64
-    ensures { result ≡ length (shown_places (map (λ p. p.bytes) packets.now)) }
-{
-    let mut count = 0;
-    for packet in packets {
-        if is_shown(packet.bytes.as_slice()) {
-            count += 1;
-        }
-    }
-    count
+    let packet = packets.packet(place);
+    outcome(alloc, tables, place, &standing, packet, steps)
 }

@@ -1,13 +1,13 @@
 //! Laws over the definitions of this crate: each is the contract of a function that does nothing.
 
 ghost use Rattle.std.specs.Prelude.{◌≡◌, [], ◌∷◌, codes, Ok, Err};
+ghost use Rattle.packet_edits.specs.Laws.{packet, three};
 ghost use Rattle.frame_session.specs.declared.edit.Edit.TheVariants as edits;
 ghost use Rattle.frame_session.specs.declared.lines.Line.TheVariants as requests;
 ghost use Rattle.frame_session.specs.declared.refusal.Refusal.TheVariants as refusals;
-ghost use Rattle.frame_session.specs.EditLaws.{IdsStayOwn, packet, three};
 ghost use Rattle.frame_session.specs.Edits.{edited, edit_of};
 ghost use Rattle.frame_session.specs.Requests.{asked_by};
-ghost use Rattle.frame_session.specs.Laws.{AnswersAreOne, AnswersExist, BreaksAreNamed, EachHasOutcome, IsShownList, KeysBeginAnew, RefusedLinesChangeNothing, StepsNeverFall};
+ghost use Rattle.frame_session.specs.Laws.{AnswersAreOne, AnswersExist, BreaksAreNamed, EachHasOutcome, KeysBeginAnew, RefusedLinesChangeNothing, StepsNeverFall};
 
 /// Each packet of a stream has one outcome.
 pub fn each_has_outcome()
@@ -22,11 +22,6 @@ pub fn breaks_are_named()
 /// The outcome of a packet with a key tag depends on nothing before it.
 pub fn keys_begin_anew()
     ensures { KeysBeginAnew }
-{}
-
-/// The shown list has the places of the shown packets and no other, in their order.
-pub fn shown_list_is_of_shown_packets()
-    ensures { IsShownList }
 {}
 
 /// Each request list has a meaning in which memory is never refused.
@@ -48,11 +43,6 @@ pub fn steps_never_fall()
 /// A refused line changes nothing but the number of steps: neither packets nor ids nor the fixed size.
 pub fn refused_lines_change_nothing()
     ensures { RefusedLinesChangeNothing }
-{}
-
-/// Each packet has an id of its own, whatever is edited.
-pub fn ids_stay_own()
-    ensures { IdsStayOwn }
 {}
 
 /// Each edit of three packets, and refusals in their order.

@@ -4,11 +4,9 @@
 
 mod decoding;
 mod edit;
-mod entry;
 mod hex_text;
 pub mod laws;
 mod lines;
-mod packet_list;
 mod refusal;
 mod replies;
 mod serving;

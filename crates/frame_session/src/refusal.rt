@@ -1,6 +1,7 @@
 ghost use Rattle.std.specs.Prelude.{◌≡◌};
 
 use frame_header::Cause;
+use packet_edits::EditFault;
 use thiserror::Error;
 
 /// Why a request is refused.
@@ -33,7 +34,20 @@ pub enum Refusal {
 }
 
 impl Refusal {
+    ghost use Rattle.frame_session.specs.Edits.{refusal_by};
     ghost use Rattle.frame_session.specs.Replies.{refusal_word};
+
+    /// The refusal of a request whose edit has a fault.
+    pub(crate) fn by(fault: EditFault) -> Refusal
+        ensures { result ≡ refusal_by fault }
+    {
+        match fault {
+            EditFault::Place => Refusal::Place,
+            EditFault::Full => Refusal::Full,
+            EditFault::Spent => Refusal::Spent,
+            EditFault::NoMemory => Refusal::NoMemory,
+        }
+    }
 
     /// The refusal's name; that of `Packet` is `packet`, without its place and cause.
     pub fn word(self) -> &'static str

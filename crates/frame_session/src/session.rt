@@ -3,12 +3,12 @@ ghost use Rattle.frame_session.specs.Gives.{Gives};
 ghost use Rattle.frame_session.specs.Edits.{EditGives, edit_of};
 ghost use Rattle.frame_session.specs.declared.edit.Edit.TheVariants.{Insert, Replace};
 
-use crate::decoding::{DecodeFault, decode, shown_count, shown_place};
-use crate::edit::Edit;
+use crate::decoding::{DecodeFault, decode};
+use crate::edit::{Edit, make_edit};
 use crate::hex_text::Hex;
-use crate::packet_list::PacketList;
 use crate::refusal::Refusal;
 use crate::size::Size;
+use packet_edits::Store;
 use pixel_planes::{NoMemory, Picture};
 use std::alloc::Global;
 use std::marker::Model;
@@ -21,7 +21,7 @@ pub struct Session {
     alloc: Global,
     tables: Tables,
     head: Head,
-    list: PacketList,
+    list: Store,
     spare: u64,
     size: Option<Size>,
     decoded: u64,
@@ -48,11 +48,15 @@ impl Session {
         ensures { IfOk result (λ session. session ≡ start tables file) }
     {
         let _ = capacity;
+        let mut list = Store::starting(alloc, 0);
+        let Ok(()) = list.push_all(file.packets) else {
+            return Err(NoMemory);
+        };
         Ok(Session {
             alloc,
             tables,
             head: file.head,
-            list: PacketList::of_file(alloc, file.packets)?,
+            list,
             spare: file.spare,
             size: None,
             decoded: 0,
@@ -64,17 +68,11 @@ impl Session {
         ensures gives { Gives (frame_of self.old n) result }
         ensures after { IsAfterFrame self.old result self.new }
     {
-        let Some(place) = shown_place(self.list.entries(), n) else {
+        let Some(place) = self.list.shown(n) else {
             return Err(Refusal::NoSuchFrame);
         };
         let mut steps = self.decoded;
-        let answer = decode(
-            self.alloc,
-            &self.tables,
-            self.list.entries(),
-            place,
-            &mut steps,
-        );
+        let answer = decode(self.alloc, &self.tables, &self.list, place, &mut steps);
         self.decoded = steps;
         let picture = match answer {
             Ok((_, picture)) => picture,
@@ -110,7 +108,7 @@ impl Session {
         ensures after { self.new ≡ behind_edit edit self.old result }
         ensures refused { OnErr result (self.new ≡ self.old) }
     {
-        self.list.edit(edit)
+        make_edit(&mut self.list, edit)
     }
 
     /// Puts in a packet of bytes that are made once nothing else is refused.
@@ -123,8 +121,8 @@ impl Session {
         ensures gives { Gives (edit_of self.old.list (Insert at stamp bytes.entry)) result }
         ensures after { self.new ≡ behind_edit (Insert at stamp bytes.entry) self.old result }
     {
-        if let Some(refusal) = self.list.refused_insertion(at) {
-            return Err(refusal);
+        if let Err(fault) = self.list.may_insert(at) {
+            return Err(Refusal::by(fault));
         }
         match bytes.read(self.alloc) {
             Ok(bytes) => self.edit(Edit::Insert { at, stamp, bytes }),
@@ -137,8 +135,8 @@ impl Session {
         ensures gives { Gives (edit_of self.old.list (Replace at bytes.entry)) result }
         ensures after { self.new ≡ behind_edit (Replace at bytes.entry) self.old result }
     {
-        if let Some(refusal) = self.list.refused_replacement(at) {
-            return Err(refusal);
+        if let Err(fault) = self.list.may_replace(at) {
+            return Err(Refusal::by(fault));
         }
         match bytes.read(self.alloc) {
             Ok(bytes) => self.edit(Edit::Replace { at, bytes }),
@@ -151,7 +149,7 @@ impl Session {
         ensures packets { result.0 ≡ packet_count self.now }
         ensures frames { result.1 ≡ frame_count self.now }
     {
-        (self.list.count(), shown_count(self.list.entries()))
+        (self.list.len() as u64, self.list.frames() as u64)
     }
 
     /// How many steps of decoding were made, whatever they answered; at most 18,446,744,073,709,551,615.

@@ -1,22 +1,20 @@
-use Rattle.std.proofs.Common.{◌≡◌, ℕ, ◌<◌, List, length, ◌∙◌, ap, sym, subst, arith}
-use Rattle.frame_session.specs.declared.entry.Entry.{Entry}
-use Rattle.frame_session.specs.Decoding.{Outcome, OutcomeAnswers, outcome}
+use Rattle.std.proofs.Common.{◌≡◌, length, Ok, None, arith}
+use Rattle.packet_edits.specs.Shown.{stream_of}
+use Rattle.packet_edits.specs.declared.entry.Entry.{Entry}
+use Rattle.std.proofs.lemmas.List.{length-map}
+use Rattle.frame_session.specs.Decoding.{outcome}
 use Rattle.frame_session.proofs.Outcomes.{outcome_at, outcome_present}
 use Rattle.frame_session.proofs.decoding.decode.Goals as goal
 
 pub returns-clause-answers : goal.returns-clause-answers
-returns-clause-answers c =
-    let within : c.args.place < length c.args.packets.now = omega (arith, c.requires) in
-    let bytes_are : c.as_slice.result.now ≡ c.index-packets-place.result.bytes =
-    c.as_slice.ensures ∙ ap (λ (p : Entry). p.bytes) (sym c.index-packets-place.is) in
-    let Q : Outcome → Type 0 = λ o. OutcomeAnswers o c.outcome.result in (
-      outcome c.args.tables.now c.args.place c.in-Ok.standing c.index-packets-place.result.bytes,
-      outcome_at c.args.tables.now c.args.packets.now c.args.place c.index-packets-place.result c.in-Ok.standing within c.index-packets-place.is c.in-Ok.ensures.stands,
-      subst Q (ap (λ (bs : List ℕ). outcome c.args.tables.now c.args.place c.in-Ok.standing bs) bytes_are) c.outcome.ensures.answers,
-    )
+returns-clause-answers c = (
+  outcome c.args.tables.now c.args.place c.in-Ok.standing c.packet-packet.result.now,
+  outcome_at c.args.tables.now (stream_of c.args.packets.now) c.args.place c.packet-packet.result.now c.in-Ok.standing c.packet-packet.ensures c.in-Ok.ensures.stands,
+  c.outcome.ensures.answers,
+)
 
 pub returns-in-Err-clause-answers : goal.returns-in-Err-clause-answers
 returns-in-Err-clause-answers c =
-    let within : c.args.place < length c.args.packets.now = omega (arith, c.requires) in
-    let some = outcome_present c.args.tables.now c.args.packets.now c.args.place within in
+    let long : length (stream_of c.args.packets.now) ≡ length c.args.packets.now.entries = length-map c.args.packets.now.entries (λ (e : Entry). e.bytes) in
+    let some = outcome_present c.args.tables.now 0 (Ok None) (stream_of c.args.packets.now) c.args.place (omega (arith, long, c.requires)) in
     (some.0, some.1, tt)

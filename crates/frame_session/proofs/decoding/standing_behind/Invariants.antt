@@ -1,9 +1,10 @@
-use Rattle.std.proofs.Common.{◌≡◌, ◌≤◌, map, take, Ok, None}
+use Rattle.std.proofs.Common.{◌≡◌, ◌≤◌, take, Ok, None}
+use Rattle.packet_edits.specs.Shown.{stream_of}
 use Rattle.frame_session.specs.Decoding.{standing_after}
 use Rattle.frame_session.proofs.decoding.standing_behind.Given as goal
 
 abbrev pub invariant-loop-place : goal.invariant-loop-place
 invariant-loop-place l = record {
-  stands : l.standing ≡ standing_after l.tables 0 (Ok None) (take l.place (map (λ p. p.bytes) l.packets));
+  stands : l.standing ≡ standing_after l.tables 0 (Ok None) (take l.place (stream_of l.packets));
   counted : l.initial.steps ≤ l.steps;
 }

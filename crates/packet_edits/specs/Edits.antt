@@ -1,0 +1,99 @@
+-- Edits of the packet list.
+use Rattle.std.specs.Prelude.{ℕ, ◌+◌, ◌-◌, ◌^◌, ◌==◌, ◌&&◌, nat_lt, nat_le, if◌then◌else◌, List, [], ◌∷◌, ◌++◌, length, slice_get, slice_set, Option, Some, None}
+use Rattle.std.specs.List.{insert, remove}
+use Rattle.std.specs.Option.{option_map_or}
+use Rattle.stream_files.specs.declared.packets.Packet.{Packet}
+use Rattle.packet_edits.specs.declared.entry.Entry.{Entry}
+use Rattle.packet_edits.specs.declared.fault.EditFault.{EditFault}
+use Rattle.packet_edits.specs.declared.fault.EditFault.TheVariants.{Place, Full, Spent}
+
+-- a packet list: its packets in their order, and the id that the next packet put in gets
+pub record Listing : Type 0 where
+  pub entries : List Entry
+  pub next_id : ℕ
+
+-- the most packets of a list
+abbrev pub most_packets : ℕ
+most_packets = 1048576
+
+-- the id that is never given
+abbrev pub spent_id : ℕ
+spent_id = 2 ^ 64 - 1
+
+-- packets with ids one after another, from this one on
+abbrev pub numbered : ℕ → List Packet → List Entry
+numbered id [] = []
+numbered id (packet ∷ packets) = record { id = id; stamp = packet.stamp; bytes = packet.bytes } ∷ numbered (id + 1) packets
+
+-- the list of a file's packets
+abbrev pub listing_of : List Packet → Listing
+listing_of packets = record { entries = numbered 0 packets; next_id = length packets }
+
+-- no packets, and the id of the first one put in
+abbrev pub starting : ℕ → Listing
+starting first_id = record { entries = []; next_id = first_id }
+
+-- packets put in at the end, in their order
+abbrev pub pushed : List Packet → Listing → Listing
+pushed packets list = record { entries = list.entries ++ numbered list.next_id packets; next_id = list.next_id + length packets }
+
+-- a packet put in at a place, with the next id
+abbrev pub inserted : ℕ → ℕ → List ℕ → Listing → Listing
+inserted at stamp bytes list = record {
+  entries = insert list.entries at (record { id = list.next_id; stamp = stamp; bytes = bytes });
+  next_id = list.next_id + 1;
+}
+
+-- what is made of the element at a place, and the elements as they stand where there is none
+abbrev pub with_place : {A : Type 0} → ℕ → (A → List A) → List A → List A
+with_place place change xs = option_map_or change (slice_get xs place) xs
+
+-- other bytes for the packet at a place, with the next id; its stamp stays
+abbrev pub replaced : ℕ → List ℕ → Listing → Listing
+replaced at bytes list = record {
+  entries = with_place at (λ entry. slice_set list.entries at (record entry { id = list.next_id; bytes = bytes })) list.entries;
+  next_id = list.next_id + 1;
+}
+
+-- the packet at a place taken out
+abbrev pub deleted : ℕ → Listing → Listing
+deleted at list = record list { entries = remove list.entries at }
+
+-- the element at `from` taken out and put in at place `to` of the shortened list
+abbrev pub moved : {A : Type 0} → ℕ → ℕ → List A → List A
+moved from to xs = with_place from (λ x. insert (remove xs from) to x) xs
+
+-- the packet at `from` taken out and put in at place `to` of the shortened list
+abbrev pub with_move : ℕ → ℕ → Listing → Listing
+with_move from to list = record list { entries = moved from to list.entries }
+
+-- no id is left for another packet
+abbrev pub refused_id : Listing → Option EditFault
+refused_id list = if list.next_id == spent_id then Some Spent else None
+
+-- the first fault of a packet to be put in
+abbrev pub refused_insertion : Listing → ℕ → Option EditFault
+refused_insertion list at =
+    if nat_lt (length list.entries) at then Some Place
+    else if nat_le most_packets (length list.entries) then Some Full
+    else refused_id list
+
+-- the first fault of packets to be put in at the end: they are too many, or one of them would get the id that is never
+-- given
+abbrev pub refused_push : Listing → List Packet → Option EditFault
+refused_push list packets =
+    if nat_lt most_packets (length list.entries + length packets) then Some Full
+    else if nat_lt spent_id (list.next_id + length packets) then Some Spent
+    else None
+
+-- the first fault of a replacement
+abbrev pub refused_replacement : Listing → ℕ → Option EditFault
+refused_replacement list at = if nat_lt at (length list.entries) then refused_id list else Some Place
+
+-- the fault of a deletion
+abbrev pub refused_deletion : Listing → ℕ → Option EditFault
+refused_deletion list at = if nat_lt at (length list.entries) then None else Some Place
+
+-- the fault of a move
+abbrev pub refused_move : Listing → ℕ → ℕ → Option EditFault
+refused_move list from to = if nat_lt from (length list.entries) && nat_lt to (length list.entries) then None else Some Place

@@ -1,0 +1,24 @@
+-- The faults of edits, and answers that may lack memory.
+use Rattle.std.specs.Prelude.{◌≡◌, ℕ, List, codes, Option, Some, None, Result, Ok, Err}
+use Rattle.packet_edits.specs.declared.fault.EditFault.{EditFault}
+use Rattle.packet_edits.specs.declared.fault.EditFault.TheVariants.{Place, Full, Spent, NoMemory}
+
+-- the name of a fault
+abbrev pub edit_fault_word : EditFault → List ℕ
+edit_fault_word Place = codes "Place"
+edit_fault_word Full = codes "Full"
+edit_fault_word Spent = codes "Spent"
+edit_fault_word NoMemory = codes "NoMemory"
+
+-- the answer to an edit that takes no memory: its first fault, if there is one
+abbrev pub unless_refused : Option EditFault → Result (Unit {0}) EditFault
+unless_refused None = Ok tt
+unless_refused (Some fault) = Err fault
+
+-- the answer to an edit that takes memory: its first fault, if there is one; else it may lack memory
+abbrev pub Answers : Option EditFault → Result (Unit {0}) EditFault → Type 0
+Answers first (Ok done) = first ≡ None
+Answers first (Err NoMemory) = first ≡ None
+Answers first (Err Place) = first ≡ Some Place
+Answers first (Err Full) = first ≡ Some Full
+Answers first (Err Spent) = first ≡ Some Spent

@@ -1,0 +1,57 @@
+-- What edits and the shown list come to, as laws over them and on worked lists.
+use Rattle.std.specs.Prelude.{◌≡◌, ℕ, ◌<◌, ◌≤◌, true, List, [], ◌∷◌, length, Some, slice_get}
+use Rattle.frame_header.specs.Tags.{is_shown}
+use Rattle.stream_files.specs.declared.packets.Packet.{Packet}
+use Rattle.packet_edits.specs.declared.entry.Entry.{Entry}
+use Rattle.packet_edits.specs.Edits.{Listing, deleted, inserted, pushed, replaced, starting, with_move}
+use Rattle.packet_edits.specs.Shown.{shown_places}
+
+-- no packet of these has the id
+abbrev pub IsNotAmong : ℕ → List Entry → Type 0
+IsNotAmong id [] = Unit {0}
+IsNotAmong id (entry ∷ entries) = (entry.id ≡ id → ⊥) × IsNotAmong id entries
+
+-- each packet's id is below the next one, and no other packet has it
+abbrev pub HaveOwnIds : ℕ → List Entry → Type 0
+HaveOwnIds next_id [] = Unit {0}
+HaveOwnIds next_id (entry ∷ entries) = (entry.id < next_id) × IsNotAmong entry.id entries × HaveOwnIds next_id entries
+
+-- the packets of a list have ids of their own
+abbrev pub HasOwnIds : Listing → Type 0
+HasOwnIds list = HaveOwnIds list.next_id list.entries
+
+-- what is made of a list leaves its packets ids of their own, and the next id does not fall
+pub record KeepsIdsOwn (change : Listing → Listing) : Type 0 where
+  pub own : (list : Listing) → HasOwnIds list → HasOwnIds (change list)
+  pub rises : (list : Listing) → list.next_id ≤ (change list).next_id
+
+-- packets have ids of their own from the first on, and each edit leaves it so; the next id never falls
+pub record IdsStayOwn : Type 0 where
+  pub at_first : (first_id : ℕ) → HasOwnIds (starting first_id)
+  pub pushes : (packets : List Packet) → KeepsIdsOwn (pushed packets)
+  pub insertions : (at stamp : ℕ) (bytes : List ℕ) → KeepsIdsOwn (inserted at stamp bytes)
+  pub replacements : (at : ℕ) (bytes : List ℕ) → KeepsIdsOwn (replaced at bytes)
+  pub deletions : (at : ℕ) → KeepsIdsOwn (deleted at)
+  pub moves : (from to : ℕ) → KeepsIdsOwn (with_move from to)
+
+-- packets put in at the end are put in one after another
+abbrev pub PushesAreInsertions : Type 0
+PushesAreInsertions = (packet : Packet) (packets : List Packet) (list : Listing)
+    → pushed (packet ∷ packets) list ≡ pushed packets (inserted (length list.entries) packet.stamp packet.bytes list)
+
+-- the shown list has the places of the shown packets, of each of them and of no other, in their order
+pub record IsShownList : Type 0 where
+  pub each_is_shown : (packets : List (List ℕ)) (n place : ℕ) → slice_get (shown_places packets) n ≡ Some place
+      → (packet : List ℕ) × (slice_get packets place ≡ Some packet) × (is_shown packet ≡ true)
+  pub each_is_listed : (packets : List (List ℕ)) (place : ℕ) (packet : List ℕ) → slice_get packets place ≡ Some packet → is_shown packet ≡ true
+      → (n : ℕ) × (slice_get (shown_places packets) n ≡ Some place)
+  pub ascends : (packets : List (List ℕ)) (n m first later : ℕ) → slice_get (shown_places packets) n ≡ Some first → slice_get (shown_places packets) m ≡ Some later
+      → n < m → first < later
+
+-- a packet of one byte
+abbrev pub packet : ℕ → ℕ → ℕ → Entry
+packet id stamp byte = record { id = id; stamp = stamp; bytes = byte ∷ [] }
+
+-- three packets
+abbrev pub three : Listing
+three = record { entries = packet 0 10 65 ∷ packet 1 20 66 ∷ packet 2 30 67 ∷ []; next_id = 3 }

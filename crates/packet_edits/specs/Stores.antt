@@ -1,0 +1,13 @@
+-- What a store keeps up beside its packets.
+use Rattle.std.specs.Prelude.{◌≡◌, ◌≤◌, Bool, List, map, length}
+use Rattle.frame_header.specs.Tags.{is_shown}
+use Rattle.packet_edits.specs.declared.entry.Entry.{Entry}
+
+-- which packets are shown
+abbrev pub flags_of : List Entry → List Bool
+flags_of entries = map (λ entry. is_shown entry.bytes) entries
+
+-- the index tells which packets are shown, and they are not too many
+pub record IsIndexed (entries : List Entry) (flags : List Bool) : Type 0 where
+  pub shown : flags ≡ flags_of entries
+  pub few : length entries ≤ 1048576

@@ -1,0 +1,43 @@
+//! Laws over the definitions of this crate: each is the contract of a function that does nothing.
+
+ghost use Rattle.std.specs.Prelude.{◌≡◌, [], ◌∷◌, None, Some};
+ghost use Rattle.packet_edits.specs.declared.fault.EditFault.TheVariants as faults;
+ghost use Rattle.packet_edits.specs.Edits.{deleted, inserted, pushed, refused_insertion, refused_push, refused_replacement, replaced, starting, with_move};
+ghost use Rattle.packet_edits.specs.Laws.{IdsStayOwn, IsShownList, PushesAreInsertions, packet, three};
+ghost use Rattle.packet_edits.specs.Shown.{shown_places};
+
+/// The shown list has the places of the shown packets and no other, in their order.
+pub fn shown_list_is_of_shown_packets()
+    ensures { IsShownList }
+{}
+
+/// Each packet has an id of its own, whatever is edited.
+pub fn ids_stay_own()
+    ensures { IdsStayOwn }
+{}
+
+/// Packets put in at the end are put in one after another.
+pub fn pushes_are_insertions()
+    ensures { PushesAreInsertions }
+{}
+
+/// Each edit of three packets, and faults in their order.
+pub fn worked_edits()
+    ensures insert { (inserted 1 5 (68 ∷ []) three).entries ≡ packet 0 10 65 ∷ packet 3 5 68 ∷ packet 1 20 66 ∷ packet 2 30 67 ∷ [] }
+    ensures replace { (replaced 1 (68 ∷ []) three).entries ≡ packet 0 10 65 ∷ packet 3 20 68 ∷ packet 2 30 67 ∷ [] }
+    ensures delete { (deleted 1 three).entries ≡ packet 0 10 65 ∷ packet 2 30 67 ∷ [] }
+    ensures move_up { (with_move 0 2 three).entries ≡ packet 1 20 66 ∷ packet 2 30 67 ∷ packet 0 10 65 ∷ [] }
+    ensures move_down { (with_move 2 1 three).entries ≡ packet 0 10 65 ∷ packet 2 30 67 ∷ packet 1 20 66 ∷ [] }
+    ensures stays { (with_move 1 1 three).entries ≡ three.entries }
+    ensures next { (inserted 3 5 [] three).next_id ≡ 4 }
+    ensures accepted { refused_insertion three 3 ≡ None }
+    ensures place { refused_insertion (record three { next_id = 0xFFFF_FFFF_FFFF_FFFF }) 4 ≡ Some faults.Place }
+    ensures spent { refused_replacement (record three { next_id = 0xFFFF_FFFF_FFFF_FFFF }) 2 ≡ Some faults.Spent }
+    ensures last_id { refused_push (record three { next_id = 0xFFFF_FFFF_FFFF_FFFE }) (record { stamp = 0; bytes = [] } ∷ []) ≡ None }
+    ensures one_too_many { refused_push (record three { next_id = 0xFFFF_FFFF_FFFF_FFFE }) (record { stamp = 0; bytes = [] } ∷ record { stamp = 0; bytes = [] } ∷ []) ≡ Some faults.Spent }
+{}
+
+/// A hidden packet between a shown one and an empty one: their tags have the show bit but for the second.
+pub fn worked_shown_list()
+    ensures { shown_places ((0x11 ∷ 0 ∷ 0 ∷ []) ∷ (0x01 ∷ 0 ∷ 0 ∷ []) ∷ [] ∷ []) ≡ 0 ∷ 2 ∷ [] }
+{}

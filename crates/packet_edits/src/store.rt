@@ -1,0 +1,292 @@
+ghost use Rattle.std.specs.Prelude.{◌≡◌, ◌+◌, ◌^◌, ◌++◌, ◌<◌, ◌≤◌, IfSome, Some, is_ok, if◌then◌else◌, length, map, option_map, slice_get};
+ghost use Rattle.frame_header.specs.Tags.{is_shown};
+ghost use Rattle.packet_edits.specs.Edits.{numbered};
+ghost use Rattle.packet_edits.specs.Faults.{Answers, unless_refused};
+
+use crate::entry::Entry;
+use crate::fault::EditFault;
+use crate::frame_index::FrameIndex;
+use crate::moves::move_within;
+use frame_header::is_shown;
+use pixel_planes::NoMemory;
+use std::alloc::Global;
+use std::marker::Model;
+use stream_files::{Bytes, MAX_PACKETS, Packets};
+
+/// The id that is never given.
+const SPENT_ID: u64 = u64::MAX;
+
+/// Packets in the order of the stream, at most 1,048,576, and the id that the next one put in gets.
+///
+/// A refused edit changes nothing. Places are counted from 0. Nothing but `push_all` and `insert`
+/// takes memory.
+#[derive(Drop)]
+pub struct Store {
+    entries: Vec<Entry>,
+    shown: FrameIndex,
+    next_id: u64,
+}
+
+impl Model for Store {
+    ghost use Rattle.packet_edits.specs.Edits.{Listing};
+    ghost use Rattle.packet_edits.specs.Stores.{IsIndexed};
+
+    ghost Value = { Listing };
+
+    ghost view = { λ s. record { entries = s.entries.items; next_id = s.next_id } };
+
+    ghost invariant = { λ s. IsIndexed s.entries.items s.shown };
+}
+
+impl Store {
+    ghost use Rattle.packet_edits.specs.Edits.{deleted, inserted, pushed, refused_deletion, refused_id, refused_insertion, refused_move, refused_push, refused_replacement, replaced, starting, with_move};
+    ghost use Rattle.packet_edits.specs.Shown.{shown_places, stream_of};
+
+    /// No packets; the first one put in gets the id `first_id`. No memory is taken.
+    pub fn starting(alloc: Global, first_id: u64) -> Store
+        ensures { result ≡ starting first_id }
+    {
+        Store {
+            entries: Vec::new(alloc),
+            shown: FrameIndex::new(alloc),
+            next_id: first_id,
+        }
+    }
+
+    /// Puts packets in at the end, in their order.
+    ///
+    /// `Full` where more than 1,048,576 packets would stand, `Spent` where one of them would get the
+    /// id 18,446,744,073,709,551,615, and `NoMemory`, in this order.
+    pub fn push_all(&mut self, packets: Packets) -> Result<(), EditFault>
+        ensures answers { Answers (refused_push self.old packets) result }
+        ensures after { self.new ≡ (if is_ok result then pushed packets self.old else self.old) }
+    {
+        self.may_push(&packets)?;
+        let len = self.entries.len();
+        let next_id = self.next_id + packets.len() as u64;
+        let Ok(()) = push_flags(&mut self.shown, &packets) else {
+            return Err(EditFault::NoMemory);
+        };
+        let Ok(()) = push_entries(&mut self.entries, self.next_id, packets) else {
+            self.shown.truncate(len);
+            return Err(EditFault::NoMemory);
+        };
+        self.next_id = next_id;
+        Ok(())
+    }
+
+    /// Puts a packet in at place `at`, which is at most the number of packets.
+    ///
+    /// `Place`, `Full` where 1,048,576 packets stand, `Spent` where no id is left, and `NoMemory`, in
+    /// this order.
+    pub fn insert(&mut self, at: u64, stamp: u64, bytes: Bytes) -> Result<(), EditFault>
+        ensures answers { Answers (refused_insertion self.old at) result }
+        ensures after { self.new ≡ (if is_ok result then inserted at stamp bytes self.old else self.old) }
+    {
+        self.may_insert(at)?;
+        let place = at as usize;
+        let Ok(()) = self.shown.insert(place, is_shown(bytes.as_slice())) else {
+            return Err(EditFault::NoMemory);
+        };
+        let entry = Entry {
+            id: self.next_id,
+            stamp,
+            bytes,
+        };
+        let Ok(()) = self.entries.insert(place, entry) else {
+            self.shown.remove(place);
+            return Err(EditFault::NoMemory);
+        };
+        self.next_id += 1;
+        Ok(())
+    }
+
+    /// Gives the packet at place `at` other bytes and a new id; its time stamp stays.
+    ///
+    /// `Place` where no packet stands there, and `Spent` where no id is left, in this order.
+    pub fn replace(&mut self, at: u64, bytes: Bytes) -> Result<(), EditFault>
+        ensures told { result ≡ unless_refused (refused_replacement self.old at) }
+        ensures after { self.new ≡ (if is_ok result then replaced at bytes self.old else self.old) }
+    {
+        self.may_replace(at)?;
+        let place = at as usize;
+        self.shown.set(place, is_shown(bytes.as_slice()));
+        let entry = &mut self.entries[place];
+        entry.id = self.next_id;
+        entry.bytes = bytes;
+        self.next_id += 1;
+        Ok(())
+    }
+
+    /// Takes the packet at place `at` out. `Place` where no packet stands there.
+    pub fn delete(&mut self, at: u64) -> Result<(), EditFault>
+        ensures told { result ≡ unless_refused (refused_deletion self.old at) }
+        ensures after { self.new ≡ (if is_ok result then deleted at self.old else self.old) }
+    {
+        if at >= self.entries.len() as u64 {
+            return Err(EditFault::Place);
+        }
+        self.shown.remove(at as usize);
+        self.entries.remove(at as usize);
+        Ok(())
+    }
+
+    /// Takes the packet at place `from` out and puts it in at place `to` of the shortened list. It
+    /// keeps its id. `Place` where no packet stands at one of the two places.
+    pub fn move_to(&mut self, from: u64, to: u64) -> Result<(), EditFault>
+        ensures told { result ≡ unless_refused (refused_move self.old from to) }
+        ensures after { self.new ≡ (if is_ok result then with_move from to self.old else self.old) }
+    {
+        let len = self.entries.len() as u64;
+        if from >= len {
+            return Err(EditFault::Place);
+        }
+        if to >= len {
+            return Err(EditFault::Place);
+        }
+        self.shown.move_to(from as usize, to as usize);
+        move_within(&mut self.entries, from as usize, to as usize);
+        Ok(())
+    }
+
+    /// Why these packets may not be put in at the end: `Full` or `Spent`, in this order.
+    fn may_push(&self, packets: &Packets) -> Result<(), EditFault>
+        ensures { result ≡ unless_refused (refused_push self.now packets.now) }
+    {
+        if MAX_PACKETS - self.entries.len() < packets.len() {
+            Err(EditFault::Full)
+        } else if SPENT_ID - self.next_id < packets.len() as u64 {
+            Err(EditFault::Spent)
+        } else {
+            Ok(())
+        }
+    }
+
+    /// Why no packet may be put in at place `at`: `Place`, `Full` or `Spent`, in this order.
+    pub fn may_insert(&self, at: u64) -> Result<(), EditFault>
+        ensures { result ≡ unless_refused (refused_insertion self.now at) }
+    {
+        if (self.entries.len() as u64) < at {
+            Err(EditFault::Place)
+        } else if self.entries.len() >= MAX_PACKETS {
+            Err(EditFault::Full)
+        } else {
+            self.may_number()
+        }
+    }
+
+    /// Why the packet at place `at` may not be replaced: `Place` or `Spent`, in this order.
+    pub fn may_replace(&self, at: u64) -> Result<(), EditFault>
+        ensures { result ≡ unless_refused (refused_replacement self.now at) }
+    {
+        if at < self.entries.len() as u64 {
+            self.may_number()
+        } else {
+            Err(EditFault::Place)
+        }
+    }
+
+    /// Why no packet may get a new id: `Spent`.
+    fn may_number(&self) -> Result<(), EditFault>
+        ensures { result ≡ unless_refused (refused_id self.now) }
+    {
+        if self.next_id == SPENT_ID {
+            Err(EditFault::Spent)
+        } else {
+            Ok(())
+        }
+    }
+
+    /// How many packets stand, at most 1,048,576.
+    pub fn len(&self) -> usize
+        ensures value { result ≡ length self.now.entries }
+        ensures few { result ≤ 1048576 }
+    {
+        self.entries.len()
+    }
+
+    /// The bytes of the packet at place `i`, where one stands.
+    pub fn packet(&self, i: usize) -> &[u8]
+        requires { i < length self.now.entries }
+        ensures { slice_get (stream_of self.now) i ≡ Some result.now }
+    {
+        self.entries[i].bytes.as_slice()
+    }
+
+    /// The time stamp of the packet at place `i`, where one stands, in units of `scale / rate`
+    /// seconds.
+    pub fn stamp(&self, i: usize) -> u64
+        requires { i < length self.now.entries }
+        ensures { option_map (λ entry. entry.stamp) (slice_get self.now.entries i) ≡ Some result }
+    {
+        self.entries[i].stamp
+    }
+
+    /// The id of the packet at place `i`, where one stands.
+    pub fn id(&self, i: usize) -> u64
+        requires { i < length self.now.entries }
+        ensures { option_map (λ entry. entry.id) (slice_get self.now.entries i) ≡ Some result }
+    {
+        self.entries[i].id
+    }
+
+    /// The place of shown packet `n`, counted from 0, or `None` where fewer are shown. A packet is
+    /// shown where its tag has the show bit, or where it is under 3 bytes (RFC 6386, section 9.1).
+    /// No packet is looked at: it takes about 20 comparisons at most.
+    pub fn shown(&self, n: u64) -> Option<usize>
+        ensures place { result ≡ slice_get (shown_places (stream_of self.now)) n }
+        ensures within { IfSome result (λ place. place < length self.now.entries) }
+    {
+        self.shown.place(n)
+    }
+
+    /// How many packets are shown.
+    pub fn frames(&self) -> usize
+        ensures { result ≡ length (shown_places (stream_of self.now)) }
+    {
+        self.shown.frames()
+    }
+}
+
+/// Puts in, at the end of an index, which of these packets are shown. Where memory is refused nothing
+/// changes.
+fn push_flags(index: &mut FrameIndex, packets: &Packets) -> Result<(), NoMemory>
+    requires { length index.old + length packets.now ≤ 1048576 }
+    ensures { index.new ≡ (if is_ok result then index.old ++ map (λ packet. is_shown packet.bytes) packets.now else index.old) }
+{
+    let len = index.len();
+    for packet in packets.as_slice() {
+        let end = index.len();
+        if index
+            .insert(end, is_shown(packet.bytes.as_slice()))
+            .is_err()
+        {
+            index.truncate(len);
+            return Err(NoMemory);
+        }
+    }
+    Ok(())
+}
+
+/// Puts in these packets at the end of a list, with ids from `first_id` on. Where memory is refused
+/// nothing changes.
+fn push_entries(entries: &mut Vec<Entry>, first_id: u64, packets: Packets) -> Result<(), NoMemory>
+    requires { first_id + length packets < 2 ^ 64 }
+    ensures { entries.new.items ≡ (if is_ok result then entries.old.items ++ numbered first_id packets else entries.old.items) }
+{
+    let len = entries.len();
+    let mut id = first_id;
+    for packet in packets.into_vec() {
+        let entry = Entry {
+            id,
+            stamp: packet.stamp,
+            bytes: packet.bytes,
+        };
+        let Ok(()) = entries.push(entry) else {
+            entries.truncate(len);
+            return Err(NoMemory);
+        };
+        id += 1;
+    }
+    Ok(())
+}

@@ -1,0 +1,240 @@
+use crate::{EditFault, Store};
+use pixel_planes::NoMemory;
+use std::alloc::Global;
+use std::test::Fail;
+use stream_files::{Bytes, Packet, Packets};
+
+/// The last number of 64 bits, which is no packet's id.
+const LAST: u64 = 18_446_744_073_709_551_615;
+
+/// Tags of a shown and of a hidden packet.
+const SHOWN: &[u8] = &[0x11, 0, 0];
+
+const HIDDEN: &[u8] = &[0x01, 0, 0];
+
+fn packets_of(alloc: Global, rows: &[(u64, &[u8])]) -> Result<Packets, NoMemory> {
+    let mut packets = Vec::new(alloc);
+    for (stamp, bytes) in rows {
+        packets.push(Packet {
+            stamp: *stamp,
+            bytes: Bytes::from_slice(alloc, bytes)?,
+        })?;
+    }
+    Ok(Packets::new(packets))
+}
+
+/// `count` packets of no bytes.
+fn empty_packets(alloc: Global, count: usize) -> Result<Packets, NoMemory> {
+    let mut packets = Vec::with_capacity(alloc, count)?;
+    for _ in 0..count {
+        packets.push(Packet {
+            stamp: 0,
+            bytes: Bytes::new(Vec::new(alloc)),
+        })?;
+    }
+    Ok(Packets::new(packets))
+}
+
+/// Whether a store has just these packets, each with its id, its stamp and its bytes.
+fn holds(store: &Store, rows: &[(u64, u64, &[u8])]) -> bool {
+    store.len() == rows.len()
+        && rows.iter().enumerate().all(|(i, (id, stamp, bytes))| {
+            store.id(i) == *id && store.stamp(i) == *stamp && store.packet(i) == *bytes
+        })
+}
+
+/// Whether the packets at these places are shown and no other.
+fn shows(store: &Store, places: &[usize]) -> bool {
+    store.frames() == places.len()
+        && places
+            .iter()
+            .enumerate()
+            .all(|(n, place)| store.shown(n as u64) == Some(*place))
+        && store.shown(places.len() as u64).is_none()
+        && store.shown(LAST).is_none()
+}
+
+#[test]
+fn each_edit(rt: HostRuntime) -> Result<(), Fail> {
+    let alloc = rt.alloc();
+    let mut store = Store::starting(alloc, 0);
+    assert!(rt; holds(&store, &[]) && shows(&store, &[]));
+    let packets = packets_of(alloc, &[(10, b"a"), (20, HIDDEN), (30, SHOWN)])?;
+    assert_eq!(rt; store.push_all(packets), Ok(()));
+    assert!(rt; holds(&store, &[(0, 10, b"a"), (1, 20, HIDDEN), (2, 30, SHOWN)]));
+    assert!(rt; shows(&store, &[0, 2]));
+    assert_eq!(rt;
+        store.insert(1, 15, Bytes::from_slice(alloc, SHOWN)?),
+        Ok(())
+    );
+    assert!(rt;
+        holds(
+            &store,
+            &[
+                (0, 10, b"a"),
+                (3, 15, SHOWN),
+                (1, 20, HIDDEN),
+                (2, 30, SHOWN)
+            ]
+        )
+    );
+    assert!(rt; shows(&store, &[0, 1, 3]));
+    assert_eq!(rt; store.move_to(0, 2), Ok(()));
+    assert!(rt;
+        holds(
+            &store,
+            &[
+                (3, 15, SHOWN),
+                (1, 20, HIDDEN),
+                (0, 10, b"a"),
+                (2, 30, SHOWN)
+            ]
+        )
+    );
+    assert!(rt; shows(&store, &[0, 2, 3]));
+    assert_eq!(rt; store.move_to(3, 0), Ok(()));
+    assert!(rt;
+        holds(
+            &store,
+            &[
+                (2, 30, SHOWN),
+                (3, 15, SHOWN),
+                (1, 20, HIDDEN),
+                (0, 10, b"a")
+            ]
+        )
+    );
+    assert!(rt; shows(&store, &[0, 1, 3]));
+    assert_eq!(rt; store.move_to(2, 1), Ok(()));
+    assert!(rt;
+        holds(
+            &store,
+            &[
+                (2, 30, SHOWN),
+                (1, 20, HIDDEN),
+                (3, 15, SHOWN),
+                (0, 10, b"a")
+            ]
+        )
+    );
+    assert!(rt; shows(&store, &[0, 2, 3]));
+    assert_eq!(rt; store.replace(2, Bytes::from_slice(alloc, HIDDEN)?), Ok(()));
+    assert!(rt;
+        holds(
+            &store,
+            &[
+                (2, 30, SHOWN),
+                (1, 20, HIDDEN),
+                (4, 15, HIDDEN),
+                (0, 10, b"a")
+            ]
+        )
+    );
+    assert!(rt; shows(&store, &[0, 3]));
+    assert_eq!(rt; store.delete(0), Ok(()));
+    assert!(rt; holds(&store, &[(1, 20, HIDDEN), (4, 15, HIDDEN), (0, 10, b"a")]));
+    assert!(rt; shows(&store, &[2]));
+    assert_eq!(rt; store.replace(0, Bytes::from_slice(alloc, b"")?), Ok(()));
+    assert!(rt; holds(&store, &[(5, 20, b""), (4, 15, HIDDEN), (0, 10, b"a")]));
+    assert!(rt; shows(&store, &[0, 2]));
+    Ok(())
+}
+
+#[test]
+fn places_that_do_not_stand(rt: HostRuntime) -> Result<(), Fail> {
+    let alloc = rt.alloc();
+    let mut store = Store::starting(alloc, 0);
+    assert_eq!(rt;
+        store.push_all(packets_of(alloc, &[(10, b"a"), (20, b"b")])?),
+        Ok(())
+    );
+    for at in [3, LAST] {
+        let bytes = Bytes::from_slice(alloc, b"x")?;
+        assert_eq!(rt; store.insert(at, 0, bytes), Err(EditFault::Place));
+    }
+    for at in [2, LAST] {
+        let bytes = Bytes::from_slice(alloc, b"x")?;
+        assert_eq!(rt; store.replace(at, bytes), Err(EditFault::Place));
+        assert_eq!(rt; store.delete(at), Err(EditFault::Place));
+        assert_eq!(rt; store.move_to(at, 0), Err(EditFault::Place));
+        assert_eq!(rt; store.move_to(0, at), Err(EditFault::Place));
+    }
+    assert!(rt; holds(&store, &[(0, 10, b"a"), (1, 20, b"b")]));
+    assert_eq!(rt;
+        store.insert(2, 30, Bytes::from_slice(alloc, b"c")?),
+        Ok(())
+    );
+    assert!(rt; holds(&store, &[(0, 10, b"a"), (1, 20, b"b"), (2, 30, b"c")]));
+    Ok(())
+}
+
+#[test]
+fn ids_that_are_spent(rt: HostRuntime) -> Result<(), Fail> {
+    let alloc = rt.alloc();
+    let mut store = Store::starting(alloc, 18_446_744_073_709_551_614);
+    assert_eq!(rt;
+        store.push_all(empty_packets(alloc, 2)?),
+        Err(EditFault::Spent)
+    );
+    assert_eq!(rt; store.insert(0, 7, Bytes::from_slice(alloc, b"x")?), Ok(()));
+    assert_eq!(rt;
+        store.insert(1, 0, Bytes::from_slice(alloc, b"y")?),
+        Err(EditFault::Spent)
+    );
+    assert_eq!(rt;
+        store.insert(2, 0, Bytes::from_slice(alloc, b"y")?),
+        Err(EditFault::Place)
+    );
+    assert_eq!(rt;
+        store.replace(0, Bytes::from_slice(alloc, b"y")?),
+        Err(EditFault::Spent)
+    );
+    assert_eq!(rt;
+        store.push_all(empty_packets(alloc, 1)?),
+        Err(EditFault::Spent)
+    );
+    assert_eq!(rt; store.push_all(empty_packets(alloc, 0)?), Ok(()));
+    assert!(rt; holds(&store, &[(LAST - 1, 7, b"x")]));
+    assert_eq!(rt; store.delete(0), Ok(()));
+    let mut spent = Store::starting(alloc, LAST);
+    assert_eq!(rt;
+        spent.insert(0, 0, Bytes::from_slice(alloc, b"x")?),
+        Err(EditFault::Spent)
+    );
+    assert!(rt; holds(&spent, &[]));
+    Ok(())
+}
+
+#[test]
+fn the_most_packets(rt: HostRuntime) -> Result<(), Fail> {
+    let alloc = rt.alloc();
+    let mut store = Store::starting(alloc, 0);
+    assert_eq!(rt; store.push_all(empty_packets(alloc, 1_048_576)?), Ok(()));
+    assert_eq!(rt;
+        store.insert(0, 0, Bytes::from_slice(alloc, b"x")?),
+        Err(EditFault::Full)
+    );
+    assert_eq!(rt;
+        store.push_all(empty_packets(alloc, 1)?),
+        Err(EditFault::Full)
+    );
+    let outside = Bytes::from_slice(alloc, b"x")?;
+    assert_eq!(rt; store.insert(1_048_577, 0, outside), Err(EditFault::Place));
+    assert_eq!(rt; store.delete(0), Ok(()));
+    assert_eq!(rt;
+        store.insert(0, 0, Bytes::from_slice(alloc, HIDDEN)?),
+        Ok(())
+    );
+    assert_eq!(rt; store.frames(), 1_048_575);
+    assert_eq!(rt; store.shown(1_048_574), Some(1_048_575));
+    assert_eq!(rt; store.shown(1_048_575), None);
+    Ok(())
+}
+
+#[test]
+fn words(rt: HostRuntime) {
+    assert_eq!(rt; EditFault::Place.word(), "Place");
+    assert_eq!(rt; EditFault::Full.word(), "Full");
+    assert_eq!(rt; EditFault::Spent.word(), "Spent");
+    assert_eq!(rt; EditFault::NoMemory.word(), "NoMemory");
+}
