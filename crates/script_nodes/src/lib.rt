@@ -1,0 +1,16 @@
+//! Scripts: clips that are trimmed, joined, cut and faded, told by frame numbers, and the pictures
+//! that they make.
+#![tactic(auto)]
+
+mod faults;
+mod nodes;
+mod parts;
+mod reading;
+mod scripts;
+mod traces;
+mod words;
+
+pub use faults::{ApplyFault, CropOutside, ScriptFault};
+pub use nodes::{Area, Node, Ramp};
+pub use scripts::Script;
+pub use traces::{Step, Trace};
