@@ -144,15 +144,12 @@ impl Node {
     }
 
     /// How many frames the node has, where `below` tells it of the clips below, that of the source
-    /// first, and none of them has more than `most`, at most 2^62.
-    pub(crate) fn length(&self, below: &[u64], most: u64) -> u64
+    /// first, each at most 2^62.
+    pub(crate) fn length(&self, below: &[u64]) -> u64
         requires uses { uses_below (length below.now) self.now ≡ true }
-        requires most { (k : ℕ) → slice_index below.now k ≤ most }
-        requires room { most ≤ 4611686018427387904 }
-        ensures value { result ≡ node_length below.now self.now }
-        ensures small { result ≤ 2 * most }
+        requires small { (k : ℕ) → slice_index below.now k ≤ 4611686018427387904 }
+        ensures { result ≡ node_length below.now self.now }
     {
-        let _ = most;
         match self {
             Node::Trim {
                 source,

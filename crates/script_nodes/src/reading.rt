@@ -1,5 +1,5 @@
 //! Reads the nodes of a script's text.
-ghost use Rattle.std.specs.Prelude.{◌≡◌, ◌+◌, ◌<◌, ◌≤◌, ◌==◌, List, Ok, None, Some, length, IfOk, IfErr, codes};
+ghost use Rattle.std.specs.Prelude.{◌≡◌, ◌+◌, ◌<◌, ◌≤◌, ◌==◌, List, Ok, None, Some, length, IfOk, IfErr, IfSome};
 ghost use Rattle.std.specs.List.{list_all, slice_split};
 ghost use Rattle.std.specs.Str.{bytes_eq};
 ghost use Rattle.script_nodes.specs.Words.{words_of};
@@ -18,7 +18,8 @@ pub(crate) type Nodes = ArrayVec<Node, 16>;
 
 /// What stands before the first `;` of a text, and what stands behind it where there is one.
 fn cut_part(text: &[u8]) -> (&[u8], Option<&[u8]>)
-    ensures { IsCut text.now result.0.now result.1 }
+    ensures cut { IsCut text.now result.0.now result.1 }
+    ensures shorter { IfSome result.1 (λ rest. length rest.now < length text.now) }
 {
     let (part, behind) = text.split_at(length_before(b';', text));
     match behind {
@@ -40,8 +41,9 @@ fn read_parts(text: &[u8]) -> Result<Nodes, ScriptFault>
     while let Some(text) = left {
         let (part, behind) = cut_part(text);
         let node = read_node(part).ok_or(ScriptFault::Syntax)?;
-        has_more = has_more || nodes.is_full();
-        if !has_more {
+        if nodes.is_full() {
+            has_more = true;
+        } else {
             nodes.push(node);
         }
         left = behind;

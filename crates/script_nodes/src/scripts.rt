@@ -15,9 +15,6 @@ use arrayvec::ArrayVec;
 use std::alloc::Global;
 use std::marker::Model;
 
-/// The most frames that a source has.
-const MOST_FRAMES: u64 = 1_048_576;
-
 /// A script: at most 16 nodes, each of which uses those before it. The last one is served, or the
 /// source where there is none.
 #[derive(Debug, Drop)]
@@ -51,15 +48,15 @@ fn lengths_of(nodes: &[Node], n: u64) -> ArrayVec<u64, 17>
     requires script { IsScript nodes.now }
     requires few { n ≤ 1048576 }
     ensures value { result.items ≡ lengths n nodes.now }
-    ensures small { (k : ℕ) → slice_index result.items k ≤ 68719476736 }
+    ensures first { slice_index result.items 0 ≡ n }
+    ensures long { length result.items ≡ length nodes.now + 1 }
+    ensures given { Given nodes.now result.items }
 {
     let mut found = ArrayVec::new();
     found.push(n);
-    let mut most = MOST_FRAMES;
     for node in nodes {
-        let length = node.length(&found, most);
+        let length = node.length(&found);
         found.push(length);
-        most *= 2;
     }
     found
 }

@@ -1,0 +1,10 @@
+pub mod Splits
+pub mod Numbers
+pub mod Ramps
+pub mod Built
+pub mod TextParts
+pub mod Uses
+pub mod PartsRead
+pub mod Counts
+pub mod Sizes
+pub mod Follows
