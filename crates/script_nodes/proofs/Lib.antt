@@ -8,3 +8,7 @@ pub mod PartsRead
 pub mod Counts
 pub mod Sizes
 pub mod Follows
+pub mod FadedLanes
+pub mod FadedRows
+pub mod PlaneRows
+pub mod Applied

@@ -12,7 +12,7 @@ err_none (Ok x) h = cc
 err_none (Err e) h = refl
 
 -- behind a size that is not there
-none_after : (steps : List Step) → after_steps use_size steps None ≡ None
+pub none_after : (steps : List Step) → after_steps use_size steps None ≡ None
 none_after [] = refl
 none_after (step ∷ steps) = none_after steps
 

@@ -7,4 +7,6 @@ pub mod Frames
 pub mod Shown
 pub mod Traces
 pub mod Scripts
+pub mod Rows
+pub mod Planes
 pub mod Laws

@@ -5,12 +5,16 @@
 mod faults;
 mod nodes;
 mod parts;
+mod pictures;
+mod planes;
 mod reading;
+mod rows;
 mod scripts;
 mod traces;
 mod words;
 
 pub use faults::{ApplyFault, CropOutside, ScriptFault};
 pub use nodes::{Area, Node, Ramp};
+pub use pictures::apply;
 pub use scripts::Script;
 pub use traces::{Step, Trace};
