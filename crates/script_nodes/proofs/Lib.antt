@@ -12,3 +12,5 @@ pub mod FadedLanes
 pub mod FadedRows
 pub mod PlaneRows
 pub mod Applied
+pub mod Followed
+pub mod SameShown

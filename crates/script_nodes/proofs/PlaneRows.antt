@@ -40,13 +40,13 @@ rows_more component width height sample plane y row before below long right =
     }
 
 -- a shown row of a picture is no wider than its plane
-shown_fits : (p : PictureSamples) (component : Component) → IsWholePicture p → side_of component p.width ≤ (plane_of p component).width
+pub shown_fits : (p : PictureSamples) (component : Component) → IsWholePicture p → side_of component p.width ≤ (plane_of p component).width
 shown_fits p Luma whole = omega (arith, side_fits Luma p.width, whole.4.0.0)
 shown_fits p Cb whole = omega (arith, side_fits Cb p.width, whole.4.1.0)
 shown_fits p Cr whole = omega (arith, side_fits Cr p.width, whole.4.2.0)
 
 -- a sample of a shown row
-shown_at : (p : PictureSamples) (component : Component) (x y : ℕ) → IsWholePicture p → x < side_of component p.width → slice_index (shown_row_of p component y) x ≡ sample_at (plane_of p component) x y
+pub shown_at : (p : PictureSamples) (component : Component) (x y : ℕ) → IsWholePicture p → x < side_of component p.width → slice_index (shown_row_of p component y) x ≡ sample_at (plane_of p component) x y
 shown_at p component x y whole inside =
     get_or-take (side_of component p.width) (row_of (plane_of p component) y) x 0 inside
     ∙ sample_of_row (plane_of p component) x y (omega (arith, shown_fits p component whole))

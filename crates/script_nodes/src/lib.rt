@@ -3,6 +3,7 @@
 #![tactic(auto)]
 
 mod faults;
+pub mod laws;
 mod nodes;
 mod parts;
 mod pictures;
@@ -10,6 +11,8 @@ mod planes;
 mod reading;
 mod rows;
 mod scripts;
+#[cfg(test)]
+mod tests;
 mod traces;
 mod words;
 
