@@ -9,6 +9,8 @@ use Rattle.script_nodes.specs.declared.traces.Step.{Step}
 use Rattle.script_nodes.specs.declared.traces.Step.TheVariants.{Cut, Weigh}
 use Rattle.script_nodes.specs.Lengths.{built, lengths}
 use Rattle.script_nodes.specs.Frames.{Origin, origin, with_step, node_frame, frames, script_frame, weight_at, after_steps}
+use Rattle.script_nodes.specs.Scripts.{origin_of}
+use Rattle.script_nodes.specs.Shown.{use_step, IsFollowed}
 use Rattle.script_nodes.proofs.Built.{length-one_more}
 
 module _ {A : Type 0} (made : Step → A → A) (counts : List ℕ) (source : ℕ → A) where
@@ -77,3 +79,9 @@ module _ {A : Type 0} (made : Step → A → A) (counts : List ℕ) (source : �
 
 pub trace_followed : {A : Type 0} (made : Step → A → A) (source : ℕ → A) (n : ℕ) (nodes : List Node) (i : ℕ) → script_frame made source n nodes i ≡ after made (lengths n nodes) source (script_frame with_step origin n nodes i)
 trace_followed made source n nodes i = (all_together made (lengths n nodes) source (source ∷ []) (origin ∷ []) nodes (source_together made (lengths n nodes) source)).same (length nodes) i
+
+-- the same, of an origin that is found by the nodes and the numbers of frames as code holds them
+pub found_followed : (n : ℕ) (nodes a b : List Node) (counts found : List ℕ) (last i frame : ℕ) (steps new : List Step) → new ≡ steps → origin_of frame steps ≡ slice_index_or (frames with_step counts origin b) last origin i → counts ≡ found → found ≡ lengths n a → a ≡ nodes → b ≡ nodes → last ≡ length nodes → IsFollowed n nodes i frame new
+found_followed n nodes a b counts found last i frame steps new pushed is held counted same same' end source =
+    let from : origin_of frame new ≡ script_frame with_step origin n nodes i = ap (origin_of frame) pushed ∙ is ∙ rw (held, counted, same, same', end) refl in
+    trace_followed use_step source n nodes i ∙ ap (λ (o : Origin). after_steps use_step o.steps (source o.frame)) (sym from)

@@ -8,15 +8,12 @@ use Rattle.script_nodes.specs.declared.nodes.Node.TheVariants.{Trim, Splice, Cro
 use Rattle.script_nodes.specs.declared.faults.ScriptFault.TheVariants.{Syntax, Nodes, Reference, Number}
 use Rattle.script_nodes.specs.Nodes.{script_of}
 use Rattle.script_nodes.specs.Lengths.{script_length}
-use Rattle.script_nodes.specs.Frames.{origin, with_step, script_frame, traced, weight_at, after_steps}
-use Rattle.script_nodes.specs.Shown.{Shown, Shows, use_step, weighed}
+use Rattle.script_nodes.specs.Frames.{origin, with_step, script_frame, traced, weight_at}
+use Rattle.script_nodes.specs.Shown.{Shown, Shows, IsFollowed, weighed}
 
 -- a frame of a script is what the steps of its trace make of the source's frame, whatever the source shows
 abbrev pub TracesAreFollowed : Type 0
-TracesAreFollowed =
-    (source : ℕ → Option Shown) (n : ℕ) (nodes : List Node) (i : ℕ) →
-    let from = script_frame with_step origin n nodes i in
-    script_frame use_step source n nodes i ≡ after_steps use_step from.steps (source from.frame)
+TracesAreFollowed = (n : ℕ) (nodes : List Node) (i : ℕ) → let from = script_frame with_step origin n nodes i in IsFollowed n nodes i from.frame from.steps
 
 -- frames 1 and 2 of three, and behind them all three: frame 2 of the five is the source's first
 abbrev pub WorkedSplice : Type 0

@@ -7,7 +7,8 @@ use Rattle.pixel_planes.specs.declared.pictures.Component.TheVariants.{Luma, Cb,
 use Rattle.script_nodes.specs.declared.nodes.Area.{Area}
 use Rattle.script_nodes.specs.declared.traces.Step.{Step}
 use Rattle.script_nodes.specs.declared.traces.Step.TheVariants.{Cut, Weigh}
-use Rattle.script_nodes.specs.Frames.{after_steps}
+use Rattle.script_nodes.specs.declared.nodes.Node.{Node}
+use Rattle.script_nodes.specs.Frames.{script_frame, after_steps}
 
 -- the shown size in luma samples, and the shown sample in each column and row of a component
 pub record Shown : Type 0 where
@@ -74,6 +75,10 @@ use_step step (Some shown) = step_shown step shown
 -- what steps make of a picture, or none where one of them cuts past the size that it meets
 abbrev pub steps_shown : List Step → Shown → Option Shown
 steps_shown steps shown = after_steps use_step steps (Some shown)
+
+-- what frame i of a script shows, where the source of n frames shows this, is what steps make of one of its frames
+abbrev pub IsFollowed : ℕ → List Node → ℕ → ℕ → List Step → Type 0
+IsFollowed n nodes i frame steps = (source : ℕ → Option Shown) → script_frame use_step source n nodes i ≡ after_steps use_step steps (source frame)
 
 -- a size of a picture
 abbrev pub Size : Type 0

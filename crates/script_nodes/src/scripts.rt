@@ -4,6 +4,7 @@ ghost use Rattle.script_nodes.specs.Nodes.{script_of};
 ghost use Rattle.script_nodes.specs.Faults.{RefusesText};
 ghost use Rattle.script_nodes.specs.Lengths.{lengths, script_length};
 ghost use Rattle.script_nodes.specs.Frames.{frames, with_step, origin, traced};
+ghost use Rattle.script_nodes.specs.Shown.{IsFollowed};
 ghost use Rattle.script_nodes.specs.Traces.{IsStep};
 ghost use Rattle.script_nodes.specs.Scripts.{IsScript, Given, origin_of};
 
@@ -134,6 +135,7 @@ impl Script {
         requires { n ≤ 1048576 }
         ensures none { IfNone result (traced n self.now frame ≡ None) }
         ensures some { IfSome result (λ found. traced n self.now frame ≡ Some (origin_of found.0 found.1)) }
+        ensures followed { IfSome result (λ found. IsFollowed n self.now frame found.0 found.1) }
         ensures source { IfSome result (λ found. found.0 < n) }
     {
         let lengths = lengths_of(&self.nodes, n);
