@@ -1,13 +1,13 @@
 -- The numbers of frames of the clips of a script.
-use Rattle.std.specs.Prelude.{slice_index, min}
-use Rattle.std.proofs.Common.{◌≡◌, ℕ, zero, suc, ◌+◌, ◌-◌, ◌*◌, ◌^◌, ◌<◌, ◌≤◌, Bool, true, List, [], ◌∷◌, ◌++◌, length, drop, get_or, refl, sym, ap, ◌∙◌, arith, add-one, length-append, inl, inr}
+use Rattle.std.specs.Prelude.{slice_index}
+use Rattle.std.proofs.Common.{◌≡◌, ℕ, zero, suc, ◌+◌, ◌-◌, ◌*◌, ◌^◌, ◌<◌, ◌≤◌, true, List, [], ◌∷◌, ◌++◌, length, drop, get_or, refl, sym, ap, ◌∙◌, arith, add-one, inl, inr}
 use Rattle.std.proofs.Math.Nat.{pow-succ'}
 use Rattle.std.proofs.Math.Pow.{pow_mono}
 use Rattle.std.proofs.lemmas.Bool.{cases_lt, cases_eq}
 use Rattle.std.proofs.lemmas.List.{get_or_append_left, get_or-append_right, get_or_past, drop_all}
 use Rattle.script_nodes.specs.declared.nodes.Node.{Node}
 use Rattle.script_nodes.specs.declared.nodes.Node.TheVariants.{Trim, Splice, Crop, Fade}
-use Rattle.script_nodes.specs.Nodes.{uses_below, all_use_below}
+use Rattle.script_nodes.specs.Nodes.{all_use_below}
 use Rattle.script_nodes.specs.Lengths.{built, node_length, lengths}
 use Rattle.script_nodes.specs.Scripts.{IsScript, Given}
 use Rattle.script_nodes.proofs.Uses.{all_left}

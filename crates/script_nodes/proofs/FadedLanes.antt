@@ -2,7 +2,7 @@
 use Rattle.std.specs.Prelude.{replicate, slice_index}
 use Rattle.std.proofs.Common.{◌≡◌, ℕ, zero, suc, ◌+◌, ◌-◌, ◌*◌, ◌/◌, ◌%◌, ◌^◌, ◌<◌, ◌≤◌, List, [], ◌∷◌, map, length, get_or, refl, ap, subst, ◌∙◌, arith, w8, Fits}
 use lib.Lanes.{Each1, zip2, chunk}
-use Rattle.std.proofs.Math.Nat.{mul_comm, mul-le-mul_left, mul-le-mul_right}
+use Rattle.std.proofs.Math.Nat.{mul_comm, mul-le-mul_left}
 use Rattle.std.proofs.lemmas.Simd.{length-chunk, get_or-chunk}
 use Rattle.script_nodes.specs.Shown.{weighed}
 

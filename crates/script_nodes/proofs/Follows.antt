@@ -1,7 +1,7 @@
 -- The clips that nodes are, by the clips that they use.
 use Rattle.std.specs.List.{All, list_all}
-use Rattle.std.specs.Prelude.{slice_index, slice_index_or, min, nat_lt, ◌&&◌, if◌then◌else◌}
-use Rattle.std.proofs.Common.{◌≡◌, ℕ, zero, suc, ◌+◌, ◌-◌, ◌^◌, ◌<◌, ◌≤◌, Bool, true, false, cond, List, [], ◌∷◌, ◌++◌, length, get_or, refl, sym, ap, subst, ◌∙◌, arith, inl, inr}
+use Rattle.std.specs.Prelude.{slice_index, slice_index_or, min, nat_lt, if◌then◌else◌}
+use Rattle.std.proofs.Common.{◌≡◌, ℕ, zero, suc, ◌+◌, ◌-◌, ◌^◌, ◌<◌, ◌≤◌, Bool, true, List, [], ◌∷◌, ◌++◌, length, get_or, refl, sym, ap, subst, ◌∙◌, arith}
 use Rattle.std.proofs.lemmas.List.Elements.{All-push}
 use Rattle.std.proofs.lemmas.Bool.{ltb-true, lt-ltb, le-ltb, leb-true, cond-true, cond-false}
 use Rattle.script_nodes.specs.declared.nodes.Node.{Node}
@@ -11,7 +11,7 @@ use Rattle.script_nodes.specs.declared.nodes.Ramp.{Ramp}
 use Rattle.script_nodes.specs.declared.traces.Step.{Step}
 use Rattle.script_nodes.specs.declared.traces.Step.TheVariants.{Cut, Weigh}
 use Rattle.script_nodes.specs.Nodes.{uses_below, all_use_below, has_numbers, is_area}
-use Rattle.script_nodes.specs.Lengths.{built, node_length, lengths}
+use Rattle.script_nodes.specs.Lengths.{node_length, lengths}
 use Rattle.script_nodes.specs.Frames.{Origin, origin, with_step, node_frame, frames, weight_at}
 use Rattle.script_nodes.specs.Traces.{IsStep}
 use Rattle.script_nodes.specs.Scripts.{Given, origin_of}

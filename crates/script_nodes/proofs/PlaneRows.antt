@@ -1,10 +1,10 @@
 -- Planes that are made row by row.
-use Rattle.std.specs.Prelude.{slice_index, slice_range}
-use Rattle.std.proofs.Common.{◌≡◌, ℕ, ◌+◌, ◌-◌, ◌*◌, ◌/◌, ◌<◌, ◌≤◌, true, List, length, take, get_or, refl, sym, ap, ◌∙◌, arith, inl, inr}
+use Rattle.std.specs.Prelude.{slice_index}
+use Rattle.std.proofs.Common.{◌≡◌, ℕ, ◌+◌, ◌*◌, ◌<◌, ◌≤◌, true, List, length, ap, ◌∙◌, arith, inl, inr}
 use Rattle.std.proofs.lemmas.Bool.{cases_eq, leb-true}
 use Rattle.std.proofs.lemmas.List.{get_or-take}
 use Rattle.std.proofs.lemmas.Simd.{length-put_chunk}
-use Rattle.pixel_planes.specs.Samples.{PlaneValue, Samples, IsWhole, sample_at, row_of, with_row_written}
+use Rattle.pixel_planes.specs.Samples.{PlaneValue, sample_at, row_of, with_row_written}
 use Rattle.pixel_planes.specs.Pictures.{PictureSamples, IsWholePicture, macroblocks, side_of, plane_of, shown_row_of}
 use Rattle.pixel_planes.specs.declared.pictures.Component.{Component}
 use Rattle.pixel_planes.specs.declared.pictures.Component.TheVariants.{Luma, Cb, Cr}

@@ -1,6 +1,5 @@
 -- Pictures that show the same.
-use Rattle.std.specs.Prelude.{slice_index}
-use Rattle.std.proofs.Common.{◌≡◌, ℕ, zero, suc, ◌*◌, ◌<◌, ◌≤◌, List, ◌++◌, length, take, refl, sym, ap, ◌∙◌, arith}
+use Rattle.std.proofs.Common.{◌≡◌, ℕ, zero, suc, ◌*◌, ◌<◌, ◌≤◌, length, refl, sym, ap, ◌∙◌, arith}
 use Rattle.std.proofs.lemmas.List.{ext_get_or, length-take-le}
 use Rattle.pixel_planes.specs.Samples.{IsWhole, row_of}
 use Rattle.pixel_planes.specs.Pictures.{PictureSamples, IsWholePicture, macroblocks, side_of, plane_of, shown_row_of, shown_rows, shown_plane}

@@ -1,5 +1,5 @@
 -- The sizes that steps leave.
-use Rattle.std.proofs.Common.{◌≡◌, ℕ, suc, ◌<◌, Option, None, Some, Result, Ok, Err, List, [], ◌∷◌, length, drop, get_or, refl, ap, sym, ◌∙◌}
+use Rattle.std.proofs.Common.{◌≡◌, ℕ, suc, ◌<◌, None, Result, Ok, Err, List, [], ◌∷◌, length, drop, get_or, refl, ap, sym, ◌∙◌}
 use Rattle.std.proofs.Math.Seq.{drop-cons}
 use Rattle.std.specs.Result.{IsErr, result_ok}
 use Rattle.script_nodes.specs.declared.traces.Step.{Step}

@@ -2,7 +2,6 @@
 use Rattle.std.specs.Prelude.{◌≡◌, ℕ, List, codes, Ok, Err}
 use Rattle.script_nodes.specs.declared.faults.ScriptFault.{ScriptFault}
 use Rattle.script_nodes.specs.declared.faults.ScriptFault.TheVariants.{Syntax, Nodes, Reference, Number, NoMemory}
-use Rattle.script_nodes.specs.declared.faults.CropOutside.{CropOutside}
 use Rattle.script_nodes.specs.declared.faults.ApplyFault.{ApplyFault}
 use Rattle.script_nodes.specs.declared.nodes.Node.{Node}
 use Rattle.script_nodes.specs.Nodes.{script_of}

@@ -1,10 +1,10 @@
 -- What the definitions of this crate come to.
-use Rattle.std.specs.Prelude.{◌≡◌, ℕ, ◌+◌, ◌<◌, ◌≤◌, List, [], ◌∷◌, ◌++◌, Option, None, Some, Ok, Err, codes}
+use Rattle.std.specs.Prelude.{◌≡◌, ℕ, ◌+◌, ◌<◌, List, [], ◌∷◌, ◌++◌, None, Some, Ok, Err, codes}
 use Rattle.pixel_planes.specs.Pictures.{PictureSamples, IsWholePicture, shown_plane}
 use Rattle.pixel_planes.specs.declared.pictures.Component.{Component}
 use Rattle.script_nodes.specs.declared.nodes.Ramp.{Ramp}
 use Rattle.script_nodes.specs.declared.nodes.Node.{Node}
-use Rattle.script_nodes.specs.declared.nodes.Node.TheVariants.{Trim, Splice, Crop, Fade}
+use Rattle.script_nodes.specs.declared.nodes.Node.TheVariants.{Trim, Splice}
 use Rattle.script_nodes.specs.declared.faults.ScriptFault.TheVariants.{Syntax, Nodes, Reference, Number}
 use Rattle.script_nodes.specs.Nodes.{script_of}
 use Rattle.script_nodes.specs.Lengths.{script_length}

@@ -5,7 +5,6 @@ use Rattle.std.specs.Borrow.{Bor}
 use Rattle.script_nodes.specs.declared.nodes.Node.{Node}
 use Rattle.script_nodes.specs.declared.faults.ScriptFault.{ScriptFault}
 use Rattle.script_nodes.specs.declared.faults.ScriptFault.TheVariants.{Syntax, Nodes, Reference, Number, NoMemory}
-use Rattle.script_nodes.specs.Nodes.{nodes_by_parts}
 
 -- the parts of what is left of a text, where something is left
 abbrev pub parts_left : Option (Bor (List ℕ)) → List (List ℕ)

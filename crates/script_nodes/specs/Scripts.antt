@@ -1,5 +1,5 @@
 -- What is known of the nodes of a script.
-use Rattle.std.specs.Prelude.{◌≡◌, ℕ, ◌<◌, ◌≤◌, true, List, length, slice_index}
+use Rattle.std.specs.Prelude.{◌≡◌, ℕ, ◌≤◌, true, List, length, slice_index}
 use Rattle.std.specs.List.{list_all}
 use Rattle.script_nodes.specs.declared.nodes.Node.{Node}
 use Rattle.script_nodes.specs.declared.traces.Step.{Step}

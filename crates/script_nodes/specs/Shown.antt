@@ -1,5 +1,5 @@
 -- What a picture shows, and what a step makes of it for each shown sample.
-use Rattle.std.specs.Prelude.{◌≡◌, ℕ, ◌+◌, ◌-◌, ◌*◌, ◌/◌, ◌<◌, ◌≤◌, Bool, ◌&&◌, nat_le, if◌then◌else◌, List, [], ◌∷◌, Option, None, Some}
+use Rattle.std.specs.Prelude.{◌≡◌, ℕ, ◌+◌, ◌-◌, ◌*◌, ◌/◌, ◌<◌, Bool, ◌&&◌, nat_le, if◌then◌else◌, List, Option, None, Some}
 use Rattle.pixel_planes.specs.Samples.{sample_at}
 use Rattle.pixel_planes.specs.Pictures.{PictureSamples, side_of, plane_of}
 use Rattle.pixel_planes.specs.declared.pictures.Component.{Component}

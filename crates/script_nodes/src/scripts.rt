@@ -102,6 +102,15 @@ fn found_in(nodes: &[Node], lengths: &[u64], clip: u64, frame: u64) -> Found
 }
 
 impl Script {
+    /// The script without nodes, which serves the source as it is. It takes no memory.
+    pub fn empty(alloc: Global) -> Script
+        ensures { result ≡ [] }
+    {
+        Script {
+            nodes: Vec::new(alloc),
+        }
+    }
+
     /// The script that a text writes: nodes parted by `;`, or none for `-`.
     ///
     /// The faults come in the order of [`ScriptFault`], each over the whole text, and `NoMemory` only

@@ -16,6 +16,11 @@ const SEVENTEEN: &[u8] = b"trim 0 0 1;trim 0 0 1;trim 0 0 1;trim 0 0 1;trim 0 0 
 trim 0 0 1;trim 0 0 1;trim 0 0 1;trim 0 0 1;trim 0 0 1;trim 0 0 1;trim 0 0 1;trim 0 0 1;trim 0 0 1;\
 trim 0 0 1; trim 9 0 1";
 
+/// Seventeen nodes and a word that is none.
+const BROKEN: &[u8] = b"trim 0 0 1;trim 0 0 1;trim 0 0 1;trim 0 0 1;trim 0 0 1;trim 0 0 1;\
+trim 0 0 1;trim 0 0 1;trim 0 0 1;trim 0 0 1;trim 0 0 1;trim 0 0 1;trim 0 0 1;trim 0 0 1;trim 0 0 1;\
+trim 0 0 1;trim 0 0 1;blur 0";
+
 /// The name of the fault of a text, or the number of frames that its script has of three.
 fn parsed(alloc: Global, text: &[u8]) -> (&'static str, u64) {
     match Script::parse(alloc, text) {
@@ -24,7 +29,7 @@ fn parsed(alloc: Global, text: &[u8]) -> (&'static str, u64) {
     }
 }
 
-const TEXTS: [(&[u8], (&str, u64)); 27] = [
+const TEXTS: [(&[u8], (&str, u64)); 29] = [
     (b"-", ("script", 3)),
     (b"  - ", ("script", 3)),
     (SIXTEEN, ("script", 1)),
@@ -38,11 +43,13 @@ const TEXTS: [(&[u8], (&str, u64)); 27] = [
     (b";", ("Syntax", 0)),
     (b"trim 0 0 1;", ("Syntax", 0)),
     (b"-;trim 0 0 1", ("Syntax", 0)),
+    (b"- 1", ("Syntax", 0)),
     (b"blur 0", ("Syntax", 0)),
     (b"trim 0 0", ("Syntax", 0)),
     (b"trim 0 0 1 1", ("Syntax", 0)),
     (b"trim 0 0 +1", ("Syntax", 0)),
     (b"trim 0 0 00000000001", ("Syntax", 0)),
+    (BROKEN, ("Syntax", 0)),
     (SEVENTEEN, ("Nodes", 0)),
     (b"trim 1 0 1", ("Reference", 0)),
     (b"splice 0 2;trim 1 0 4294967296", ("Reference", 0)),
@@ -93,17 +100,17 @@ fn tells_where_frames_come_from(rt: HostRuntime) -> Result<(), Fail> {
     Ok(())
 }
 
-/// Writes 0, 7, 14 and so on, modulo 256.
-fn number(samples: &mut [u8]) {
-    let mut number = 0u8;
+/// Writes this number and those 7, 14 and so on above it, modulo 256.
+fn number(samples: &mut [u8], first: u8) {
+    let mut number = first;
     for sample in samples {
         *sample = number;
         number = number.wrapping_add(7);
     }
 }
 
-/// A picture of this shown width, 1 to 48, and a height of 15, whose coded samples are 0, 7, 14 and
-/// so on in each component.
+/// A picture of this shown width, 1 to 48, and a height of 15. Its coded samples are 0, 7, 14 and so
+/// on, or 1, 8, 15 in the red difference.
 fn numbered(alloc: Global, width: u16) -> Result<Picture, NoMemory>
     requires { (0 < width) × (width ≤ 48) }
 {
@@ -113,9 +120,9 @@ fn numbered(alloc: Global, width: u16) -> Result<Picture, NoMemory>
         cb: Plane::make(alloc, 8 * blocks, 8, 0)?,
         cr: Plane::make(alloc, 8 * blocks, 8, 0)?,
     };
-    number(planes.luma.samples_mut());
-    number(planes.cb.samples_mut());
-    number(planes.cr.samples_mut());
+    number(planes.luma.samples_mut(), 0);
+    number(planes.cb.samples_mut(), 0);
+    number(planes.cr.samples_mut(), 1);
     Picture::share(alloc, planes, width, 15)
 }
 
@@ -215,7 +222,7 @@ fn crops_a_picture(rt: HostRuntime) -> Result<(), Fail> {
         )
     );
     assert!(rt; has_row(&cut, Component::Cb, 0, &[84, 91, 98, 105]));
-    assert!(rt; has_row(&cut, Component::Cr, 1, &[140, 147, 154, 161]));
+    assert!(rt; has_row(&cut, Component::Cr, 1, &[141, 148, 155, 162]));
     let odd = first_frame(rt.alloc(), b"crop 0 2 4 3 3", &picture)?;
     assert!(rt; has_row(&odd, Component::Luma, 2, &[174, 181, 188]));
     assert!(rt; has_row(&odd, Component::Cb, 1, &[175, 182]));

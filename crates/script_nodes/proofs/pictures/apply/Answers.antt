@@ -1,8 +1,7 @@
-use Rattle.std.specs.Prelude.{is_some, IsSome}
-use Rattle.std.proofs.Common.{◌≡◌, true, List, not, ap, sym, subst, ◌∙◌}
-use Rattle.script_nodes.specs.declared.traces.Step.{Step}
+use Rattle.std.specs.Prelude.{is_some}
+use Rattle.std.proofs.Common.{◌≡◌, true, not, ap, ◌∙◌}
 use Rattle.script_nodes.specs.Shown.{steps_size}
-use Rattle.script_nodes.proofs.Applied.{none_shown, size_answered, shown_answered, made_first, made_next, next_size, made_shows}
+use Rattle.script_nodes.proofs.Applied.{none_shown, size_answered, shown_answered, made_first, made_next, next_size}
 use Rattle.script_nodes.proofs.pictures.apply.Goals as goal
 
 pub returns-then-is_err-clause-refused : goal.returns-then-is_err-clause-refused

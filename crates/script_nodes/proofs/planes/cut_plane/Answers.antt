@@ -1,4 +1,4 @@
-use Rattle.std.proofs.Common.{◌≡◌, ◌<◌, ◌∙◌, arith}
+use Rattle.std.proofs.Common.{◌<◌, ◌∙◌, arith}
 use Rattle.pixel_planes.specs.Pictures.{side_of}
 use Rattle.script_nodes.proofs.PlaneRows.{rows_more, row_cut}
 use Rattle.script_nodes.proofs.planes.cut_plane.Goals as goal

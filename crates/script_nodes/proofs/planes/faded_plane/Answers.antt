@@ -1,4 +1,4 @@
-use Rattle.std.proofs.Common.{◌≡◌, ◌<◌, ap, ◌∙◌, arith}
+use Rattle.std.proofs.Common.{◌<◌, ap, ◌∙◌, arith}
 use Rattle.pixel_planes.specs.Pictures.{side_of}
 use Rattle.script_nodes.proofs.PlaneRows.{rows_more, row_faded}
 use Rattle.script_nodes.proofs.planes.faded_plane.Goals as goal

@@ -1,4 +1,3 @@
-use Rattle.std.proofs.Common.{◌≡◌, length}
 use Rattle.script_nodes.specs.Rows.{IsFadedTo}
 use Rattle.script_nodes.proofs.rows.fade_rest.Given as goal
 

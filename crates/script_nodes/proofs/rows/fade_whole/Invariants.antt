@@ -1,4 +1,4 @@
-use Rattle.std.proofs.Common.{◌≡◌, ◌*◌, length}
+use Rattle.std.proofs.Common.{◌*◌}
 use Rattle.script_nodes.specs.Rows.{IsFadedTo}
 use Rattle.script_nodes.proofs.rows.fade_whole.Given as goal
 

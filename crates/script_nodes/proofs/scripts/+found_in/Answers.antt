@@ -1,6 +1,5 @@
-use Rattle.std.proofs.Common.{◌≡◌, ◌<◌, ◌≤◌, length, lit<, ap, sym, ◌∙◌, arith}
+use Rattle.std.proofs.Common.{lit<, ap, sym, ◌∙◌, arith}
 use Rattle.script_nodes.specs.declared.nodes.Node.TheVariants.{Trim, Splice, Crop, Fade}
-use Rattle.script_nodes.specs.Frames.{frames, origin, with_step}
 use Rattle.script_nodes.specs.Scripts.{origin_of}
 use Rattle.script_nodes.proofs.Follows.{IsNode, given_long, source_frame, trim_inside, splice_inside, crop_inside, fade_inside, trim_frame, front_frame, back_frame, crop_frame, fade_frame, numbers_here, step_more, cut_allowed}
 use Rattle.script_nodes.proofs.scripts.+found_in.Goals as goal

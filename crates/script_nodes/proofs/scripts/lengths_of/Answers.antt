@@ -1,5 +1,5 @@
 use Rattle.std.specs.Prelude.{slice_index, slice_index_or}
-use Rattle.std.proofs.Common.{◌≡◌, ◌+◌, ◌≤◌, ℕ, List, [], ◌∷◌, ◌++◌, length, ap, sym, ◌∙◌, arith}
+use Rattle.std.proofs.Common.{◌≡◌, ◌+◌, ◌≤◌, ℕ, List, [], ◌∷◌, ◌++◌, length, ap, ◌∙◌, arith}
 use Rattle.script_nodes.specs.declared.nodes.Node.TheVariants.{Trim}
 use Rattle.script_nodes.specs.Lengths.{node_length}
 use Rattle.script_nodes.proofs.Uses.{all_left}

@@ -1,5 +1,5 @@
-use Rattle.std.proofs.Common.{arith, w16, Fits}
-use Rattle.script_nodes.proofs.Ramps.{RampFacts, ramp_facts, weight_before, weight_behind, weight_between, mixed, mixed_fits}
+use Rattle.std.proofs.Common.{arith}
+use Rattle.script_nodes.proofs.Ramps.{RampFacts, ramp_facts, weight_before, weight_behind, weight_between, mixed}
 use Rattle.script_nodes.proofs.nodes.Ramp.weight.Goals as goal
 
 pub returns-then-frame-self-clause-value : goal.returns-then-frame-self-clause-value

@@ -1,6 +1,4 @@
-use Rattle.std.proofs.Common.{◌≡◌, ap, sym, ◌∙◌}
-use Rattle.script_nodes.specs.declared.traces.Step.{Step}
-use Rattle.script_nodes.specs.Shown.{steps_size}
+use Rattle.std.proofs.Common.{sym, ◌∙◌}
 use Rattle.script_nodes.proofs.Sizes.{err_none, size_refused}
 use Rattle.script_nodes.proofs.traces.Trace.size.Goals as goal
 
