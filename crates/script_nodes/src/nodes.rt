@@ -1,5 +1,5 @@
-ghost use Rattle.std.specs.Prelude.{◌≡◌, ℕ, ◌+◌, ◌-◌, ◌*◌, ◌<◌, ◌≤◌, IsTrue, true, length, slice_index};
-ghost use Rattle.script_nodes.specs.Nodes.{uses_below, has_numbers, is_number, is_place, is_side, is_weight, is_area, is_ramp};
+ghost use Rattle.std.specs.Prelude.{◌≡◌, ℕ, ◌≤◌, true, length, slice_index};
+ghost use Rattle.script_nodes.specs.Nodes.{uses_below, has_numbers, is_place, is_side, is_area, is_ramp};
 ghost use Rattle.script_nodes.specs.Lengths.{node_length};
 ghost use Rattle.script_nodes.specs.Frames.{weight_at};
 

@@ -1,5 +1,5 @@
 //! Makes the planes of a cut and of a faded picture.
-ghost use Rattle.std.specs.Prelude.{◌≡◌, ◌+◌, ◌*◌, ◌<◌, ◌≤◌, true, IfOk};
+ghost use Rattle.std.specs.Prelude.{◌≡◌, ◌<◌, ◌≤◌, true, IfOk};
 ghost use Rattle.pixel_planes.specs.Pictures.{side_of};
 ghost use Rattle.script_nodes.specs.Shown.{is_inside, place_of, black, cut_to, faded_to, shown_in};
 ghost use Rattle.script_nodes.specs.Planes.{block_side, IsCodedPlane, HasRows};
@@ -83,7 +83,7 @@ pub(crate) fn cut_plane(
     requires high { (0 < area.now.height) × (area.now.height ≤ 16383) }
     ensures { IfOk result (HasRows component area.now.width area.now.height ((cut_to area.now (shown_in picture.now)).sample component) (side_of component area.now.height)) }
 {
-    let (_, _) = (picture.width(), picture.height());
+    let _ = picture.width();
     let mut plane = blank(alloc, component, area.width as usize, area.height as usize)?;
     let left = place_of(component, area.x as usize);
     let top = place_of(component, area.y as usize);

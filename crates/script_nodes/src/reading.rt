@@ -1,9 +1,8 @@
 //! Reads the nodes of a script's text.
-ghost use Rattle.std.specs.Prelude.{◌≡◌, ◌+◌, ◌<◌, ◌≤◌, ◌==◌, List, Ok, None, Some, length, IfOk, IfErr, IfSome};
+ghost use Rattle.std.specs.Prelude.{◌≡◌, ◌<◌, ◌≤◌, ◌==◌, Ok, Some, length, IfOk, IfErr, IfSome};
 ghost use Rattle.std.specs.List.{list_all, slice_split};
-ghost use Rattle.std.specs.Str.{bytes_eq};
 ghost use Rattle.script_nodes.specs.Words.{words_of};
-ghost use Rattle.script_nodes.specs.Nodes.{is_dash, node_of, nodes_by_parts, nodes_of, script_of, all_use_below, has_numbers};
+ghost use Rattle.script_nodes.specs.Nodes.{is_dash, nodes_by_parts, nodes_of, script_of, all_use_below, has_numbers};
 ghost use Rattle.script_nodes.specs.Reading.{IsCut, RefusesParts};
 ghost use Rattle.script_nodes.specs.Faults.{RefusesText};
 

@@ -1,5 +1,5 @@
 //! Rows of samples that are copied, and that are faded in lanes.
-ghost use Rattle.std.specs.Prelude.{◌≡◌, ℕ, ◌+◌, ◌*◌, ◌-◌, ◌/◌, ◌<◌, ◌≤◌, length, map, slice_index};
+ghost use Rattle.std.specs.Prelude.{◌≡◌, ℕ, ◌+◌, ◌*◌, ◌/◌, ◌<◌, ◌≤◌, length, slice_index};
 ghost use Rattle.script_nodes.specs.Shown.{weighed};
 ghost use Rattle.script_nodes.specs.Rows.{IsFadedTo};
 

@@ -1,4 +1,4 @@
-ghost use Rattle.std.specs.Prelude.{◌≡◌, ◌+◌, ◌*◌, ◌^◌, ◌<◌, ◌≤◌, ◌++◌, [], ◌∷◌, List, Ok, IfOk, IfErr, IfSome, IfNone, None, Some, ℕ, length, slice_index, slice_index_or};
+ghost use Rattle.std.specs.Prelude.{◌≡◌, ◌+◌, ◌<◌, ◌≤◌, [], List, Ok, IfOk, IfErr, IfSome, IfNone, None, Some, length, slice_index, slice_index_or};
 ghost use Rattle.std.specs.List.{All};
 ghost use Rattle.script_nodes.specs.Nodes.{script_of};
 ghost use Rattle.script_nodes.specs.Faults.{RefusesText};
