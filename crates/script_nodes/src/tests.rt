@@ -97,6 +97,12 @@ fn tells_where_frames_come_from(rt: HostRuntime) -> Result<(), Fail> {
         assert_eq!(rt; trace.size(8, 12), Ok((2, 2)));
         assert_eq!(rt; trace.size(7, 12), Err(CropOutside));
     }
+    let faded = Script::parse(rt.alloc(), b"trim 0 1 2; fade 1 0 2 256 0")?;
+    for (source, trace) in faded.trace(3, 0) {
+        assert_eq!(rt; source, 1);
+        assert!(rt; trace.steps() == [Step::Weigh(256)].as_slice());
+    }
+    assert_eq!(rt; Script::empty(rt.alloc()).length(3), 3);
     Ok(())
 }
 
@@ -223,6 +229,8 @@ fn crops_a_picture(rt: HostRuntime) -> Result<(), Fail> {
     );
     assert!(rt; has_row(&cut, Component::Cb, 0, &[84, 91, 98, 105]));
     assert!(rt; has_row(&cut, Component::Cr, 1, &[141, 148, 155, 162]));
+    let twice = first_frame(rt.alloc(), b"crop 0 2 4 10 8; crop 1 2 2 3 3", &picture)?;
+    assert!(rt; has_row(&twice, Component::Luma, 2, &[156, 163, 170]));
     let odd = first_frame(rt.alloc(), b"crop 0 2 4 3 3", &picture)?;
     assert!(rt; has_row(&odd, Component::Luma, 2, &[174, 181, 188]));
     assert!(rt; has_row(&odd, Component::Cb, 1, &[175, 182]));
