@@ -1,0 +1,34 @@
+#!/bin/sh
+# Times a fade beside memcpy. README.md says more.
+set -eu
+here=$(cd "$(dirname "$0")" && pwd)
+kit=$(dirname "$(rt doc | head -n 1)")
+room=$(mktemp -d)
+trap 'rm -rf "$room"' EXIT
+
+for crate in pixel_planes script_nodes; do
+    mkdir -p "$room/crates/$crate"
+    for part in src specs proofs; do
+        cp -r "$here/../crates/$crate/$part" "$room/crates/$crate"
+    done
+done
+mkdir -p "$room/crates/fade_times/src"
+sed -i 's/^pub use pictures::apply;/&\npub use rows::fade_row;/' "$room/crates/script_nodes/src/lib.rt"
+sed -i 's/pub(crate) fn fade_row/pub fn fade_row/' "$room/crates/script_nodes/src/rows.rt"
+printf 'pixel_planes:\nscript_nodes: pixel_planes arrayvec thiserror\nfade_times staticlib: script_nodes\n' > "$room/crates.txt"
+cat > "$room/crates/fade_times/src/lib.rt" <<'END'
+#![tactic(auto)]
+
+use script_nodes::fade_row;
+
+#[unsafe(no_mangle)]
+pub extern "C" fn fade(row: &[u8; 1920], weight: u16, dark: u8, out: &mut [u8; 1920]) {
+    if weight <= 256 {
+        fade_row(row, weight, dark, out);
+    }
+}
+END
+(cd "$room/crates/fade_times" && rt lib --jobs 1 < /dev/null) > "$room/build.log" 2>&1 || { tail -n 20 "$room/build.log"; exit 1; }
+rustc -O --edition 2024 -C target-cpu=x86-64-v2 -o "$room/fade" "$here/fade.rs" \
+    -L "$room/crates/fade_times/out" -l static=fade_times -L "$kit/c" -l static=libc_c
+"$room/fade"

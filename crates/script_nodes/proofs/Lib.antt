@@ -1,0 +1,16 @@
+pub mod Splits
+pub mod Numbers
+pub mod Ramps
+pub mod Built
+pub mod TextParts
+pub mod Uses
+pub mod PartsRead
+pub mod Counts
+pub mod Sizes
+pub mod Follows
+pub mod FadedLanes
+pub mod FadedRows
+pub mod PlaneRows
+pub mod Applied
+pub mod Followed
+pub mod SameShown

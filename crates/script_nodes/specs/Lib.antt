@@ -1,0 +1,12 @@
+pub mod Words
+pub mod Nodes
+pub mod Faults
+pub mod Reading
+pub mod Lengths
+pub mod Frames
+pub mod Shown
+pub mod Traces
+pub mod Scripts
+pub mod Rows
+pub mod Planes
+pub mod Laws

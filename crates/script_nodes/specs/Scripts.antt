@@ -1,0 +1,24 @@
+-- What is known of the nodes of a script.
+use Rattle.std.specs.Prelude.{◌≡◌, ℕ, ◌≤◌, true, List, length, slice_index}
+use Rattle.std.specs.List.{list_all}
+use Rattle.script_nodes.specs.declared.nodes.Node.{Node}
+use Rattle.script_nodes.specs.declared.traces.Step.{Step}
+use Rattle.script_nodes.specs.Nodes.{all_use_below, has_numbers}
+use Rattle.script_nodes.specs.Lengths.{lengths}
+use Rattle.script_nodes.specs.Frames.{Origin}
+
+-- at most 16 nodes, each of which uses those before it, with numbers that are allowed
+pub record IsScript (nodes : List Node) : Type 0 where
+  pub few : length nodes ≤ 16
+  pub below : all_use_below 1 nodes ≡ true
+  pub numbers : list_all has_numbers nodes ≡ true
+
+-- the nodes of a script, and the numbers of frames of its clips, none above 68,719,476,736
+pub record Given (nodes : List Node) (counts : List ℕ) : Type 0 where
+  pub script : IsScript nodes
+  pub counted : counts ≡ lengths (slice_index counts 0) nodes
+  pub small : (k : ℕ) → slice_index counts k ≤ 68719476736
+
+-- a frame of the source and steps as an origin
+abbrev pub origin_of : ℕ → List Step → Origin
+origin_of frame steps = record { frame = frame; steps = steps }

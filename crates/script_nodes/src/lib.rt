@@ -1,0 +1,23 @@
+//! Scripts: clips that are trimmed, joined, cut and faded, told by frame numbers, and the pictures
+//! that they make.
+#![tactic(auto)]
+
+mod faults;
+pub mod laws;
+mod nodes;
+mod parts;
+mod pictures;
+mod planes;
+mod reading;
+mod rows;
+mod scripts;
+#[cfg(test)]
+mod tests;
+mod traces;
+mod words;
+
+pub use faults::{ApplyFault, CropOutside, ScriptFault};
+pub use nodes::{Area, Node, Ramp};
+pub use pictures::apply;
+pub use scripts::Script;
+pub use traces::{Step, Trace};

@@ -1,0 +1,163 @@
+ghost use Rattle.std.specs.Prelude.{◌≡◌, ℕ, ◌≤◌, true, length, slice_index};
+ghost use Rattle.script_nodes.specs.Nodes.{uses_below, has_numbers, is_place, is_side, is_area, is_ramp};
+ghost use Rattle.script_nodes.specs.Lengths.{node_length};
+ghost use Rattle.script_nodes.specs.Frames.{weight_at};
+
+/// The largest number that a script may name.
+const MOST_NUMBER: u64 = 4_294_967_295;
+
+/// The greatest side of a picture.
+const MOST_SIDE: u64 = 16_383;
+
+/// The weight of a picture that is not faded.
+pub(crate) const WHOLE: u64 = 256;
+
+/// A part of a picture, in luma samples.
+///
+/// In a script the place is even and at most 4,294,967,295 each way, and the sides are 1 to 16,383.
+#[derive(Clone, Copy, Debug, Default, PartialEq, Eq)]
+pub struct Area {
+    /// The column of its first sample.
+    pub x: u64,
+    /// The row of its first sample.
+    pub y: u64,
+    /// How many columns it has.
+    pub width: u64,
+    /// How many rows it has.
+    pub height: u64,
+}
+
+/// The weights of a fade, in 256ths, over the frames of its clip.
+///
+/// In a script `first` and `count` are at most 4,294,967,295, `count` is not 0, and the weights are
+/// at most 256.
+#[derive(Clone, Copy, Debug, Default, PartialEq, Eq)]
+pub struct Ramp {
+    /// The frame from which on the weight changes.
+    pub first: u64,
+    /// Over how many frames it changes.
+    pub count: u64,
+    /// The weight of the frames before these.
+    pub start: u64,
+    /// The weight of the frames behind these.
+    pub end: u64,
+}
+
+/// A clip that is made of others, which are named by their numbers: 0 is the source, and the nodes
+/// of a script have the numbers from 1 on in their order.
+#[derive(Clone, Copy, Debug, PartialEq, Eq)]
+pub enum Node {
+    /// At most `count` frames of a clip, from frame `first` on.
+    Trim { source: u64, first: u64, count: u64 },
+    /// The frames of one clip, and behind them those of another.
+    Splice { front: u64, back: u64 },
+    /// An area of each frame of a clip.
+    Crop { source: u64, area: Area },
+    /// The frames of a clip, each at its weight and black at the rest.
+    Fade { source: u64, ramp: Ramp },
+}
+
+/// The node by which unused places are filled: it has no frames.
+impl Default for Node {
+    fn default() -> Self {
+        Node::Trim {
+            source: 0,
+            first: 0,
+            count: 0,
+        }
+    }
+}
+
+impl Area {
+    /// Whether a script may name this area.
+    fn is_allowed(&self) -> bool
+        ensures { result ≡ is_area self.now }
+    {
+        is_place(self.x) && is_place(self.y) && is_side(self.width) && is_side(self.height)
+    }
+}
+
+fn is_place(n: u64) -> bool
+    ensures { result ≡ is_place n }
+{
+    n <= MOST_NUMBER && n % 2 == 0
+}
+
+fn is_side(n: u64) -> bool
+    ensures { result ≡ is_side n }
+{
+    0 < n && n <= MOST_SIDE
+}
+
+impl Ramp {
+    /// Whether a script may name this ramp.
+    fn is_allowed(&self) -> bool
+        ensures { result ≡ is_ramp self.now }
+    {
+        self.first <= MOST_NUMBER
+            && self.count <= MOST_NUMBER
+            && 0 < self.count
+            && self.start <= WHOLE
+            && self.end <= WHOLE
+    }
+
+    /// The weight of a frame, 0 to 256, for a ramp that a script may name.
+    pub(crate) fn weight(&self, frame: u64) -> u16
+        requires { is_ramp self.now ≡ true }
+        ensures value { result ≡ weight_at self.now frame }
+        ensures small { result ≤ 256 }
+    {
+        if frame < self.first {
+            return self.start as u16;
+        }
+        let passed = frame - self.first;
+        if passed >= self.count {
+            return self.end as u16;
+        }
+        ((self.start * (self.count - passed) + self.end * passed) / self.count) as u16
+    }
+}
+
+impl Node {
+    /// Whether the node uses clips of numbers below this one alone.
+    pub(crate) fn uses_below(&self, own: u64) -> bool
+        ensures { result ≡ uses_below own self.now }
+    {
+        match self {
+            Node::Trim { source, .. } => *source < own,
+            Node::Splice { front, back } => *front < own && *back < own,
+            Node::Crop { source, .. } => *source < own,
+            Node::Fade { source, .. } => *source < own,
+        }
+    }
+
+    /// Whether the numbers of the node, but for those of clips, are allowed in a script.
+    pub(crate) fn has_numbers(&self) -> bool
+        ensures { result ≡ has_numbers self.now }
+    {
+        match self {
+            Node::Trim { first, count, .. } => *first <= MOST_NUMBER && *count <= MOST_NUMBER,
+            Node::Splice { .. } => true,
+            Node::Crop { area, .. } => area.is_allowed(),
+            Node::Fade { ramp, .. } => ramp.is_allowed(),
+        }
+    }
+
+    /// How many frames the node has, where `below` tells it of the clips below, that of the source
+    /// first, each at most 2^62.
+    pub(crate) fn length(&self, below: &[u64]) -> u64
+        requires uses { uses_below (length below.now) self.now ≡ true }
+        requires small { (k : ℕ) → slice_index below.now k ≤ 4611686018427387904 }
+        ensures { result ≡ node_length below.now self.now }
+    {
+        match self {
+            Node::Trim {
+                source,
+                first,
+                count,
+            } => (*count).min(below[*source as usize].saturating_sub(*first)),
+            Node::Splice { front, back } => below[*front as usize] + below[*back as usize],
+            Node::Crop { source, .. } | Node::Fade { source, .. } => below[*source as usize],
+        }
+    }
+}

@@ -1,0 +1,106 @@
+//! Reads one node of a script's text.
+ghost use Rattle.std.specs.Prelude.{◌≡◌, ℕ, List, Option, None, IfSome, IfNone};
+ghost use Rattle.script_nodes.specs.Words.{words_of};
+ghost use Rattle.script_nodes.specs.Nodes.{with_number, at_end, trim_by, splice_by, crop_by, fade_by, node_of};
+ghost use Rattle.script_nodes.specs.declared.nodes.Node.{Node};
+
+use crate::nodes::{Area, Node, Ramp};
+use crate::words::{next_word, number};
+
+/// The number that the next word writes and what stands behind it, or `None` where there is none.
+fn next_number(text: &[u8]) -> Option<(u64, &[u8])>
+    ensures none { IfNone result ((next : ℕ → List (List ℕ) → Option Node) → with_number next (words_of text.now) ≡ None) }
+    ensures some { IfSome result (λ found. (next : ℕ → List (List ℕ) → Option Node) → with_number next (words_of text.now) ≡ next found.0 (words_of found.1.now)) }
+{
+    let (word, rest) = next_word(text)?;
+    match number(word) {
+        Some(n) => Some((n, rest)),
+        None => None,
+    }
+}
+
+/// The node, where no word is left.
+fn ended(node: Node, rest: &[u8]) -> Option<Node>
+    ensures { result ≡ at_end node (words_of rest.now) }
+{
+    match next_word(rest) {
+        None => Some(node),
+        Some(_) => None,
+    }
+}
+
+fn trim_node(words: &[u8]) -> Option<Node>
+    ensures { result ≡ trim_by (words_of words.now) }
+{
+    let (source, rest) = next_number(words)?;
+    let (first, rest) = next_number(rest)?;
+    let (count, rest) = next_number(rest)?;
+    ended(
+        Node::Trim {
+            source,
+            first,
+            count,
+        },
+        rest,
+    )
+}
+
+fn splice_node(words: &[u8]) -> Option<Node>
+    ensures { result ≡ splice_by (words_of words.now) }
+{
+    let (front, rest) = next_number(words)?;
+    let (back, rest) = next_number(rest)?;
+    ended(Node::Splice { front, back }, rest)
+}
+
+fn crop_node(words: &[u8]) -> Option<Node>
+    ensures { result ≡ crop_by (words_of words.now) }
+{
+    let (source, rest) = next_number(words)?;
+    let (x, rest) = next_number(rest)?;
+    let (y, rest) = next_number(rest)?;
+    let (width, rest) = next_number(rest)?;
+    let (height, rest) = next_number(rest)?;
+    let area = Area {
+        x,
+        y,
+        width,
+        height,
+    };
+    ended(Node::Crop { source, area }, rest)
+}
+
+fn fade_node(words: &[u8]) -> Option<Node>
+    ensures { result ≡ fade_by (words_of words.now) }
+{
+    let (source, rest) = next_number(words)?;
+    let (first, rest) = next_number(rest)?;
+    let (count, rest) = next_number(rest)?;
+    let (start, rest) = next_number(rest)?;
+    let (end, rest) = next_number(rest)?;
+    let ramp = Ramp {
+        first,
+        count,
+        start,
+        end,
+    };
+    ended(Node::Fade { source, ramp }, rest)
+}
+
+/// The node that a text writes, or `None` where it writes none.
+pub(crate) fn read_node(text: &[u8]) -> Option<Node>
+    ensures { result ≡ node_of text.now }
+{
+    let (name, words) = next_word(text)?;
+    if name == b"trim".as_slice() {
+        trim_node(words)
+    } else if name == b"splice".as_slice() {
+        splice_node(words)
+    } else if name == b"crop".as_slice() {
+        crop_node(words)
+    } else if name == b"fade".as_slice() {
+        fade_node(words)
+    } else {
+        None
+    }
+}

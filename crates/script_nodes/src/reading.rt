@@ -1,0 +1,111 @@
+//! Reads the nodes of a script's text.
+ghost use Rattle.std.specs.Prelude.{◌≡◌, ◌<◌, ◌≤◌, ◌==◌, Ok, Some, length, IfOk, IfErr, IfSome};
+ghost use Rattle.std.specs.List.{list_all, slice_split};
+ghost use Rattle.script_nodes.specs.Words.{words_of};
+ghost use Rattle.script_nodes.specs.Nodes.{is_dash, nodes_by_parts, nodes_of, script_of, all_use_below, has_numbers};
+ghost use Rattle.script_nodes.specs.Reading.{IsCut, RefusesParts};
+ghost use Rattle.script_nodes.specs.Faults.{RefusesText};
+
+use crate::faults::ScriptFault;
+use crate::nodes::Node;
+use crate::parts::read_node;
+use crate::words::{length_before, next_word};
+use arrayvec::ArrayVec;
+
+/// The nodes of a script.
+pub(crate) type Nodes = ArrayVec<Node, 16>;
+
+/// What stands before the first `;` of a text, and what stands behind it where there is one.
+fn cut_part(text: &[u8]) -> (&[u8], Option<&[u8]>)
+    ensures cut { IsCut text.now result.0.now result.1 }
+    ensures shorter { IfSome result.1 (λ rest. length rest.now < length text.now) }
+{
+    let (part, behind) = text.split_at(length_before(b';', text));
+    match behind {
+        [_, rest @ ..] => (part, Some(rest)),
+        [] => (part, None),
+    }
+}
+
+/// The nodes that the parts of a text write, those between `;`.
+///
+/// `Syntax` where a part writes no node, and else `Nodes` where there are more than 16 parts.
+fn read_parts(text: &[u8]) -> Result<Nodes, ScriptFault>
+    ensures value { IfOk result (λ nodes. nodes_by_parts (slice_split (λ b. b == 59) text.now) ≡ Some nodes.items) }
+    ensures refused { IfErr result (RefusesParts (nodes_by_parts (slice_split (λ b. b == 59) text.now))) }
+{
+    let mut nodes = Nodes::new();
+    let mut has_more = false;
+    let mut left = Some(text);
+    while let Some(text) = left {
+        let (part, behind) = cut_part(text);
+        let node = read_node(part).ok_or(ScriptFault::Syntax)?;
+        if nodes.is_full() {
+            has_more = true;
+        } else {
+            nodes.push(node);
+        }
+        left = behind;
+    }
+    if has_more {
+        return Err(ScriptFault::Nodes);
+    }
+    Ok(nodes)
+}
+
+/// Whether the text is the one word `-`.
+fn is_dash(text: &[u8]) -> bool
+    ensures { result ≡ is_dash (words_of text.now) }
+{
+    let Some((word, rest)) = next_word(text) else {
+        return false;
+    };
+    next_word(rest).is_none() && word == b"-".as_slice()
+}
+
+/// The nodes that a text writes: none for `-`, else those of its parts.
+fn read_text(text: &[u8]) -> Result<Nodes, ScriptFault>
+    ensures value { IfOk result (λ nodes. nodes_of text.now ≡ Some nodes.items) }
+    ensures refused { IfErr result (RefusesParts (nodes_of text.now)) }
+{
+    if is_dash(text) {
+        return Ok(Nodes::new());
+    }
+    read_parts(text)
+}
+
+/// Whether each node uses clips of numbers below its own alone.
+fn all_use_below(nodes: &[Node]) -> bool
+    requires { length nodes.now ≤ 16 }
+    ensures { result ≡ all_use_below 1 nodes.now }
+{
+    let mut own = 1;
+    for node in nodes {
+        if !node.uses_below(own) {
+            return false;
+        }
+        own += 1;
+    }
+    true
+}
+
+fn all_have_numbers(nodes: &[Node]) -> bool
+    ensures { result ≡ list_all has_numbers nodes.now }
+{
+    nodes.iter().all(|node| node.has_numbers())
+}
+
+/// The nodes of the script that a text writes, or the first fault against it.
+pub(crate) fn read_script(text: &[u8]) -> Result<Nodes, ScriptFault>
+    ensures value { IfOk result (λ nodes. script_of text.now ≡ Ok nodes.items) }
+    ensures refused { IfErr result (RefusesText text.now) }
+{
+    let nodes = read_text(text)?;
+    if !all_use_below(&nodes) {
+        return Err(ScriptFault::Reference);
+    }
+    if !all_have_numbers(&nodes) {
+        return Err(ScriptFault::Number);
+    }
+    Ok(nodes)
+}

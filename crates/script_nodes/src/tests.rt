@@ -1,0 +1,272 @@
+ghost use Rattle.std.specs.Prelude.{◌≡◌, ◌<◌, ◌≤◌};
+ghost use Rattle.pixel_planes.specs.Pictures.{shown_height};
+
+use crate::{ApplyFault, CropOutside, Script, ScriptFault, Step, apply};
+use pixel_planes::{Component, NoMemory, Picture, Plane, Planes, same};
+use std::alloc::Global;
+use std::test::Fail;
+
+/// Sixteen nodes.
+const SIXTEEN: &[u8] = b"trim 0 0 1;trim 0 0 1;trim 0 0 1;trim 0 0 1;trim 0 0 1;trim 0 0 1;\
+trim 0 0 1;trim 0 0 1;trim 0 0 1;trim 0 0 1;trim 0 0 1;trim 0 0 1;trim 0 0 1;trim 0 0 1;trim 0 0 1;\
+trim 0 0 1";
+
+/// Seventeen nodes.
+const SEVENTEEN: &[u8] = b"trim 0 0 1;trim 0 0 1;trim 0 0 1;trim 0 0 1;trim 0 0 1;trim 0 0 1;\
+trim 0 0 1;trim 0 0 1;trim 0 0 1;trim 0 0 1;trim 0 0 1;trim 0 0 1;trim 0 0 1;trim 0 0 1;trim 0 0 1;\
+trim 0 0 1; trim 9 0 1";
+
+/// Seventeen nodes and a word that is none.
+const BROKEN: &[u8] = b"trim 0 0 1;trim 0 0 1;trim 0 0 1;trim 0 0 1;trim 0 0 1;trim 0 0 1;\
+trim 0 0 1;trim 0 0 1;trim 0 0 1;trim 0 0 1;trim 0 0 1;trim 0 0 1;trim 0 0 1;trim 0 0 1;trim 0 0 1;\
+trim 0 0 1;trim 0 0 1;blur 0";
+
+/// The name of the fault of a text, or the number of frames that its script has of three.
+fn parsed(alloc: Global, text: &[u8]) -> (&'static str, u64) {
+    match Script::parse(alloc, text) {
+        Ok(script) => ("script", script.length(3)),
+        Err(fault) => (fault.word(), 0),
+    }
+}
+
+const TEXTS: [(&[u8], (&str, u64)); 29] = [
+    (b"-", ("script", 3)),
+    (b"  - ", ("script", 3)),
+    (SIXTEEN, ("script", 1)),
+    (b"trim 0 1 2; splice 1 0", ("script", 5)),
+    (b"  trim  0  1  9  ;splice 1 1 ", ("script", 4)),
+    (b"trim 0 3 1", ("script", 0)),
+    (b"trim 0 4294967295 4294967295", ("script", 0)),
+    (b"crop 0 4294967294 0 16383 16383", ("script", 3)),
+    (b"fade 0 0 1 0 256;trim 1 0 2", ("script", 2)),
+    (b"", ("Syntax", 0)),
+    (b";", ("Syntax", 0)),
+    (b"trim 0 0 1;", ("Syntax", 0)),
+    (b"-;trim 0 0 1", ("Syntax", 0)),
+    (b"- 1", ("Syntax", 0)),
+    (b"blur 0", ("Syntax", 0)),
+    (b"trim 0 0", ("Syntax", 0)),
+    (b"trim 0 0 1 1", ("Syntax", 0)),
+    (b"trim 0 0 +1", ("Syntax", 0)),
+    (b"trim 0 0 00000000001", ("Syntax", 0)),
+    (BROKEN, ("Syntax", 0)),
+    (SEVENTEEN, ("Nodes", 0)),
+    (b"trim 1 0 1", ("Reference", 0)),
+    (b"splice 0 2;trim 1 0 4294967296", ("Reference", 0)),
+    (b"crop 0 1 0 4 4", ("Number", 0)),
+    (b"crop 0 0 0 0 4", ("Number", 0)),
+    (b"crop 0 0 0 4 16384", ("Number", 0)),
+    (b"trim 0 4294967296 1", ("Number", 0)),
+    (b"fade 0 0 0 0 0", ("Number", 0)),
+    (b"fade 0 0 1 0 257", ("Number", 0)),
+];
+
+#[test]
+fn reads_each_text(rt: HostRuntime) {
+    for (text, want) in TEXTS {
+        assert_eq!(rt; parsed(rt.alloc(), text), want, "at {text:?}");
+    }
+}
+
+/// The frame of a source of three that a frame of a script comes from.
+fn source_of(alloc: Global, text: &[u8], frame: u64) -> Result<Option<u64>, ScriptFault> {
+    let script = Script::parse(alloc, text)?;
+    Ok(script.trace(3, frame).map(|found| found.0))
+}
+
+#[test]
+fn tells_where_frames_come_from(rt: HostRuntime) -> Result<(), Fail> {
+    let text = b"trim 0 1 2; splice 1 0".as_slice();
+    for (frame, want) in [
+        (0, Some(1)),
+        (1, Some(2)),
+        (2, Some(0)),
+        (4, Some(2)),
+        (5, None),
+        (u64::MAX, None),
+    ] {
+        assert_eq!(rt; source_of(rt.alloc(), text, frame)?, want, "at {frame}");
+    }
+    let script = Script::parse(
+        rt.alloc(),
+        b"crop 0 2 4 6 8; fade 1 1 2 0 256; crop 2 0 0 2 2",
+    )?;
+    for (_, trace) in script.trace(3, 2) {
+        assert_eq!(rt; trace.steps().len(), 3);
+        assert!(rt; trace.steps().get(1) == Some(&Step::Weigh(128)));
+        assert_eq!(rt; trace.size(8, 12), Ok((2, 2)));
+        assert_eq!(rt; trace.size(7, 12), Err(CropOutside));
+    }
+    let faded = Script::parse(rt.alloc(), b"trim 0 1 2; fade 1 0 2 256 0")?;
+    for (source, trace) in faded.trace(3, 0) {
+        assert_eq!(rt; source, 1);
+        assert!(rt; trace.steps() == [Step::Weigh(256)].as_slice());
+    }
+    assert_eq!(rt; Script::empty(rt.alloc()).length(3), 3);
+    Ok(())
+}
+
+/// Writes this number and those 7, 14 and so on above it, modulo 256.
+fn number(samples: &mut [u8], first: u8) {
+    let mut number = first;
+    for sample in samples {
+        *sample = number;
+        number = number.wrapping_add(7);
+    }
+}
+
+/// A picture of this shown width, 1 to 48, and a height of 15. Its coded samples are 0, 7, 14 and so
+/// on, or 1, 8, 15 in the red difference.
+fn numbered(alloc: Global, width: u16) -> Result<Picture, NoMemory>
+    requires { (0 < width) × (width ≤ 48) }
+{
+    let blocks = usize::from(width.div_ceil(16));
+    let mut planes = Planes {
+        luma: Plane::make(alloc, 16 * blocks, 16, 0)?,
+        cb: Plane::make(alloc, 8 * blocks, 8, 0)?,
+        cr: Plane::make(alloc, 8 * blocks, 8, 0)?,
+    };
+    number(planes.luma.samples_mut(), 0);
+    number(planes.cb.samples_mut(), 0);
+    number(planes.cr.samples_mut(), 1);
+    Picture::share(alloc, planes, width, 15)
+}
+
+/// What a script makes of its first frame.
+fn first_frame(alloc: Global, text: &[u8], picture: &Picture) -> Result<Picture, Fail> {
+    let script = Script::parse(alloc, text)?;
+    let (_, trace) = script.trace(1, 0).ok_or("no frame")?;
+    Ok(apply(alloc, picture, &trace)?)
+}
+
+const COMPONENTS: [Component; 3] = [Component::Luma, Component::Cb, Component::Cr];
+
+/// How many rows of a component of a picture are shown.
+fn row_count(picture: &Picture, component: Component) -> usize
+    ensures { result ≡ shown_height picture.now component }
+{
+    let height = usize::from(picture.height());
+    match component {
+        Component::Luma => height,
+        Component::Cb | Component::Cr => height.div_ceil(2),
+    }
+}
+
+/// A sample at half its weight and black at the other half, as the formula has it.
+fn half(component: Component, sample: u8) -> u32 {
+    let black = match component {
+        Component::Luma => 16,
+        Component::Cb | Component::Cr => 128,
+    };
+    (128 * u32::from(sample) + (256 - 128) * black + 128) / 256
+}
+
+/// Whether each sample of the row is that of the other at half its weight.
+fn is_half(component: Component, row: &[u8], other: &[u8]) -> bool {
+    row.len() == other.len()
+        && row
+            .iter()
+            .zip(other)
+            .all(|(a, b)| u32::from(*a) == half(component, *b))
+}
+
+/// Whether each shown sample is that of the other picture at half its weight.
+fn is_half_of(picture: &Picture, other: &Picture) -> bool {
+    if picture.width() != other.width() || picture.height() != other.height() {
+        return false;
+    }
+    for component in COMPONENTS {
+        for y in 0..row_count(other, component) {
+            let row = picture.shown_row(component, y);
+            if !is_half(component, row, other.shown_row(component, y)) {
+                return false;
+            }
+        }
+    }
+    true
+}
+
+#[test]
+fn fades_at_every_width(rt: HostRuntime) -> Result<(), Fail> {
+    for width in 1..=40 {
+        let picture = numbered(rt.alloc(), width)?;
+        let faded = first_frame(rt.alloc(), b"fade 0 0 1 128 0", &picture)?;
+        assert!(rt; is_half_of(&faded, &picture), "at {width}");
+    }
+    Ok(())
+}
+
+/// Whether a row of a component of a picture has these samples.
+fn has_row(picture: &Picture, component: Component, y: usize, samples: &[u8]) -> bool {
+    y < row_count(picture, component) && picture.shown_row(component, y) == samples
+}
+
+#[test]
+fn fades_a_row(rt: HostRuntime) -> Result<(), Fail> {
+    let picture = numbered(rt.alloc(), 5)?;
+    let faded = first_frame(rt.alloc(), b"fade 0 3 9 128 0", &picture)?;
+    assert!(rt; has_row(&faded, Component::Luma, 0, &[8, 12, 15, 19, 22]));
+    assert!(rt; has_row(&faded, Component::Cb, 0, &[64, 68, 71]));
+    let black = first_frame(rt.alloc(), b"fade 0 1 9 0 256", &picture)?;
+    assert!(rt; has_row(&black, Component::Luma, 14, &[16, 16, 16, 16, 16]));
+    assert!(rt; has_row(&black, Component::Cr, 7, &[128, 128, 128]));
+    Ok(())
+}
+
+#[test]
+fn crops_a_picture(rt: HostRuntime) -> Result<(), Fail> {
+    let picture = numbered(rt.alloc(), 16)?;
+    let cut = first_frame(rt.alloc(), b"crop 0 8 2 8 4", &picture)?;
+    assert_eq!(rt; (cut.width(), cut.height()), (8, 4));
+    assert!(rt; has_row(&cut, Component::Luma, 0, &[24, 31, 38, 45, 52, 59, 66, 73]));
+    assert!(rt;
+        has_row(
+            &cut,
+            Component::Luma,
+            3,
+            &[104, 111, 118, 125, 132, 139, 146, 153]
+        )
+    );
+    assert!(rt; has_row(&cut, Component::Cb, 0, &[84, 91, 98, 105]));
+    assert!(rt; has_row(&cut, Component::Cr, 1, &[141, 148, 155, 162]));
+    let twice = first_frame(rt.alloc(), b"crop 0 2 4 10 8; crop 1 2 2 3 3", &picture)?;
+    assert!(rt; has_row(&twice, Component::Luma, 2, &[156, 163, 170]));
+    let odd = first_frame(rt.alloc(), b"crop 0 2 4 3 3", &picture)?;
+    assert!(rt; has_row(&odd, Component::Luma, 2, &[174, 181, 188]));
+    assert!(rt; has_row(&odd, Component::Cb, 1, &[175, 182]));
+    assert_eq!(rt; row_count(&odd, Component::Cb), 2);
+    Ok(())
+}
+
+/// The name of the fault of a script's first frame, or `picture`.
+fn made(alloc: Global, text: &[u8], picture: &Picture) -> Result<&'static str, Fail> {
+    let script = Script::parse(alloc, text)?;
+    let (_, trace) = script.trace(1, 0).ok_or("no frame")?;
+    Ok(apply(alloc, picture, &trace).map_or_else(ApplyFault::word, |_| "picture"))
+}
+
+#[test]
+fn refuses_crops_outside(rt: HostRuntime) -> Result<(), Fail> {
+    let picture = numbered(rt.alloc(), 16)?;
+    for (text, want) in OUTSIDE {
+        assert_eq!(rt; made(rt.alloc(), text, &picture)?, want, "at {text:?}");
+    }
+    assert_eq!(rt; CropOutside.word(), "CropOutside");
+    Ok(())
+}
+
+const OUTSIDE: [(&[u8], &str); 5] = [
+    (b"crop 0 8 0 10 4", "CropOutside"),
+    (b"crop 0 0 12 4 4", "CropOutside"),
+    (b"crop 0 0 0 16 15", "picture"),
+    (b"crop 0 0 0 4 4; crop 1 2 0 4 2", "CropOutside"),
+    (b"fade 0 0 1 5 5; crop 1 4294967294 0 1 1", "CropOutside"),
+];
+
+#[test]
+fn an_empty_trace_shares_the_picture(rt: HostRuntime) -> Result<(), Fail> {
+    let picture = numbered(rt.alloc(), 7)?;
+    let shared = first_frame(rt.alloc(), b"trim 0 0 9", &picture)?;
+    assert!(rt; same(&shared, &picture));
+    Ok(())
+}

@@ -1,0 +1,62 @@
+//! Reads the words of a node and the numbers that they write.
+ghost use Rattle.std.specs.Prelude.{◌≡◌, ◌<◌, ◌≤◌, ◌==◌, [], ◌∷◌, length, MatchOption, IfSome};
+ghost use Rattle.std.specs.Char.{is_ascii_digit};
+ghost use Rattle.std.specs.List.{list_all, position_or_len, prefix_len};
+ghost use Rattle.script_nodes.specs.Words.{words_of, number_of};
+
+use std::str;
+
+/// The most digits of a number.
+const MOST_DIGITS: usize = 10;
+
+/// How many bytes stand before the first of this value, or before the end.
+pub(crate) fn length_before(byte: u8, text: &[u8]) -> usize
+    ensures value { result ≡ position_or_len (λ b. b == byte) text.now }
+    ensures within { result ≤ length text.now }
+{
+    text.iter().take_while(|b| **b != byte).count()
+}
+
+/// The first word of a text and what stands behind it, or `None` where no word is left.
+///
+/// Words are parted by one or more spaces, and spaces at both ends of the text are dropped. A
+/// space is the byte 32 alone.
+pub(crate) fn next_word(text: &[u8]) -> Option<(&[u8], &[u8])>
+    ensures next { MatchOption result (words_of text.now ≡ []) (λ found. words_of text.now ≡ found.0.now ∷ words_of found.1.now) }
+    ensures shorter { IfSome result (λ found. length found.1.now < length text.now) }
+{
+    let (_, words) = text.split_at(leading_spaces(text));
+    if words.is_empty() {
+        return None;
+    }
+    Some(words.split_at(length_before(b' ', words)))
+}
+
+fn leading_spaces(text: &[u8]) -> usize
+    ensures value { result ≡ prefix_len (λ b. b == 32) text.now }
+    ensures within { result ≤ length text.now }
+{
+    text.iter().take_while(|byte| **byte == b' ').count()
+}
+
+/// The number that a word writes: 1 to 10 decimal digits.
+pub(crate) fn number(word: &[u8]) -> Option<u64>
+    ensures { result ≡ number_of word.now }
+{
+    if word.len() > MOST_DIGITS {
+        return None;
+    }
+    if !has_digits_alone(word) {
+        return None;
+    }
+    match str::from_utf8(word) {
+        Ok(digits) => digits.parse().ok(),
+        Err(_) => None,
+    }
+}
+
+fn has_digits_alone(word: &[u8]) -> bool
+    ensures { result ≡ list_all is_ascii_digit word.now }
+{
+    word.iter().all(|byte| byte.is_ascii_digit())
+}
