@@ -4,4 +4,5 @@ pub mod Loaded
 pub mod OneLine
 pub mod RowsPut
 pub mod Scalars
+pub mod ThreeEdges
 pub mod Transposed

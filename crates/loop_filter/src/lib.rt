@@ -2,6 +2,7 @@
 #![tactic(auto)]
 
 mod columns;
+mod columns_inner;
 mod edges;
 #[cfg(test)]
 mod kernel_tests;
