@@ -7,7 +7,7 @@ use Rattle.loop_filter.specs.Lines.{Line}
 use Rattle.loop_filter.specs.Edges.{line_in, with_line, lines_filtered}
 use Rattle.loop_filter.specs.Lanes.{middle_line, last_line, left_filtered, right_filtered, rows_put}
 use Rattle.loop_filter.proofs.EdgeFold.{samples_of, same_line, same_line_in, line_is_sets, line_is_put}
-use Rattle.loop_filter.proofs.RowsPut.{put_none, put_past_sets, line_sets, same_rows, earlier_row}
+use Rattle.loop_filter.proofs.RowsPut.{put_past_sets, earlier_row}
 
 -- a line that is put before what is written
 with_line_before : (s ys : List ℕ) (at place : ℕ) (l : Line) → at + 8 ≤ place → with_line (put_chunk place s ys) at 1 l ≡ put_chunk place (with_line s at 1 l) ys

@@ -1,5 +1,5 @@
 use Rattle.std.specs.Prelude.{slice_index}
-use Rattle.std.proofs.Common.{◌≡◌, ℕ, ◌+◌, ap, ◌∙◌, arith}
+use Rattle.std.proofs.Common.{◌≡◌, ◌+◌, ap, ◌∙◌, arith}
 use Rattle.loop_filter.proofs.Transposed.{woven_even, woven_odd}
 use Rattle.loop_filter.proofs.columns_inner.woven.Goals as goal
 
