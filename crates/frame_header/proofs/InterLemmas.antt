@@ -8,11 +8,10 @@ use Rattle.frame_header.specs.Fields.{fields}
 use Rattle.frame_header.specs.Places.{token_places}
 use Rattle.frame_header.specs.Header.{◌>>=◌, first_end, header_behind, header_of}
 use Rattle.frame_header.specs.declared.cause.Cause.{Cause}
-use Rattle.frame_header.specs.declared.cause.Cause.TheVariants.{NotYet}
 use Rattle.frame_header.specs.declared.context.Context.{Context}
 use Rattle.frame_header.specs.declared.header.Header.{Header}
 use Rattle.frame_header.specs.declared.start.Start.{Start}
-use Rattle.frame_header.proofs.KeyLemmas.{IfOk-then, IfOk-if}
+use Rattle.frame_header.proofs.KeyLemmas.{IfOk-then}
 
 -- a header without refresh_entropy leaves the probabilities of a context
 abbrev LeavesProbabilities : Context → Header → Type 0
@@ -22,7 +21,7 @@ leaves_probabilities : (tables : TableEntries) (before : Context) (packet : List
 unfolding fields
 leaves_probabilities tables before packet first =
     let P : Header → Type 0 = LeavesProbabilities before in
-    IfOk-then P first _ (λ start. IfOk-then P (first_end start packet) _ (λ end. IfOk-then P (token_places packet end _) _ (λ partitions. IfOk-if P _ _ NotYet (λ stays. rw stays refl))))
+    IfOk-then P first _ (λ start. IfOk-then P (first_end start packet) _ (λ end. IfOk-then P (token_places packet end _) _ (λ partitions. λ stays. rw stays refl)))
 
 first_context-before : (tables : TableEntries) (before : Context) (is_key : Bool) → is_key ≡ false → first_context tables is_key (Some before) ≡ before
 first_context-before tables before is_key tagged = rw tagged refl

@@ -12,7 +12,7 @@ use Rattle.frame_header.specs.KeyFrames.{key_context_after}
 use Rattle.frame_header.specs.Header.{◌>>=◌, first_end, header_behind, header_of}
 use Rattle.frame_header.specs.References.{all_refreshed, refreshes}
 use Rattle.frame_header.specs.declared.cause.Cause.{Cause}
-use Rattle.frame_header.specs.declared.cause.Cause.TheVariants.{ShortPacket, Version, StartCode, Size, NotYet}
+use Rattle.frame_header.specs.declared.cause.Cause.TheVariants.{ShortPacket, Version, StartCode, Size}
 use Rattle.frame_header.specs.declared.context.Context.{Context}
 use Rattle.frame_header.specs.declared.header.Header.{Header}
 use Rattle.frame_header.specs.declared.start.Start.{Start}
@@ -42,15 +42,11 @@ pub IfOk-then : {A B : Type 0} (P : B → Type 0) (first : Result A Cause) (next
 IfOk-then P (Ok x) next each = each x
 IfOk-then P (Err cause) next each = tt
 
-pub IfOk-if : {B : Type 0} (P : B → Type 0) (b : Bool) (x : B) (cause : Cause) → P x → IfOk (if b then Ok x else Err cause) P
-IfOk-if P true x cause holds = holds
-IfOk-if P false x cause holds = tt
-
 leaves_default : (tables : TableEntries) (packet : List ℕ) (first : Result Start Cause) → IfOk (first >>= header_behind tables (default_context tables) packet) (λ header. header.context_after ≡ key_context_after tables header)
 unfolding fields trailing_fields
 leaves_default tables packet first =
     let P : Header → Type 0 = λ header. header.context_after ≡ key_context_after tables header in
-    IfOk-then P first _ (λ start. IfOk-then P (first_end start packet) _ (λ end. IfOk-then P (token_places packet end _) _ (λ partitions. IfOk-if P _ _ NotYet refl)))
+    IfOk-then P first _ (λ start. IfOk-then P (first_end start packet) _ (λ end. IfOk-then P (token_places packet end _) _ (λ partitions. refl)))
 
 pub header_of-leaves : (tables : TableEntries) (before : Option Context) (packet : List ℕ) → has_key_tag packet ≡ true → IfOk (header_of tables before packet) (λ header. header.context_after ≡ key_context_after tables header)
 unfolding header_of
@@ -92,7 +88,7 @@ refreshes_each : (tables : TableEntries) (context : Context) (packet : List ℕ)
 unfolding trailing_fields refreshes
 refreshes_each tables context packet start tagged =
     let P : Header → Type 0 = λ header. header.references ≡ all_refreshed in
-    IfOk-then P (first_end start packet) _ (λ end. IfOk-then P (token_places packet end _) _ (λ partitions. IfOk-if P _ _ NotYet (rw tagged refl)))
+    IfOk-then P (first_end start packet) _ (λ end. IfOk-then P (token_places packet end _) _ (λ partitions. rw tagged refl))
 
 pub header_of-refreshes : (tables : TableEntries) (before : Option Context) (packet : List ℕ) → has_key_tag packet ≡ true → IfOk (header_of tables before packet) (λ header. header.references ≡ all_refreshed)
 unfolding header_of start_by

@@ -1,6 +1,6 @@
 use Rattle.std.specs.Prelude.{ℕ, List, codes}
 use Rattle.frame_header.specs.declared.cause.Cause.{Cause}
-use Rattle.frame_header.specs.declared.cause.Cause.TheVariants.{ShortPacket, Version, StartCode, Size, NoKeyFrame, FirstPartition, TokenSizes, TokenPartition, NotYet}
+use Rattle.frame_header.specs.declared.cause.Cause.TheVariants.{ShortPacket, Version, StartCode, Size, NoKeyFrame, FirstPartition, TokenSizes, TokenPartition}
 
 -- the name of a cause
 abbrev pub cause_word : Cause → List ℕ
@@ -12,4 +12,3 @@ cause_word NoKeyFrame = codes "NoKeyFrame"
 cause_word FirstPartition = codes "FirstPartition"
 cause_word TokenSizes = codes "TokenSizes"
 cause_word (TokenPartition k) = codes "TokenPartition"
-cause_word NotYet = codes "NotYet"

@@ -1,4 +1,4 @@
-use Rattle.std.specs.Prelude.{ℕ, ◌+◌, ◌-◌, Bool, not, ◌&&◌, List, length, slice_range, nat_lt, ◌==◌, Option, Result, Ok, Err, if◌then◌else◌}
+use Rattle.std.specs.Prelude.{ℕ, ◌+◌, ◌-◌, List, length, slice_range, nat_lt, Option, Result, Ok, Err, if◌then◌else◌}
 use Rattle.arrayvec.specs.ArrayVec.{ArrayVec}
 use Rattle.vp8_tables.specs.Tables.{TableEntries}
 use Rattle.bool_coder.specs.Reader.{Reader, started}
@@ -9,7 +9,7 @@ use Rattle.frame_header.specs.Places.{token_places}
 use Rattle.frame_header.specs.Start.{start_of}
 use Rattle.frame_header.specs.TrailingFields.{trailing_fields}
 use Rattle.frame_header.specs.declared.cause.Cause.{Cause}
-use Rattle.frame_header.specs.declared.cause.Cause.TheVariants.{FirstPartition, NotYet}
+use Rattle.frame_header.specs.declared.cause.Cause.TheVariants.{FirstPartition}
 use Rattle.frame_header.specs.declared.context.Context.{Context}
 use Rattle.frame_header.specs.declared.fields.Fields.{Fields}
 use Rattle.frame_header.specs.declared.places.Place.{Place}
@@ -28,10 +28,6 @@ abbrev pub first_end : Start → List ℕ → Result ℕ Cause
 first_end start packet =
     if nat_lt (length packet - start.place) start.tag.first_partition then Err FirstPartition
     else Ok (start.place + start.tag.first_partition)
-
--- what is decoded so far: a frame without segments and without a filter
-abbrev pub is_decoded : Fields → Bool
-is_decoded fields = not fields.segmentation.is_enabled && fields.filter.level == 0
 
 -- the context that a frame leaves for the next: its own, but where refresh_entropy is 0 with the four sets of
 -- probabilities that stood when that was read (RFC 6386, section 19.2)
@@ -69,8 +65,7 @@ header_behind tables context packet start = do
   end ← first_end start packet
   let read = fields start.tag.key context (started (slice_range packet start.place end))
   partitions ← token_places packet end read.0.0.partition_count
-  if is_decoded read.0.0
-      then Ok (header_in start read.0 partitions (trailing_fields start.tag.key tables.updates read.0.1 read.1)) else Err NotYet
+  Ok (header_in start read.0 partitions (trailing_fields start.tag.key tables.updates read.0.1 read.1))
 
 -- the header of a packet behind a context or none, or the first cause against it (RFC 6386, sections 9 and 19)
 unfoldable pub header_of : TableEntries → Option Context → List ℕ → Result Header Cause

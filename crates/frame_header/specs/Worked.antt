@@ -72,7 +72,7 @@ trailing_read =
     let read = fields true (default_context worked_tables) (started written_fields) in
     (trailing_fields true worked_tables.updates read.0.1 read.1).0
 
--- the first partition of a key frame of the kind that is decoded, with refresh_entropy, as that encoder wrote it
+-- the first partition of a key frame with refresh_entropy, as that encoder wrote it
 abbrev pub written_key_frame : List ℕ
 written_key_frame = 0x80 ∷ 0x19 ∷ 0x94 ∷ 0xFF ∷ 0x6E ∷ 0xDE ∷ 0x0E ∷ 0x00 ∷ 0x00 ∷ []
 

@@ -30,9 +30,6 @@ pub enum Cause {
     /// This token partition, counted from 0, is the first that runs past the end.
     #[error("token partition {0} runs past the end of the packet")]
     TokenPartition(u8),
-    /// The packet is sound, and the decoder does not decode its kind yet.
-    #[error("packets of this kind are not decoded yet")]
-    NotYet,
 }
 
 impl Cause {
@@ -49,7 +46,6 @@ impl Cause {
             Cause::FirstPartition => "FirstPartition",
             Cause::TokenSizes => "TokenSizes",
             Cause::TokenPartition(_) => "TokenPartition",
-            Cause::NotYet => "NotYet",
         }
     }
 }

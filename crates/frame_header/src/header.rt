@@ -1,11 +1,11 @@
 ghost use Rattle.std.specs.Prelude.{◌≡◌, ◌<◌, ◌≤◌, ◌+◌, false, length, IsTrue, IsSome, IfOk, All};
 ghost use Rattle.std.specs.Option.{option_copied};
-ghost use Rattle.frame_header.specs.Header.{first_end, is_decoded, header_of};
+ghost use Rattle.frame_header.specs.Header.{first_end, header_of};
 ghost use Rattle.frame_header.specs.Tags.{has_key_tag};
 
 use crate::cause::Cause;
 use crate::context::{Context, first_context};
-use crate::fields::{Colors, Fields, Filter, Segmentation, read_fields};
+use crate::fields::{Colors, Filter, Segmentation, read_fields};
 use crate::inter_fields::ReferenceProbabilities;
 use crate::places::{Place, token_places};
 use crate::references::ReferenceUpdates;
@@ -71,16 +71,8 @@ fn first_end(start: &Start, packet: &[u8]) -> Result<usize, Cause>
     Ok(start.place + size)
 }
 
-/// Whether a frame is of the kind that is decoded so far.
-fn is_decoded(fields: &Fields) -> bool
-    ensures { result ≡ is_decoded fields.now }
-{
-    !fields.segmentation.is_enabled && fields.filter.level == 0
-}
-
 /// The header of a packet behind a context, or none where no key frame came before. An `Err` is
-/// the first cause, in the order of `Cause`, whose condition holds; `NotYet` is that of a frame
-/// with segments or with a filter level above 0.
+/// the first cause, in the order of `Cause`, whose condition holds.
 #[tactic(auto, unfolding(crate::specs::Header::header_of))]
 pub fn read_header<'a>(
     tables: &Tables,
@@ -103,9 +95,6 @@ pub fn read_header<'a>(
     let mut context = first_context(tables, is_key, context);
     let fields = read_fields(&mut reader, is_key, &mut context);
     let partitions = token_places(packet, end, fields.partition_count)?;
-    if !is_decoded(&fields) {
-        return Err(Cause::NotYet);
-    }
     let probabilities = context.probabilities;
     let trailing = read_trailing_fields(&mut reader, is_key, tables.updates(), &mut context);
     let mut context_after = context;

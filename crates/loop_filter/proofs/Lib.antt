@@ -1,3 +1,5 @@
+pub mod Places
+pub mod Folds
 pub mod EdgeFold
 pub mod LaneLemmas
 pub mod Loaded
@@ -5,4 +7,5 @@ pub mod OneLine
 pub mod RowsPut
 pub mod Scalars
 pub mod ThreeEdges
+pub mod Raster
 pub mod Transposed

@@ -1,6 +1,6 @@
 -- One line behind each filter, as a lane of each vector holds it.
 use Rattle.std.proofs.Common.{◌≡◌, ℕ, ◌<◌, Bool, true, false, cond, not, refl}
-use Rattle.loop_filter.specs.declared.limits.EdgeLimits.{EdgeLimits}
+use Rattle.loop_filter.specs.declared.edge_limits.EdgeLimits.{EdgeLimits}
 use Rattle.loop_filter.specs.Lines.{Line, is_filtered, is_varied, is_small_step, lack, adjusted, outer_adjusted, smoothed, simple_line, inner_line, macroblock_line}
 use Rattle.loop_filter.specs.Lanes.{sum_of, raised_by, lowered_by, difference_of, lack_from, eighth_of, half_of, share_of, step_over_of, variance_over_of, roughness_of, either_of}
 use Rattle.loop_filter.proofs.Scalars.{off, raised_is, lowered_is, eighth3_is, eighth4_is, half_is, share27_is, share18_is, share9_is, raised_none, lowered_none, raised_first, raised_second, lowered_first, lowered_second, eighth_small, share_small, lack_true, lack_false, lack_small, step_is, filtered_is, varied_is}

@@ -3,7 +3,7 @@ use Rattle.std.specs.Prelude.{◌≡◌, ℕ, ◌+◌, ◌-◌, ◌*◌, ◌/◌
 use Rattle.std.specs.Simd.Lanes.{put_chunk}
 use Rattle.std.specs.Int.{abs_diff}
 use Rattle.loop_filter.specs.Lines.{Line}
-use Rattle.loop_filter.specs.declared.limits.EdgeLimits.{EdgeLimits}
+use Rattle.loop_filter.specs.declared.edge_limits.EdgeLimits.{EdgeLimits}
 use Rattle.loop_filter.specs.declared.kernels.Taps.{Taps}
 
 -- each of the sixteen lanes of a result is what f makes of those of one vector, or of two

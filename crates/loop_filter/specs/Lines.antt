@@ -1,9 +1,9 @@
 -- How one line of samples across an edge is filtered (RFC 6386, sections 15.2 and 15.3).
 use Rattle.std.specs.Prelude.{ℕ, ◌+◌, ◌*◌, ◌/◌, Bool, true, false, ◌&&◌, ◌||◌, if◌then◌else◌, nat_le, nat_lt, List, slice_index, ℤ, pos, ◌+ℤ◌, ◌-ℤ◌, ◌*ℤ◌, unsigned_abs}
 use Rattle.std.specs.Int.{abs_diff, int_shr, saturate_to_bits}
-use Rattle.loop_filter.specs.declared.limits.EdgeLimits.{EdgeLimits}
-use Rattle.loop_filter.specs.declared.limits.EdgeFilter.{EdgeFilter}
-use Rattle.loop_filter.specs.declared.limits.EdgeFilter.TheVariants.{Simple, Inner, Macroblock}
+use Rattle.loop_filter.specs.declared.edge_limits.EdgeLimits.{EdgeLimits}
+use Rattle.loop_filter.specs.declared.edge_limits.EdgeFilter.{EdgeFilter}
+use Rattle.loop_filter.specs.declared.edge_limits.EdgeFilter.TheVariants.{Simple, Inner, Macroblock}
 
 -- the samples of a line across an edge: p0 and q0 stand at the edge, on either side of it
 pub record Line : Type 0 where

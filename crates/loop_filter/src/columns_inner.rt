@@ -8,9 +8,9 @@ ghost use Rattle.loop_filter.specs.Edges.{line_in, lines_filtered};
 ghost use Rattle.loop_filter.specs.Lanes.{line_at, vectors, row_of, eight_from, rows_put, left_filtered, right_filtered};
 
 use crate::columns::{columns, row_pairs};
+use crate::edge_limits::EdgeLimits;
 use crate::kernels::{Taps, inner};
 use crate::lanes::{load, store};
-use crate::limits::EdgeLimits;
 use std::simd::prelude::*;
 use std::simd::u8x16;
 

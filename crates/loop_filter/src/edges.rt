@@ -6,9 +6,9 @@ ghost use Rattle.loop_filter.specs.Edges.{line_in, lines_filtered};
 ghost use Rattle.loop_filter.specs.Lanes.{line_at, vector, rows_put};
 
 use crate::columns::{load_lines, row_pairs, store_lines};
+use crate::edge_limits::{EdgeFilter, EdgeLimits};
 use crate::kernels::{Taps, filter as filtered};
 use crate::lanes::{load, store};
-use crate::limits::{EdgeFilter, EdgeLimits};
 
 /// Takes sixteen columns of eight samples, in rows `stride` places apart.
 #[inline(always)]

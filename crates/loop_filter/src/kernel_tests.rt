@@ -1,8 +1,8 @@
 ghost use Rattle.std.specs.Prelude.{◌<◌};
 
 use crate::columns_inner::filter_inner_columns;
+use crate::edge_limits::{EdgeFilter, EdgeLimits};
 use crate::edges::{filter_columns, filter_rows};
-use crate::limits::{EdgeFilter, EdgeLimits};
 use crate::pairs::{filter_column_pairs, filter_row_pairs};
 
 const FILTERS: [EdgeFilter; 3] = [

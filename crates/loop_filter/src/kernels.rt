@@ -4,11 +4,11 @@ ghost use Rattle.std.specs.Prelude.{◌≡◌, ℕ, ◌+◌, ◌<◌, slice_inde
 ghost use Rattle.loop_filter.specs.Lines.{simple_line, inner_line, macroblock_line, filtered_line};
 ghost use Rattle.loop_filter.specs.Lanes.{line_at, roughness_of};
 
+use crate::edge_limits::{EdgeFilter, EdgeLimits};
 use crate::lanes::{
     all, difference, eighths_after, either, greater, halves, lack, less, lowered, more, raised,
     shares, side, step_over, variance_over,
 };
-use crate::limits::{EdgeFilter, EdgeLimits};
 use std::simd::u8x16;
 
 /// Sixteen lines of samples across an edge, each line in a lane: `p0` and `q0` stand at the edge.

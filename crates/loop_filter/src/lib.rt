@@ -1,14 +1,27 @@
 //! The loop filter of VP8 (RFC 6386, section 15).
 #![tactic(auto)]
 
+mod blocks;
+mod chroma_blocks;
 mod columns;
 mod columns_inner;
+mod edge_limits;
 mod edges;
+mod four_samples;
+mod frames;
 #[cfg(test)]
 mod kernel_tests;
 mod kernels;
 mod lanes;
-mod limits;
+pub mod laws;
+mod levels;
 mod pairs;
+mod strengths;
+#[cfg(test)]
+mod tests;
 
-pub use limits::Limits;
+pub use edge_limits::Limits;
+pub use four_samples::simple;
+pub use frames::frame;
+pub use levels::level;
+pub use strengths::limits;

@@ -7,8 +7,8 @@ ghost use Rattle.loop_filter.specs.Edges.{line_in, lines_filtered};
 ghost use Rattle.loop_filter.specs.Lanes.{line_at, vector, eight_from, rows_put};
 
 use crate::columns::{load_lines, row_pairs, store_lines};
+use crate::edge_limits::{EdgeFilter, EdgeLimits};
 use crate::kernels::{Taps, filter as filtered};
-use crate::limits::{EdgeFilter, EdgeLimits};
 use std::simd::prelude::*;
 use std::simd::{u8x8, u8x16};
 

@@ -19,7 +19,8 @@ use Rattle.mode_parser.specs.Vectors.{MotionVector}
 use Rattle.mode_parser.specs.SubModes.{first_sub_modes}
 use Rattle.mode_parser.specs.Records.{skip, no_sub_modes, key_sub_modes, key_mode}
 use Rattle.mode_parser.specs.InterRecords.{first_inter_sub_modes, inter_sub_modes, first_vectors, split_vectors, vectors_by, intra_mode, referenced_mode, inter_mode}
-use Rattle.mode_parser.specs.FrameModes.{record_above, record_left, record_above_left, place_of, mode_at, first_modes}
+use Rattle.mode_parser.specs.FrameModes.{record_above, record_left, record_above_left, place_of, prediction_at, mode_at, first_modes}
+use Rattle.mode_parser.specs.Segments.{segment_at}
 use Rattle.mode_parser.specs.KeyShape.{HasShape, HasKeyShape}
 
 -- one element more than n copies
@@ -46,7 +47,6 @@ key_sub_modes-whole y_mode mode tables above left r is = rw is refl
 key_mode-shape : (tables : TableEntries) (skip_probability : Option ℕ) (above left : Option MbMode) (r : Reader) → HasKeyShape (key_mode tables skip_probability above left r).0
 unfolding key_mode
 key_mode-shape tables skip_probability above left r = record {
-  segment = refl;
   sixteen = key_sub_modes-length _ _ _ _ _;
   whole = λ mode is. key_sub_modes-whole _ mode _ _ _ _ is;
   vectors = refl;
@@ -54,7 +54,7 @@ key_mode-shape tables skip_probability above left r = record {
 
 key_mode-has_shape : (tables : TableEntries) (skip_probability : Option ℕ) (above left : Option MbMode) (r : Reader) → HasShape (key_mode tables skip_probability above left r).0
 unfolding key_mode
-key_mode-has_shape tables skip_probability above left r = record { segment = refl; sub_modes = key_sub_modes-length _ _ _ _ _; vectors = refl }
+key_mode-has_shape tables skip_probability above left r = record { sub_modes = key_sub_modes-length _ _ _ _ _; vectors = refl }
 
 first_inter_sub_modes-length : (n : ℕ) (r : Reader) → length (first_inter_sub_modes n r).0 ≡ n
 unfolding first_inter_sub_modes
@@ -83,11 +83,11 @@ vectors_by-length Split near probabilities above left r = first_vectors-length 1
 
 intra_mode-has_shape : (is_skipped : Bool) (probabilities : Probabilities) (r : Reader) → HasShape (intra_mode is_skipped probabilities r).0
 unfolding intra_mode
-intra_mode-has_shape is_skipped probabilities r = record { segment = refl; sub_modes = inter_sub_modes-length _ _; vectors = refl }
+intra_mode-has_shape is_skipped probabilities r = record { sub_modes = inter_sub_modes-length _ _; vectors = refl }
 
 referenced_mode-has_shape : (is_skipped : Bool) (header : Header) (place : MbPlace) (above left above_left : Option MbMode) (r : Reader) → HasShape (referenced_mode is_skipped header place above left above_left r).0
 unfolding referenced_mode
-referenced_mode-has_shape is_skipped header place above left above_left r = record { segment = refl; sub_modes = refl; vectors = vectors_by-length _ _ _ _ _ _ }
+referenced_mode-has_shape is_skipped header place above left above_left r = record { sub_modes = refl; vectors = vectors_by-length _ _ _ _ _ _ }
 
 inter_mode-has_shape : (header : Header) (place : MbPlace) (above left above_left : Option MbMode) (r : Reader) → HasShape (inter_mode header place above left above_left r).0
 unfolding inter_mode
@@ -99,8 +99,8 @@ inter_mode-has_shape header place above left above_left r =
       | false ↦ intra_mode-has_shape _ _ _
     ]
 
-mode_at-has_shape : (tables : TableEntries) (header : Header) (columns rows place : ℕ) (before : List MbMode) (r : Reader) → HasShape (mode_at tables header columns rows place before r).0
-mode_at-has_shape tables header columns rows place before r =
+prediction_at-has_shape : (tables : TableEntries) (header : Header) (columns rows place : ℕ) (before : List MbMode) (r : Reader) → HasShape (prediction_at tables header columns rows place before r).0
+prediction_at-has_shape tables header columns rows place before r =
     let above = record_above before columns place in
     let left = record_left before columns place in
     elim header.is_key as (λ b. HasShape ((if b then key_mode tables header.skip_probability above left else inter_mode header (place_of columns rows place) above left (record_above_left before columns place)) r).0) [
@@ -108,27 +108,41 @@ mode_at-has_shape tables header columns rows place before r =
       | false ↦ inter_mode-has_shape _ _ _ _ _ _
     ]
 
+mode_at-has_shape : (tables : TableEntries) (header : Header) (columns rows : ℕ) (map : Option (List ℕ)) (place : ℕ) (before : List MbMode) (r : Reader) → HasShape (mode_at tables header columns rows map place before r).0
+unfolding mode_at
+mode_at-has_shape tables header columns rows map place before r =
+    let rest = prediction_at-has_shape tables header columns rows place before (segment_at header map place r).1 in
+    record { sub_modes = rest.sub_modes; vectors = rest.vectors }
+
 All-one : (P : MbMode → Type 0) (m : MbMode) → P m → All P (m ∷ [])
 All-one P m here zero d below = here
 All-one P m here (suc k) d below = absurd (omega arith)
 
-pub first_modes-length : (count : ℕ) (tables : TableEntries) (header : Header) (columns rows : ℕ) (r : Reader) → length (first_modes count tables header columns rows r).0 ≡ count
+pub first_modes-length : (count : ℕ) (tables : TableEntries) (header : Header) (columns rows : ℕ) (map : Option (List ℕ)) (r : Reader) → length (first_modes count tables header columns rows map r).0 ≡ count
 unfolding first_modes
-first_modes-length zero tables header columns rows r = refl
-first_modes-length (suc count) tables header columns rows r =
-    rw (length-append, first_modes-length count tables header columns rows r) (omega arith)
+first_modes-length zero tables header columns rows map r = refl
+first_modes-length (suc count) tables header columns rows map r =
+    rw (length-append, first_modes-length count tables header columns rows map r) (omega arith)
 
-pub first_modes-has_shape : (count : ℕ) (tables : TableEntries) (header : Header) (columns rows : ℕ) (r : Reader) → All HasShape (first_modes count tables header columns rows r).0
+pub first_modes-has_shape : (count : ℕ) (tables : TableEntries) (header : Header) (columns rows : ℕ) (map : Option (List ℕ)) (r : Reader) → All HasShape (first_modes count tables header columns rows map r).0
 unfolding first_modes
-first_modes-has_shape zero tables header columns rows r = λ k d below. absurd (omega arith)
-first_modes-has_shape (suc count) tables header columns rows r =
-    All-append HasShape _ _ (first_modes-has_shape count tables header columns rows r) (All-one HasShape _ (mode_at-has_shape tables header columns rows count (first_modes count tables header columns rows r).0 (first_modes count tables header columns rows r).1))
+first_modes-has_shape zero tables header columns rows map r = λ k d below. absurd (omega arith)
+first_modes-has_shape (suc count) tables header columns rows map r =
+    let before = first_modes count tables header columns rows map r in
+    All-append HasShape _ _ (first_modes-has_shape count tables header columns rows map r) (All-one HasShape _ (mode_at-has_shape tables header columns rows map count before.0 before.1))
 
-key_at-shape : (tables : TableEntries) (header : Header) (columns rows place : ℕ) (before : List MbMode) (r : Reader) → header.is_key ≡ true → HasKeyShape (mode_at tables header columns rows place before r).0
-key_at-shape tables header columns rows place before r key = rw key (key_mode-shape _ _ _ _ _)
+key_prediction-shape : (tables : TableEntries) (header : Header) (columns rows place : ℕ) (before : List MbMode) (r : Reader) → header.is_key ≡ true → HasKeyShape (prediction_at tables header columns rows place before r).0
+key_prediction-shape tables header columns rows place before r key = rw key (key_mode-shape _ _ _ _ _)
 
-pub first_modes-shape : (count : ℕ) (tables : TableEntries) (header : Header) (columns rows : ℕ) (r : Reader) → header.is_key ≡ true → All HasKeyShape (first_modes count tables header columns rows r).0
+key_at-shape : (tables : TableEntries) (header : Header) (columns rows : ℕ) (map : Option (List ℕ)) (place : ℕ) (before : List MbMode) (r : Reader) → header.is_key ≡ true → HasKeyShape (mode_at tables header columns rows map place before r).0
+unfolding mode_at
+key_at-shape tables header columns rows map place before r key =
+    let rest = key_prediction-shape tables header columns rows place before (segment_at header map place r).1 key in
+    record { sixteen = rest.sixteen; whole = rest.whole; vectors = rest.vectors }
+
+pub first_modes-shape : (count : ℕ) (tables : TableEntries) (header : Header) (columns rows : ℕ) (map : Option (List ℕ)) (r : Reader) → header.is_key ≡ true → All HasKeyShape (first_modes count tables header columns rows map r).0
 unfolding first_modes
-first_modes-shape zero tables header columns rows r key = λ k d below. absurd (omega arith)
-first_modes-shape (suc count) tables header columns rows r key =
-    All-append HasKeyShape _ _ (first_modes-shape count tables header columns rows r key) (All-one HasKeyShape _ (key_at-shape tables header columns rows count (first_modes count tables header columns rows r).0 (first_modes count tables header columns rows r).1 key))
+first_modes-shape zero tables header columns rows map r key = λ k d below. absurd (omega arith)
+first_modes-shape (suc count) tables header columns rows map r key =
+    let before = first_modes count tables header columns rows map r in
+    All-append HasKeyShape _ _ (first_modes-shape count tables header columns rows map r key) (All-one HasKeyShape _ (key_at-shape tables header columns rows map count before.0 before.1 key))

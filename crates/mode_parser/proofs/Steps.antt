@@ -28,17 +28,17 @@ pub first_sub_modes-more : (n : ℕ) (tables : TableEntries) (above left : Optio
 first_sub_modes-more n tables above left modes mode start r s below done told =
     rw (take_more_set modes n mode below, add-one) (first_sub_modes-suc n tables above left (take n modes) mode start r s done told)
 
-pub first_modes-none : (tables : TableEntries) (header : Header) (columns rows : ℕ) (start : Reader) → first_modes 0 tables header columns rows start ≡ ([], start)
+pub first_modes-none : (tables : TableEntries) (header : Header) (columns rows : ℕ) (map : Option (List ℕ)) (start : Reader) → first_modes 0 tables header columns rows map start ≡ ([], start)
 unfolding first_modes
-first_modes-none tables header columns rows start = refl
+first_modes-none tables header columns rows map start = refl
 
-first_modes-suc : (place : ℕ) (tables : TableEntries) (header : Header) (columns rows : ℕ) (before : List MbMode) (mode : MbMode) (start r s : Reader) → first_modes place tables header columns rows start ≡ (before, r) → mode_at tables header columns rows place before r ≡ (mode, s) → first_modes (suc place) tables header columns rows start ≡ (before ++ mode ∷ [], s)
+first_modes-suc : (place : ℕ) (tables : TableEntries) (header : Header) (columns rows : ℕ) (map : Option (List ℕ)) (before : List MbMode) (mode : MbMode) (start r s : Reader) → first_modes place tables header columns rows map start ≡ (before, r) → mode_at tables header columns rows map place before r ≡ (mode, s) → first_modes (suc place) tables header columns rows map start ≡ (before ++ mode ∷ [], s)
 unfolding first_modes
-first_modes-suc place tables header columns rows before mode start r s done told = rw (done, told) refl
+first_modes-suc place tables header columns rows map before mode start r s done told = rw (done, told) refl
 
-pub first_modes-more : (place : ℕ) (tables : TableEntries) (header : Header) (columns rows : ℕ) (before : List MbMode) (mode : MbMode) (start r s : Reader) → length before ≡ place → first_modes place tables header columns rows start ≡ (before, r) → mode_at tables header columns rows (length before) before r ≡ (mode, s) → first_modes (place + 1) tables header columns rows start ≡ (before ++ mode ∷ [], s)
-first_modes-more place tables header columns rows before mode start r s count done told =
-    rw add-one (first_modes-suc place tables header columns rows before mode start r s done (rw (← count) told))
+pub first_modes-more : (place : ℕ) (tables : TableEntries) (header : Header) (columns rows : ℕ) (map : Option (List ℕ)) (before : List MbMode) (mode : MbMode) (start r s : Reader) → length before ≡ place → first_modes place tables header columns rows map start ≡ (before, r) → mode_at tables header columns rows map (length before) before r ≡ (mode, s) → first_modes (place + 1) tables header columns rows map start ≡ (before ++ mode ∷ [], s)
+first_modes-more place tables header columns rows map before mode start r s count done told =
+    rw add-one (first_modes-suc place tables header columns rows map before mode start r s done (rw (← count) told))
 
 pub first_inter_sub_modes-none : (start : Reader) → first_inter_sub_modes 0 start ≡ ([], start)
 unfolding first_inter_sub_modes

@@ -7,6 +7,7 @@ use Rattle.mode_parser.specs.declared.records.MbMode.{MbMode}
 use Rattle.mode_parser.specs.declared.nearby.MbPlace.{MbPlace}
 use Rattle.mode_parser.specs.Records.{key_mode}
 use Rattle.mode_parser.specs.InterRecords.{inter_mode}
+use Rattle.mode_parser.specs.Segments.{segment_at, map_behind}
 
 -- the records above and to the left of a place, among those before it in a frame of so many columns
 abbrev pub record_above : List MbMode → ℕ → ℕ → Option MbMode
@@ -21,36 +22,36 @@ record_above_left before columns place = if nat_lt place columns || place % colu
 abbrev pub place_of : ℕ → ℕ → ℕ → MbPlace
 place_of columns rows place = record { column = place % columns; row = place / columns; columns = columns; rows = rows }
 
--- the record at a place below and to the right of those before it, in a frame of either kind
-abbrev pub mode_at : TableEntries → Header → ℕ → ℕ → ℕ → List MbMode → Reading MbMode
-mode_at tables header columns rows place before =
+-- the record at a place below and to the right of those before it, but for its segment, in a frame of either kind
+abbrev pub prediction_at : TableEntries → Header → ℕ → ℕ → ℕ → List MbMode → Reading MbMode
+prediction_at tables header columns rows place before =
     let above = record_above before columns place in
     let left = record_left before columns place in
     if header.is_key then key_mode tables header.skip_probability above left
     else inter_mode header (place_of columns rows place) above left (record_above_left before columns place)
 
--- the records of the first macroblocks, in raster order
-unfoldable pub first_modes : ℕ → TableEntries → Header → ℕ → ℕ → Reading (List MbMode)
-first_modes zero tables header columns rows = give []
-first_modes (suc place) tables header columns rows = do
-  before ← first_modes place tables header columns rows
-  mode ← mode_at tables header columns rows place before
-  give (before ++ mode ∷ [])
+-- the record at a place, behind a segment map: its segment, and then the rest (section 19.3)
+unfoldable pub mode_at : TableEntries → Header → ℕ → ℕ → Option (List ℕ) → ℕ → List MbMode → Reading MbMode
+mode_at tables header columns rows map place before = do
+  segment ← segment_at header map place
+  mode ← prediction_at tables header columns rows place before
+  give (record mode { segment = segment })
 
--- the segment map behind a frame without segments: zeros behind a key frame, and else that before it (section 9.3)
-abbrev pub map_behind : Bool → ℕ → Option (List ℕ) → List ℕ
-map_behind true count before = replicate count 0
-map_behind false count None = replicate count 0
-map_behind false count (Some before) = before
+-- the records of the first macroblocks, in raster order
+unfoldable pub first_modes : ℕ → TableEntries → Header → ℕ → ℕ → Option (List ℕ) → Reading (List MbMode)
+first_modes zero tables header columns rows map = give []
+first_modes (suc place) tables header columns rows map = do
+  before ← first_modes place tables header columns rows map
+  mode ← mode_at tables header columns rows map place before
+  give (before ++ mode ∷ [])
 
 -- the records of a frame, and the segment of each macroblock behind it
 pub record FrameModes : Type 0 where
   pub records : List MbMode
   pub segment_map : List ℕ
 
--- the modes of a frame without segments, of so many macroblocks each way, behind a segment map (section 19.3)
+-- the modes of a frame of so many macroblocks each way, behind a segment map (section 19.3)
 abbrev pub modes_of : TableEntries → Header → ℕ → ℕ → Option (List ℕ) → FrameModes
-modes_of tables header columns rows before = record {
-  records = (first_modes (columns * rows) tables header columns rows header.reader).0;
-  segment_map = map_behind header.is_key (columns * rows) before;
-}
+modes_of tables header columns rows before =
+    let records = (first_modes (columns * rows) tables header columns rows before header.reader).0 in
+    record { records = records; segment_map = map_behind header (columns * rows) before records }

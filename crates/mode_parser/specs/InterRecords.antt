@@ -150,7 +150,7 @@ referenced_mode is_skipped header place above left above_left = do
   vectors ← vectors_by mode near header.context.probabilities.vectors above left
   give (record { segment = 0; is_skipped = is_skipped; y_mode = Inter from mode; sub_modes = no_sub_modes; uv_mode = Dc; vectors = vectors })
 
--- the record of a macroblock at a place below and to the right of these, in an inter frame without segments (section 19.3)
+-- the record of a macroblock at a place below and to the right of these, in an inter frame, in segment 0 (section 19.3)
 unfoldable pub inter_mode : Header → MbPlace → Option MbMode → Option MbMode → Option MbMode → Reading MbMode
 inter_mode header place above left above_left = do
   is_skipped ← skip header.skip_probability

@@ -8,15 +8,13 @@ use Rattle.mode_parser.specs.declared.records.YMode.TheVariants.{Whole, B}
 use Rattle.mode_parser.specs.declared.records.MbMode.{MbMode}
 use Rattle.mode_parser.specs.Records.{no_sub_modes, no_vectors}
 
--- it is in segment 0 and has 16 sub block modes and 16 vectors
+-- it has 16 sub block modes and 16 vectors
 pub record HasShape (macroblock : MbMode) : Type 0 where
-  pub segment : macroblock.segment ≡ 0
   pub sub_modes : length macroblock.sub_modes ≡ 16
   pub vectors : length macroblock.vectors ≡ 16
 
--- it is in segment 0 and has 16 sub block modes, which are DC where luma is predicted as a whole, and no vectors
+-- it has 16 sub block modes, which are DC where luma is predicted as a whole, and no vectors
 pub record HasKeyShape (macroblock : MbMode) : Type 0 where
-  pub segment : macroblock.segment ≡ 0
   pub sixteen : length macroblock.sub_modes ≡ 16
   pub whole : (mode : WholeMode) → macroblock.y_mode ≡ Whole mode → macroblock.sub_modes ≡ no_sub_modes
   pub vectors : macroblock.vectors ≡ no_vectors

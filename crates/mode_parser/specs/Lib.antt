@@ -6,6 +6,7 @@ pub mod Neighbours
 pub mod VectorReading
 pub mod InterRecords
 pub mod ChromaVectors
+pub mod Segments
 pub mod FrameModes
 pub mod KeyShape
 pub mod Worked

@@ -52,7 +52,7 @@ key_sub_modes (Whole mode) tables above left = give no_sub_modes
 key_sub_modes (Inter reference mode) tables above left = give no_sub_modes
 key_sub_modes B tables above left = first_sub_modes 16 tables above left
 
--- the record of a macroblock below and to the right of these, in a key frame without segments (section 19.3)
+-- the record of a macroblock below and to the right of these, in a key frame, in segment 0 (section 19.3)
 unfoldable pub key_mode : TableEntries → Option ℕ → Option MbMode → Option MbMode → Reading MbMode
 key_mode tables skip_probability above left = do
   is_skipped ← skip skip_probability

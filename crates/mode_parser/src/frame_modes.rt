@@ -2,10 +2,11 @@
 
 ghost use Rattle.std.specs.Prelude.{◌≡◌, ◌≤◌, ◌*◌, false, length, IfOk, IsSomeAnd};
 ghost use Rattle.std.specs.Option.{option_copied};
-ghost use Rattle.mode_parser.specs.FrameModes.{map_behind, modes_of};
+ghost use Rattle.mode_parser.specs.FrameModes.{modes_of};
 
 use crate::frame_records::read_records;
 use crate::records::MbMode;
+use crate::segments::map_behind;
 use bool_coder::NoMemory;
 use frame_header::Header;
 use std::alloc::Global;
@@ -50,26 +51,10 @@ impl Modes {
     }
 }
 
-/// The segment map behind a frame without segments: zeros behind a key frame, and else that before
-/// it.
-fn segment_map(
-    alloc: Global,
-    is_key: bool,
-    count: usize,
-    before: Option<&[u8]>,
-) -> Result<Vec<u8>, NoMemory>
-    ensures { IfOk result (λ segments. segments.items ≡ map_behind is_key count (option_copied before.entry)) }
-{
-    match before {
-        Some(before) if !is_key => before.to_vec(alloc),
-        _ => vec![in alloc; 0; count],
-    }
-}
-
-/// The modes of a frame without segments that has `columns` by `rows` macroblocks, each 1 to 1,024
-/// (RFC 6386, section 19.3): one record for each, in raster order, and the segment map behind the
-/// frame. `map` is the segment map before it, of one segment for each macroblock; no key frame
-/// looks at it. `NoMemory` where room for the records or for the map is refused.
+/// The modes of a frame that has `columns` by `rows` macroblocks, each 1 to 1,024 (RFC 6386,
+/// section 19.3): one record for each, in raster order, and the segment map behind the frame. `map`
+/// is the segment map before it, of one segment for each macroblock; no key frame looks at it.
+/// `NoMemory` where room for the records or for the map is refused.
 pub fn read_modes(
     alloc: Global,
     tables: &Tables,
@@ -85,8 +70,8 @@ pub fn read_modes(
     ensures count { IfOk result (λ modes. length modes.records ≡ columns * rows) }
     ensures segments { IfOk result (λ modes. length modes.segment_map ≡ columns * rows) }
 {
-    let records = read_records(alloc, tables, header, columns, rows)?;
-    let segment_map = segment_map(alloc, header.is_key, columns * rows, map)?;
+    let records = read_records(alloc, tables, header, columns, rows, map)?;
+    let segment_map = map_behind(alloc, header, columns * rows, map, &records)?;
     Ok(Modes {
         records,
         segment_map,

@@ -185,8 +185,8 @@ fn read_referenced_mode(
     }
 }
 
-/// The record of a macroblock at `place`, below and to the right of these, in an inter frame without
-/// segments.
+/// The record of a macroblock at `place`, below and to the right of these, in an inter frame, in
+/// segment 0.
 #[inline]
 #[tactic(auto, unfolding(crate::specs::InterRecords::inter_mode))]
 pub(crate) fn read_inter_mode(

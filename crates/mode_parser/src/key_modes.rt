@@ -62,7 +62,7 @@ pub(crate) fn read_uv_mode(reader: &mut Decoder, probabilities: &[u8; 3]) -> Who
     }
 }
 
-/// The record of a macroblock below and to the right of these, in a key frame without segments.
+/// The record of a macroblock below and to the right of these, in a key frame, in segment 0.
 #[inline]
 #[tactic(auto, unfolding(crate::specs::Records::key_mode, crate::specs::Records::key_sub_modes))]
 pub(crate) fn read_key_mode(

@@ -1,6 +1,7 @@
 //! Laws that show that the definitions mean what they are to mean.
 
-ghost use Rattle.std.specs.Prelude.{◌≡◌, ◌+◌, ◌*◌, ◌<◌, ◌≤◌, ℕ, ℤ, pos, neg_ℤ, [], ◌∷◌, List, Option, Some, None, length, map, replicate, slice_index_or, All, IsTrue};
+ghost use Rattle.std.specs.Prelude.{◌≡◌, true, false, if◌then◌else◌, ◌+◌, ◌*◌, ◌<◌, ◌≤◌, ℕ, ℤ, pos, neg_ℤ, [], ◌∷◌, List, Option, Some, None, length, map, replicate, slice_index_or, All, IsTrue};
+ghost use Rattle.std.specs.List.{range_with_len};
 ghost use Rattle.bool_coder.specs.Trees.{is_tree};
 ghost use Rattle.vp8_tables.specs.declared.modes.TheConstants.{KEY_Y_TREE, KEY_Y_PROBABILITIES, UV_TREE, KEY_UV_PROBABILITIES, SUB_TREE};
 ghost use Rattle.intra_predict.specs.declared.modes.WholeMode.TheVariants.{Dc as WholeDc, V, H, Tm as WholeTm};
@@ -11,7 +12,7 @@ ghost use Rattle.mode_parser.specs.declared.records.MbMode.{MbMode};
 ghost use Rattle.mode_parser.specs.SubModes.{number_of, sub_mode_of, context_in, mode_above, mode_left};
 ghost use Rattle.bool_coder.specs.Reader.{started};
 ghost use Rattle.bool_coder.specs.CodeText.{code_text};
-ghost use Rattle.vp8_tables.specs.declared.modes.TheConstants.{INTER_Y_TREE, INTER_SUB_PROBABILITIES, VECTOR_MODE_TREE, SPLIT_TREE, SPLIT_PROBABILITIES, SPLIT_STARTS, PART_VECTOR_TREE};
+ghost use Rattle.vp8_tables.specs.declared.modes.TheConstants.{INTER_Y_TREE, INTER_SUB_PROBABILITIES, VECTOR_MODE_TREE, SPLIT_TREE, SPLIT_PROBABILITIES, SPLIT_STARTS, PART_VECTOR_TREE, SEGMENT_TREE};
 ghost use Rattle.vp8_tables.specs.declared.vectors.TheConstants.{DEFAULT_VECTOR_PROBABILITIES, SHORT_VECTOR_TREE};
 ghost use Rattle.frame_header.specs.declared.references.Reference.TheVariants.{Last, Golden, Altref};
 ghost use Rattle.mode_parser.specs.declared.records.VectorMode.TheVariants.{Zero, New, Split};
@@ -22,6 +23,7 @@ ghost use Rattle.mode_parser.specs.InterRecords.{are_starts};
 ghost use Rattle.mode_parser.specs.ChromaVectors.{chroma_component, first_luma, chroma_x_of};
 ghost use Rattle.mode_parser.specs.Worked.{right_by, moved, golden_biased, middle, near_right, down_by_16};
 ghost use Rattle.mode_parser.specs.FrameModes.{record_above, record_left, record_above_left, place_of, modes_of};
+ghost use Rattle.mode_parser.specs.Segments.{segment_number, kept_segment, kept_map};
 ghost use Rattle.mode_parser.specs.KeyShape.{HasShape, HasKeyShape, ReadsZeros, dc_record};
 
 use frame_header::Header;
@@ -38,6 +40,7 @@ pub fn trees_are_trees()
     ensures inter_sub { IsTrue (is_tree SUB_TREE INTER_SUB_PROBABILITIES) }
     ensures vector_mode { (a b c d : ℕ) → IsTrue (is_tree VECTOR_MODE_TREE (a ∷ b ∷ c ∷ d ∷ [])) }
     ensures split { IsTrue (is_tree SPLIT_TREE SPLIT_PROBABILITIES) }
+    ensures segment { (a b c : ℕ) → IsTrue (is_tree SEGMENT_TREE (a ∷ b ∷ c ∷ [])) }
     ensures part { (a b c : ℕ) → IsTrue (is_tree PART_VECTOR_TREE (a ∷ b ∷ c ∷ [])) }
     ensures short { (a b c d e f g : ℕ) → IsTrue (is_tree SHORT_VECTOR_TREE (a ∷ b ∷ c ∷ d ∷ e ∷ f ∷ g ∷ [])) }
 {}
@@ -128,23 +131,43 @@ pub fn worked_places()
     ensures place { place_of 3 2 5 ≡ record { column = 2; row = 1; columns = 3; rows = 2 } }
 {}
 
-/// A frame has a record for each macroblock, all in segment 0 and with 16 sub block modes and 16
-/// vectors.
+/// A frame has a record for each macroblock, all with 16 sub block modes and 16 vectors.
 pub fn records_have_shape(tables: &Tables, header: &Header, columns: usize, rows: usize)
     ensures count { (map : Option (List ℕ)) → length (modes_of tables.now header.now columns rows map).records ≡ columns * rows }
     ensures shape { (map : Option (List ℕ)) → All HasShape (modes_of tables.now header.now columns rows map).records }
 {}
 
+/// A segment of each number is read by its bits. Where the map is not updated, a key frame has
+/// zeros, and another frame keeps the map before it.
+pub fn worked_segments()
+    ensures first { (segment_number (200 ∷ 100 ∷ 50 ∷ []) (started (code_text ((false, 200) ∷ (false, 100) ∷ [])))).0 ≡ 0 }
+    ensures second { (segment_number (200 ∷ 100 ∷ 50 ∷ []) (started (code_text ((false, 200) ∷ (true, 100) ∷ [])))).0 ≡ 1 }
+    ensures third { (segment_number (200 ∷ 100 ∷ 50 ∷ []) (started (code_text ((true, 200) ∷ (false, 50) ∷ [])))).0 ≡ 2 }
+    ensures fourth { (segment_number (200 ∷ 100 ∷ 50 ∷ []) (started (code_text ((true, 200) ∷ (true, 50) ∷ [])))).0 ≡ 3 }
+    ensures key { kept_map true 2 (Some (1 ∷ 2 ∷ [])) ≡ 0 ∷ 0 ∷ [] }
+    ensures kept { kept_map false 2 (Some (1 ∷ 2 ∷ [])) ≡ 1 ∷ 2 ∷ [] }
+{}
+
+/// Where a frame does not update the segment map, its macroblocks have the segments that they keep,
+/// or 0 in a frame without segments, and the map behind it is the one that it keeps.
+pub fn segments_are_kept(tables: &Tables, header: &Header, columns: usize, rows: usize)
+    requires { header.now.segmentation.updates_map ≡ false }
+    ensures segments { (before : Option (List ℕ)) → map (λ macroblock. macroblock.segment) (modes_of tables.now header.now columns rows before).records ≡ map (λ place. if header.now.segmentation.is_enabled then kept_segment header.now.is_key before place else 0) (range_with_len 0 (columns * rows)) }
+    ensures behind { (before : Option (List ℕ)) → (modes_of tables.now header.now columns rows before).segment_map ≡ kept_map header.now.is_key (columns * rows) before }
+{}
+
 /// In a key frame the 16 sub block modes are DC where luma is predicted as a whole, no macroblock
-/// has vectors, and the segment map behind the frame is zeros, whatever that before it is.
+/// has vectors, and where it does not update the segment map that behind it is zeros, whatever that
+/// before it is.
 pub fn records_have_key_shape(tables: &Tables, header: &Header, columns: usize, rows: usize)
-    requires { IsTrue header.now.is_key }
+    requires key { IsTrue header.now.is_key }
+    requires kept { header.now.segmentation.updates_map ≡ false }
     ensures shape { (map : Option (List ℕ)) → All HasKeyShape (modes_of tables.now header.now columns rows map).records }
     ensures map { (map : Option (List ℕ)) → (modes_of tables.now header.now columns rows map).segment_map ≡ replicate (columns * rows) 0 }
 {}
 
 /// Where only zeros stand behind the header of a key frame, every macroblock has sub blocks, and
-/// all modes are DC, whatever the tables and the probability of skipping are.
+/// all modes are DC and all segments 0, whatever the tables and the probabilities are.
 pub fn zeros_are_dc(tables: &Tables, header: &Header, columns: usize, rows: usize)
     requires key { IsTrue header.now.is_key }
     requires zeros { ReadsZeros header.now.reader }

@@ -14,6 +14,7 @@ pub mod laws;
 mod nearby;
 mod neighbours;
 mod records;
+mod segments;
 mod split_vectors;
 #[cfg(test)]
 mod tests;

@@ -8,7 +8,6 @@ use Rattle.mode_parser.specs.declared.records.MbMode.{MbMode}
 use Rattle.pixel_planes.specs.Pictures.{PictureSamples, macroblocks}
 use Rattle.reference_frames.specs.States.{StateValue, HasMap}
 use Rattle.reference_frames.specs.Steps.{decoded, decoded_picture, frame_modes, height_of, references_before, references_behind, width_of}
-use Rattle.reference_frames.specs.Unfiltered.{unfiltered_picture}
 use Rattle.reference_frames.specs.declared.references.References.{References}
 use Rattle.reference_frames.specs.declared.states.State.{State}
 
@@ -30,11 +29,11 @@ behind_high header picture None is = is
 behind_high header picture (Some state) is = one_high header.references.refreshes_last picture state.references.last state.references.last.height is refl
 
 decoded_wide : (packet : List ℕ) (header : Header) (references : Option References) (width height : ℕ) (modes : List MbMode) → (decoded_picture packet header references width height modes).width ≡ width
-unfolding decoded_picture unfiltered_picture
+unfolding decoded_picture
 decoded_wide packet header references width height modes = refl
 
 decoded_high : (packet : List ℕ) (header : Header) (references : Option References) (width height : ℕ) (modes : List MbMode) → (decoded_picture packet header references width height modes).height ≡ height
-unfolding decoded_picture unfiltered_picture
+unfolding decoded_picture
 decoded_high packet header references width height modes = refl
 
 -- the last reference behind a frame has the size of the frame, and so the segment map that goes with it

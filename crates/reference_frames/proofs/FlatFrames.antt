@@ -23,7 +23,7 @@ use Rattle.reference_frames.specs.FrameTokens.{TokenState, residual_at}
 use Rattle.reference_frames.specs.Unfiltered.{above, left, left_column, above_eight, above_side, left_side, sub_column, sub_row, sub_block_sample, whole_block_sample, with_block, predicted_sub_blocks, predicted_luma, predicted_whole, intra_macroblock, predicted_macroblock, predicted_macroblocks, empty_planes}
 use Rattle.reference_frames.specs.UnfilteredLaws.{luma_of_row, IsBlank, AreFlat}
 use Rattle.reference_frames.specs.declared.references.References.{References}
-use Rattle.reference_frames.proofs.Frames.{predicted_more}
+use Rattle.reference_frames.proofs.MacroblockOrder.{predicted_more}
 use Rattle.reference_frames.proofs.Flat.{IsPlane, IsPlane-with_block_rows, IsDone, IsDone-less, block_kept, block_more, above_row_is, left_column_is, above_eight_is, above_edge, left_edge, above_done, left_done}
 
 -- ---- the values

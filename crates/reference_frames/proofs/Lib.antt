@@ -5,7 +5,7 @@ pub mod Added
 pub mod AddedFirst
 pub mod Blocks
 pub mod Sides
-pub mod Frames
+pub mod MacroblockOrder
 pub mod Flat
 pub mod FlatFrames
 pub mod Behind

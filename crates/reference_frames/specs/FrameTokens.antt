@@ -7,7 +7,7 @@ use Rattle.frame_header.specs.declared.header.Header.{Header}
 use Rattle.mode_parser.specs.declared.records.MbMode.{MbMode}
 use Rattle.mode_parser.specs.declared.records.YMode.{YMode}
 use Rattle.mode_parser.specs.declared.records.YMode.TheVariants.{Whole, B, Inter}
-use Rattle.token_parser.specs.Blocks.{macroblock, skipped, no_coefficients}
+use Rattle.token_parser.specs.Blocks.{macroblock, skipped, no_coefficients, has_tokens}
 use Rattle.token_parser.specs.declared.tokens.Tokens.{Tokens}
 use Rattle.transforms.specs.Factors.{dequantised, factors_of}
 use Rattle.transforms.specs.Transforms.{inverse_wht}
@@ -99,6 +99,10 @@ state_with state column row told = record {
 abbrev pub residual_with : Factors → MbMode → Tokens → Residual
 residual_with factors mode tokens = if mode.is_skipped then None else Some (blocks_of factors (has_y2 mode.y_mode) tokens.coefficients)
 
+-- whether one of its blocks has a token; a macroblock that is skipped has none
+abbrev pub flag_with : MbMode → Tokens → Bool
+flag_with mode tokens = if mode.is_skipped then false else has_tokens (has_y2 mode.y_mode) tokens
+
 -- ---- all macroblocks
 
 abbrev pub state_behind : Header → ℕ → TokenState → ℕ → Option MbMode → TokenState
@@ -119,3 +123,16 @@ residual_behind header columns state place (Some mode) =
 -- the residual of the macroblock at a place
 unfoldable pub residual_at : Header → ℕ → TokenState → List MbMode → ℕ → Residual
 residual_at header columns start modes n = residual_behind header columns (token_state header columns start modes n) n (slice_get modes n)
+
+abbrev pub flag_behind : Header → ℕ → TokenState → ℕ → Option MbMode → Bool
+flag_behind header columns state place None = false
+flag_behind header columns state place (Some mode) =
+    flag_with mode (tokens_at header.context.probabilities.coefficients state (place % columns) (place / columns) mode).0
+
+-- whether a block of the macroblock at a place has a token
+unfoldable pub flag_at : Header → ℕ → TokenState → List MbMode → ℕ → Bool
+flag_at header columns start modes n = flag_behind header columns (token_state header columns start modes n) n (slice_get modes n)
+
+-- and of each macroblock, in raster order
+abbrev pub flags_of : Header → ℕ → TokenState → List MbMode → List Bool
+flags_of header columns start modes = map (flag_at header columns start modes) (range_with_len 0 (length modes))

@@ -9,10 +9,12 @@ use Rattle.frame_header.specs.Header.{header_of}
 use Rattle.frame_header.specs.Tags.{has_key_tag}
 use Rattle.mode_parser.specs.FrameModes.{FrameModes, modes_of}
 use Rattle.pixel_planes.specs.Pictures.{PictureSamples, macroblocks}
+use Rattle.pixel_planes.specs.PlaneSamples.{picture_of}
+use Rattle.loop_filter.specs.Frames.{filtered_planes}
 use Rattle.mode_parser.specs.declared.records.MbMode.{MbMode}
-use Rattle.reference_frames.specs.FrameTokens.{residual_at, tokens_start}
+use Rattle.reference_frames.specs.FrameTokens.{flags_of, residual_at, tokens_start}
 use Rattle.reference_frames.specs.References.{references_after}
-use Rattle.reference_frames.specs.Unfiltered.{unfiltered_picture}
+use Rattle.reference_frames.specs.Unfiltered.{unfiltered}
 use Rattle.reference_frames.specs.declared.references.References.{References}
 use Rattle.reference_frames.specs.declared.states.State.{State}
 use Rattle.reference_frames.specs.declared.steps.StepFault.{StepFault}
@@ -34,11 +36,13 @@ abbrev pub height_of : Header → Option State → ℕ
 height_of header None = header.height
 height_of header (Some before) = before.references.last.height
 
--- the picture of a frame of this shown size, by its references, its records and the residuals that its token partitions give
+-- the picture of a frame of this shown size, by its references, its records and the residuals that its token partitions give, behind the loop filter, which goes by the macroblocks that have tokens
 unfoldable pub decoded_picture : List ℕ → Header → Option References → ℕ → ℕ → List MbMode → PictureSamples
 decoded_picture packet header references width height modes =
     let columns = macroblocks width in
-    unfiltered_picture header.version references width height modes (residual_at header columns (tokens_start header.partitions.items packet columns) modes)
+    let start = tokens_start header.partitions.items packet columns in
+    let planes = unfiltered header.version references columns (macroblocks height) modes (residual_at header columns start modes) in
+    picture_of width height (filtered_planes header modes (flags_of header columns start modes) planes)
 
 -- the modes of a frame, behind the segment map before it
 abbrev pub frame_modes : TableEntries → Header → Option State → FrameModes

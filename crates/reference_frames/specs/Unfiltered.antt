@@ -8,8 +8,8 @@ use Rattle.intra_predict.specs.declared.modes.WholeMode.{WholeMode}
 use Rattle.intra_predict.specs.SubSample.{sub_sample}
 use Rattle.intra_predict.specs.WholeSample.{whole_sample}
 use Rattle.pixel_planes.specs.Samples.{Samples, uniform, sample_at, row_of, with_row}
-use Rattle.pixel_planes.specs.Pictures.{PictureSamples, macroblocks}
-use Rattle.pixel_planes.specs.PlaneSamples.{PlaneSamples, picture_of}
+use Rattle.pixel_planes.specs.Pictures.{PictureSamples}
+use Rattle.pixel_planes.specs.PlaneSamples.{PlaneSamples}
 use Rattle.mode_parser.specs.declared.records.MbMode.{MbMode}
 use Rattle.mode_parser.specs.declared.records.YMode.{YMode}
 use Rattle.mode_parser.specs.declared.records.YMode.TheVariants.{Whole, B, Inter}
@@ -188,7 +188,3 @@ empty_planes columns rows = record {
 -- the unfiltered planes of a frame of this version, with these references and this many macroblocks, by their records and the residual at each place
 abbrev pub unfiltered : ℕ → Option References → ℕ → ℕ → List MbMode → (ℕ → Residual) → PlaneSamples
 unfiltered version references columns rows modes residuals = predicted_macroblocks version references (empty_planes columns rows) columns modes residuals (length modes)
-
--- the picture of a frame of this shown size, by the records and residuals of its macroblocks
-unfoldable pub unfiltered_picture : ℕ → Option References → ℕ → ℕ → List MbMode → (ℕ → Residual) → PictureSamples
-unfiltered_picture version references width height modes residuals = picture_of width height (unfiltered version references (macroblocks width) (macroblocks height) modes residuals)

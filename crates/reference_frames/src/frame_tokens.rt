@@ -6,7 +6,7 @@ ghost use Rattle.bool_coder.specs.Reader.{started};
 ghost use Rattle.token_parser.specs.Blocks.{cleared, macroblock};
 ghost use Rattle.transforms.specs.Factors.{factors_of};
 ghost use Rattle.reference_frames.specs.FrameTokenValue.{state_of};
-ghost use Rattle.reference_frames.specs.FrameTokens.{has_y2 as has_y2_of, block_with, y2_results, block_of, blocks_of, reader_of, tokens_at, tokens_start, state_with, residual_with};
+ghost use Rattle.reference_frames.specs.FrameTokens.{has_y2 as has_y2_of, block_with, y2_results, block_of, blocks_of, reader_of, tokens_at, tokens_start, state_with, residual_with, flag_with};
 
 use crate::inter::is_split;
 use crate::residuals::Blocks;
@@ -112,6 +112,8 @@ pub struct FrameTokens<'a> {
     above: Vec<[bool; 9]>,
     /// The flags to the left, and the coefficients of one macroblock.
     tokens: Tokens,
+    /// One of the blocks of the macroblock that was read last has a token.
+    pub has_tokens: bool,
 }
 
 impl<'a> FrameTokens<'a> {
@@ -130,6 +132,7 @@ impl<'a> FrameTokens<'a> {
             readers: partition_readers(alloc, packet, partitions)?,
             above: vec![in alloc; [false; 9]; columns]?,
             tokens: Tokens::new(),
+            has_tokens: false,
         })
     }
 
@@ -166,6 +169,7 @@ impl<'a> FrameTokens<'a> {
         requires some { 0 < length (state_of self.old).readers }
         requires column { mx < length (state_of self.old).above }
         ensures state { state_of self.new ≡ state_with (state_of self.old) mx my (tokens_at header.now.context.probabilities.coefficients (state_of self.old) mx my mode.now) }
+        ensures flag { self.new.has_tokens ≡ flag_with mode.now (tokens_at header.now.context.probabilities.coefficients (state_of self.old) mx my mode.now).0 }
         ensures residual { result ≡ residual_with (factors_of header.now mode.now.segment) mode.now (tokens_at header.now.context.probabilities.coefficients (state_of self.old) mx my mode.now).0 }
     {
         self.tokens.above = self.above[mx];
@@ -174,9 +178,12 @@ impl<'a> FrameTokens<'a> {
         }
         let residual = if mode.is_skipped {
             skip_macroblock(has_y2(mode), &mut self.tokens);
+            self.has_tokens = false;
             None
         } else {
-            Some(self.read_blocks(header, my, mode))
+            let blocks = self.read_blocks(header, my, mode);
+            self.has_tokens = self.tokens.has_tokens(has_y2(mode));
+            Some(blocks)
         };
         self.above[mx] = self.tokens.above;
         residual

@@ -4,6 +4,7 @@
 
 mod comparison;
 mod frame_tokens;
+mod frames;
 mod inter;
 pub mod laws;
 mod prediction;

@@ -2,23 +2,17 @@ ghost use Rattle.std.specs.Prelude.{◌≡◌, ◌*◌, ◌+◌, ◌-◌, ◌/�
 ghost use Rattle.std.specs.List.{range_with_len};
 ghost use Rattle.std.specs.Option.{option_copied, ForSome};
 ghost use Rattle.intra_predict.specs.WholeSample.{side_of};
-ghost use Rattle.pixel_planes.specs.Pictures.{macroblocks as macroblocks_of};
 ghost use Rattle.pixel_planes.specs.PlaneSamples.{shown_of};
 ghost use Rattle.pixel_planes.specs.Samples.{sample_at};
-ghost use Rattle.reference_frames.specs.FrameTokens.{residual_at};
-ghost use Rattle.reference_frames.specs.FrameTokenValue.{state_of};
-ghost use Rattle.reference_frames.specs.Steps.{decoded_picture};
-ghost use Rattle.reference_frames.specs.Unfiltered.{HoldsSquare, HoldsMacroblock, HaveRoomFor, SameSides, SameShape, above, left, corner, above_row, left_column, above_eight, with_block, predicted_sub_block, predicted_sub_blocks, predicted_whole, predicted_luma, intra_macroblock, referred_macroblock, predicted_macroblock, predicted_macroblocks, empty_planes as empty_planes_of};
+ghost use Rattle.reference_frames.specs.Unfiltered.{HoldsSquare, HoldsMacroblock, HaveRoomFor, SameSides, SameShape, above, left, corner, above_row, left_column, above_eight, with_block, predicted_sub_block, predicted_sub_blocks, predicted_whole, predicted_luma, intra_macroblock, referred_macroblock, predicted_macroblock};
 
-use crate::frame_tokens::FrameTokens;
 use crate::inter::predict_inter;
 use crate::references::References;
 use crate::residuals::{Blocks, add_to_sub_block, add_to_whole};
-use frame_header::{Header, Reference};
+use frame_header::Reference;
 use intra_predict::{BlockSize, SubMode, WholeMode, sub, whole};
 use mode_parser::{MbMode, VectorMode, YMode};
-use pixel_planes::{NoMemory, Picture, Plane, Planes};
-use std::alloc::Global;
+use pixel_planes::{Plane, Planes};
 
 /// What stands above the frame (RFC 6386, section 12.2).
 const ABOVE_FRAME: u8 = 127;
@@ -334,7 +328,7 @@ fn predict_referred(
 
 /// Predicts the macroblock in column `mx` of row `my`, from what stands round it or from a reference,
 /// and adds its residual, if it has one.
-fn predict_macroblock(
+pub(crate) fn predict_macroblock(
     planes: &mut Planes,
     sources: Sources,
     mx: usize,
@@ -362,99 +356,4 @@ fn predict_macroblock(
             );
         }
     }
-}
-
-/// Predicts the macroblocks of a frame in raster order, each by its record, and adds the residual that
-/// its tokens give.
-fn predict_macroblocks(
-    planes: &mut Planes,
-    sources: Sources,
-    columns: usize,
-    rows: usize,
-    header: &Header,
-    modes: &[MbMode],
-    tokens: &mut FrameTokens,
-)
-    requires room { HaveRoomFor (shown_of planes.old) columns rows }
-    requires each { length modes.now ≡ columns * rows }
-    requires some { 0 < length (state_of tokens.old).readers }
-    requires above { length (state_of tokens.old).above ≡ columns }
-    ensures value { shown_of planes.new ≡ predicted_macroblocks sources.entry.version (option_copied sources.entry.references) (shown_of planes.old) columns modes.now (residual_at header.now columns (state_of tokens.old) modes.now) (length modes.now) }
-    ensures sides { SameShape (shown_of planes.old) (shown_of planes.new) }
-{
-    let mut mx = 0;
-    let mut my = 0;
-    for mode in modes {
-        let residual = tokens.read(header, mx, my, mode);
-        predict_macroblock(planes, sources, mx, my, mode, residual.as_ref());
-        mx += 1;
-        if mx == columns {
-            mx = 0;
-            my += 1;
-        }
-    }
-}
-
-/// How many macroblocks cover a shown side of at most 16,383 samples.
-pub(crate) fn macroblocks(side: u16) -> usize
-    requires { side ≤ 16383 }
-    ensures value { result ≡ macroblocks_of side }
-    ensures bound { result ≤ 1024 }
-    ensures some { 0 < side → 0 < result }
-{
-    usize::from(side).div_ceil(16)
-}
-
-/// Makes the planes of a frame of this many macroblocks, 1 to 1,024 each way, before any is predicted.
-fn empty_planes(alloc: Global, columns: usize, rows: usize) -> Result<Planes, NoMemory>
-    requires wide { (0 < columns) × (columns ≤ 1024) }
-    requires high { (0 < rows) × (rows ≤ 1024) }
-    ensures { IfOk result (λ planes. shown_of planes ≡ empty_planes_of columns rows) }
-{
-    Ok(Planes {
-        luma: Plane::make(alloc, 16 * columns, 16 * rows, 0)?,
-        cb: Plane::make(alloc, 8 * columns, 8 * rows, 0)?,
-        cr: Plane::make(alloc, 8 * columns, 8 * rows, 0)?,
-    })
-}
-
-/// Makes the picture of a frame of this shown size from its packet, of which this is the header: each
-/// macroblock is predicted by its record, of which there is one for each in raster order, and the
-/// residual that its tokens give is added to it (RFC 6386, sections 12 to 14 and 18).
-///
-/// `NoMemory` where a plane or its shared block, or what stands between macroblocks, is refused.
-pub(crate) fn unfiltered_picture(
-    alloc: Global,
-    packet: &[u8],
-    header: &Header,
-    references: Option<&References>,
-    width: u16,
-    height: u16,
-    modes: &[MbMode],
-) -> Result<Picture, NoMemory>
-    requires wide { (0 < width) × (width ≤ 16383) }
-    requires high { (0 < height) × (height ≤ 16383) }
-    requires each { length modes.now ≡ macroblocks_of width * macroblocks_of height }
-    requires some { 0 < length header.now.partitions.items }
-    requires inside { All (λ place. place.start + place.length ≤ length packet.now) header.now.partitions.items }
-    ensures { IfOk result (λ p. p ≡ decoded_picture packet.now header.now (option_copied references.entry) width height modes.now) }
-{
-    let columns = macroblocks(width);
-    let rows = macroblocks(height);
-    let sources = Sources {
-        version: header.version,
-        references,
-    };
-    let mut planes = empty_planes(alloc, columns, rows)?;
-    let mut tokens = FrameTokens::new(alloc, packet, &header.partitions, columns)?;
-    predict_macroblocks(
-        &mut planes,
-        sources,
-        columns,
-        rows,
-        header,
-        modes,
-        &mut tokens,
-    );
-    Picture::share(alloc, planes, width, height)
 }

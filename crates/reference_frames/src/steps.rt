@@ -3,7 +3,7 @@ ghost use Rattle.std.specs.Option.{option_copied, option_map, ForSome};
 ghost use Rattle.reference_frames.specs.Steps.{StepAnswers, decoded, height_of, references_before, references_behind, step_of, width_of};
 ghost use Rattle.reference_frames.specs.States.{HasMap};
 
-use crate::prediction::{macroblocks, unfiltered_picture};
+use crate::frames::{decoded_picture, macroblocks};
 use crate::references::References;
 use crate::states::State;
 use frame_header::{Cause, Header, read_header};
@@ -96,15 +96,7 @@ fn decode(
     let columns = macroblocks(width);
     let rows = macroblocks(height);
     let modes = read_modes(alloc, tables, header, columns, rows, map)?;
-    let picture = unfiltered_picture(
-        alloc,
-        packet,
-        header,
-        references,
-        width,
-        height,
-        modes.records(),
-    )?;
+    let picture = decoded_picture(alloc, packet, header, references, width, height, &modes)?;
     let references = references_behind(header, &picture, before)?;
     let segment_map = modes.into_segment_map();
     let state = State::new(alloc, header.context_after, segment_map, references)?;

@@ -1,3 +1,4 @@
+pub mod AnyToken
 pub mod Leaves
 pub mod ExtraBits
 pub mod SizeWalks

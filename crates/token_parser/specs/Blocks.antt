@@ -1,5 +1,6 @@
 -- The tokens of a macroblock (RFC 6386, sections 13.1 to 13.3).
-use Rattle.std.specs.Prelude.{ℕ, zero, suc, ◌+◌, ◌-◌, ◌/◌, ◌%◌, ◌==◌, ◌||◌, ◌<◌, ◌≤◌, Bool, false, nat_lt, ℤ, pos, List, [], ◌∷◌, ◌++◌, replicate, slice_index_or, slice_set, if◌then◌else◌}
+use Rattle.std.specs.Prelude.{ℕ, zero, suc, ◌+◌, ◌-◌, ◌/◌, ◌%◌, ◌==◌, ◌||◌, ◌&&◌, ◌<◌, ◌≤◌, Bool, false, nat_lt, ℤ, pos, List, [], ◌∷◌, ◌++◌, map, replicate, slice_index_or, slice_set, if◌then◌else◌}
+use Rattle.std.specs.List.{list_any, range_with_len}
 use Rattle.std.specs.Int.{from_bool}
 use Rattle.bool_coder.specs.Reading.{Reading, ◌>>=◌, give}
 use Rattle.token_parser.specs.declared.tokens.Tokens.{Tokens}
@@ -48,6 +49,18 @@ first_blocks (suc k) probs has_y2 before = do
 -- the tokens of a macroblock
 abbrev pub macroblock : List ℕ → Bool → Tokens → Reading Tokens
 macroblock = first_blocks 25
+
+-- the place of a block's first token: luma behind Y2 begins at place 1
+abbrev pub first_place : Bool → ℕ → ℕ
+first_place has_y2 index = if has_y2 && nat_lt index 16 then 1 else 0
+
+-- whether a block of a macroblock has a token, whatever the values are (section 13.3)
+abbrev pub has_token : Bool → Tokens → ℕ → Bool
+has_token has_y2 told index = nat_lt (first_place has_y2 index) (slice_index_or told.ends index 0)
+
+-- and whether one of its 25 blocks has
+unfoldable pub has_tokens : Bool → Tokens → Bool
+has_tokens has_y2 told = list_any (λ has. has) (map (has_token has_y2 told) (range_with_len 0 25))
 
 -- a macroblock without tokens takes its flags away; that of Y2 stays where it has no Y2 (section 13.3)
 abbrev pub no_flags : Bool → List Bool → List Bool

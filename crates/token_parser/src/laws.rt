@@ -1,12 +1,12 @@
 //! Laws that show that the definitions mean what they are to mean.
 
-ghost use Rattle.std.specs.Prelude.{◌≡◌, ◌<◌, ◌≤◌, ℕ, ℤ, pos, negsuc, true, false, [], ◌∷◌, List, Bool, replicate, slice_set};
+ghost use Rattle.std.specs.Prelude.{◌≡◌, ◌<◌, ◌≤◌, ℕ, ℤ, pos, negsuc, true, false, [], ◌∷◌, ◌++◌, List, Bool, replicate, slice_set};
 ghost use Rattle.bool_coder.specs.Reader.{Reader};
 ghost use Rattle.token_parser.specs.declared.places.TheConstants.{BANDS, ZIGZAG};
 ghost use Rattle.token_parser.specs.declared.tokens.Tokens.{Tokens};
 ghost use Rattle.token_parser.specs.TokenTree.{end_of_block, token, size_in, size_of};
 ghost use Rattle.token_parser.specs.Tokens.{tokens_from};
-ghost use Rattle.token_parser.specs.Blocks.{place_of, block, macroblock, no_tokens, skipped};
+ghost use Rattle.token_parser.specs.Blocks.{place_of, block, macroblock, no_tokens, skipped, has_tokens};
 ghost use Rattle.token_parser.specs.Worked.{entry_behind, reader_of, even_odds, three_tokens, HasSameY2};
 
 /// The bits of each token, as RFC 6386, section 13.2 has them beside its tree.
@@ -51,6 +51,16 @@ pub fn worked_flags()
     ensures zeros { (block even_odds (place_of false 1) no_tokens (reader_of (true ∷ replicate 16 false))).0 ≡ record no_tokens { above = slice_set no_tokens.above 0 true; left = slice_set no_tokens.left 0 true; ends = slice_set no_tokens.ends 0 16 } }
     ensures none { (block even_odds (place_of false 1) no_tokens (reader_of (false ∷ []))).0 ≡ no_tokens }
     ensures luma_behind_y2 { (block even_odds (place_of true 1) no_tokens (reader_of (false ∷ []))).0 ≡ record no_tokens { ends = slice_set no_tokens.ends 0 1 } }
+{}
+
+/// A block whose end lies behind the place of its first token has one: luma behind Y2 begins at
+/// place 1, and all others at place 0.
+pub fn worked_tokens()
+    ensures none { has_tokens false no_tokens ≡ false }
+    ensures luma { has_tokens false (record no_tokens { ends = slice_set no_tokens.ends 15 1 }) ≡ true }
+    ensures luma_behind_y2 { has_tokens true (record no_tokens { ends = replicate 16 1 ++ replicate 9 0 }) ≡ false }
+    ensures chroma { has_tokens true (record no_tokens { ends = slice_set no_tokens.ends 16 1 }) ≡ true }
+    ensures y2 { has_tokens true (record no_tokens { ends = slice_set no_tokens.ends 24 1 }) ≡ true }
 {}
 
 /// A macroblock without Y2 leaves the flags, the coefficients and the end of Y2 as they are, whatever is read.

@@ -1,7 +1,7 @@
 //! The blocks of a macroblock, in the order of their tokens.
 
 ghost use Rattle.std.specs.Prelude.{◌≡◌, ◌<◌};
-ghost use Rattle.token_parser.specs.Blocks.{place_of, IsInside, block, macroblock, no_flags, skipped, no_tokens, cleared};
+ghost use Rattle.token_parser.specs.Blocks.{place_of, IsInside, block, macroblock, no_flags, skipped, no_tokens, cleared, first_place, has_tokens};
 
 use crate::block_place::BlockPlace;
 use crate::block_tokens::read_tokens;
@@ -29,6 +29,26 @@ impl Tokens {
         self.coefficients = [[0; 16]; 25];
         self.ends = [0; 25];
     }
+
+    /// Whether one of the blocks of a macroblock that was read has a token, whatever its values are
+    /// (RFC 6386, section 13.3). Its ends were 0 before it was read.
+    pub fn has_tokens(&self, has_y2: bool) -> bool
+        ensures { result ≡ has_tokens has_y2 self.now }
+    {
+        let mut found = false;
+        for k in 0..25usize {
+            found = found || usize::from(self.ends[k]) > first_place(has_y2, k);
+        }
+        found
+    }
+}
+
+/// The place of a block's first token: luma behind Y2 begins at place 1.
+#[inline]
+fn first_place(has_y2: bool, index: usize) -> usize
+    ensures { result ≡ first_place has_y2 index }
+{
+    if has_y2 && index < 16 { 1 } else { 0 }
 }
 
 /// The place of the block whose tokens come behind those of `k` others.

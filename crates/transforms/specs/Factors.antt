@@ -15,11 +15,18 @@ held_index (negsuc n) = 0
 abbrev pub factor : List ℕ → ℕ → ℤ → ℕ
 factor table index delta = slice_index table (held_index (pos index +ℤ delta))
 
--- the factors of a frame in a segment, which is not looked at: no frame with segments is decoded yet
+-- the quantizer index of a segment: in a frame with segments its own value, or the frame's index changed by it (section 9.6)
+abbrev pub index_of : Header → ℕ → ℕ
+index_of header segment =
+    let value = slice_index_or header.context.segments.quantizers segment (pos 0) in
+    let frame = pos header.quantizers.y_ac_index in
+    held_index (if header.segmentation.is_enabled then (if header.context.segments.is_absolute then value else frame +ℤ value) else frame)
+
+-- the factors of a frame in a segment
 unfoldable pub factors_of : Header → ℕ → Factors
 factors_of header segment =
     let changes = header.quantizers in
-    let index = min changes.y_ac_index 127 in
+    let index = index_of header segment in
     record {
       y_dc = pos (factor DC_QUANTIZERS index changes.y_dc_delta);
       y_ac = pos (factor AC_QUANTIZERS index (pos 0));

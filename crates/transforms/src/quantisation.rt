@@ -1,5 +1,5 @@
-ghost use Rattle.std.specs.Prelude.{◌≡◌, ◌≤◌, pos, ◌+ℤ◌};
-ghost use Rattle.transforms.specs.Factors.{held_index, factor, factors_of, dequantised};
+ghost use Rattle.std.specs.Prelude.{◌≡◌, ◌≤◌, pos, ◌+ℤ◌, slice_index_or};
+ghost use Rattle.transforms.specs.Factors.{held_index, index_of, factor, factors_of, dequantised};
 ghost use Rattle.vp8_tables.specs.declared.quantizers.TheConstants.{DC_QUANTIZERS, AC_QUANTIZERS};
 
 use crate::factor_set::Factors;
@@ -14,6 +14,43 @@ fn changed(index: u8, delta: i8) -> usize
     ensures small { result ≤ 127 }
 {
     (i16::from(index) + i16::from(delta)).clamp(0, 127) as usize
+}
+
+/// An index held at 0 or above.
+fn held(index: i8) -> usize
+    ensures value { result ≡ held_index index }
+    ensures small { result ≤ 127 }
+{
+    if index < 0 { 0 } else { index as usize }
+}
+
+/// What a segment says of the quantizer index, -127 to 127; 0 where there is no such segment.
+fn segment_value(header: &Header, segment: u8) -> i8
+    ensures { result ≡ slice_index_or header.now.context.segments.quantizers segment (pos 0) }
+{
+    let values = &header.context.segments.quantizers;
+    match values.get(usize::from(segment)) {
+        Some(value) => *value,
+        None => 0,
+    }
+}
+
+/// The quantizer index of a segment, 0 to 127: in a frame with segments its own value, or the
+/// frame's index changed by it (RFC 6386, section 9.6).
+fn segment_index(header: &Header, segment: u8) -> u8
+    ensures value { result ≡ index_of header.now segment }
+    ensures small { result ≤ 127 }
+{
+    let frame = header.quantizers.y_ac_index;
+    if !header.segmentation.is_enabled {
+        return changed(frame, 0) as u8;
+    }
+    let value = segment_value(header, segment);
+    if header.context.segments.is_absolute {
+        held(value) as u8
+    } else {
+        changed(frame, value) as u8
+    }
 }
 
 /// The factor of first coefficients.
@@ -32,16 +69,14 @@ fn ac_factor(index: u8, delta: i8) -> u16
     AC_QUANTIZERS[changed(index, delta)]
 }
 
-/// The factors of a frame in a segment of its own numbers (RFC 6386, sections 9.6 and 14.1).
-///
-/// No frame with segments is decoded yet, and `segment` is not looked at.
+/// The factors of a frame in a segment, 0 to 3, which only a frame with segments looks at (RFC
+/// 6386, sections 9.6 and 14.1).
 #[tactic(auto, unfolding(crate::specs::Factors::factors_of))]
 pub fn factors(header: &Header, segment: u8) -> Factors
     ensures { result ≡ factors_of header.now segment }
 {
-    let _ = segment;
     let changes = header.quantizers;
-    let index = changes.y_ac_index.min(127);
+    let index = segment_index(header, segment);
     Factors {
         y_dc: dc_factor(index, changes.y_dc_delta) as i16,
         y_ac: ac_factor(index, 0) as i16,

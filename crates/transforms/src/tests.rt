@@ -112,6 +112,27 @@ fn factors_are_held(rt: HostRuntime) {
     assert_eq!(rt; factors(&header, 0), changed);
 }
 
+/// Factors of luma alone, which tell the index: 4 + index for both while it is below 7.
+#[test]
+fn segments_change_the_index(rt: HostRuntime) {
+    let packet = [0x10, 0, 0, 0x9D, 0x01, 0x2A, 16, 0, 16, 0];
+    let mut header = read_header(&Tables::flat(), None, &packet).expect(
+        &rt,
+        "a key frame of zeros",
+    );
+    header.quantizers.y_ac_index = 3;
+    header.context.segments.quantizers = [2, -4, 127, -127];
+    assert_eq!(rt; factors(&header, 0).y_ac, 7);
+    header.segmentation.is_enabled = true;
+    for (segment, expected) in [(0, 9), (1, 4), (2, 284), (3, 4)] {
+        assert_eq!(rt; factors(&header, segment).y_ac, expected);
+    }
+    header.context.segments.is_absolute = true;
+    for (segment, expected) in [(0, 6), (1, 4), (2, 284), (3, 4)] {
+        assert_eq!(rt; factors(&header, segment).y_ac, expected);
+    }
+}
+
 /// The low 16 bits of a number, by its remainder.
 fn plain_reduced(x: i64) -> i64 {
     let low = x.rem_euclid(65536);

@@ -4,6 +4,9 @@
 //! A tree is a list of pairs of entries, one pair for each node: an entry above 0 is the place of
 //! a later pair, any other is a leaf, kept as its negative (section 8.1).
 
+/// The tree of the segment map. Leaves: the segments 0 to 3 (RFC 6386, section 10).
+pub const SEGMENT_TREE: [i8; 6] = [2, 4, 0, -1, -2, -3];
+
 /// The tree of a key frame's luma modes. Leaves: 0 `DC_PRED`, 1 `V_PRED`, 2 `H_PRED`,
 /// 3 `TM_PRED`, 4 `B_PRED` (RFC 6386, section 11.2).
 pub const KEY_Y_TREE: [i8; 8] = [-4, 2, 4, 6, 0, -1, -2, -3];

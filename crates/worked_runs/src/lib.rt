@@ -6,6 +6,8 @@ mod edits;
 #[cfg(test)]
 mod files;
 #[cfg(test)]
+mod filters;
+#[cfg(test)]
 mod fixtures;
 #[cfg(test)]
 mod frames;

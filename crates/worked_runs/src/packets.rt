@@ -87,15 +87,21 @@ pub fn packet_of(
     Ok(packet)
 }
 
-/// Writes a key frame's header: how many token partitions there are (two digits), the quantizer index
-/// (seven), and what is said of skipping (one, and eight more for a probability).
+/// The digits of a key frame's header up to the changes of the filter level, where it has neither
+/// segments nor a loop filter.
+pub const PLAIN: &[u8] = b"00000000000000";
+
+/// Writes a key frame's header: the fields up to the changes of the filter level (14 digits where
+/// there are no segments), how many token partitions there are (two), the quantizer index (seven), and
+/// what is said of skipping (one, and eight more for a probability).
 fn write_header(
     encoder: &mut Encoder,
+    fields: &[u8],
     partitions: &[u8],
     quantizer: &[u8],
     skipping: &[u8],
 ) -> Result<(), AllocError> {
-    write_bits(encoder, b"00000000000000")?;
+    write_bits(encoder, fields)?;
     write_bits(encoder, partitions)?;
     write_bits(encoder, quantizer)?;
     write_bits(encoder, b"000000")?;
@@ -113,7 +119,7 @@ pub fn key_packet(
     macroblocks: &[Macroblock],
 ) -> Result<Vec<u8>, AllocError> {
     let mut encoder = Encoder::new(alloc);
-    write_header(&mut encoder, b"00", b"0000000", b"100000001")?;
+    write_header(&mut encoder, PLAIN, b"00", b"0000000", b"100000001")?;
     for macroblock in macroblocks {
         write_macroblock(&mut encoder, macroblock)?;
     }
@@ -129,12 +135,36 @@ pub fn first_partition(
     count: usize,
 ) -> Result<Vec<u8>, AllocError> {
     let mut encoder = Encoder::new(alloc);
-    write_header(&mut encoder, partitions, b"1111111", b"0")?;
+    write_header(&mut encoder, PLAIN, partitions, b"1111111", b"0")?;
     for _ in 0..count {
         write_pairs(&mut encoder, LUMA[0])?;
         write_pairs(&mut encoder, CHROMA[0])?;
     }
     encoder.finish()
+}
+
+/// A key packet with these fields up to the changes of the filter level and this quantizer index
+/// (seven digits), in which no macroblock is skipped. Each of `macroblocks` is a luma mode by its
+/// place, a segment's pairs before it, and the first coefficient of its Y2 block: 1, -1 or none.
+pub fn filtered_packet(
+    alloc: Global,
+    width: u16,
+    fields: &[u8],
+    quantizer: &[u8],
+    macroblocks: &[(usize, &[(bool, u8)], i8)],
+) -> Result<Vec<u8>, AllocError> {
+    let mut encoder = Encoder::new(alloc);
+    let mut tokens = Encoder::new(alloc);
+    write_header(&mut encoder, fields, b"00", quantizer, b"0")?;
+    for (luma, segment, first) in macroblocks {
+        write_pairs(&mut encoder, segment)?;
+        write_pairs(&mut encoder, LUMA[*luma % 5])?;
+        write_pairs(&mut encoder, CHROMA[0])?;
+        write_y2(&mut tokens, *first)?;
+    }
+    let first = encoder.finish()?;
+    let tokens = tokens.finish()?;
+    packet_of(alloc, width, 16, first.as_slice(), tokens.as_slice())
 }
 
 /// Writes the tokens of a macroblock whose Y2 block has a first coefficient of 1, of -1 or none, and
@@ -151,15 +181,29 @@ pub fn write_y2(encoder: &mut Encoder, first: i8) -> Result<(), AllocError> {
 }
 
 /// A shown packet with no key tag that changes no probability and refreshes nothing, of these
-/// macroblocks, each a list of bits with their probabilities, with an empty token partition. The
-/// probabilities of skipping and of a reference are 1, that of the last frame 255, golden's 128.
+/// macroblocks, each a list of bits with their probabilities, with an empty token partition. All of
+/// them are skipped.
 pub fn inter_packet(alloc: Global, macroblocks: &[&[(bool, u8)]]) -> Result<Vec<u8>, AllocError> {
+    inter_packet_of(alloc, b"000000000000", b"100000001", macroblocks, &[])
+}
+
+/// Such a packet with these fields up to the changes of the filter level (12 digits where there are no
+/// segments), what is said of skipping, and this token partition. The probability of a reference is
+/// 1, that of the last frame 255, golden's 128.
+pub fn inter_packet_of(
+    alloc: Global,
+    fields: &[u8],
+    skipping: &[u8],
+    macroblocks: &[&[(bool, u8)]],
+    tokens: &[u8],
+) -> Result<Vec<u8>, AllocError> {
     let mut encoder = Encoder::new(alloc);
-    write_bits(&mut encoder, &[b'0'; 36])?;
+    write_bits(&mut encoder, fields)?;
+    write_bits(&mut encoder, &[b'0'; 24])?;
     for _ in 0..1056 {
         encoder.bit(false, 128)?;
     }
-    write_bits(&mut encoder, b"100000001")?;
+    write_bits(&mut encoder, skipping)?;
     write_bits(&mut encoder, b"000000011111111110000000")?;
     write_bits(&mut encoder, b"00")?;
     for component in VECTOR_UPDATE_PROBABILITIES {
@@ -177,5 +221,6 @@ pub fn inter_packet(alloc: Global, macroblocks: &[&[(bool, u8)]]) -> Result<Vec<
     packet.push((size / 8 % 256) as u8)?;
     packet.push((size / 2048) as u8)?;
     packet.extend_from_slice(first.as_slice())?;
+    packet.extend_from_slice(tokens)?;
     Ok(packet)
 }

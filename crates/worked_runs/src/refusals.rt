@@ -57,24 +57,6 @@ fn token_partitions(rt: HostRuntime) -> Result<(), Fail> {
     refuses(&rt, rt.alloc(), &partition, reply)
 }
 
-#[test]
-fn not_yet(rt: HostRuntime) -> Result<(), Fail> {
-    // The third bit turns segments on; the sixth to the tenth are the low bits of the filter level.
-    for fields in ["001", "0000000001"] {
-        let mut encoder = Encoder::new(rt.alloc());
-        write_bits(&mut encoder, fields.as_bytes())?;
-        let first = encoder.finish()?;
-        let packet = packet_of(rt.alloc(), 16, 16, first.as_slice(), &[0])?;
-        refuses(
-            &rt,
-            rt.alloc(),
-            packet.as_slice(),
-            "refused packet 0 NotYet\n",
-        )?;
-    }
-    Ok(())
-}
-
 // A packet that is refused breaks the stream at its place up to the next key tag; what does not
 // depend on it is still served.
 #[test]

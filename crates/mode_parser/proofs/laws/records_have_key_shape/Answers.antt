@@ -4,6 +4,6 @@ use Rattle.mode_parser.proofs.laws.records_have_key_shape.Goals as goal
 
 pub returns : goal.returns
 returns c = record {
-  shape = λ map. first_modes-shape _ _ _ _ _ _ c.requires;
-  map = λ map. rw c.requires refl;
+  shape = λ map. first_modes-shape _ _ _ _ _ map _ c.requires.key;
+  map = λ map. rw (c.requires.kept, c.requires.key) refl;
 }

@@ -2,7 +2,7 @@ use Rattle.std.specs.Option.{option_copied}
 use Rattle.std.proofs.Common.{◌∙◌, sym}
 use Rattle.pixel_planes.specs.PlaneSamples.{shown_of}
 use Rattle.reference_frames.specs.Unfiltered.{predicted_macroblock}
-use Rattle.reference_frames.proofs.Frames.{by_whole, by_sub_blocks, by_reference}
+use Rattle.reference_frames.proofs.MacroblockOrder.{by_whole, by_sub_blocks, by_reference}
 use Rattle.reference_frames.proofs.prediction.predict_macroblock.Goals as goal
 
 pub returns-in-Whole-clause-value : goal.returns-in-Whole-clause-value

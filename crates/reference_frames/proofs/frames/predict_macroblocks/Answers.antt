@@ -1,15 +1,16 @@
 use Rattle.std.proofs.Common.{◌≡◌, ◌+◌, ◌*◌, ◌<◌, ℕ, length, slice_get, Some, ap, sym, ◌∙◌, refl, rules, arith}
 use Rattle.std.specs.Option.{option_copied}
 use Rattle.std.proofs.lemmas.List.{length-set}
+use Rattle.std.proofs.Common.{length-append}
 use Rattle.std.proofs.lemmas.Option.{slice_get-get_or}
 use Rattle.mode_parser.specs.declared.records.MbMode.{MbMode}
 use Rattle.pixel_planes.specs.PlaneSamples.{shown_of}
-use Rattle.reference_frames.specs.FrameTokens.{TokenState, residual_at, token_state}
+use Rattle.reference_frames.specs.FrameTokens.{TokenState, flag_at, residual_at, token_state}
 use Rattle.reference_frames.specs.FrameTokenValue.{state_of}
 use Rattle.reference_frames.specs.Unfiltered.{predicted_macroblocks}
-use Rattle.reference_frames.proofs.Frames.{predicted_more, residual_here, state_more}
-use Rattle.reference_frames.proofs.prediction.predict_macroblocks.Goals as goal
-use Rattle.reference_frames.proofs.prediction.predict_macroblocks.Goals.{then-mx-columns, else-mx-columns}
+use Rattle.reference_frames.proofs.MacroblockOrder.{flag_here, flags_more, predicted_more, residual_here, state_more}
+use Rattle.reference_frames.proofs.frames.predict_macroblocks.Goals as goal
+use Rattle.reference_frames.proofs.frames.predict_macroblocks.Goals.{then-mx-columns, else-mx-columns}
 
 some_columns : (columns rows : ℕ) → 0 < columns * rows → 0 < columns
 some_columns columns rows some = grind arith
@@ -25,6 +26,8 @@ pub loop-mode-init : goal.loop-mode-init
 unfolding predicted_macroblocks token_state
 loop-mode-init c = record {
   value = refl;
+  flags = c.in_ok-flags.ensures.items;
+  count = ap length c.in_ok-flags.ensures.items;
   state = refl;
   readers = c.requires.some;
   above = c.requires.above;
@@ -42,10 +45,14 @@ loop-mode-preserved c =
     let residual : option_copied c.as_ref.result ≡ residual_at c.args.header.now c.args.columns (state_of c.args.tokens.now) c.args.modes.now c.loop-mode.mode-index =
     c.as_ref.ensures.value ∙ c.read-residual.ensures.residual
     ∙ residual_here c.args.header.now (state_of c.args.tokens.now) (state_of c.loop-mode.tokens) c.args.columns c.loop-mode.mx c.loop-mode.my c.loop-mode.mode-index c.args.modes.now mode found c.loop-mode.invariant.state c.loop-mode.invariant.place column in
+    let flag = c.read-residual.ensures.flag ∙ flag_here c.args.header.now (state_of c.args.tokens.now) (state_of c.loop-mode.tokens) c.args.columns c.loop-mode.mx c.loop-mode.my c.loop-mode.mode-index c.args.modes.now mode found c.loop-mode.invariant.state c.loop-mode.invariant.place column in
+    let flags' = c.in_ok-push.ensures.items ∙ flags_more (flag_at c.args.header.now c.args.columns (state_of c.args.tokens.now) c.args.modes.now) c.loop-mode.flags.items c.loop-mode.mode-index c.read-residual.new.self.has_tokens c.loop-mode.invariant.flags flag in
     let here = rw residual at c.predict_macroblock.ensures.value in
     record {
       value = predicted_more c.args.sources.version (option_copied c.args.sources.references) (shown_of c.args.planes.now) (shown_of c.loop-mode.planes) (shown_of c.predict_macroblock.new.planes) c.args.columns c.loop-mode.mx c.loop-mode.my c.loop-mode.mode-index c.args.modes.now
           (residual_at c.args.header.now c.args.columns (state_of c.args.tokens.now) c.args.modes.now) mode found c.loop-mode.invariant.value here c.loop-mode.invariant.place column;
+      flags = flags';
+      count = rw (c.in_ok-push.ensures.items, length-append) (omega (arith, c.loop-mode.invariant.count));
       state = state_more c.args.header.now (state_of c.args.tokens.now) (state_of c.loop-mode.tokens) (state_of c.read-residual.new.self) c.args.columns c.loop-mode.mx c.loop-mode.my c.loop-mode.mode-index c.args.modes.now mode found c.loop-mode.invariant.state c.read-residual.ensures.state c.loop-mode.invariant.place column;
       readers = (let same = ap (λ (t : TokenState). length t.readers) state ∙ length-set _ _ _ in omega (arith, same, c.loop-mode.invariant.readers));
       above = ap (λ (t : TokenState). length t.above) state ∙ length-set _ _ _ ∙ c.loop-mode.invariant.above;

@@ -1,12 +1,14 @@
 -- Macroblocks in raster order.
 use Rattle.std.specs.Prelude.{Option}
-use Rattle.std.proofs.Common.{◌≡◌, ℕ, ◌+◌, ◌*◌, ◌/◌, ◌%◌, ◌<◌, List, Some, slice_get, refl, add-one}
+use Rattle.std.proofs.Common.{◌≡◌, ℕ, ◌+◌, ◌*◌, ◌/◌, ◌%◌, ◌<◌, Bool, List, [], ◌∷◌, ◌++◌, map, Some, slice_get, refl, add-one, arith}
+use Rattle.std.specs.List.{range_with_len}
+use Rattle.std.proofs.lemmas.List.FromFn.{map-range_with_len_more}
 use Rattle.std.proofs.lemmas.Nat.{div-mul-add, mod-mul-add}
 use Rattle.mode_parser.specs.declared.records.MbMode.{MbMode}
 use Rattle.pixel_planes.specs.PlaneSamples.{PlaneSamples}
 use Rattle.frame_header.specs.declared.header.Header.{Header}
 use Rattle.transforms.specs.Factors.{factors_of}
-use Rattle.reference_frames.specs.FrameTokens.{TokenState, residual_at, residual_with, state_with, token_state, tokens_at}
+use Rattle.reference_frames.specs.FrameTokens.{TokenState, flag_at, flag_with, residual_at, residual_with, state_with, token_state, tokens_at}
 use Rattle.reference_frames.specs.Restored.{Residual}
 use Rattle.reference_frames.specs.declared.references.References.{References}
 use Rattle.frame_header.specs.declared.references.Reference.{Reference}
@@ -40,6 +42,18 @@ residual_here header start old columns mx my n modes mode found so_far place in_
     let column : n % columns ≡ mx = rw (← place) (mod-mul-add my columns mx in_row) in
     let row : n / columns ≡ my = rw (← place) (div-mul-add my columns mx in_row) in
     rw (found, column, row, ← so_far) refl
+
+-- whether a block of that macroblock has a token, and of each up to it
+pub flag_here : (header : Header) (start old : TokenState) (columns mx my n : ℕ) (modes : List MbMode) (mode : MbMode) → slice_get modes n ≡ Some mode → old ≡ token_state header columns start modes n → my * columns + mx ≡ n → mx < columns →
+    flag_with mode (tokens_at header.context.probabilities.coefficients old mx my mode).0 ≡ flag_at header columns start modes n
+unfolding flag_at
+flag_here header start old columns mx my n modes mode found so_far place in_row =
+    let column : n % columns ≡ mx = rw (← place) (mod-mul-add my columns mx in_row) in
+    let row : n / columns ≡ my = rw (← place) (div-mul-add my columns mx in_row) in
+    rw (found, column, row, ← so_far) refl
+
+pub flags_more : (flag : ℕ → Bool) (flags : List Bool) (n : ℕ) (here : Bool) → flags ≡ map flag (range_with_len 0 n) → here ≡ flag n → flags ++ here ∷ [] ≡ map flag (range_with_len 0 (n + 1))
+flags_more flag flags n here so_far is = rw (map-range_with_len_more {X = Bool} flag 0 n n (omega arith), so_far, is) refl
 
 -- how a macroblock is predicted goes by its luma mode
 pub by_whole : (y : YMode) (whole : WholeMode) (version : ℕ) (references : Option References) (planes : PlaneSamples) (mx my : ℕ) (mode : MbMode) (residual : Residual) → y ≡ Whole whole → predicted_by y version references planes mx my mode residual ≡ intra_macroblock planes mx my mode residual

@@ -1,0 +1,69 @@
+-- Examples and statements that laws speak of.
+use Rattle.std.specs.Prelude.{◌≡◌, ℕ, zero, suc, ◌*◌, ◌/◌, ◌%◌, ◌<◌, Bool, false, if◌then◌else◌, List, [], ◌∷◌, pos, negsuc, Option, None, IfSome}
+use Rattle.frame_header.specs.declared.context.FilterDeltas.{FilterDeltas}
+use Rattle.frame_header.specs.declared.context.Segments.{Segments}
+use Rattle.frame_header.specs.declared.header.Header.{Header}
+use Rattle.intra_predict.specs.declared.modes.WholeMode.{WholeMode}
+use Rattle.mode_parser.specs.declared.records.MbMode.{MbMode}
+use Rattle.mode_parser.specs.declared.records.YMode.TheVariants.{Whole}
+use Rattle.pixel_planes.specs.Samples.{Samples}
+use Rattle.pixel_planes.specs.PlaneSamples.{PlaneSamples}
+use Rattle.loop_filter.specs.Levels.{level_of}
+use Rattle.loop_filter.specs.Blocks.{Shape, luma, chroma, filtered_by}
+use Rattle.loop_filter.specs.Frames.{HaveBlocks, block_at, strength_at, strength_of, columns_in, rows_in, filtered_planes}
+use Rattle.loop_filter.specs.declared.edge_limits.Limits.{Limits}
+use Rattle.loop_filter.specs.declared.strengths.Strength.{Strength}
+
+-- changes of the level: 2, 0, -2, -3 by reference and 4, -2, 1, 5 by mode
+abbrev pub worked_deltas : FilterDeltas
+worked_deltas = record {
+  reference = pos 2 ∷ pos 0 ∷ negsuc 1 ∷ negsuc 2 ∷ [];
+  mode = pos 4 ∷ negsuc 1 ∷ pos 1 ∷ pos 5 ∷ [];
+}
+
+-- levels of segments that stand for themselves, or are added: 10, 20, -30 and 40
+abbrev pub worked_segments : Bool → Segments
+worked_segments is_absolute = record { is_absolute = is_absolute; quantizers = pos 0 ∷ pos 0 ∷ pos 0 ∷ pos 0 ∷ []; levels = pos 10 ∷ pos 20 ∷ negsuc 29 ∷ pos 40 ∷ [] }
+
+-- these limits
+abbrev pub limits_are : ℕ → ℕ → ℕ → ℕ → Limits
+limits_are interior variance macroblock_edge inner_edge = record { interior = interior; variance = variance; macroblock_edge = macroblock_edge; inner_edge = inner_edge }
+
+-- a frame of level 0 is not filtered, whatever its macroblocks are
+abbrev pub LeavesFramesOfLevel0 : Type 0
+LeavesFramesOfLevel0 = (header : Header) (records : List MbMode) (flags : List Bool) (planes : PlaneSamples) → header.filter.level ≡ 0 → filtered_planes header records flags planes ≡ planes
+
+-- a macroblock of level 0 is not filtered
+abbrev pub LeavesMacroblocksOfLevel0 : Type 0
+LeavesMacroblocksOfLevel0 = (header : Header) (mode : MbMode) (has_tokens : Bool) → level_of header mode ≡ 0 → strength_of header mode has_tokens ≡ None
+
+-- a macroblock that is predicted as a whole and has no token has no inner edges
+abbrev pub LeavesInnerEdges : Type 0
+LeavesInnerEdges = (header : Header) (mode : MbMode) (whole : WholeMode) → mode.y_mode ≡ Whole whole → IfSome (strength_of header mode false) (λ strength. strength.has_inner_edges ≡ false)
+
+-- a plane behind one macroblock
+abbrev pub macroblock_in_plane : Shape → Bool → Option Strength → ℕ → ℕ → ℕ → Samples → Samples
+macroblock_in_plane shape is_simple strength columns mx my plane = record plane { samples = filtered_by shape is_simple strength (block_at shape.side columns mx my) plane.samples }
+
+-- the three planes behind one macroblock
+abbrev pub macroblock_in_planes : Bool → Option Strength → ℕ → ℕ → ℕ → PlaneSamples → PlaneSamples
+macroblock_in_planes is_simple strength columns mx my planes = record {
+  luma = macroblock_in_plane luma is_simple strength columns mx my planes.luma;
+  cb = if is_simple then planes.cb else macroblock_in_plane chroma is_simple strength columns mx my planes.cb;
+  cr = if is_simple then planes.cr else macroblock_in_plane chroma is_simple strength columns mx my planes.cr;
+}
+
+-- and behind the first n macroblocks of a frame, in raster order
+unfoldable pub macroblocks_in_planes : Bool → (ℕ → Option Strength) → ℕ → PlaneSamples → ℕ → PlaneSamples
+macroblocks_in_planes is_simple strength columns planes zero = planes
+macroblocks_in_planes is_simple strength columns planes (suc n) = macroblock_in_planes is_simple (strength n) columns (n % columns) (n / columns) (macroblocks_in_planes is_simple strength columns planes n)
+
+-- the filtered picture is what filtering the three planes macroblock by macroblock gives
+abbrev pub GoesMacroblockByMacroblock : Type 0
+GoesMacroblockByMacroblock =
+    (header : Header) (records : List MbMode) (flags : List Bool) (planes : PlaneSamples) → 0 < header.filter.level →
+    filtered_planes header records flags planes ≡ macroblocks_in_planes header.filter.is_simple (strength_at header records flags) (columns_in planes) planes (columns_in planes * rows_in planes)
+
+-- the sides of planes of so many macroblocks tell how many there are
+abbrev pub SidesTellMacroblocks : Type 0
+SidesTellMacroblocks = (planes : PlaneSamples) (columns rows : ℕ) → HaveBlocks planes columns rows → (columns_in planes ≡ columns) × (rows_in planes ≡ rows)

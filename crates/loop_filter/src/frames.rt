@@ -1,0 +1,166 @@
+//! The filter of a frame: its macroblocks in raster order (RFC 6386, section 15.1).
+
+ghost use Rattle.std.specs.Prelude.{◌≡◌, ◌+◌, ◌*◌, ◌<◌, ◌≤◌, length, IfSome};
+ghost use Rattle.pixel_planes.specs.PlaneSamples.{shown_of};
+ghost use Rattle.loop_filter.specs.Blocks.{HasSmallLimits, IsInside, luma, chroma};
+ghost use Rattle.loop_filter.specs.Frames.{HaveBlocks, KeepSides, block_at, columns_in, rows_in, filtered_planes};
+ghost use Rattle.loop_filter.specs.Macroblocks.{IsFrame, IsPlane, strengths, macroblock_filtered, row_of_all, rows_of_all};
+
+use crate::blocks::{Block, filter_block};
+use crate::chroma_blocks::filter_blocks;
+use crate::strengths::{Strength, strength_for};
+use frame_header::Header;
+use mode_parser::{MbMode, Modes};
+use pixel_planes::Planes;
+
+/// The macroblocks of a frame, in raster order, and how many there are each way.
+#[derive(Clone, Copy)]
+struct Macroblocks<'a> {
+    header: &'a Header<'a>,
+    records: &'a [MbMode],
+    flags: &'a [bool],
+    columns: usize,
+    rows: usize,
+}
+
+/// How the macroblock at a place is filtered.
+#[inline]
+#[tactic(auto, unfolding(crate::specs::Frames::strength_at))]
+fn strength_at(all: Macroblocks, place: usize) -> Option<Strength>
+    requires record { place < length all.records.now }
+    requires flag { place < length all.flags.now }
+    ensures value { result ≡ strengths all.entry place }
+    ensures small { IfSome result HasSmallLimits }
+{
+    strength_for(all.header, &all.records[place], all.flags[place])
+}
+
+/// Where the block of the macroblock in column `mx` of row `my` stands in a plane of so many columns.
+#[inline]
+fn block_at(side: usize, columns: usize, mx: usize, my: usize) -> Block
+    requires small { (side ≤ 16) × (columns ≤ 1024) × (mx ≤ 1024) × (my ≤ 1024) }
+    ensures { result ≡ block_at side columns mx my }
+{
+    let stride = side * columns;
+    let row = side * stride;
+    Block {
+        start: my * row + side * mx,
+        stride,
+        is_leftmost: mx == 0,
+        is_topmost: my == 0,
+    }
+}
+
+/// Filters the luma of the macroblock in column `mx` of row `my`.
+#[inline]
+#[tactic(auto, unfolding(crate::specs::Blocks::filtered_by))]
+fn filter_luma_block(all: Macroblocks, samples: &mut [u8], mx: usize, my: usize)
+    requires frame { IsFrame all }
+    requires plane { IsPlane 16 all (length samples.old) }
+    requires place { (mx < all.columns) × (my < all.rows) }
+    ensures { samples.new ≡ macroblock_filtered luma all.entry mx my samples.old }
+{
+    if let Some(strength) = strength_at(all, my * all.columns + mx) {
+        let block = block_at(16, all.columns, mx, my);
+        filter_block(all.header.filter.is_simple, strength, samples, block);
+    }
+}
+
+/// Filters the chroma of the macroblock in column `mx` of row `my`.
+#[inline]
+#[tactic(auto, unfolding(crate::specs::Blocks::filtered_by))]
+fn filter_chroma_block(all: Macroblocks, cb: &mut [u8], cr: &mut [u8], mx: usize, my: usize)
+    requires frame { IsFrame all }
+    requires cb { IsPlane 8 all (length cb.old) }
+    requires cr { IsPlane 8 all (length cr.old) }
+    requires place { (mx < all.columns) × (my < all.rows) }
+    ensures cb { cb.new ≡ macroblock_filtered chroma all.entry mx my cb.old }
+    ensures cr { cr.new ≡ macroblock_filtered chroma all.entry mx my cr.old }
+{
+    if let Some(strength) = strength_at(all, my * all.columns + mx) {
+        let block = block_at(8, all.columns, mx, my);
+        filter_blocks(all.header.filter.is_simple, strength, cb, cr, block);
+    }
+}
+
+/// Filters the luma of a row of macroblocks.
+fn filter_luma_row(all: Macroblocks, samples: &mut [u8], my: usize)
+    requires frame { IsFrame all }
+    requires plane { IsPlane 16 all (length samples.old) }
+    requires place { my < all.rows }
+    ensures { samples.new ≡ row_of_all luma all.entry my samples.old all.entry.columns }
+{
+    for mx in 0..all.columns {
+        filter_luma_block(all, samples, mx, my);
+    }
+}
+
+/// Filters the chroma of a row of macroblocks.
+fn filter_chroma_row(all: Macroblocks, cb: &mut [u8], cr: &mut [u8], my: usize)
+    requires frame { IsFrame all }
+    requires cb { IsPlane 8 all (length cb.old) }
+    requires cr { IsPlane 8 all (length cr.old) }
+    requires place { my < all.rows }
+    ensures cb { cb.new ≡ row_of_all chroma all.entry my cb.old all.entry.columns }
+    ensures cr { cr.new ≡ row_of_all chroma all.entry my cr.old all.entry.columns }
+{
+    for mx in 0..all.columns {
+        filter_chroma_block(all, cb, cr, mx, my);
+    }
+}
+
+/// Filters the luma of all macroblocks.
+fn filter_luma(all: Macroblocks, samples: &mut [u8])
+    requires frame { IsFrame all }
+    requires plane { IsPlane 16 all (length samples.old) }
+    ensures { samples.new ≡ rows_of_all luma all.entry samples.old all.entry.rows }
+{
+    for my in 0..all.rows {
+        filter_luma_row(all, samples, my);
+    }
+}
+
+/// Filters the chroma of all macroblocks.
+fn filter_chroma(all: Macroblocks, cb: &mut [u8], cr: &mut [u8])
+    requires frame { IsFrame all }
+    requires cb { IsPlane 8 all (length cb.old) }
+    requires cr { IsPlane 8 all (length cr.old) }
+    ensures cb { cb.new ≡ rows_of_all chroma all.entry cb.old all.entry.rows }
+    ensures cr { cr.new ≡ rows_of_all chroma all.entry cr.old all.entry.rows }
+{
+    for my in 0..all.rows {
+        filter_chroma_row(all, cb, cr, my);
+    }
+}
+
+/// Filters the planes of a frame by its records and flags, of which there is one for each macroblock
+/// in raster order (RFC 6386, section 15.1). A flag says that some block of its macroblock has a
+/// token.
+///
+/// The planes are of whole macroblocks, of 16 by 16 samples in luma and 8 by 8 in chroma. Where the
+/// level of the frame is 0 they are left as they are, and so is chroma by the simple filter; a plane
+/// that is filtered has its border out of date.
+#[tactic(auto, unfolding(crate::specs::Frames::filtered_planes))]
+pub fn frame(header: &Header, modes: &Modes, flags: &[bool], planes: &mut Planes)
+    requires blocks { HaveBlocks (shown_of planes.old) (columns_in (shown_of planes.old)) (rows_in (shown_of planes.old)) }
+    requires records { length modes.now.records ≡ columns_in (shown_of planes.old) * rows_in (shown_of planes.old) }
+    requires flags { length flags.now ≡ columns_in (shown_of planes.old) * rows_in (shown_of planes.old) }
+    ensures value { shown_of planes.new ≡ filtered_planes header.now modes.now.records flags.now (shown_of planes.old) }
+    ensures sides { KeepSides (shown_of planes.old) (shown_of planes.new) }
+    ensures unfiltered { header.now.filter.level ≡ 0 → planes.new ≡ planes.old }
+{
+    if header.filter.level == 0 {
+        return;
+    }
+    let all = Macroblocks {
+        header,
+        records: modes.records(),
+        flags,
+        columns: planes.luma.width() / 16,
+        rows: planes.luma.height() / 16,
+    };
+    filter_luma(all, planes.luma.samples_mut());
+    if !header.filter.is_simple {
+        filter_chroma(all, planes.cb.samples_mut(), planes.cr.samples_mut());
+    }
+}

@@ -1,0 +1,122 @@
+//! The picture of a frame: its macroblocks one after another, and behind them the loop filter.
+
+ghost use Rattle.std.specs.Prelude.{◌≡◌, ◌*◌, ◌+◌, ◌<◌, ◌≤◌, All, IfOk, length};
+ghost use Rattle.std.specs.Option.{option_copied};
+ghost use Rattle.pixel_planes.specs.Pictures.{macroblocks as macroblocks_of};
+ghost use Rattle.pixel_planes.specs.PlaneSamples.{shown_of};
+ghost use Rattle.reference_frames.specs.FrameTokens.{flags_of, residual_at};
+ghost use Rattle.reference_frames.specs.FrameTokenValue.{state_of};
+ghost use Rattle.reference_frames.specs.Steps.{decoded_picture};
+ghost use Rattle.reference_frames.specs.Unfiltered.{HaveRoomFor, SameShape, predicted_macroblocks, empty_planes as empty_planes_of};
+
+use crate::frame_tokens::FrameTokens;
+use crate::prediction::{Sources, predict_macroblock};
+use crate::references::References;
+use frame_header::Header;
+use mode_parser::{MbMode, Modes};
+use pixel_planes::{NoMemory, Picture, Plane, Planes};
+use std::alloc::Global;
+
+/// Predicts the macroblocks of a frame in raster order, each by its record, and adds the residual that
+/// its tokens give. Gives for each whether one of its blocks has a token.
+fn predict_macroblocks(
+    alloc: Global,
+    planes: &mut Planes,
+    sources: Sources,
+    columns: usize,
+    rows: usize,
+    header: &Header,
+    modes: &[MbMode],
+    tokens: &mut FrameTokens,
+) -> Result<Vec<bool>, NoMemory>
+    requires room { HaveRoomFor (shown_of planes.old) columns rows }
+    requires each { length modes.now ≡ columns * rows }
+    requires some { 0 < length (state_of tokens.old).readers }
+    requires above { length (state_of tokens.old).above ≡ columns }
+    ensures value { IfOk result (λ flags. shown_of planes.new ≡ predicted_macroblocks sources.entry.version (option_copied sources.entry.references) (shown_of planes.old) columns modes.now (residual_at header.now columns (state_of tokens.old) modes.now) (length modes.now)) }
+    ensures flags { IfOk result (λ flags. flags.items ≡ flags_of header.now columns (state_of tokens.old) modes.now) }
+    ensures count { IfOk result (λ flags. length flags.items ≡ length modes.now) }
+    ensures sides { IfOk result (λ flags. SameShape (shown_of planes.old) (shown_of planes.new)) }
+{
+    let mut flags = Vec::with_capacity(alloc, modes.len())?;
+    let mut mx = 0;
+    let mut my = 0;
+    for mode in modes {
+        let residual = tokens.read(header, mx, my, mode);
+        predict_macroblock(planes, sources, mx, my, mode, residual.as_ref());
+        flags.push(tokens.has_tokens)?;
+        mx += 1;
+        if mx == columns {
+            mx = 0;
+            my += 1;
+        }
+    }
+    Ok(flags)
+}
+
+/// How many macroblocks cover a shown side of at most 16,383 samples.
+pub(crate) fn macroblocks(side: u16) -> usize
+    requires { side ≤ 16383 }
+    ensures value { result ≡ macroblocks_of side }
+    ensures bound { result ≤ 1024 }
+    ensures some { 0 < side → 0 < result }
+{
+    usize::from(side).div_ceil(16)
+}
+
+/// Makes the planes of a frame of this many macroblocks, 1 to 1,024 each way, before any is predicted.
+fn empty_planes(alloc: Global, columns: usize, rows: usize) -> Result<Planes, NoMemory>
+    requires wide { (0 < columns) × (columns ≤ 1024) }
+    requires high { (0 < rows) × (rows ≤ 1024) }
+    ensures { IfOk result (λ planes. shown_of planes ≡ empty_planes_of columns rows) }
+{
+    Ok(Planes {
+        luma: Plane::make(alloc, 16 * columns, 16 * rows, 0)?,
+        cb: Plane::make(alloc, 8 * columns, 8 * rows, 0)?,
+        cr: Plane::make(alloc, 8 * columns, 8 * rows, 0)?,
+    })
+}
+
+/// Makes the picture of a frame of this shown size from its packet, of which this is the header: each
+/// macroblock is predicted by its record, of which there is one for each in raster order, and the
+/// residual that its tokens give is added to it (RFC 6386, sections 12 to 14 and 18). Behind the last
+/// of them the loop filter goes over the whole (section 15).
+///
+/// `NoMemory` where a plane or its shared block, or what stands between macroblocks, is refused.
+pub(crate) fn decoded_picture(
+    alloc: Global,
+    packet: &[u8],
+    header: &Header,
+    references: Option<&References>,
+    width: u16,
+    height: u16,
+    modes: &Modes,
+) -> Result<Picture, NoMemory>
+    requires wide { (0 < width) × (width ≤ 16383) }
+    requires high { (0 < height) × (height ≤ 16383) }
+    requires each { length modes.now.records ≡ macroblocks_of width * macroblocks_of height }
+    requires some { 0 < length header.now.partitions.items }
+    requires inside { All (λ place. place.start + place.length ≤ length packet.now) header.now.partitions.items }
+    ensures { IfOk result (λ p. p ≡ decoded_picture packet.now header.now (option_copied references.entry) width height modes.now.records) }
+{
+    let columns = macroblocks(width);
+    let rows = macroblocks(height);
+    let sources = Sources {
+        version: header.version,
+        references,
+    };
+    let mut planes = empty_planes(alloc, columns, rows)?;
+    let mut tokens = FrameTokens::new(alloc, packet, &header.partitions, columns)?;
+    let flags = predict_macroblocks(
+        alloc,
+        &mut planes,
+        sources,
+        columns,
+        rows,
+        header,
+        modes.records(),
+        &mut tokens,
+    )?;
+    loop_filter::frame(header, modes, &flags, &mut planes);
+    Picture::share(alloc, planes, width, height)
+}
