@@ -7,4 +7,5 @@ pub mod OneLine
 pub mod RowsPut
 pub mod Scalars
 pub mod Raster
+pub mod ThreeEdges
 pub mod Transposed

@@ -1,9 +1,10 @@
 //! A macroblock's block in luma.
 
-ghost use Rattle.std.specs.Prelude.{◌≡◌, ◌+◌, ◌*◌, ◌<◌, ◌≤◌, false, length};
+ghost use Rattle.std.specs.Prelude.{◌≡◌, ◌+◌, ◌*◌, ◌<◌, ◌≤◌, length};
 ghost use Rattle.loop_filter.specs.Lines.{filtered_line};
-ghost use Rattle.loop_filter.specs.Blocks.{IsInside, HasSmallLimits, outer_limits, inner_limits, outer_filter, inner_filter, luma, column_edge, row_edge, left_edge, inner_columns, top_edge, inner_rows, block_filtered};
+ghost use Rattle.loop_filter.specs.Blocks.{IsInside, HasSmallLimits, outer_limits, inner_limits, outer_filter, inner_filter, luma, column_edge, column_edges, row_edge, left_edge, inner_columns, top_edge, inner_rows, block_filtered};
 
+use crate::columns_inner::filter_inner_columns;
 use crate::edge_limits::{EdgeFilter, EdgeLimits, Limits};
 use crate::edges::{filter_columns, filter_rows};
 use crate::strengths::Strength;
@@ -109,10 +110,28 @@ fn filter_left(filter: EdgeFilter, limits: EdgeLimits, samples: &mut [u8], block
     }
 }
 
-/// Filters the vertical edges inside a block.
-#[tactic(auto, unfolding(crate::specs::Blocks::inner_columns))]
+/// Filters the vertical edges before columns 4, 8 and 12 of a block, those of the normal filter in one
+/// turn of the block.
 #[inline]
-fn filter_inner_columns(
+fn filter_three_columns(filter: EdgeFilter, limits: EdgeLimits, samples: &mut [u8], block: Block)
+    requires limit { limits.edge < 255 }
+    requires inside { IsInside 16 block (length samples.old) }
+    ensures { samples.new ≡ column_edges (filtered_line filter limits) 16 block luma.inner samples.old }
+{
+    match filter {
+        EdgeFilter::Inner => filter_inner_columns(limits, samples, block.start, block.stride),
+        _ => {
+            filter_column(filter, limits, samples, block, 4);
+            filter_column(filter, limits, samples, block, 8);
+            filter_column(filter, limits, samples, block, 12);
+        }
+    }
+}
+
+/// Filters the vertical edges inside a block.
+#[inline]
+#[tactic(auto, unfolding(crate::specs::Blocks::inner_columns))]
+fn filter_columns_inside(
     filter: EdgeFilter,
     limits: EdgeLimits,
     has_inner_edges: bool,
@@ -124,9 +143,7 @@ fn filter_inner_columns(
     ensures { samples.new ≡ inner_columns (filtered_line filter limits) luma has_inner_edges block samples.old }
 {
     if has_inner_edges {
-        filter_column(filter, limits, samples, block, 4);
-        filter_column(filter, limits, samples, block, 8);
-        filter_column(filter, limits, samples, block, 12);
+        filter_three_columns(filter, limits, samples, block);
     }
 }
 
@@ -176,7 +193,7 @@ pub(crate) fn filter_block(is_simple: bool, strength: Strength, samples: &mut [u
     let inner_limits = inner_limits(strength.limits);
     let has_inner_edges = strength.has_inner_edges;
     filter_left(outer, outer_limits, samples, block);
-    filter_inner_columns(inner, inner_limits, has_inner_edges, samples, block);
+    filter_columns_inside(inner, inner_limits, has_inner_edges, samples, block);
     filter_top(outer, outer_limits, samples, block);
     filter_inner_rows(inner, inner_limits, has_inner_edges, samples, block);
 }

@@ -1,8 +1,8 @@
 //! The filter of a frame: its macroblocks in raster order (RFC 6386, section 15.1).
 
-ghost use Rattle.std.specs.Prelude.{◌≡◌, ◌+◌, ◌*◌, ◌<◌, ◌≤◌, length, IfSome};
+ghost use Rattle.std.specs.Prelude.{◌≡◌, ◌*◌, ◌<◌, ◌≤◌, length, IfSome};
 ghost use Rattle.pixel_planes.specs.PlaneSamples.{shown_of};
-ghost use Rattle.loop_filter.specs.Blocks.{HasSmallLimits, IsInside, luma, chroma};
+ghost use Rattle.loop_filter.specs.Blocks.{HasSmallLimits, luma, chroma};
 ghost use Rattle.loop_filter.specs.Frames.{HaveBlocks, KeepSides, block_at, columns_in, rows_in, filtered_planes};
 ghost use Rattle.loop_filter.specs.Macroblocks.{IsFrame, IsPlane, strengths, macroblock_filtered, row_of_all, rows_of_all};
 

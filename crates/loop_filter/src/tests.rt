@@ -1,4 +1,4 @@
-ghost use Rattle.std.specs.Prelude.{◌≡◌, ◌<◌, ◌≤◌, length};
+ghost use Rattle.std.specs.Prelude.{◌<◌, ◌≤◌};
 
 use crate::{Limits, frame, level, limits, simple};
 use frame_header::{Filter, FilterDeltas, Header, Reference, Segments, read_header};
