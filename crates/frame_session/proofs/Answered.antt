@@ -1,8 +1,14 @@
 -- Each request list has a meaning in which memory is never refused.
 use Rattle.std.proofs.Common.{◌≡◌, ℕ, List, [], ◌∷◌, Bool, true, false, cond, Option, Some, None, Result, Ok, Err, get_or, refl, ap, arith}
 use Rattle.pixel_planes.specs.Pictures.{PictureSamples}
+use Rattle.script_nodes.specs.declared.faults.ScriptFault.TheVariants as scripts
+use Rattle.script_nodes.specs.declared.nodes.Node.{Node}
+use Rattle.script_nodes.specs.declared.traces.Step.{Step}
+use Rattle.script_nodes.specs.Frames.{Origin, traced}
+use Rattle.script_nodes.specs.Nodes.{nodes_of, script_by}
+use Rattle.script_nodes.specs.Shown.{Shown, shown_in, steps_shown}
 use Rattle.frame_session.specs.declared.lines.Line.{Line}
-use Rattle.frame_session.specs.declared.lines.Line.TheVariants.{Silent, Unknown, Frame, Insert, Replace, Delete, Move, Count, Stats}
+use Rattle.frame_session.specs.declared.lines.Line.TheVariants.{Silent, Unknown, Frame, Insert, Replace, Delete, Move, Script, Count, Stats}
 use Rattle.frame_session.specs.declared.edit.Edit.{Edit}
 use Rattle.frame_session.specs.declared.edit.Edit.TheVariants as edits
 use Rattle.frame_session.specs.declared.refusal.Refusal.{Refusal}
@@ -14,20 +20,28 @@ use Rattle.packet_edits.specs.declared.fault.EditFault.TheVariants as faults
 use Rattle.packet_edits.specs.Edits.{Listing}
 use Rattle.frame_session.specs.Edits.{edit_of, unless_refused}
 use Rattle.frame_session.specs.Replies.{refused_line, served_line, ok_line, edit_line, count_line, stats_line}
-use Rattle.frame_session.specs.Sessions.{Now, after_frame, behind_edit, frame_count, frame_from, frame_of, has_size, outcome_of, packet_count}
+use Rattle.frame_session.specs.Scripts.{told_script}
+use Rattle.frame_session.specs.Sessions.{Now, after_frame, behind_edit, behind_script, fits, fitted, frame_count, frame_from, frame_made, frame_of, outcome_of, packet_count, picture_from, script_answer, shown_count, size_of, size_served}
 use Rattle.frame_session.specs.Answers.{Answer, Answers, Run, answer_to_frame, told}
 use Rattle.frame_session.specs.Laws.{HaveMemory}
 
 -- a frame may be answered as it is wanted
-chosen_given : (picture : PictureSamples) (b : Bool) → Gives (cond b (Ok picture) (Err refusals.SizeDiffers)) (cond b (Ok picture) (Err refusals.SizeDiffers))
-chosen_given picture true = refl
-chosen_given picture false = refl
+chosen_given : (shown : Shown) (b : Bool) → Gives (cond b (Ok shown) (Err refusals.SizeDiffers)) (cond b (Ok shown) (Err refusals.SizeDiffers))
+chosen_given shown true = refl
+chosen_given shown false = refl
 
-wanted_given : (size : Option Size) (o : Option Outcome) → Gives (frame_from size o) (frame_from size o)
-wanted_given size None = refl
-wanted_given size (Some (Err broken)) = refl
-wanted_given None (Some (Ok decoded)) = refl
-wanted_given (Some size) (Some (Ok decoded)) = chosen_given decoded.1 (has_size decoded.1 size)
+fitted_given : (size : Option Size) (made : Option Shown) → Gives (fitted size made) (fitted size made)
+fitted_given size None = refl
+fitted_given size (Some shown) = chosen_given shown (fits size (size_of shown))
+
+made_given : (size : Option Size) (steps : List Step) (o : Option Outcome) → Gives (frame_made size steps (picture_from o)) (frame_made size steps (picture_from o))
+made_given size steps None = refl
+made_given size steps (Some (Err broken)) = refl
+made_given size steps (Some (Ok decoded)) = fitted_given size (steps_shown steps (shown_in decoded.1))
+
+wanted_given : (old : Now) (from : Option Origin) → Gives (frame_from old from) (frame_from old from)
+wanted_given old None = refl
+wanted_given old (Some from) = made_given old.size from.steps (outcome_of old from.frame)
 
 -- and then its reply does not tell of want of memory
 refusal_told : (refusal : Refusal) → (refusal ≡ refusals.NoMemory → ⊥) → refused_line refusal ≡ refused_line refusals.NoMemory → ⊥
@@ -37,6 +51,11 @@ refusal_told refusals.Place some e = let other : 80 ≡ 78 = ap (λ (l : List �
 refusal_told refusals.Full some e = let other : 70 ≡ 78 = ap (λ (l : List ℕ). get_or l 8 0) e in absurd (omega (arith, other))
 refusal_told refusals.Spent some e = let other : 83 ≡ 78 = ap (λ (l : List ℕ). get_or l 8 0) e in absurd (omega (arith, other))
 refusal_told refusals.NoSuchFrame some e = let other : 83 ≡ 77 = ap (λ (l : List ℕ). get_or l 10 0) e in absurd (omega (arith, other))
+refusal_told refusals.CropOutside some e = let other : 67 ≡ 78 = ap (λ (l : List ℕ). get_or l 8 0) e in absurd (omega (arith, other))
+refusal_told refusals.Syntax some e = let other : 83 ≡ 78 = ap (λ (l : List ℕ). get_or l 8 0) e in absurd (omega (arith, other))
+refusal_told refusals.Nodes some e = let other : 100 ≡ 77 = ap (λ (l : List ℕ). get_or l 10 0) e in absurd (omega (arith, other))
+refusal_told refusals.Reference some e = let other : 82 ≡ 78 = ap (λ (l : List ℕ). get_or l 8 0) e in absurd (omega (arith, other))
+refusal_told refusals.Number some e = let other : 117 ≡ 111 = ap (λ (l : List ℕ). get_or l 9 0) e in absurd (omega (arith, other))
 refusal_told refusals.SizeDiffers some e = let other : 83 ≡ 78 = ap (λ (l : List ℕ). get_or l 8 0) e in absurd (omega (arith, other))
 refusal_told (refusals.Packet place cause) some e = let other : 112 ≡ 78 = ap (λ (l : List ℕ). get_or l 8 0) e in absurd (omega (arith, other))
 
@@ -44,19 +63,26 @@ refusal_told (refusals.Packet place cause) some e = let other : 112 ≡ 78 = ap 
 pub begins_otherwise : (reply : List ℕ) (refusal : Refusal) → (get_or reply 0 0 ≡ 114 → ⊥) → reply ≡ refused_line refusal → ⊥
 begins_otherwise reply refusal other e = other (ap (λ (l : List ℕ). get_or l 0 0) e)
 
-tells_no_lack : (old : Now) (n : ℕ) (frame : Result PictureSamples Refusal) → (frame ≡ Err refusals.NoMemory → ⊥) → (answer_to_frame old n frame).reply ≡ refused_line refusals.NoMemory → ⊥
-tells_no_lack old n (Ok picture) some e = begins_otherwise (served_line n) refusals.NoMemory (λ h. omega (arith, h)) e
+tells_no_lack : (old : Now) (n : ℕ) (frame : Result Shown Refusal) → (frame ≡ Err refusals.NoMemory → ⊥) → (answer_to_frame old n frame).reply ≡ refused_line refusals.NoMemory → ⊥
+tells_no_lack old n (Ok shown) some e = begins_otherwise (served_line n) refusals.NoMemory (λ h. omega (arith, h)) e
 tells_no_lack old n (Err refusal) some e = refusal_told refusal (λ h. some (ap (λ (x : Refusal). Err x) h)) e
 
-not_lacking : (picture : PictureSamples) (b : Bool) → cond b (Ok picture) (Err refusals.SizeDiffers) ≡ Err refusals.NoMemory → ⊥
-not_lacking picture true e = cc
-not_lacking picture false e = cc
+chosen_some : (shown : Shown) (b : Bool) → cond b (Ok shown) (Err refusals.SizeDiffers) ≡ Err refusals.NoMemory → ⊥
+chosen_some shown true e = cc
+chosen_some shown false e = cc
 
-wanted_some : (size : Option Size) (o : Option Outcome) → frame_from size o ≡ Err refusals.NoMemory → ⊥
-wanted_some size None e = cc
-wanted_some size (Some (Err broken)) e = cc
-wanted_some None (Some (Ok decoded)) e = cc
-wanted_some (Some size) (Some (Ok decoded)) e = not_lacking decoded.1 (has_size decoded.1 size) e
+fitted_some : (size : Option Size) (made : Option Shown) → fitted size made ≡ Err refusals.NoMemory → ⊥
+fitted_some size None e = cc
+fitted_some size (Some shown) e = chosen_some shown (fits size (size_of shown)) e
+
+made_some : (size : Option Size) (steps : List Step) (o : Option Outcome) → frame_made size steps (picture_from o) ≡ Err refusals.NoMemory → ⊥
+made_some size steps None e = cc
+made_some size steps (Some (Err broken)) e = cc
+made_some size steps (Some (Ok decoded)) e = fitted_some size (steps_shown steps (shown_in decoded.1)) e
+
+wanted_some : (old : Now) (from : Option Origin) → frame_from old from ≡ Err refusals.NoMemory → ⊥
+wanted_some old None e = cc
+wanted_some old (Some from) e = made_some old.size from.steps (outcome_of old from.frame) e
 
 -- an edit may be answered as it is wanted, and its reply does not tell of want of memory
 record IsTold (answer : Result ℕ Refusal) : Type 0 where
@@ -98,6 +124,17 @@ edit_told list (edits.Replace at bytes) = replacement_told _ _ _
 edit_told list (edits.Delete at) = place_or_told _ _
 edit_told list (edits.Move from to) = place_or_told _ _
 
+-- and so a script
+nodes_told : (count : ℕ) (nodes : List Node) (many wrong odd : Bool) → IsTold (told_script count (cond many (Err scripts.Nodes) (cond wrong (Err scripts.Reference) (cond odd (Err scripts.Number) (Ok nodes)))))
+nodes_told count nodes true wrong odd = record { gives = refl; enough = refusal_told refusals.Nodes (λ h. cc) }
+nodes_told count nodes false true odd = record { gives = refl; enough = refusal_told refusals.Reference (λ h. cc) }
+nodes_told count nodes false false true = record { gives = refl; enough = refusal_told refusals.Number (λ h. cc) }
+nodes_told count nodes false false false = ok_told count
+
+script_told : (count : ℕ) (nodes : Option (List Node)) → IsTold (told_script count (script_by nodes))
+script_told count None = record { gives = refl; enough = refusal_told refusals.Syntax (λ h. cc) }
+script_told count (Some nodes) = nodes_told count nodes _ _ _
+
 -- an answer to one line, which does not tell of want of memory, and what stands behind it
 pub record HasAnswer (old : Now) (line : Line) : Type 0 where
   pub answer : Answer
@@ -114,12 +151,13 @@ answered old Unknown = record {
   enough = λ e. let other : 76 ≡ 78 = ap (λ (l : List ℕ). get_or l 8 0) e in absurd (omega (arith, other));
 }
 answered old (Frame n) =
-    let frame : Result PictureSamples Refusal = frame_of old n in
+    let frame : Result Shown Refusal = frame_of old n in
+    let from : Option Origin = traced (shown_count old) old.script n in
     record {
       answer = answer_to_frame old n frame;
-      new = record (after_frame old frame) { decoded = old.decoded };
-      means = (frame, wanted_given old.size (outcome_of old n), refl, record { rest = refl; steps = omega arith });
-      enough = tells_no_lack old n frame (wanted_some old.size (outcome_of old n));
+      new = record (after_frame old (size_served frame)) { decoded = old.decoded };
+      means = (frame, wanted_given old from, refl, record { rest = refl; steps = omega arith });
+      enough = tells_no_lack old n frame (wanted_some old from);
     }
 answered old (Insert at stamp bytes) =
     let edit = edits.Insert at stamp bytes in
@@ -139,6 +177,10 @@ answered old (Move from to) =
     let edit = edits.Move from to in
     let answer = edit_of old.list edit in
     record { answer = told (edit_line answer); new = behind_edit edit old answer; means = (refl, refl); enough = (edit_told old.list edit).enough }
+answered old (Script text) =
+    let set = script_answer old text in
+    let is = script_told (packet_count old) (nodes_of text) in
+    record { answer = told (edit_line set); new = behind_script text old set; means = (set, is.gives, (refl, refl)); enough = is.enough }
 answered old Count =
     let reply = count_line (packet_count old) (frame_count old) in
     record { answer = told reply; new = old; means = (refl, refl); enough = begins_otherwise reply refusals.NoMemory (λ h. omega (arith, h)) }

@@ -1,16 +1,17 @@
 -- Where memory is never refused, a request list has one meaning, but for the number of steps.
-use Rattle.std.proofs.Common.{◌≡◌, ℕ, List, [], ◌∷◌, Result, Ok, Err, refl, sym, ap, ◌∙◌, subst}
-use Rattle.pixel_planes.specs.Pictures.{PictureSamples}
+use Rattle.std.proofs.Common.{◌≡◌, ℕ, List, [], ◌∷◌, Option, Some, None, Result, Ok, Err, refl, sym, ap, ◌∙◌, subst}
+use Rattle.script_nodes.specs.Shown.{Shown}
 use Rattle.frame_session.specs.declared.lines.Line.{Line}
-use Rattle.frame_session.specs.declared.lines.Line.TheVariants.{Silent, Unknown, Frame, Insert, Replace, Delete, Move, Count, Stats}
+use Rattle.frame_session.specs.declared.lines.Line.TheVariants.{Silent, Unknown, Frame, Insert, Replace, Delete, Move, Script, Count, Stats}
 use Rattle.frame_session.specs.declared.edit.Edit.{Edit}
 use Rattle.frame_session.specs.declared.edit.Edit.TheVariants as edits
 use Rattle.frame_session.specs.declared.refusal.Refusal.{Refusal}
 use Rattle.frame_session.specs.declared.refusal.Refusal.TheVariants as refusals
+use Rattle.frame_session.specs.declared.size.Size.{Size}
 use Rattle.frame_session.specs.Gives.{Gives}
 use Rattle.frame_session.specs.Edits.{edit_of}
 use Rattle.frame_session.specs.Replies.{refused_line, edit_line}
-use Rattle.frame_session.specs.Sessions.{Now, after_frame, behind_edit, frame_of}
+use Rattle.frame_session.specs.Sessions.{Now, after_frame, behind_edit, behind_script, frame_of, script_answer, size_served}
 use Rattle.frame_session.specs.Answers.{Answer, Answers, AnswersEdit, Run, answer_to_frame, told}
 use Rattle.frame_session.specs.Laws.{AllAlike, AreAlike, HaveMemory}
 
@@ -20,25 +21,30 @@ counted now steps = record now { decoded = steps }
 
 -- what is given is what is wanted, unless there was no memory
 given : {A : Type 0} (want answer : Result A Refusal) → (answer ≡ Err refusals.NoMemory → ⊥) → Gives want answer → want ≡ answer
-given want (Ok picture) enough gives = gives
+given want (Ok value) enough gives = gives
 given want (Err refusals.NoMemory) enough gives = absurd (enough refl)
 given want (Err refusals.Line) enough gives = gives
 given want (Err refusals.Place) enough gives = gives
 given want (Err refusals.Full) enough gives = gives
 given want (Err refusals.Spent) enough gives = gives
 given want (Err refusals.NoSuchFrame) enough gives = gives
+given want (Err refusals.CropOutside) enough gives = gives
 given want (Err refusals.SizeDiffers) enough gives = gives
+given want (Err refusals.Syntax) enough gives = gives
+given want (Err refusals.Nodes) enough gives = gives
+given want (Err refusals.Reference) enough gives = gives
+given want (Err refusals.Number) enough gives = gives
 given want (Err (refusals.Packet place cause)) enough gives = gives
 
 -- a reply that does not tell of want of memory comes from a frame that does not
-enough_for : (old : Now) (n : ℕ) (answer : Answer) (frame : Result PictureSamples Refusal) → answer ≡ answer_to_frame old n frame → (answer.reply ≡ refused_line refusals.NoMemory → ⊥) → frame ≡ Err refusals.NoMemory → ⊥
+enough_for : (old : Now) (n : ℕ) (answer : Answer) (frame : Result Shown Refusal) → answer ≡ answer_to_frame old n frame → (answer.reply ≡ refused_line refusals.NoMemory → ⊥) → frame ≡ Err refusals.NoMemory → ⊥
 enough_for old n answer frame is enough lacks =
-    enough (ap (λ (a : Answer). a.reply) (is ∙ ap (λ (f : Result PictureSamples Refusal). answer_to_frame old n f) lacks))
+    enough (ap (λ (a : Answer). a.reply) (is ∙ ap (λ (f : Result Shown Refusal). answer_to_frame old n f) lacks))
 
 -- what stands behind a frame, but for the number of steps, doesn't depend on that number
-after_counted : (old : Now) (steps d : ℕ) (frame : Result PictureSamples Refusal) → counted (after_frame (counted old steps) frame) d ≡ counted (after_frame old frame) d
-after_counted old steps d (Ok picture) = refl
-after_counted old steps d (Err refusal) = refl
+after_counted : (old : Now) (steps d : ℕ) (size : Option Size) → counted (after_frame (counted old steps) size) d ≡ counted (after_frame old size) d
+after_counted old steps d (Some size) = refl
+after_counted old steps d None = refl
 
 -- an answer that leaves everything as it is
 same_answer : (old : Now) (steps : ℕ) (answer answer' wanted : Answer) (new new' : Now) → (answer ≡ wanted) × (new ≡ old) → (answer' ≡ wanted) × (new' ≡ counted old steps) → (answer' ≡ answer) × (new' ≡ counted new new'.decoded)
@@ -63,6 +69,22 @@ one_edit old steps edit edited edited' answer answer' new new' gives gives' firs
     let wanted' : edit_of old.list edit ≡ edited' = given (edit_of old.list edit) edited' (told_edit edited' answer' second.0 enough') gives' in
     same_edit old steps edit edited edited' answer answer' new new' (sym wanted' ∙ wanted) first second
 
+-- the same of a script
+script_counted : (old : Now) (steps : ℕ) (text : List ℕ) (set : Result ℕ Refusal) → behind_script text (counted old steps) set ≡ counted (behind_script text old set) steps
+script_counted old steps text (Ok count) = refl
+script_counted old steps text (Err refusal) = refl
+
+one_script : (old : Now) (steps : ℕ) (text : List ℕ) (set set' : Result ℕ Refusal) (answer answer' : Answer) (new new' : Now) → Gives (script_answer old text) set → Gives (script_answer old text) set' → (answer ≡ told (edit_line set)) × (new ≡ behind_script text old set) → (answer' ≡ told (edit_line set')) × (new' ≡ behind_script text (counted old steps) set') → (answer.reply ≡ refused_line refusals.NoMemory → ⊥) → (answer'.reply ≡ refused_line refusals.NoMemory → ⊥) → (answer' ≡ answer) × (new' ≡ counted new new'.decoded)
+one_script old steps text set set' answer answer' new new' gives gives' first second enough enough' =
+    let wanted : script_answer old text ≡ set = given (script_answer old text) set (told_edit set answer first.0 enough) gives in
+    let wanted' : script_answer old text ≡ set' = given (script_answer old text) set' (told_edit set' answer' second.0 enough') gives' in
+    let same : set' ≡ set = sym wanted' ∙ wanted in
+    let again : new' ≡ counted (behind_script text old set) steps = second.1 ∙ ap (λ (e : Result ℕ Refusal). behind_script text (counted old steps) e) same ∙ script_counted old steps text set in
+    let steps_are : new'.decoded ≡ steps = ap (λ (s : Now). s.decoded) again in (
+      second.0 ∙ ap (λ (e : Result ℕ Refusal). told (edit_line e)) same ∙ sym first.0,
+      again ∙ ap (λ (s : Now). counted s steps) (sym first.1) ∙ ap (λ (d : ℕ). counted new d) (sym steps_are),
+    )
+
 -- two answers to one line, of which the second was given after another number of steps
 one_answer : (old : Now) (steps : ℕ) (line : Line) (answer answer' : Answer) (new new' : Now) → Answers old line answer new → Answers (counted old steps) line answer' new' → (answer.reply ≡ refused_line refusals.NoMemory → ⊥) → (answer'.reply ≡ refused_line refusals.NoMemory → ⊥) → AreAlike line answer answer' × (new' ≡ counted new new'.decoded)
 one_answer old steps Silent answer answer' new new' first second enough enough' = same_answer old steps answer answer' _ new new' first second
@@ -75,18 +97,20 @@ one_answer old steps (Delete at) answer answer' new new' first second enough eno
     same_edit old steps (edits.Delete at) _ _ answer answer' new new' refl first second
 one_answer old steps (Move from to) answer answer' new new' first second enough enough' =
     same_edit old steps (edits.Move from to) _ _ answer answer' new new' refl first second
+one_answer old steps (Script text) answer answer' new new' first second enough enough' =
+    one_script old steps text first.0 second.0 answer answer' new new' first.1 second.1 first.2 second.2 enough enough'
 one_answer old steps Count answer answer' new new' first second enough enough' = same_answer old steps answer answer' _ new new' first second
 one_answer old steps Stats answer answer' new new' first second enough enough' =
     ((old.decoded, steps, first.0, second.0), second.1 ∙ ap (λ (s : Now). counted s steps) (sym first.1) ∙ ap (λ (d : ℕ). counted new d) (sym (ap (λ (s : Now). s.decoded) second.1)))
 one_answer old steps (Frame n) answer answer' new new' first second enough enough' =
-    let frame : Result PictureSamples Refusal = first.0 in
-    let frame' : Result PictureSamples Refusal = second.0 in
+    let frame : Result Shown Refusal = first.0 in
+    let frame' : Result Shown Refusal = second.0 in
     let wanted : frame_of old n ≡ frame = given (frame_of old n) frame (enough_for old n answer frame first.2 enough) first.1 in
     let wanted' : frame_of old n ≡ frame' = given (frame_of old n) frame' (enough_for (counted old steps) n answer' frame' second.2 enough') second.1 in
     let same : frame' ≡ frame = sym wanted' ∙ wanted in (
-      second.2 ∙ ap (λ (f : Result PictureSamples Refusal). answer_to_frame old n f) same ∙ sym first.2,
-      second.3.rest ∙ after_counted old steps new'.decoded frame'
-          ∙ ap (λ (f : Result PictureSamples Refusal). counted (after_frame old f) new'.decoded) same
+      second.2 ∙ ap (λ (f : Result Shown Refusal). answer_to_frame old n f) same ∙ sym first.2,
+      second.3.rest ∙ after_counted old steps new'.decoded (size_served frame')
+          ∙ ap (λ (f : Result Shown Refusal). counted (after_frame old (size_served f)) new'.decoded) same
           ∙ sym (ap (λ (s : Now). counted s new'.decoded) first.3.rest),
     )
 

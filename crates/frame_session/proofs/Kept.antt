@@ -1,16 +1,21 @@
 -- What answers leave as it was.
 use Rattle.std.proofs.Common.{◌≡◌, ℕ, ◌≤◌, List, [], ◌∷◌, Result, Ok, Err, sym, ap, ◌∙◌, arith}
-use Rattle.pixel_planes.specs.Pictures.{PictureSamples}
+use Rattle.script_nodes.specs.Shown.{Shown}
 use Rattle.frame_session.specs.declared.lines.Line.{Line}
-use Rattle.frame_session.specs.declared.lines.Line.TheVariants.{Silent, Unknown, Frame, Insert, Replace, Delete, Move, Count, Stats}
+use Rattle.frame_session.specs.declared.lines.Line.TheVariants.{Silent, Unknown, Frame, Insert, Replace, Delete, Move, Script, Count, Stats}
 use Rattle.frame_session.specs.declared.edit.Edit.{Edit}
 use Rattle.frame_session.specs.declared.edit.Edit.TheVariants as edits
 use Rattle.frame_session.specs.declared.refusal.Refusal.{Refusal}
 use Rattle.frame_session.specs.Edits.{edit_of}
 use Rattle.frame_session.specs.Replies.{refused_line, edit_line, ok_line, served_line}
-use Rattle.frame_session.specs.Sessions.{IsAfterFrame, Now, behind_edit}
+use Rattle.frame_session.specs.Sessions.{IsAfterFrame, Now, behind_edit, behind_script, size_served}
 use Rattle.frame_session.specs.Answers.{Answer, Answers, Run, answer_to_frame}
 use Rattle.frame_session.proofs.Answered.{begins_otherwise}
+
+-- what stands behind a script has the same number of steps
+script_counts : (old new : Now) (text : List ℕ) (set : Result ℕ Refusal) → new ≡ behind_script text old set → old.decoded ≤ new.decoded
+script_counts old new text (Ok count) is = rw is (omega arith)
+script_counts old new text (Err refusal) is = rw is (omega arith)
 
 -- one line more leaves the number of steps or raises it
 line_counts : (old new : Now) (line : Line) (answer : Answer) → Answers old line answer new → old.decoded ≤ new.decoded
@@ -21,6 +26,7 @@ line_counts old new (Insert at stamp bytes) answer means = rw means.2.1 (omega a
 line_counts old new (Replace at bytes) answer means = rw means.2.1 (omega arith)
 line_counts old new (Delete at) answer means = rw means.1 (omega arith)
 line_counts old new (Move from to) answer means = rw means.1 (omega arith)
+line_counts old new (Script text) answer means = script_counts old new text means.0 means.2.1
 line_counts old new Count answer means = rw means.1 (omega arith)
 line_counts old new Stats answer means = rw means.1 (omega arith)
 
@@ -38,14 +44,19 @@ same : (old new : Now) → new ≡ old → new ≡ record old { decoded = new.de
 same old new is = is ∙ ap (λ (s : Now). record old { decoded = s.decoded }) (sym is)
 
 -- a frame that is refused
-frame_kept : (old new : Now) (n : ℕ) (frame : Result PictureSamples Refusal) (refusal : Refusal) → IsAfterFrame old frame new → (answer_to_frame old n frame).reply ≡ refused_line refusal → new ≡ record old { decoded = new.decoded }
-frame_kept old new n (Ok picture) refusal after e = absurd (begins_otherwise (served_line n) refusal (λ h. omega (arith, h)) e)
+frame_kept : (old new : Now) (n : ℕ) (frame : Result Shown Refusal) (refusal : Refusal) → IsAfterFrame old (size_served frame) new → (answer_to_frame old n frame).reply ≡ refused_line refusal → new ≡ record old { decoded = new.decoded }
+frame_kept old new n (Ok shown) refusal after e = absurd (begins_otherwise (served_line n) refusal (λ h. omega (arith, h)) e)
 frame_kept old new n (Err other) refusal after e = after.rest
 
 -- an edit that is refused
 edit_kept : (old new : Now) (edit : Edit) (edited : Result ℕ Refusal) (refusal : Refusal) → new ≡ behind_edit edit old edited → edit_line edited ≡ refused_line refusal → new ≡ record old { decoded = new.decoded }
 edit_kept old new edit (Ok count) refusal after e = absurd (begins_otherwise (ok_line count) refusal (λ h. omega (arith, h)) e)
 edit_kept old new edit (Err other) refusal after e = same old new after
+
+-- a script that is refused
+script_kept : (old new : Now) (text : List ℕ) (set : Result ℕ Refusal) (refusal : Refusal) → new ≡ behind_script text old set → edit_line set ≡ refused_line refusal → new ≡ record old { decoded = new.decoded }
+script_kept old new text (Ok count) refusal after e = absurd (begins_otherwise (ok_line count) refusal (λ h. omega (arith, h)) e)
+script_kept old new text (Err other) refusal after e = same old new after
 
 reply_of : (answer told : Answer) (reply : List ℕ) → answer ≡ told → answer.reply ≡ reply → told.reply ≡ reply
 reply_of answer told reply is e = sym (ap (λ (a : Answer). a.reply) is) ∙ e
@@ -58,5 +69,6 @@ refused_kept old new (Insert at stamp bytes) answer refusal means e = edit_kept 
 refused_kept old new (Replace at bytes) answer refusal means e = edit_kept old new (edits.Replace at bytes) means.0 refusal means.2.1 (reply_of answer _ _ means.2.0 e)
 refused_kept old new (Delete at) answer refusal means e = edit_kept old new (edits.Delete at) (edit_of old.list (edits.Delete at)) refusal means.1 (reply_of answer _ _ means.0 e)
 refused_kept old new (Move from to) answer refusal means e = edit_kept old new (edits.Move from to) (edit_of old.list (edits.Move from to)) refusal means.1 (reply_of answer _ _ means.0 e)
+refused_kept old new (Script text) answer refusal means e = script_kept old new text means.0 refusal means.2.1 (reply_of answer _ _ means.2.0 e)
 refused_kept old new Count answer refusal means e = same old new means.1
 refused_kept old new Stats answer refusal means e = same old new means.1

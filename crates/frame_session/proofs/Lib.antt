@@ -2,6 +2,8 @@ pub mod Outcomes
 pub mod Breaks
 pub mod Splits
 pub mod Numbers
+pub mod Given
+pub mod Texts
 pub mod Served
 pub mod Determined
 pub mod Answered

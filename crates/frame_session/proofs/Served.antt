@@ -1,20 +1,23 @@
 -- What the functions that answer lines give is the meaning of the lines.
-use Rattle.std.proofs.Common.{◌≡◌, ℕ, List, [], ◌∷◌, ◌++◌, map, Option, Result, Ok, Err, refl, sym, ap, ◌∙◌, subst, append_assoc, append-nil}
+use Rattle.std.proofs.Common.{◌≡◌, ℕ, List, [], ◌∷◌, ◌++◌, map, Option, Some, Result, Ok, Err, refl, sym, ap, ◌∙◌, subst, append_assoc, append-nil}
 use Rattle.std.specs.List.{flat_map}
 use Rattle.std.specs.Io.KnownBytes.{Appends}
 use Rattle.std.proofs.KnownBytes.{Appends-nil, Appends-trans}
 use Rattle.pixel_planes.specs.Pictures.{PictureSamples}
+use Rattle.script_nodes.specs.Shown.{Shown}
+use Rattle.stream_files.specs.Y4m.{frame_text}
 use Rattle.frame_session.specs.declared.lines.Line.{Line}
-use Rattle.frame_session.specs.declared.lines.Line.TheVariants.{Silent, Unknown, Frame, Insert, Replace, Delete, Move, Count, Stats}
+use Rattle.frame_session.specs.declared.lines.Line.TheVariants.{Silent, Unknown, Frame, Insert, Replace, Delete, Move, Script, Count, Stats}
 use Rattle.frame_session.specs.declared.edit.Edit.TheVariants as edits
 use Rattle.frame_session.specs.declared.refusal.Refusal.{Refusal}
 use Rattle.frame_session.specs.declared.refusal.Refusal.TheVariants as refusals
 use Rattle.frame_session.specs.Requests.{asked_by}
-use Rattle.frame_session.specs.Gives.{Gives}
+use Rattle.frame_session.specs.Gives.{Gives, GivesFrame}
 use Rattle.frame_session.specs.Edits.{EditGives, edit_of}
-use Rattle.frame_session.specs.Replies.{refused_line, edit_line, count_line, stats_line}
-use Rattle.frame_session.specs.Sessions.{IsAfterFrame, Now, behind_edit, frame_count, frame_of, packet_count}
-use Rattle.frame_session.specs.Answers.{Answer, Answers, Run, Runs, Serves, answer_to_frame, frames_of, replies_of, told}
+use Rattle.frame_session.specs.Replies.{refused_line, edit_line, count_line, served_line, stats_line}
+use Rattle.frame_session.specs.Sessions.{IsAfterFrame, Now, behind_edit, behind_script, frame_count, frame_of, head_due, packet_count, script_answer, size_given}
+use Rattle.frame_session.specs.Answers.{Answer, Answers, Run, Runs, Serves, answer_to_frame, frames_of, opening, replies_of, told}
+use Rattle.frame_session.proofs.Texts.{text_same}
 
 module _ (old : Now) (f f' r r' : Option (List ℕ)) where
   pub serves_silent : Serves old Silent f f r r old
@@ -23,7 +26,7 @@ module _ (old : Now) (f f' r r' : Option (List ℕ)) where
   pub serves_unknown : Appends r r' (refused_line refusals.Line) → Serves old Unknown f f r r' old
   serves_unknown said = record { answer = told (refused_line refusals.Line); means = (refl, refl); shown = Appends-nil f; said = said }
 
-  pub serves_refused : (n : ℕ) (refusal : Refusal) (new : Now) → Gives (frame_of old n) (Err refusal) → IsAfterFrame old (Err refusal) new → Appends r r' (refused_line refusal) → Serves old (Frame n) f f r r' new
+  pub serves_refused : (n : ℕ) (refusal : Refusal) (new : Now) → Gives (frame_of old n) (Err refusal) → IsAfterFrame old (size_given (Err refusal)) new → Appends r r' (refused_line refusal) → Serves old (Frame n) f f r r' new
   serves_refused n refusal new gives after said = record {
     answer = told (refused_line refusal);
     means = (Err refusal, gives, refl, after);
@@ -31,11 +34,24 @@ module _ (old : Now) (f f' r r' : Option (List ℕ)) where
     said = said;
   }
 
-  pub serves_frame : (n : ℕ) (picture : PictureSamples) (new : Now) → Gives (frame_of old n) (Ok picture) → IsAfterFrame old (Ok picture) new → Appends f f' (answer_to_frame old n (Ok picture)).frames → Appends r r' (answer_to_frame old n (Ok picture)).reply → Serves old (Frame n) f f' r r' new
-  serves_frame n picture new gives after shown said = record {
-    answer = answer_to_frame old n (Ok picture);
-    means = (Ok picture, gives, refl, after);
-    shown = shown;
+  pub serves_frame : (n : ℕ) (picture : PictureSamples) (new : Now) → GivesFrame (frame_of old n) (Ok picture) → IsAfterFrame old (size_given (Ok picture)) new → Appends f f' (opening (head_due old) picture.width picture.height ++ frame_text picture) → Appends r r' (served_line n) → Serves old (Frame n) f f' r r' new
+  serves_frame n picture new gives after shown said =
+      let P : ℕ → ℕ → Type 0 = λ w h. IsAfterFrame old (Some (record { width = w; height = h })) new in
+      let Q : ℕ → ℕ → List ℕ → Type 0 = λ w h t. Appends f f' (opening (head_due old) w h ++ t) in
+      let after' : P gives.0.width gives.0.height = subst (λ h. P gives.0.width h) gives.2.high (subst (λ w. P w picture.height) gives.2.wide after) in
+      let shown' : Q gives.0.width gives.0.height (frame_text picture) = subst (λ h. Q gives.0.width h (frame_text picture)) gives.2.high (subst (λ w. Q w picture.height (frame_text picture)) gives.2.wide shown) in
+      record {
+        answer = answer_to_frame old n (Ok gives.0);
+        means = (Ok gives.0, gives.1, refl, after');
+        shown = subst (λ t. Q gives.0.width gives.0.height t) (text_same picture gives.0 gives.3 gives.2) shown';
+        said = said;
+      }
+
+  pub serves_script : (text : List ℕ) (set : Result ℕ Refusal) (new : Now) → Gives (script_answer old text) set → new ≡ behind_script text old set → Appends r r' (edit_line set) → Serves old (Script text) f f r r' new
+  serves_script text set new gives after said = record {
+    answer = told (edit_line set);
+    means = (set, gives, (refl, after));
+    shown = Appends-nil f;
     said = said;
   }
 

@@ -4,11 +4,11 @@ use Rattle.std.specs.List.{flat_map}
 use Rattle.std.specs.Io.KnownBytes.{Appends, Keeps}
 use Rattle.std.specs.Str.Lines.{lines}
 use Rattle.vp8_tables.specs.declared.tables.Tables.{Tables}
-use Rattle.pixel_planes.specs.Pictures.{PictureSamples}
+use Rattle.script_nodes.specs.Shown.{Shown}
 use Rattle.stream_files.specs.declared.ivf.Head.{Head}
 use Rattle.stream_files.specs.declared.ivf.Ivf.{Ivf}
 use Rattle.stream_files.specs.Ivf.{IsIvf, IvfRefuses}
-use Rattle.stream_files.specs.Y4m.{frame_text, y4m_line}
+use Rattle.stream_files.specs.Y4m.{y4m_line}
 use Rattle.frame_session.specs.declared.lines.Line.{Line}
 use Rattle.frame_session.specs.declared.lines.Line.TheVariants as requests
 use Rattle.frame_session.specs.declared.edit.Edit.{Edit}
@@ -20,8 +20,9 @@ use Rattle.frame_session.specs.declared.serving.RunFault.TheVariants as faults
 use Rattle.frame_session.specs.Requests.{asked_by}
 use Rattle.frame_session.specs.Gives.{Gives}
 use Rattle.frame_session.specs.Edits.{edit_of}
+use Rattle.frame_session.specs.Frames.{shown_text}
 use Rattle.frame_session.specs.Replies.{refused_line, served_line, edit_line, count_line, stats_line}
-use Rattle.frame_session.specs.Sessions.{IsAfterFrame, Now, behind_edit, frame_count, frame_of, head_due, packet_count, start}
+use Rattle.frame_session.specs.Sessions.{IsAfterFrame, Now, behind_edit, behind_script, frame_count, frame_of, head_due, packet_count, script_answer, size_served, start}
 
 -- what the lines of a text ask for, one after another
 abbrev pub requests_of : List ℕ → List Line
@@ -37,31 +38,37 @@ abbrev pub told : List ℕ → Answer
 told reply = record { reply = reply; frames = [] }
 
 -- the line that opens the frames, where it is still to be written with a head
-abbrev pub opening : Option Head → PictureSamples → List ℕ
-opening None picture = []
-opening (Some head) picture = y4m_line picture.width picture.height head.rate head.scale
+abbrev pub opening : Option Head → ℕ → ℕ → List ℕ
+opening None width height = []
+opening (Some head) width height = y4m_line width height head.rate head.scale
 
 -- the answer to a request for frame n
-abbrev pub answer_to_frame : Now → ℕ → Result PictureSamples Refusal → Answer
-answer_to_frame now n (Ok picture) = record { reply = served_line n; frames = opening (head_due now) picture ++ frame_text picture }
+abbrev pub answer_to_frame : Now → ℕ → Result Shown Refusal → Answer
+answer_to_frame now n (Ok shown) = record { reply = served_line n; frames = opening (head_due now) shown.width shown.height ++ shown_text shown }
 answer_to_frame now n (Err refusal) = told (refused_line refusal)
 
 -- an edit was answered so
 abbrev pub AnswersEdit : Now → Edit → Result ℕ Refusal → Answer → Now → Type 0
 AnswersEdit old edit edited answer new = (answer ≡ told (edit_line edited)) × (new ≡ behind_edit edit old edited)
 
--- what may be answered to a line, and what stands behind it: a frame, and packets that are put in, may lack memory
+-- a script was answered so
+abbrev pub AnswersScript : Now → List ℕ → Result ℕ Refusal → Answer → Now → Type 0
+AnswersScript old text set answer new = (answer ≡ told (edit_line set)) × (new ≡ behind_script text old set)
+
+-- what may be answered to a line, and what stands behind it: a frame, a script, and packets that are put in, may lack memory
 abbrev pub Answers : Now → Line → Answer → Now → Type 0
 Answers old requests.Silent answer new = (answer ≡ told []) × (new ≡ old)
 Answers old requests.Unknown answer new = (answer ≡ told (refused_line refusals.Line)) × (new ≡ old)
 Answers old (requests.Frame n) answer new =
-    (frame : Result PictureSamples Refusal) × Gives (frame_of old n) frame × (answer ≡ answer_to_frame old n frame) × IsAfterFrame old frame new
+    (frame : Result Shown Refusal) × Gives (frame_of old n) frame × (answer ≡ answer_to_frame old n frame) × IsAfterFrame old (size_served frame) new
 Answers old (requests.Insert at stamp bytes) answer new =
     (edited : Result ℕ Refusal) × Gives (edit_of old.list (edits.Insert at stamp bytes)) edited × AnswersEdit old (edits.Insert at stamp bytes) edited answer new
 Answers old (requests.Replace at bytes) answer new =
     (edited : Result ℕ Refusal) × Gives (edit_of old.list (edits.Replace at bytes)) edited × AnswersEdit old (edits.Replace at bytes) edited answer new
 Answers old (requests.Delete at) answer new = AnswersEdit old (edits.Delete at) (edit_of old.list (edits.Delete at)) answer new
 Answers old (requests.Move from to) answer new = AnswersEdit old (edits.Move from to) (edit_of old.list (edits.Move from to)) answer new
+Answers old (requests.Script text) answer new =
+    (set : Result ℕ Refusal) × Gives (script_answer old text) set × AnswersScript old text set answer new
 Answers old requests.Count answer new = (answer ≡ told (count_line (packet_count old) (frame_count old))) × (new ≡ old)
 Answers old requests.Stats answer new = (answer ≡ told (stats_line old.decoded)) × (new ≡ old)
 

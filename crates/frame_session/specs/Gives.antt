@@ -1,5 +1,7 @@
 -- Answers that may lack memory.
 use Rattle.std.specs.Prelude.{◌≡◌, Result, Ok, Err}
+use Rattle.pixel_planes.specs.Pictures.{PictureSamples, IsWholePicture}
+use Rattle.script_nodes.specs.Shown.{Shown, Shows}
 use Rattle.frame_session.specs.declared.refusal.Refusal.{Refusal}
 use Rattle.frame_session.specs.declared.refusal.Refusal.TheVariants as refusals
 
@@ -7,6 +9,7 @@ use Rattle.frame_session.specs.declared.refusal.Refusal.TheVariants as refusals
 abbrev pub MayLackMemory : {A : Type 0} → Result A Refusal → Type 0
 MayLackMemory (Ok a) = Unit {0}
 MayLackMemory (Err (refusals.Packet place cause)) = Unit {0}
+MayLackMemory (Err refusals.CropOutside) = Unit {0}
 MayLackMemory (Err refusals.SizeDiffers) = Unit {0}
 MayLackMemory (Err refusals.NoMemory) = ⊥
 MayLackMemory (Err refusals.NoSuchFrame) = ⊥
@@ -14,6 +17,10 @@ MayLackMemory (Err refusals.Line) = ⊥
 MayLackMemory (Err refusals.Place) = ⊥
 MayLackMemory (Err refusals.Full) = ⊥
 MayLackMemory (Err refusals.Spent) = ⊥
+MayLackMemory (Err refusals.Syntax) = ⊥
+MayLackMemory (Err refusals.Nodes) = ⊥
+MayLackMemory (Err refusals.Reference) = ⊥
+MayLackMemory (Err refusals.Number) = ⊥
 
 -- the answer is the one that is wanted, or that there was no memory
 abbrev pub Gives : {A : Type 0} → Result A Refusal → Result A Refusal → Type 0
@@ -23,6 +30,16 @@ Gives want (Err refusals.Place) = want ≡ Err refusals.Place
 Gives want (Err refusals.Full) = want ≡ Err refusals.Full
 Gives want (Err refusals.Spent) = want ≡ Err refusals.Spent
 Gives want (Err refusals.NoSuchFrame) = want ≡ Err refusals.NoSuchFrame
+Gives want (Err refusals.CropOutside) = want ≡ Err refusals.CropOutside
+Gives want (Err refusals.Syntax) = want ≡ Err refusals.Syntax
+Gives want (Err refusals.Nodes) = want ≡ Err refusals.Nodes
+Gives want (Err refusals.Reference) = want ≡ Err refusals.Reference
+Gives want (Err refusals.Number) = want ≡ Err refusals.Number
 Gives want (Err refusals.SizeDiffers) = want ≡ Err refusals.SizeDiffers
 Gives want (Err (refusals.Packet place cause)) = want ≡ Err (refusals.Packet place cause)
 Gives want (Ok a) = want ≡ Ok a
+
+-- the answer is a whole picture that shows the frame that is wanted, or a refusal that may be told
+abbrev pub GivesFrame : Result Shown Refusal → Result PictureSamples Refusal → Type 0
+GivesFrame want (Ok picture) = (shown : Shown) × (want ≡ Ok shown) × Shows picture shown × IsWholePicture picture
+GivesFrame want (Err refusal) = Gives want (Err refusal)

@@ -53,7 +53,7 @@ AnswersAreOne = (old new new' : Now) (lines : List Line) (answers answers' : Lis
 abbrev pub StepsNeverFall : Type 0
 StepsNeverFall = (old new : Now) (lines : List Line) (answers : List Answer) → Run old lines answers new → old.decoded ≤ new.decoded
 
--- a line that is refused changes nothing but the number of steps: neither packets nor ids nor the fixed size
+-- a line that is refused changes nothing but the number of steps: neither packets nor ids nor the script nor the fixed size
 abbrev pub RefusedLinesChangeNothing : Type 0
 RefusedLinesChangeNothing = (old new : Now) (line : Line) (answer : Answer) (refusal : Refusal) → Answers old line answer new → answer.reply ≡ refused_line refusal
     → new ≡ record old { decoded = new.decoded }

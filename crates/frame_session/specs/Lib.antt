@@ -1,6 +1,8 @@
 pub mod Decoding
 pub mod Gives
 pub mod Edits
+pub mod Scripts
+pub mod Frames
 pub mod Words
 pub mod Requests
 pub mod Replies

@@ -17,7 +17,12 @@ refusal_word refusals.Full = codes "Full"
 refusal_word refusals.Spent = codes "Spent"
 refusal_word refusals.NoSuchFrame = codes "NoSuchFrame"
 refusal_word (refusals.Packet place cause) = codes "packet"
+refusal_word refusals.CropOutside = codes "CropOutside"
 refusal_word refusals.SizeDiffers = codes "SizeDiffers"
+refusal_word refusals.Syntax = codes "Syntax"
+refusal_word refusals.Nodes = codes "Nodes"
+refusal_word refusals.Reference = codes "Reference"
+refusal_word refusals.Number = codes "Number"
 refusal_word refusals.NoMemory = codes "NoMemory"
 
 -- a cause as a reply tells it: its name, and the partition's number where it has one
@@ -38,16 +43,16 @@ refused_line refusal = codes "refused " ++ refusal_text refusal ++ 10 ∷ []
 abbrev pub served_line : ℕ → List ℕ
 served_line n = codes "served " ++ decimal n ++ 10 ∷ []
 
--- the reply to an edit that was made, behind which so many packets stand
+-- the reply to an edit or a script that was taken, behind which so many packets stand
 abbrev pub ok_line : ℕ → List ℕ
 ok_line count = codes "ok " ++ decimal count ++ 10 ∷ []
 
--- the reply to an edit
+-- the reply to an edit or a script
 abbrev pub edit_line : Result ℕ Refusal → List ℕ
 edit_line (Ok count) = ok_line count
 edit_line (Err refusal) = refused_line refusal
 
--- how many packets stand, and how many frames are shown
+-- how many packets stand, and how many frames the script serves
 abbrev pub count_line : ℕ → ℕ → List ℕ
 count_line packets frames = codes "packets " ++ decimal packets ++ codes " frames " ++ decimal frames ++ 10 ∷ []
 

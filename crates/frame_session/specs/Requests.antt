@@ -4,8 +4,8 @@ use Rattle.std.specs.List.{starts_with}
 use Rattle.std.specs.Option.{option_map_or}
 use Rattle.std.specs.Str.{bytes_eq}
 use Rattle.frame_session.specs.declared.lines.Line.{Line}
-use Rattle.frame_session.specs.declared.lines.Line.TheVariants.{Silent, Unknown, Frame, Insert, Replace, Delete, Move, Count, Stats}
-use Rattle.frame_session.specs.Words.{words_of, number_of, bytes_of}
+use Rattle.frame_session.specs.declared.lines.Line.TheVariants.{Silent, Unknown, Frame, Insert, Replace, Delete, Move, Script, Count, Stats}
+use Rattle.frame_session.specs.Words.{words_of, number_of, bytes_of, behind_word}
 
 -- a line that goes on with a number, and with what is asked for behind it
 abbrev pub with_number : (ℕ → List (List ℕ) → Line) → List (List ℕ) → Line
@@ -38,20 +38,26 @@ delete_by words = with_number (λ at. at_end (Delete at)) words
 abbrev pub move_by : List (List ℕ) → Line
 move_by words = with_number (λ from. with_number (λ to. at_end (Move from to))) words
 
--- what a line of these words asks for: nothing where there are none, or where `#` begins the first
-abbrev pub asked_by_words : List (List ℕ) → Line
-asked_by_words [] = Silent
-asked_by_words (command ∷ words) =
+-- a script: the text behind the command, which has these words
+abbrev pub script_by : List ℕ → List (List ℕ) → Line
+script_by text [] = Unknown
+script_by text (word ∷ words) = Script text
+
+-- what a line of these words asks for, with this text behind the first: nothing where there are none, or where `#` begins the first
+abbrev pub asked_by_words : List ℕ → List (List ℕ) → Line
+asked_by_words text [] = Silent
+asked_by_words text (command ∷ words) =
     if starts_with nat_eq command (codes "#") then Silent
     else if bytes_eq command (codes "frame") then frame_by words
     else if bytes_eq command (codes "insert") then insert_by words
     else if bytes_eq command (codes "replace") then replace_by words
     else if bytes_eq command (codes "delete") then delete_by words
     else if bytes_eq command (codes "move") then move_by words
+    else if bytes_eq command (codes "script") then script_by text words
     else if bytes_eq command (codes "count") then at_end Count words
     else if bytes_eq command (codes "stats") then at_end Stats words
     else Unknown
 
 -- what a line asks for
 abbrev pub asked_by : List ℕ → Line
-asked_by line = asked_by_words (words_of line)
+asked_by line = asked_by_words (behind_word line) (words_of line)

@@ -1,5 +1,6 @@
 -- What a session is to its requests, and what a request for a frame gives.
-use Rattle.std.specs.Prelude.{◌≡◌, ℕ, ◌≤◌, ◌==◌, ◌&&◌, Bool, if◌then◌else◌, List, map, Option, Some, None, Result, Ok, Err, is_none, option_and_then, slice_get, length}
+use Rattle.std.specs.Prelude.{◌≡◌, ℕ, ◌≤◌, ◌==◌, ◌&&◌, Bool, true, if◌then◌else◌, List, [], map, Option, Some, None, Result, Ok, Err, is_none, option_and_then, slice_get, length}
+use Rattle.std.specs.Result.{result_unwrap_or}
 use Rattle.vp8_tables.specs.declared.tables.Tables.{Tables}
 use Rattle.pixel_planes.specs.Pictures.{PictureSamples}
 use Rattle.stream_files.specs.declared.ivf.Head.{Head}
@@ -11,21 +12,29 @@ use Rattle.frame_session.specs.declared.edit.Edit.{Edit}
 use Rattle.frame_session.specs.Decoding.{Outcome, outcomes}
 use Rattle.packet_edits.specs.Edits.{Listing, listing_of}
 use Rattle.packet_edits.specs.Shown.{shown_places}
+use Rattle.script_nodes.specs.declared.nodes.Node.{Node}
+use Rattle.script_nodes.specs.declared.traces.Step.{Step}
+use Rattle.script_nodes.specs.Nodes.{script_of}
+use Rattle.script_nodes.specs.Lengths.{script_length}
+use Rattle.script_nodes.specs.Frames.{Origin, traced}
+use Rattle.script_nodes.specs.Shown.{Shown, shown_in, steps_shown}
 use Rattle.frame_session.specs.Edits.{after_edit}
+use Rattle.frame_session.specs.Scripts.{told_script}
 
--- what the answers to requests depend on: the tables, the file's head, the packet list as it stands, the bytes that
--- the file had behind its records, the size that the first frame served has fixed, and the number of steps made
+-- what the answers to requests depend on: the tables, the file's head, the packet list and the script as they stand, the
+-- bytes that the file had behind its records, the size that the first frame served has fixed, and the number of steps made
 pub record Now : Type 0 where
   pub tables : Tables
   pub head : Head
   pub list : Listing
+  pub script : List Node
   pub spare : ℕ
   pub size : Option Size
   pub decoded : ℕ
 
 -- a session as it begins
 abbrev pub start : Tables → Ivf → Now
-start tables file = record { tables = tables; head = file.head; list = listing_of file.packets; spare = file.spare; size = None; decoded = 0 }
+start tables file = record { tables = tables; head = file.head; list = listing_of file.packets; script = []; spare = file.spare; size = None; decoded = 0 }
 
 -- the head, while no frame was served: the line that opens the frames is still to be written with it
 abbrev pub head_due : Now → Option Head
@@ -39,45 +48,80 @@ stream_of now = map (λ entry. entry.bytes) now.list.entries
 abbrev pub outcome_of : Now → ℕ → Option Outcome
 outcome_of now n = option_and_then (λ place. slice_get (outcomes now.tables (stream_of now)) place) (slice_get (shown_places (stream_of now)) n)
 
-abbrev pub size_of : PictureSamples → Size
-size_of picture = record { width = picture.width; height = picture.height }
+-- how many packets are shown: so many frames has the source of the script
+abbrev pub shown_count : Now → ℕ
+shown_count now = length (shown_places (stream_of now))
 
-abbrev pub has_size : PictureSamples → Size → Bool
-has_size picture size = (picture.width == size.width) && (picture.height == size.height)
+-- the picture at a place, or what breaks the stream there
+abbrev pub picture_from : Option Outcome → Result PictureSamples Refusal
+picture_from None = Err refusals.NoSuchFrame
+picture_from (Some (Err broken)) = Err (refusals.Packet broken.place broken.cause)
+picture_from (Some (Ok decoded)) = Ok decoded.1
 
--- a picture, if it has the size of the stream
-abbrev pub fitted : Option Size → PictureSamples → Result PictureSamples Refusal
-fitted None picture = Ok picture
-fitted (Some size) picture = if has_size picture size then Ok picture else Err refusals.SizeDiffers
+abbrev pub size_of : Shown → Size
+size_of shown = record { width = shown.width; height = shown.height }
 
--- what an outcome gives of a frame
-abbrev pub frame_from : Option Size → Option Outcome → Result PictureSamples Refusal
-frame_from size None = Err refusals.NoSuchFrame
-frame_from size (Some (Err broken)) = Err (refusals.Packet broken.place broken.cause)
-frame_from size (Some (Ok decoded)) = fitted size decoded.1
+-- whether a size is the fixed one, if there is one
+abbrev pub fits : Option Size → Size → Bool
+fits None size = true
+fits (Some fixed) size = (fixed.width == size.width) && (fixed.height == size.height)
 
--- frame n of the stream as it stands: its picture, or the first refusal
-abbrev pub frame_of : Now → ℕ → Result PictureSamples Refusal
-frame_of now n = frame_from now.size (outcome_of now n)
+-- what a frame shows, if it has the size of the stream
+abbrev pub fitted : Option Size → Option Shown → Result Shown Refusal
+fitted size None = Err refusals.CropOutside
+fitted size (Some shown) = if fits size (size_of shown) then Ok shown else Err refusals.SizeDiffers
+
+-- what the steps make of a picture, in the size of the stream
+abbrev pub frame_made : Option Size → List Step → Result PictureSamples Refusal → Result Shown Refusal
+frame_made size steps (Err refusal) = Err refusal
+frame_made size steps (Ok picture) = fitted size (steps_shown steps (shown_in picture))
+
+-- the frame that comes from there
+abbrev pub frame_from : Now → Option Origin → Result Shown Refusal
+frame_from now None = Err refusals.NoSuchFrame
+frame_from now (Some from) = frame_made now.size from.steps (picture_from (outcome_of now from.frame))
+
+-- frame n of the script as it stands over the shown packets as they stand: what it shows, or the first refusal
+abbrev pub frame_of : Now → ℕ → Result Shown Refusal
+frame_of now n = frame_from now (traced (shown_count now) now.script n)
+
+-- the size of a frame that was served
+abbrev pub size_served : Result Shown Refusal → Option Size
+size_served (Ok shown) = Some (size_of shown)
+size_served (Err refusal) = None
+
+-- the size of a picture that was given
+abbrev pub size_given : Result PictureSamples Refusal → Option Size
+size_given (Ok picture) = Some (size_of (shown_in picture))
+size_given (Err refusal) = None
 
 -- the first frame that is served fixes the size
-abbrev pub after_frame : Now → Result PictureSamples Refusal → Now
-after_frame now (Ok picture) = record now { size = Some (size_of picture) }
-after_frame now (Err refusal) = now
+abbrev pub after_frame : Now → Option Size → Now
+after_frame now None = now
+after_frame now (Some size) = record now { size = Some size }
 
 -- what stands after a request for a frame, which may make any number of steps
-pub record IsAfterFrame (old : Now) (answer : Result PictureSamples Refusal) (new : Now) : Type 0 where
-  pub rest : new ≡ record (after_frame old answer) { decoded = new.decoded }
+pub record IsAfterFrame (old : Now) (served : Option Size) (new : Now) : Type 0 where
+  pub rest : new ≡ record (after_frame old served) { decoded = new.decoded }
   pub steps : old.decoded ≤ new.decoded
 
 -- what stands after an edit that was answered so
 abbrev pub behind_edit : Edit → Now → Result ℕ Refusal → Now
 behind_edit edit now answer = record now { list = after_edit edit now.list answer }
 
+-- the answer to a script: how many packets stand, or the first fault of its text
+abbrev pub script_answer : Now → List ℕ → Result ℕ Refusal
+script_answer now text = told_script (length now.list.entries) (script_of text)
+
+-- what stands behind a script that was answered so: a refused one leaves the one before
+abbrev pub behind_script : List ℕ → Now → Result ℕ Refusal → Now
+behind_script text now (Ok count) = record now { script = result_unwrap_or (script_of text) [] }
+behind_script text now (Err refusal) = now
+
 -- how many packets stand
 abbrev pub packet_count : Now → ℕ
 packet_count now = length now.list.entries
 
--- how many of them are shown
+-- how many frames the script serves
 abbrev pub frame_count : Now → ℕ
-frame_count now = length (shown_places (stream_of now))
+frame_count now = script_length (shown_count now) now.script

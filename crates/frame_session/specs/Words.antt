@@ -1,7 +1,7 @@
 -- The words of a request line, and what they write.
-use Rattle.std.specs.Prelude.{ℕ, ◌^◌, Bool, List, [], Option, None, Some, ◌&&◌, ◌==◌, not, nat_lt, nat_le, if◌then◌else◌, filter, length, codes}
+use Rattle.std.specs.Prelude.{ℕ, drop, ◌^◌, Bool, List, [], Option, None, Some, ◌&&◌, ◌==◌, not, nat_lt, nat_le, if◌then◌else◌, filter, length, codes}
 use Rattle.std.specs.Char.{is_ascii_digit}
-use Rattle.std.specs.List.{list_all, slice_split}
+use Rattle.std.specs.List.{list_all, position_or_len, prefix_len, slice_split}
 use Rattle.std.specs.Result.{result_ok, result_unwrap_or}
 use Rattle.std.specs.Str.{bytes_eq}
 use Rattle.std.specs.Str.Parse.{digits_value}
@@ -10,6 +10,14 @@ use Rattle.hex.specs.Hex.{decode_of}
 -- the words of a line: the parts between spaces, but for the empty ones
 abbrev pub words_of : List ℕ → List (List ℕ)
 words_of line = filter (λ word. not (length word == 0)) (slice_split (λ b. b == 32) line)
+
+-- what stands in front of the first word is left out
+abbrev pub from_word : List ℕ → List ℕ
+from_word line = drop (prefix_len (λ b. b == 32) line) line
+
+-- what stands behind the first word, with its spaces
+abbrev pub behind_word : List ℕ → List ℕ
+behind_word line = drop (position_or_len (λ b. b == 32) (from_word line)) (from_word line)
 
 -- 1 to 20 decimal digits, and nothing else
 abbrev pub is_numeral : List ℕ → Bool

@@ -40,7 +40,8 @@ pub fn steps_never_fall()
     ensures { StepsNeverFall }
 {}
 
-/// A refused line changes nothing but the number of steps: neither packets nor ids nor the fixed size.
+/// A refused line changes nothing but the number of steps: neither packets nor ids nor the script
+/// nor the fixed size.
 pub fn refused_lines_change_nothing()
     ensures { RefusedLinesChangeNothing }
 {}
@@ -68,6 +69,8 @@ pub fn worked_lines()
     ensures move_up { asked_by (codes "move 0 2") ≡ requests.Move 0 2 }
     ensures count { asked_by (codes "count") ≡ requests.Count }
     ensures stats { asked_by (codes "stats") ≡ requests.Stats }
+    ensures script { asked_by (codes "script trim 0 1 2; splice 1 0") ≡ requests.Script (codes " trim 0 1 2; splice 1 0") }
+    ensures no_script { asked_by (codes "script  ") ≡ requests.Unknown }
     ensures odd { asked_by (codes "insert 0 0 1") ≡ requests.Unknown }
     ensures wide { asked_by (codes "delete 18446744073709551616") ≡ requests.Unknown }
     ensures long { asked_by (codes "delete 000000000000000000001") ≡ requests.Unknown }

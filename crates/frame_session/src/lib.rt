@@ -1,4 +1,4 @@
-//! Sessions over a stream: its packets decoded from the start, its request lines read and answered,
+//! Sessions over a stream: its packets decoded from the start, its script, its request lines read and answered,
 //! and `run`, which does all of that over the bytes of a file and of a request list.
 #![tactic(auto)]
 
@@ -9,6 +9,7 @@ pub mod laws;
 mod lines;
 mod refusal;
 mod replies;
+mod script_text;
 mod serving;
 mod session;
 mod size;

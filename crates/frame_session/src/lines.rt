@@ -4,12 +4,13 @@ ghost use Rattle.std.specs.Prelude.{◌≡◌, ℕ, List, ◌<◌, ◌≤◌, �
 ghost use Rattle.std.specs.Char.{is_ascii_digit};
 ghost use Rattle.std.specs.List.{list_all, position_or_len, prefix_len};
 ghost use Rattle.std.specs.Str.Lines.{lines, strip_carriage_return};
-ghost use Rattle.frame_session.specs.Words.{words_of, number_of};
-ghost use Rattle.frame_session.specs.Requests.{with_number, with_bytes, at_end, frame_by, insert_by, replace_by, delete_by, move_by, asked_by};
+ghost use Rattle.frame_session.specs.Words.{words_of, number_of, behind_word};
+ghost use Rattle.frame_session.specs.Requests.{with_number, with_bytes, at_end, frame_by, insert_by, replace_by, delete_by, move_by, script_by, asked_by};
 ghost use Rattle.frame_session.specs.declared.lines.Line.{Line};
 ghost use Rattle.frame_session.specs.declared.lines.Line.TheVariants.{Unknown};
 
 use crate::hex_text::Hex;
+use crate::script_text::ScriptText;
 use std::str;
 
 /// The most digits of a number.
@@ -32,7 +33,9 @@ pub enum Line<'a> {
     Delete { at: u64 },
     /// The packet at place `from` moved to place `to` of the others.
     Move { from: u64, to: u64 },
-    /// How many packets stand, and how many are shown.
+    /// Another script.
+    Script(ScriptText<'a>),
+    /// How many packets stand, and how many frames the script serves.
     Count,
     /// How many steps of decoding were made.
     Stats,
@@ -77,6 +80,7 @@ fn without_carriage_return(line: &[u8]) -> &[u8]
 /// space is the byte 32 alone.
 pub fn next_word(line: &[u8]) -> Option<(&[u8], &[u8])>
     ensures next { MatchOption result (words_of line.now ≡ []) (λ found. words_of line.now ≡ found.0.now ∷ words_of found.1.now) }
+    ensures behind { IfSome result (λ found. found.1.now ≡ behind_word line.now) }
     ensures shorter { IfSome result (λ found. length found.1.now < length line.now) }
 {
     let (_, words) = line.split_at(leading_spaces(line));
@@ -152,9 +156,9 @@ fn ended<'a>(asked: Line<'a>, rest: &[u8]) -> Line<'a>
 /// What a line asks for.
 ///
 /// A line without words and one whose first word begins with `#` ask for nothing. The requests are
-/// `frame N`, `insert AT STAMP HEX`, `replace AT HEX`, `delete AT`, `move FROM TO`, `count` and
-/// `stats`, where HEX is `-` or an even number of hexadecimal digits and the others are numbers;
-/// every other line is unknown.
+/// `frame N`, `insert AT STAMP HEX`, `replace AT HEX`, `delete AT`, `move FROM TO`, `script TEXT`,
+/// `count` and `stats`, where HEX is `-` or an even number of hexadecimal digits, TEXT is the rest of
+/// the line, with a word in it, and the others are numbers; every other line is unknown.
 pub fn read_line(line: &[u8]) -> Line<'_>
     ensures { result ≡ asked_by line.now }
 {
@@ -173,6 +177,8 @@ pub fn read_line(line: &[u8]) -> Line<'_>
         delete_line(words)
     } else if command == b"move".as_slice() {
         move_line(words)
+    } else if command == b"script".as_slice() {
+        script_line(words)
     } else if command == b"count".as_slice() {
         ended(Line::Count, words)
     } else if command == b"stats".as_slice() {
@@ -239,6 +245,15 @@ fn move_line(words: &[u8]) -> Line<'_>
     ended(Line::Move { from, to }, rest)
 }
 
+fn script_line(text: &[u8]) -> Line<'_>
+    ensures { result ≡ script_by text.now (words_of text.now) }
+{
+    match next_word(text) {
+        None => Line::Unknown,
+        Some(_) => Line::Script(ScriptText::new(text)),
+    }
+}
+
 #[cfg(test)]
 mod tests {
     use super::*;
@@ -277,6 +292,7 @@ mod tests {
             Line::Replace { at, .. } => ("replace", *at, 0),
             Line::Delete { at } => ("delete", *at, 0),
             Line::Move { from, to } => ("move", *from, *to),
+            Line::Script(_) => ("script", 0, 0),
             Line::Count => ("count", 0, 0),
             Line::Stats => ("stats", 0, 0),
         }
@@ -284,7 +300,7 @@ mod tests {
 
     const UNKNOWN: Asked = ("unknown", 0, 0, b"");
 
-    const ROWS: [(&[u8], Asked); 41] = [
+    const ROWS: [(&[u8], Asked); 46] = [
         (b"", ("silent", 0, 0, b"")),
         (b"   ", ("silent", 0, 0, b"")),
         (b"# x", ("silent", 0, 0, b"")),
@@ -333,6 +349,14 @@ mod tests {
         (b"delete 5 6", UNKNOWN),
         (b"move 1 0", ("move", 1, 0, b"")),
         (b"move 1", UNKNOWN),
+        (b"script", UNKNOWN),
+        (b"script  ", UNKNOWN),
+        (b"scripts -", UNKNOWN),
+        (b"script -", ("script", 0, 0, b" -")),
+        (
+            b" script  trim 0 1 2; splice 1 0 ",
+            ("script", 0, 0, b"  trim 0 1 2; splice 1 0 "),
+        ),
         (b"count", ("count", 0, 0, b"")),
         (b"count 1", UNKNOWN),
         (b"stats ", ("stats", 0, 0, b"")),
@@ -347,6 +371,7 @@ mod tests {
             let written = match line {
                 Line::Insert { bytes, .. } => bytes.read(rt.alloc())?,
                 Line::Replace { bytes, .. } => bytes.read(rt.alloc())?,
+                Line::Script(text) => Bytes::from_slice(rt.alloc(), text.as_slice())?,
                 _ => Bytes::new(Vec::new(rt.alloc())),
             };
             assert_eq!(rt; written.as_slice(), bytes, "at {row:?}");

@@ -2,6 +2,7 @@ ghost use Rattle.std.specs.Prelude.{◌≡◌};
 
 use frame_header::Cause;
 use packet_edits::EditFault;
+use script_nodes::{ApplyFault, ScriptFault};
 use thiserror::Error;
 
 /// Why a request is refused.
@@ -25,9 +26,24 @@ pub enum Refusal {
     /// The stream is broken at the packet at `place`, counted from 0.
     #[error("the stream is broken at packet {place}: {cause}")]
     Packet { place: usize, cause: Cause },
+    /// A crop of the script reaches past the size that it meets.
+    #[error("a crop of the script reaches past the picture")]
+    CropOutside,
     /// The frame has not the size of the first frame that was served.
     #[error("the frame has another size than the first frame that was served")]
     SizeDiffers,
+    /// The text of a script is not one of nodes.
+    #[error("the text is not one of nodes")]
+    Syntax,
+    /// A script has more than 16 nodes.
+    #[error("the script has too many nodes")]
+    Nodes,
+    /// A node of a script does not use nodes before it alone.
+    #[error("a node uses one that does not stand before it")]
+    Reference,
+    /// A number of a script is not allowed where it stands.
+    #[error("a number of the script is not allowed")]
+    Number,
     /// Memory was refused.
     #[error("memory was refused")]
     NoMemory,
@@ -35,6 +51,7 @@ pub enum Refusal {
 
 impl Refusal {
     ghost use Rattle.frame_session.specs.Edits.{refusal_by};
+    ghost use Rattle.frame_session.specs.Scripts.{refusal_by_apply, refusal_by_script};
     ghost use Rattle.frame_session.specs.Replies.{refusal_word};
 
     /// The refusal of a request whose edit has a fault.
@@ -49,6 +66,29 @@ impl Refusal {
         }
     }
 
+    /// The refusal of a request whose script has a fault.
+    pub(crate) fn by_script(fault: ScriptFault) -> Refusal
+        ensures { result ≡ refusal_by_script fault }
+    {
+        match fault {
+            ScriptFault::Syntax => Refusal::Syntax,
+            ScriptFault::Nodes => Refusal::Nodes,
+            ScriptFault::Reference => Refusal::Reference,
+            ScriptFault::Number => Refusal::Number,
+            ScriptFault::NoMemory => Refusal::NoMemory,
+        }
+    }
+
+    /// The refusal of a frame of which the script makes no picture.
+    pub(crate) fn by_apply(fault: ApplyFault) -> Refusal
+        ensures { result ≡ refusal_by_apply fault }
+    {
+        match fault {
+            ApplyFault::CropOutside => Refusal::CropOutside,
+            ApplyFault::NoMemory => Refusal::NoMemory,
+        }
+    }
+
     /// The refusal's name; that of `Packet` is `packet`, without its place and cause.
     pub fn word(self) -> &'static str
         ensures { result.now ≡ refusal_word self }
@@ -60,7 +100,12 @@ impl Refusal {
             Refusal::Spent => "Spent",
             Refusal::NoSuchFrame => "NoSuchFrame",
             Refusal::Packet { .. } => "packet",
+            Refusal::CropOutside => "CropOutside",
             Refusal::SizeDiffers => "SizeDiffers",
+            Refusal::Syntax => "Syntax",
+            Refusal::Nodes => "Nodes",
+            Refusal::Reference => "Reference",
+            Refusal::Number => "Number",
             Refusal::NoMemory => "NoMemory",
         }
     }

@@ -54,7 +54,7 @@ fn write_opening<F: Write>(
     head_due: Option<Head>,
     picture: &Picture,
 ) -> Result<(), WriteFault>
-    ensures { OnOk result (Appends (F.contents frames.old) (F.contents frames.new) (opening head_due picture.now)) }
+    ensures { OnOk result (Appends (F.contents frames.old) (F.contents frames.new) (opening head_due picture.now.width picture.now.height)) }
 {
     match head_due {
         Some(head) => y4m_header(
@@ -74,7 +74,7 @@ fn write_frame<F: Write>(
     head_due: Option<Head>,
     picture: &Picture,
 ) -> Result<(), WriteFault>
-    ensures { OnOk result (Appends (F.contents frames.old) (F.contents frames.new) (opening head_due picture.now ++ frame_text picture.now)) }
+    ensures { OnOk result (Appends (F.contents frames.old) (F.contents frames.new) (opening head_due picture.now.width picture.now.height ++ frame_text picture.now)) }
 {
     write_opening(frames, head_due, picture)?;
     y4m_frame(frames, picture)
@@ -99,7 +99,7 @@ fn serve_frame<F: Write, R: Write>(
     }
 }
 
-/// Tells how many packets stand, and how many frames are shown.
+/// Tells how many packets stand, and how many frames are served.
 fn tell_count<R: Write>(session: &Session, replies: &mut R) -> Result<(), WriteFault>
     ensures { OnOk result (Appends (R.contents replies.old) (R.contents replies.new) (count_line (packet_count session.now) (frame_count session.now))) }
 {
@@ -142,6 +142,10 @@ fn serve<F: Write, R: Write>(
         }
         Line::Delete { at } => serve_edit(session, Edit::Delete { at }, replies),
         Line::Move { from, to } => serve_edit(session, Edit::Move { from, to }, replies),
+        Line::Script(text) => {
+            let set = session.set_script(text.as_slice());
+            write_edited(replies, set)
+        }
         Line::Count => tell_count(session, replies),
         Line::Stats => write_stats(replies, session.decoded()),
     }

@@ -1,5 +1,7 @@
-ghost use Rattle.std.specs.Prelude.{◌≡◌, ◌≤◌, IfOk, OnErr, length};
-ghost use Rattle.frame_session.specs.Gives.{Gives};
+ghost use Rattle.std.specs.Prelude.{◌≡◌, ◌<◌, ◌≤◌, IfOk, OnErr, length, slice_get};
+ghost use Rattle.packet_edits.specs.Shown.{stream_of};
+ghost use Rattle.frame_session.specs.Decoding.{outcomes};
+ghost use Rattle.frame_session.specs.Gives.{Gives, GivesFrame};
 ghost use Rattle.frame_session.specs.Edits.{EditGives, edit_of};
 ghost use Rattle.frame_session.specs.declared.edit.Edit.TheVariants.{Insert, Replace};
 
@@ -10,6 +12,7 @@ use crate::refusal::Refusal;
 use crate::size::Size;
 use packet_edits::Store;
 use pixel_planes::{NoMemory, Picture};
+use script_nodes::{Script, apply};
 use std::alloc::Global;
 use std::marker::Model;
 use stream_files::{Head, Ivf};
@@ -22,6 +25,7 @@ pub struct Session {
     tables: Tables,
     head: Head,
     list: Store,
+    script: Script,
     spare: u64,
     size: Option<Size>,
     decoded: u64,
@@ -32,14 +36,15 @@ impl Model for Session {
 
     ghost Value = { Now };
 
-    ghost view = { λ s. record { tables = s.tables; head = s.head; list = s.list; spare = s.spare; size = s.size; decoded = s.decoded } };
+    ghost view = { λ s. record { tables = s.tables; head = s.head; list = s.list; script = s.script; spare = s.spare; size = s.size; decoded = s.decoded } };
 }
 
 impl Session {
-    ghost use Rattle.frame_session.specs.Sessions.{IsAfterFrame, behind_edit, frame_count, frame_of, head_due, packet_count, start};
+    ghost use Rattle.frame_session.specs.Sessions.{IsAfterFrame, behind_edit, behind_script, fits, frame_count, frame_of, head_due, packet_count, picture_from, script_answer, shown_count, size_given, start};
 
     /// A session over a file's packets, which are at most 1,048,576. `capacity`, 1 to 4,096, is how
-    /// many decoded states may be kept; none is kept yet. The packets get ids from 0 on.
+    /// many decoded states may be kept; none is kept yet. The packets get ids from 0 on, and the script
+    /// is empty.
     ///
     /// `NoMemory` where memory for the packet list was refused.
     pub fn new(alloc: Global, tables: Tables, capacity: u16, file: Ivf) -> Result<Session, NoMemory>
@@ -57,44 +62,102 @@ impl Session {
             tables,
             head: file.head,
             list,
+            script: Script::empty(alloc),
             spare: file.spare,
             size: None,
             decoded: 0,
         })
     }
 
-    /// Frame `n` of the stream as it stands, counted from 0 over the shown packets.
-    pub fn frame(&mut self, n: u64) -> Result<Picture, Refusal>
-        ensures gives { Gives (frame_of self.old n) result }
-        ensures after { IsAfterFrame self.old result self.new }
+    /// How many packets are shown, at most 1,048,576.
+    fn shown(&self) -> u64
+        ensures value { result ≡ shown_count self.now }
+        ensures few { result ≤ 1048576 }
     {
-        let Some(place) = self.list.shown(n) else {
-            return Err(Refusal::NoSuchFrame);
-        };
+        let _standing = self.list.len();
+        self.list.frames() as u64
+    }
+
+    /// The picture at the place of a packet.
+    fn decoded_at(&mut self, place: usize) -> Result<Picture, Refusal>
+        requires { place < length self.old.list.entries }
+        ensures gives { Gives (picture_from (slice_get (outcomes self.old.tables (stream_of self.old.list)) place)) result }
+        ensures after { self.new ≡ record self.old { decoded = self.new.decoded } }
+        ensures counted { self.old.decoded ≤ self.new.decoded }
+    {
         let mut steps = self.decoded;
         let answer = decode(self.alloc, &self.tables, &self.list, place, &mut steps);
         self.decoded = steps;
-        let picture = match answer {
-            Ok((_, picture)) => picture,
-            Err(DecodeFault::Refused(broken)) => {
-                return Err(Refusal::Packet {
-                    place: broken.place,
-                    cause: broken.cause,
-                });
-            }
-            Err(DecodeFault::NoMemory) => return Err(Refusal::NoMemory),
+        match answer {
+            Ok((_, picture)) => Ok(picture),
+            Err(DecodeFault::Refused(broken)) => Err(Refusal::Packet {
+                place: broken.place,
+                cause: broken.cause,
+            }),
+            Err(DecodeFault::NoMemory) => Err(Refusal::NoMemory),
+        }
+    }
+
+    /// Whether a picture has the size of the stream, if that is fixed.
+    fn fits(&self, size: Size) -> bool
+        ensures { result ≡ fits self.now.size size }
+    {
+        match self.size {
+            None => true,
+            Some(fixed) => fixed == size,
+        }
+    }
+
+    /// Frame `n` of the script as it stands over the shown packets as they stand, counted from 0. What
+    /// the picture's coded samples outside its shown size are is not told.
+    ///
+    /// Refused as `NoSuchFrame` where the script serves fewer frames; `Packet` where the packet that the
+    /// frame comes from is broken; `CropOutside` where a crop reaches past the size that it meets;
+    /// `SizeDiffers` where the frame has another size than the first one given; and as `NoMemory`, in
+    /// place of any but the first.
+    pub fn frame(&mut self, n: u64) -> Result<Picture, Refusal>
+        ensures gives { GivesFrame (frame_of self.old n) result }
+        ensures after { IsAfterFrame self.old (size_given result) self.new }
+    {
+        let Some((source, trace)) = self.script.trace(self.shown(), n) else {
+            return Err(Refusal::NoSuchFrame);
+        };
+        let Some(place) = self.list.shown(source) else {
+            return Err(Refusal::NoSuchFrame);
+        };
+        let picture = self.decoded_at(place)?;
+        let made = match apply(self.alloc, &picture, &trace) {
+            Ok(made) => made,
+            Err(fault) => return Err(Refusal::by_apply(fault)),
         };
         let size = Size {
-            width: picture.width(),
-            height: picture.height(),
+            width: made.width(),
+            height: made.height(),
         };
-        if let Some(fixed) = self.size {
-            if size != fixed {
-                return Err(Refusal::SizeDiffers);
-            }
+        if !self.fits(size) {
+            return Err(Refusal::SizeDiffers);
         }
         self.size = Some(size);
-        Ok(picture)
+        Ok(made)
+    }
+
+    /// Takes the script that a text writes in place of the one that stands, and gives how many packets
+    /// stand.
+    ///
+    /// Refused as `Syntax`, `Nodes`, `Reference`, `Number` and then `NoMemory`, each over the whole
+    /// text: the old script stands then.
+    pub fn set_script(&mut self, text: &[u8]) -> Result<u64, Refusal>
+        ensures gives { Gives (script_answer self.old text.now) result }
+        ensures after { self.new ≡ behind_script text.now self.old result }
+        ensures refused { OnErr result (self.new ≡ self.old) }
+    {
+        match Script::parse(self.alloc, text) {
+            Ok(script) => {
+                self.script = script;
+                Ok(self.list.len() as u64)
+            }
+            Err(fault) => Err(Refusal::by_script(fault)),
+        }
     }
 
     /// Makes an edit of the packet list, and gives how many packets stand then.
@@ -144,12 +207,12 @@ impl Session {
         }
     }
 
-    /// How many packets stand, and how many of them are shown.
+    /// How many packets stand, and how many frames the script serves of those that are shown.
     pub fn count(&self) -> (u64, u64)
         ensures packets { result.0 ≡ packet_count self.now }
         ensures frames { result.1 ≡ frame_count self.now }
     {
-        (self.list.len() as u64, self.list.frames() as u64)
+        (self.list.len() as u64, self.script.length(self.shown()))
     }
 
     /// How many steps of decoding were made, whatever they answered; at most 18,446,744,073,709,551,615.

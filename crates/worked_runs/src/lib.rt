@@ -22,4 +22,6 @@ mod refusals;
 #[cfg(test)]
 mod residuals;
 #[cfg(test)]
+mod scripts;
+#[cfg(test)]
 mod sessions;

@@ -1,12 +1,12 @@
 use Rattle.std.proofs.Common.{rules}
 use Rattle.std.specs.Io.KnownBytes.{Appends}
 use Rattle.std.proofs.lemmas.Result.{on_ok_weaker}
-use Rattle.frame_session.specs.declared.lines.Line.TheVariants.{Unknown, Insert, Replace, Count, Stats}
+use Rattle.frame_session.specs.declared.lines.Line.TheVariants.{Unknown, Insert, Replace, Script, Count, Stats}
 use Rattle.frame_session.specs.declared.refusal.Refusal.TheVariants as refusals
 use Rattle.frame_session.specs.Replies.{refused_line, edit_line, count_line, stats_line}
 use Rattle.frame_session.specs.Sessions.{frame_count, packet_count}
 use Rattle.frame_session.specs.Answers.{Serves}
-use Rattle.frame_session.proofs.Served.{serves_silent, serves_unknown, serves_inserted, serves_replaced, serves_deleted, serves_moved, serves_count, serves_stats}
+use Rattle.frame_session.proofs.Served.{serves_silent, serves_unknown, serves_inserted, serves_replaced, serves_deleted, serves_moved, serves_script, serves_count, serves_stats}
 use Rattle.frame_session.proofs.serving.serve.Goals as goal
 
 pub returns-in-Silent : goal.returns-in-Silent
@@ -55,6 +55,17 @@ returns-in-Move g c =
     let r = g.R.Write.contents c.args.replies.now in
     let r' = g.R.Write.contents c.serve_edit-in-Move.new.replies in
     rw c.in-Move.is (on_ok_weaker c.serve_edit-in-Move.result (serves_moved c.args.session.now f f r r' c.in-Move.from c.in-Move.to c.serve_edit-in-Move.new.session) c.serve_edit-in-Move.ensures)
+
+pub returns-in-Script : goal.returns-in-Script
+returns-in-Script g c =
+    let f = g.F.Write.contents c.args.frames.now in
+    let r = g.R.Write.contents c.args.replies.now in
+    let r' = g.R.Write.contents c.write_edited-in-Script.new.w in
+    let set = c.set_script-set.result in
+    let new = c.set_script-set.new.self in
+    let served : Appends r r' (edit_line set) → Serves c.args.session.now (Script c.in-Script.text) f f r r' new =
+    serves_script c.args.session.now f f r r' c.in-Script.text set new (rw c.as_slice.ensures at c.set_script-set.ensures.gives) (rw c.as_slice.ensures at c.set_script-set.ensures.after) in
+    rw c.in-Script.is (on_ok_weaker c.write_edited-in-Script.result served c.write_edited-in-Script.ensures)
 
 pub returns-in-Count : goal.returns-in-Count
 returns-in-Count g c =

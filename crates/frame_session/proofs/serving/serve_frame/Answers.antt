@@ -26,7 +26,7 @@ returns-in_ok-write_frame-in-Ok g c =
     let f' = g.F.Write.contents c.write_frame.new.frames in
     let r = g.R.Write.contents c.args.replies.now in
     let r' = g.R.Write.contents c.write_served.new.w in
-    let P : Option Head → Type 0 = λ h. Appends f f' (opening h c.in-Ok.picture ++ frame_text c.in-Ok.picture) in
+    let P : Option Head → Type 0 = λ h. Appends f f' (opening h c.in-Ok.picture.width c.in-Ok.picture.height ++ frame_text c.in-Ok.picture) in
     let shown : P (head_due old) = subst P c.head_due-head_due.ensures c.in_ok-write_frame-in-Ok.ensures in
     let served : Appends r r' (served_line c.args.n) → Serves old (Frame c.args.n) f f' r r' c.frame.new.self =
     serves_frame old f f' r r' c.args.n c.in-Ok.picture c.frame.new.self c.in-Ok.ensures.gives c.in-Ok.ensures.after shown in

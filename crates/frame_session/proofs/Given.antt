@@ -1,0 +1,57 @@
+-- What a session gives of a frame is the frame that is wanted.
+use Rattle.std.proofs.Common.{◌≡◌, ℕ, suc, ◌+◌, ◌≤◌, List, [], ◌∷◌, Bool, true, false, cond, Option, Some, None, Result, Ok, Err, length, map, slice_get, refl, sym, ap, ◌∙◌, arith, subst}
+use Rattle.std.specs.Prelude.{option_and_then}
+use Rattle.std.proofs.lemmas.List.{length-map}
+use Rattle.frame_header.specs.Tags.{is_shown}
+use Rattle.pixel_planes.specs.Pictures.{PictureSamples, IsWholePicture}
+use Rattle.packet_edits.specs.Edits.{Listing}
+use Rattle.packet_edits.specs.Shown.{shown_from, shown_places, stream_of as stream_in}
+use Rattle.packet_edits.specs.declared.entry.Entry.{Entry}
+use Rattle.script_nodes.specs.declared.traces.Step.{Step}
+use Rattle.script_nodes.specs.Frames.{Origin, traced}
+use Rattle.script_nodes.specs.Planes.{ShowsMade}
+use Rattle.script_nodes.specs.Scripts.{origin_of}
+use Rattle.script_nodes.specs.Shown.{Shown, Shows, shown_in, steps_shown}
+use Rattle.frame_session.specs.declared.refusal.Refusal.{Refusal}
+use Rattle.frame_session.specs.declared.refusal.Refusal.TheVariants as refusals
+use Rattle.frame_session.specs.declared.size.Size.{Size}
+use Rattle.frame_session.specs.Decoding.{Outcome, outcomes}
+use Rattle.frame_session.specs.Gives.{GivesFrame}
+use Rattle.frame_session.specs.Sessions.{Now, fits, fitted, frame_from, frame_made, frame_of, outcome_of, picture_from, shown_count, size_of, stream_of}
+
+-- no more packets are shown than stand
+few_from : (place : ℕ) (xs : List (List ℕ)) → length (shown_from place xs) ≤ length xs
+few_from place [] = omega arith
+few_from place (x ∷ xs) = by_first (is_shown x) (few_from (place + 1) xs)
+  where
+    by_first : (b : Bool) → length (shown_from (place + 1) xs) ≤ length xs → length (cond b (place ∷ shown_from (place + 1) xs) (shown_from (place + 1) xs)) ≤ suc (length xs)
+    by_first true ih = omega (arith, ih)
+    by_first false ih = omega (arith, ih)
+
+pub few_shown : (list : Listing) (count most : ℕ) → count ≡ length (shown_places (stream_in list)) → length list.entries ≤ most → count ≤ most
+few_shown list count most is few =
+    let long : length (stream_in list) ≡ length list.entries = length-map list.entries (λ (e : Entry). e.bytes) in
+    omega (arith, is, few, long, few_from 0 (stream_in list))
+
+-- what has the size of the stream is given
+chosen : (shown : Shown) (b : Bool) → b ≡ true → cond b (Ok shown) (Err refusals.SizeDiffers) ≡ Ok shown
+chosen shown true e = refl
+chosen shown false e = cc
+
+fitted_given : (size : Option Size) (m : Option Shown) (made : PictureSamples) → ShowsMade m made → fits size (record { width = made.width; height = made.height }) ≡ true → (shown : Shown) × (fitted size m ≡ Ok shown) × Shows made shown
+fitted_given size None made shows fit = absurd shows
+fitted_given size (Some shown) made shows fit =
+    let P : ℕ → ℕ → Type 0 = λ w h. fits size (record { width = w; height = h }) ≡ true in
+    let fit' : P shown.width shown.height = subst (λ h. P shown.width h) shows.high (subst (λ w. P w made.height) shows.wide fit) in
+    (shown, chosen shown (fits size (size_of shown)) fit', shows)
+
+pub frame_given : (old : Now) (n count source place : ℕ) (steps : List Step) (picture made : PictureSamples) → count ≡ shown_count old → traced count old.script n ≡ Some (origin_of source steps) → Some place ≡ slice_get (shown_places (stream_of old)) source → picture_from (slice_get (outcomes old.tables (stream_of old)) place) ≡ Ok picture → ShowsMade (steps_shown steps (shown_in picture)) made → fits old.size (record { width = made.width; height = made.height }) ≡ true → IsWholePicture made → GivesFrame (frame_of old n) (Ok made)
+frame_given old n count source place steps picture made same from at decoded shows fit whole =
+    let out : outcome_of old source ≡ slice_get (outcomes old.tables (stream_of old)) place = ap (λ (s : Option ℕ). option_and_then (λ i. slice_get (outcomes old.tables (stream_of old)) i) s) (sym at) in
+    let is : frame_of old n ≡ fitted old.size (steps_shown steps (shown_in picture)) =
+    ap (λ k. frame_from old (traced k old.script n)) (sym same)
+    ∙ ap (λ (f : Option Origin). frame_from old f) from
+    ∙ ap (λ (o : Option Outcome). frame_made old.size steps (picture_from o)) out
+    ∙ ap (λ (p : Result PictureSamples Refusal). frame_made old.size steps p) decoded in
+    let given = fitted_given old.size (steps_shown steps (shown_in picture)) made shows fit in
+    (given.0, is ∙ given.1, given.2, whole)
