@@ -11,6 +11,7 @@ the packets with zeros behind each partition, which changes no frame of ours, an
 """
 
 import collections
+import os
 import pathlib
 import random
 import struct
@@ -143,7 +144,7 @@ def decoded(room, packets, decoder):
     stream.write_bytes(ivf(width, height, packets))
     shown.write_bytes(b"")
     words = {
-        "vpxdec": ["vpxdec", "--codec=vp8", "--i420", "--keep-going", "-o", shown, stream],
+        "vpxdec": [os.environ.get("VPXDEC", "vpxdec"), "--codec=vp8", "--i420", "--keep-going", "-o", shown, stream],
         "ffmpeg": ["ffmpeg", "-y", "-v", "error", "-i", stream, "-fps_mode", "passthrough", "-pix_fmt", "yuv420p", "-f", "rawvideo", shown],
     }[decoder]
     subprocess.run([str(word) for word in words], stdout=subprocess.PIPE, stderr=subprocess.PIPE)
