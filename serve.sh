@@ -17,7 +17,7 @@ build() {
         exit 1
     fi
     mkdir -p "$out"
-    echo 'serve.sh: building vp8serve. Every crate is proved first, which takes five to eight minutes where' >&2
+    echo 'serve.sh: building vp8serve. Every crate is proved first, which takes about ten minutes where' >&2
     echo "serve.sh: that was not done before, and needs no network. What rt tells goes to $out/build.log" >&2
     # Without requests the program that was built runs, and does nothing.
     if ! (cd "$top/crates/vp8serve" && rt run < /dev/null) > "$out/build.log" 2>&1; then
