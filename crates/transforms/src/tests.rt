@@ -120,14 +120,24 @@ fn segments_change_the_index(rt: HostRuntime) {
         &rt,
         "a key frame of zeros",
     );
-    header.quantizers.y_ac_index = 3;
-    header.context.segments.quantizers = [2, -4, 127, -127];
+    let mut quantizers = header.quantizers;
+    quantizers.y_ac_index = 3;
+    header.quantizers = quantizers;
+    let mut segments = header.context.segments;
+    segments.quantizers = [2, -4, 127, -127];
+    let mut context = header.context;
+    context.segments = segments;
+    header.context = context;
     assert_eq!(rt; factors(&header, 0).y_ac, 7);
-    header.segmentation.is_enabled = true;
+    let mut segmentation = header.segmentation;
+    segmentation.is_enabled = true;
+    header.segmentation = segmentation;
     for (segment, expected) in [(0, 9), (1, 4), (2, 284), (3, 4)] {
         assert_eq!(rt; factors(&header, segment).y_ac, expected);
     }
-    header.context.segments.is_absolute = true;
+    segments.is_absolute = true;
+    context.segments = segments;
+    header.context = context;
     for (segment, expected) in [(0, 6), (1, 4), (2, 284), (3, 4)] {
         assert_eq!(rt; factors(&header, segment).y_ac, expected);
     }
