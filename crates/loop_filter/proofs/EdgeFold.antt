@@ -20,14 +20,14 @@ same_line a b e0 e1 e2 e3 e4 e5 e6 e7 =
     left ∙ rw (e0, e1, e2, e3, e4, e5, e6, e7) refl
 
 -- a line whose samples are the same in both lists
-same_line_in : (s r : List ℕ) (at across : ℕ) → ((k : ℕ) → k < 8 → slice_index r (at + k * across) ≡ slice_index s (at + k * across)) → line_in r at across ≡ line_in s at across
+pub same_line_in : (s r : List ℕ) (at across : ℕ) → ((k : ℕ) → k < 8 → slice_index r (at + k * across) ≡ slice_index s (at + k * across)) → line_in r at across ≡ line_in s at across
 same_line_in s r at across same =
     let none : at + 0 * across ≡ at = omega arith in
     let one : at + 1 * across ≡ at + across = omega arith in
     same_line _ _ (rw (← none) (same 0 (omega arith))) (rw (← one) (same 1 (omega arith))) (same 2 (omega arith)) (same 3 (omega arith)) (same 4 (omega arith)) (same 5 (omega arith)) (same 6 (omega arith)) (same 7 (omega arith))
 
 -- a line that is put, sample by sample
-line_is_sets : (s : List ℕ) (at across : ℕ) (l : Line) → with_line s at across l ≡ line_sets s at across (λ k. slice_index (samples_of l) k) 8
+pub line_is_sets : (s : List ℕ) (at across : ℕ) (l : Line) → with_line s at across l ≡ line_sets s at across (λ k. slice_index (samples_of l) k) 8
 unfolding with_line line_sets
 line_is_sets s at across l =
     let none : at ≡ at + 0 * across = omega arith in
@@ -36,7 +36,7 @@ line_is_sets s at across l =
     ap (λ (p : ℕ). six (set (set s p l.p3) (at + across) l.p2)) none ∙ ap (λ (p : ℕ). six (set (set s (at + 0 * across) l.p3) p l.p2)) one
 
 -- a line of samples side by side, put at once
-line_is_put : (s : List ℕ) (at : ℕ) (l : Line) → put_chunk at s (samples_of l) ≡ with_line s at 1 l
+pub line_is_put : (s : List ℕ) (at : ℕ) (l : Line) → put_chunk at s (samples_of l) ≡ with_line s at 1 l
 unfolding with_line
 line_is_put s at l =
     let s1 = set s at l.p3 in

@@ -6,5 +6,6 @@ pub mod Loaded
 pub mod OneLine
 pub mod RowsPut
 pub mod Scalars
+pub mod ThreeEdges
 pub mod Raster
 pub mod Transposed

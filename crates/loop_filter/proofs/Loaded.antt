@@ -1,12 +1,12 @@
 -- Lines that are taken from samples and written back.
 use Rattle.std.specs.Prelude.{slice_index}
 use Rattle.std.specs.Simd.Lanes.{put_chunk}
-use Rattle.std.proofs.Common.{◌≡◌, ℕ, ◌+◌, ◌-◌, ◌*◌, ◌<◌, inl, inr, List, [], ◌∷◌, refl, ap, subst, ◌∙◌, arith}
+use Rattle.std.proofs.Common.{◌≡◌, ℕ, suc, ◌+◌, ◌-◌, ◌*◌, ◌<◌, inl, inr, List, [], ◌∷◌, ◌++◌, refl, ap, subst, ◌∙◌, arith}
 use Rattle.std.proofs.lemmas.Bool.{cases_lt}
 use Rattle.loop_filter.specs.declared.kernels.Taps.{Taps}
 use Rattle.loop_filter.specs.Lines.{Line}
 use Rattle.loop_filter.specs.Edges.{line_in}
-use Rattle.loop_filter.specs.Lanes.{line_at, vector, column_of, eight_from, row_in_pairs, rows_put}
+use Rattle.loop_filter.specs.Lanes.{line_at, vector, vectors, column_of, row_of, eight_from, row_in_pairs, rows_put}
 use Rattle.loop_filter.proofs.EdgeFold.{same_line, samples_of}
 use Rattle.loop_filter.proofs.Transposed.{below_eight}
 
@@ -127,3 +127,19 @@ lane_of_first t i k less below = below_eight (λ i. slice_index (eight_from 0 (v
 
 pub lane_of_second : (t : Taps) (i k : ℕ) → i < 8 → k < 8 → slice_index (eight_from 8 (vector t k)) i ≡ slice_index (samples_of (line_at t (8 + i))) k
 lane_of_second t i k less below = below_eight (λ i. slice_index (eight_from 8 (vector t k)) i ≡ slice_index (vector t k) (8 + i)) refl refl refl refl refl refl refl refl i less ∙ lane_of_vector t (8 + i) k below
+
+-- the same lanes, at a place that is written another way
+pub moved_on : (lane : ℕ → ℕ) (w s : List ℕ) (place other : ℕ) → place ≡ other → Holds lane w s place → Holds lane w s other
+moved_on lane w s place other same holds = subst (Holds lane w s) same holds
+
+-- two rows of sixteen samples more
+abbrev pub wide_row : Taps → Taps → ℕ → List ℕ
+wide_row a b i = row_of i (vectors a) ++ row_of i (vectors b)
+
+pub two_more : (s : List ℕ) (start stride : ℕ) (a b : Taps) (n at : ℕ) (l r before new : List ℕ) → start + n * stride ≡ at → before ≡ rows_put s start stride (wide_row a b) n
+    → l ≡ row_of n (vectors a) ++ row_of (suc n) (vectors a) → r ≡ row_of n (vectors b) ++ row_of (suc n) (vectors b)
+    → new ≡ put_chunk (at + stride) (put_chunk at before (eight_from 0 l ++ eight_from 0 r)) (eight_from 8 l ++ eight_from 8 r) → new ≡ rows_put s start stride (wide_row a b) (suc (suc n))
+unfolding rows_put
+two_more s start stride a b n at l r before new place is el er stored =
+    let next : at + stride ≡ start + suc n * stride = omega (arith, place) in
+    stored ∙ rw (el, er, is, next, ← place) refl

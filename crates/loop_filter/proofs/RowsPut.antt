@@ -7,7 +7,7 @@ use Rattle.std.proofs.lemmas.Simd.{get_or-put_chunk_below, get_or-put_chunk_abov
 use Rattle.loop_filter.specs.Lanes.{rows_put}
 
 -- writing nothing
-put_none : (at : ℕ) (xs : List ℕ) → put_chunk at xs [] ≡ xs
+pub put_none : (at : ℕ) (xs : List ℕ) → put_chunk at xs [] ≡ xs
 put_none at [] = refl
 put_none zero (x ∷ xs) = refl
 put_none (suc at) (x ∷ xs) = ap (λ (l : List ℕ). x ∷ l) (put_none at xs)
@@ -52,7 +52,7 @@ unfoldable pub line_sets : List ℕ → ℕ → ℕ → (ℕ → ℕ) → ℕ �
 line_sets s at across v zero = s
 line_sets s at across v (suc m) = set (line_sets s at across v m) (at + m * across) (v m)
 
-put_past_sets : (s : List ℕ) (at across : ℕ) (v : ℕ → ℕ) (m place : ℕ) (ys : List ℕ) → ((j : ℕ) → j < m → at + j * across < place) → put_chunk place (line_sets s at across v m) ys ≡ line_sets (put_chunk place s ys) at across v m
+pub put_past_sets : (s : List ℕ) (at across : ℕ) (v : ℕ → ℕ) (m place : ℕ) (ys : List ℕ) → ((j : ℕ) → j < m → at + j * across < place) → put_chunk place (line_sets s at across v m) ys ≡ line_sets (put_chunk place s ys) at across v m
 unfolding line_sets
 put_past_sets s at across v zero place ys before = refl
 put_past_sets s at across v (suc m) place ys before =

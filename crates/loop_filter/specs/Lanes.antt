@@ -113,3 +113,20 @@ row_in_pairs pairs i = slice_index_or (rows_of pairs) i []
 unfoldable pub rows_put : List ℕ → ℕ → ℕ → (ℕ → List ℕ) → ℕ → List ℕ
 rows_put samples start stride row zero = samples
 rows_put samples start stride row (suc n) = put_chunk (start + n * stride) (rows_put samples start stride row n) (row n)
+
+-- three edges four samples apart cross a row of sixteen samples: the line across the second, of which the first was filtered to `first`, and the line across the third, of which the second was filtered to `middle`
+abbrev pub middle_line : Line → Line → Line
+middle_line first right = record { p3 = first.q0; p2 = first.q1; p1 = first.q2; p0 = first.q3; q0 = right.p3; q1 = right.p2; q2 = right.p1; q3 = right.p0 }
+
+abbrev pub last_line : Line → Line → Line
+last_line middle right = record right { p3 = middle.q0; p2 = middle.q1; p1 = middle.q2; p0 = middle.q3 }
+
+-- the left and the right eight samples of such a row behind the filters of the three edges
+abbrev pub left_filtered : (Line → Line) → Line → Line → Line
+left_filtered filter left right =
+    let first = filter left in
+    let middle = filter (middle_line first right) in
+    record first { q0 = middle.p3; q1 = middle.p2; q2 = middle.p1; q3 = middle.p0 }
+
+abbrev pub right_filtered : (Line → Line) → Line → Line → Line
+right_filtered filter left right = filter (last_line (filter (middle_line (filter left) right)) right)

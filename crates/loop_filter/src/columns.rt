@@ -20,7 +20,7 @@ fn woven(a: u8x8, b: u8x8) -> u8x16
 
 /// Turns sixteen lines of eight samples: vector `w0` holds lines 0 and 8, woven, and so on.
 #[inline(always)]
-fn columns(
+pub fn columns(
     w0: u8x16,
     w1: u8x16,
     w2: u8x16,

@@ -1,5 +1,6 @@
 ghost use Rattle.std.specs.Prelude.{◌<◌};
 
+use crate::columns_inner::filter_inner_columns;
 use crate::edge_limits::{EdgeFilter, EdgeLimits};
 use crate::edges::{filter_columns, filter_rows};
 use crate::pairs::{filter_column_pairs, filter_row_pairs};
@@ -215,6 +216,27 @@ fn is_luma_right(filter: EdgeFilter, limits: EdgeLimits, kind: Samples) -> bool
     samples == lines_filtered(filter, limits, &before, across)
 }
 
+/// Whether the three inner edges of luma between columns are as read plainly, one after another.
+fn are_inner_columns_right(limits: EdgeLimits, kind: Samples) -> bool
+    requires { limits.edge < 255 }
+{
+    let mut places = Places {
+        start: 0,
+        between: 16,
+        across: 1,
+        count: 16,
+    };
+    let before = samples_of(kind.seed, kind.spread, kind.step, places);
+    let mut samples = before;
+    filter_inner_columns(limits, &mut samples, 0, 16);
+    let mut expected = before;
+    for start in [0, 4, 8] {
+        places.start = start;
+        expected = lines_filtered(EdgeFilter::Inner, limits, &expected, places);
+    }
+    samples == expected
+}
+
 /// Whether an edge of both chroma planes between rows, and one between columns, is as read plainly.
 fn is_chroma_right(filter: EdgeFilter, limits: EdgeLimits, kind: Samples) -> bool
     requires { limits.edge < 255 }
@@ -287,6 +309,7 @@ fn edges_of_steep_samples_are_as_read_plainly(rt: HostRuntime) {
             };
             assert!(rt; is_luma_right(filter, limits, kind), "{seed}");
             assert!(rt; is_chroma_right(filter, limits, kind), "{seed}");
+            assert!(rt; are_inner_columns_right(limits, kind), "{seed}");
         }
     }
 }

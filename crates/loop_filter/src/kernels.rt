@@ -77,7 +77,7 @@ fn roughness(limits: EdgeLimits, taps: Taps) -> u8x16
 
 /// Filters sixteen lines by the normal filter of an edge between blocks of one macroblock.
 #[inline(always)]
-fn inner(limits: EdgeLimits, taps: Taps) -> Taps
+pub fn inner(limits: EdgeLimits, taps: Taps) -> Taps
     requires limit { limits.edge < 255 }
     ensures { (i : ℕ) → i < 16 → line_at result i ≡ inner_line limits (line_at taps i) }
 {

@@ -4,6 +4,7 @@
 mod blocks;
 mod chroma_blocks;
 mod columns;
+mod columns_inner;
 mod edge_limits;
 mod edges;
 mod four_samples;
