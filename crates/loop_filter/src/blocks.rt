@@ -4,6 +4,7 @@ ghost use Rattle.std.specs.Prelude.{◌≡◌, ◌+◌, ◌*◌, ◌<◌, ◌≤
 ghost use Rattle.loop_filter.specs.Lines.{filtered_line};
 ghost use Rattle.loop_filter.specs.Blocks.{IsInside, HasSmallLimits, outer_limits, inner_limits, outer_filter, inner_filter, luma, column_edge, row_edge, left_edge, inner_columns, top_edge, inner_rows, block_filtered};
 
+use crate::columns_inner;
 use crate::edge_limits::{EdgeFilter, EdgeLimits, Limits};
 use crate::edges::{filter_columns, filter_rows};
 use crate::strengths::Strength;
@@ -123,10 +124,18 @@ fn filter_inner_columns(
     requires inside { IsInside 16 block (length samples.old) }
     ensures { samples.new ≡ inner_columns (filtered_line filter limits) luma has_inner_edges block samples.old }
 {
-    if has_inner_edges {
-        filter_column(filter, limits, samples, block, 4);
-        filter_column(filter, limits, samples, block, 8);
-        filter_column(filter, limits, samples, block, 12);
+    if !has_inner_edges {
+        return;
+    }
+    match filter {
+        EdgeFilter::Inner => {
+            columns_inner::filter_inner_columns(limits, samples, block.start, block.stride);
+        }
+        EdgeFilter::Simple | EdgeFilter::Macroblock => {
+            filter_column(filter, limits, samples, block, 4);
+            filter_column(filter, limits, samples, block, 8);
+            filter_column(filter, limits, samples, block, 12);
+        }
     }
 }
 

@@ -1,0 +1,85 @@
+#!/bin/sh
+# Times the loop filter beside libvpx's. README.md says more.
+set -eu
+here=$(cd "$(dirname "$0")" && pwd)
+kit=$(dirname "$(rt doc | head -n 1)")
+vpx=$(cc -print-file-name=libvpx.a)
+[ -f "$vpx" ] || { echo "libvpx.a is not here: install libvpx-dev" >&2; exit 1; }
+room=$(mktemp -d)
+trap 'rm -rf "$room"' EXIT
+
+mkdir -p "$room/crates/edge_times/src" "$room/crates/filter_times/src"
+for crate in vp8_tables bool_coder intra_predict frame_header mode_parser pixel_planes loop_filter; do
+    cp -r "$here/../crates/$crate" "$room/crates"
+done
+grep -E '^(vp8_tables|bool_coder|intra_predict|frame_header|mode_parser|pixel_planes|loop_filter):' "$here/../crates.txt" > "$room/crates.txt"
+echo 'edge_times staticlib: loop_filter' >> "$room/crates.txt"
+echo 'filter_times: vp8_tables bool_coder frame_header mode_parser pixel_planes loop_filter' >> "$room/crates.txt"
+sed -i -E 's/^mod (columns_inner|edge_limits|edges|pairs);/pub mod \1;/' "$room/crates/loop_filter/src/lib.rt"
+
+# One exported function for each kind of edge: its name and its call.
+exported() {
+    cat << END
+
+#[unsafe(no_mangle)]
+pub extern "C" fn $1(
+    edge: u8,
+    interior: u8,
+    variance: u8,
+    u: &mut [u8; 65536],
+    v: &mut [u8; 65536],
+    start: usize,
+    stride: usize,
+) {
+    if edge < 255 && stride >= 16 && stride <= 256 && start <= 61424 {
+        let limits = EdgeLimits { edge, interior, variance };
+        $2;
+    }
+}
+END
+}
+
+{
+    cat << 'END'
+#![tactic(auto)]
+
+use loop_filter::columns_inner::filter_inner_columns;
+use loop_filter::edge_limits::{EdgeFilter, EdgeLimits};
+use loop_filter::edges::{filter_columns, filter_rows};
+use loop_filter::pairs::{filter_column_pairs, filter_row_pairs};
+END
+    for filter in Macroblock Inner Simple; do
+        name=$(echo "$filter" | tr MIS mis)
+        exported "proved_${name}_rows" "filter_rows(EdgeFilter::$filter, limits, u, start, stride)"
+        exported "proved_${name}_columns" "filter_columns(EdgeFilter::$filter, limits, u, start, stride)"
+    done
+    exported proved_inner_columns_at_once "filter_inner_columns(limits, u, start, stride)"
+    for filter in Macroblock Inner; do
+        name=$(echo "$filter" | tr MI mi)
+        exported "proved_${name}_row_pairs" "filter_row_pairs(EdgeFilter::$filter, limits, u, v, start, stride)"
+        exported "proved_${name}_column_pairs" "filter_column_pairs(EdgeFilter::$filter, limits, u, v, start, stride)"
+    done
+} > "$room/crates/edge_times/src/lib.rt"
+cp "$here/filters.rt.txt" "$room/crates/filter_times/src/main.rt"
+
+for level in v2 v3; do
+    echo "x86-64-$level"
+    (cd "$room/crates/edge_times" && rt lib --jobs 1 --cpu "x86-64-$level" < /dev/null) > "$room/build.log" 2>&1 || { tail -n 20 "$room/build.log"; exit 1; }
+    rustc -O --edition 2024 -C "target-cpu=x86-64-$level" -o "$room/filters" "$here/filters.rs" \
+        -L "$room/crates/edge_times/out" -l static=edge_times -L "$kit/c" -l static=libc_c \
+        -L "$(dirname "$vpx")" -l static=vpx -l m
+    (cd "$room/crates/filter_times" && rt run --jobs 1 --cpu "x86-64-$level" < /dev/null) > "$room/build.log" 2>&1 || { tail -n 20 "$room/build.log"; exit 1; }
+    "$room/filters"
+    # A plane takes memory, which an exported function has none of: `frame` is timed in a program of its own, in turn
+    # with libvpx's order of calls.
+    for _ in 1 2 3 4 5; do
+        "$room/crates/filter_times/out/filter_times"
+        "$room/filters" frame
+    done > "$room/frames"
+    [ "$(awk '{ print $NF }' "$room/frames" | sort -u | wc -l)" = 1 ] || { echo "the frames differ"; cat "$room/frames"; exit 1; }
+    awk '{ if (!($1 in best) || $2 < best[$1]) best[$1] = $2 }
+        END {
+            printf "whole frame of 1920x1088, us: proved %d  sse2 %d (%.2f)  c %d (%.2f)\n", best["proved"], best["sse2"],
+                best["proved"] / best["sse2"], best["c"], best["proved"] / best["c"]
+        }' "$room/frames"
+done
