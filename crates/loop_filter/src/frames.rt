@@ -66,32 +66,20 @@ fn filter_luma_block(all: Macroblocks, samples: &mut [u8], mx: usize, my: usize)
     }
 }
 
-/// Filters luma and chroma of the macroblock in column `mx` of row `my`.
+/// Filters the chroma of the macroblock in column `mx` of row `my`.
 #[inline]
 #[tactic(auto, unfolding(crate::specs::Blocks::filtered_by))]
-fn filter_macroblock(
-    all: Macroblocks,
-    samples: &mut [u8],
-    cb: &mut [u8],
-    cr: &mut [u8],
-    mx: usize,
-    my: usize,
-)
+fn filter_chroma_block(all: Macroblocks, cb: &mut [u8], cr: &mut [u8], mx: usize, my: usize)
     requires frame { IsFrame all }
-    requires plane { IsPlane 16 all (length samples.old) }
     requires cb { IsPlane 8 all (length cb.old) }
     requires cr { IsPlane 8 all (length cr.old) }
     requires place { (mx < all.columns) × (my < all.rows) }
-    ensures luma { samples.new ≡ macroblock_filtered luma all.entry mx my samples.old }
     ensures cb { cb.new ≡ macroblock_filtered chroma all.entry mx my cb.old }
     ensures cr { cr.new ≡ macroblock_filtered chroma all.entry mx my cr.old }
 {
     if let Some(strength) = strength_at(all, my * all.columns + mx) {
-        let is_simple = all.header.filter.is_simple;
-        let block = block_at(16, all.columns, mx, my);
-        filter_block(is_simple, strength, samples, block);
-        let blocks = block_at(8, all.columns, mx, my);
-        filter_blocks(is_simple, strength, cb, cr, blocks);
+        let block = block_at(8, all.columns, mx, my);
+        filter_blocks(all.header.filter.is_simple, strength, cb, cr, block);
     }
 }
 
@@ -107,19 +95,17 @@ fn filter_luma_row(all: Macroblocks, samples: &mut [u8], my: usize)
     }
 }
 
-/// Filters luma and chroma of a row of macroblocks.
-fn filter_row(all: Macroblocks, samples: &mut [u8], cb: &mut [u8], cr: &mut [u8], my: usize)
+/// Filters the chroma of a row of macroblocks.
+fn filter_chroma_row(all: Macroblocks, cb: &mut [u8], cr: &mut [u8], my: usize)
     requires frame { IsFrame all }
-    requires plane { IsPlane 16 all (length samples.old) }
     requires cb { IsPlane 8 all (length cb.old) }
     requires cr { IsPlane 8 all (length cr.old) }
     requires place { my < all.rows }
-    ensures luma { samples.new ≡ row_of_all luma all.entry my samples.old all.entry.columns }
     ensures cb { cb.new ≡ row_of_all chroma all.entry my cb.old all.entry.columns }
     ensures cr { cr.new ≡ row_of_all chroma all.entry my cr.old all.entry.columns }
 {
     for mx in 0..all.columns {
-        filter_macroblock(all, samples, cb, cr, mx, my);
+        filter_chroma_block(all, cb, cr, mx, my);
     }
 }
 
@@ -134,18 +120,16 @@ fn filter_luma(all: Macroblocks, samples: &mut [u8])
     }
 }
 
-/// Filters luma and chroma of all macroblocks.
-fn filter_rows(all: Macroblocks, samples: &mut [u8], cb: &mut [u8], cr: &mut [u8])
+/// Filters the chroma of all macroblocks.
+fn filter_chroma(all: Macroblocks, cb: &mut [u8], cr: &mut [u8])
     requires frame { IsFrame all }
-    requires plane { IsPlane 16 all (length samples.old) }
     requires cb { IsPlane 8 all (length cb.old) }
     requires cr { IsPlane 8 all (length cr.old) }
-    ensures luma { samples.new ≡ rows_of_all luma all.entry samples.old all.entry.rows }
     ensures cb { cb.new ≡ rows_of_all chroma all.entry cb.old all.entry.rows }
     ensures cr { cr.new ≡ rows_of_all chroma all.entry cr.old all.entry.rows }
 {
     for my in 0..all.rows {
-        filter_row(all, samples, cb, cr, my);
+        filter_chroma_row(all, cb, cr, my);
     }
 }
 
@@ -175,10 +159,8 @@ pub fn frame(header: &Header, modes: &Modes, flags: &[bool], planes: &mut Planes
         columns: planes.luma.width() / 16,
         rows: planes.luma.height() / 16,
     };
-    if header.filter.is_simple {
-        filter_luma(all, planes.luma.samples_mut());
-        return;
+    filter_luma(all, planes.luma.samples_mut());
+    if !header.filter.is_simple {
+        filter_chroma(all, planes.cb.samples_mut(), planes.cr.samples_mut());
     }
-    let luma = planes.luma.samples_mut();
-    filter_rows(all, luma, planes.cb.samples_mut(), planes.cr.samples_mut());
 }
