@@ -1,5 +1,5 @@
 // Bits written to a first partition, each with its probability.
-ghost use Rattle.std.specs.Prelude.{◌≡◌, OnOk};
+ghost use Rattle.std.specs.Prelude.{◌≡◌, ◌<◌, OnOk};
 ghost use Rattle.bool_coder.specs.CodeText.{all_written};
 ghost use Rattle.packet_forge.specs.Pairs.{blank_header, blank_macroblock, byte_pairs, hold_header, hold_macroblock, macroblock_pairs, reference_pairs, skip_pairs, vector_updates, zero_vector_probability, zeros_at};
 
