@@ -1,1 +1,5 @@
 pub mod Written
+pub mod Targets
+pub mod Readings
+pub mod HeaderFields
+pub mod ForgedHeaders

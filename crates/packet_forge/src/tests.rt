@@ -1,6 +1,6 @@
 use super::*;
-use pixel_planes::{Picture, same};
-use reference_frames::step;
+use pixel_planes::{Picture, Plane, same};
+use reference_frames::{State, step};
 use std::alloc::Global;
 use std::process::Abort;
 use std::test::Fail;
@@ -65,27 +65,37 @@ fn sides_are_1_to_16383(rt: HostRuntime) {
 /// A key packet of 16 by 16 samples that reads 0 at every bit: its luma is 129 below row 3.
 const KEY: [u8; 10] = [0x10, 0, 0, 0x9D, 1, 0x2A, 16, 0, 16, 0];
 
-/// Whether each sample of a plane of 16 by 16 luma samples is 128.
-fn is_grey(picture: &Picture) -> bool {
-    (0..16).all(|y| picture.luma().row(y).iter().all(|sample| *sample == 128))
-        && (0..8).all(|y| picture.cb().row(y).iter().all(|sample| *sample == 128))
-        && (0..8).all(|y| picture.cr().row(y).iter().all(|sample| *sample == 128))
+/// Whether a picture of 16 by 16 luma samples is 128 throughout.
+fn is_grey(alloc: Global, picture: &Picture) -> Result<bool, Fail> {
+    let luma = Plane::make(alloc, 16, 16, 128)?;
+    let chroma = Plane::make(alloc, 8, 8, 128)?;
+    Ok(luma.same(picture.luma()) && chroma.same(picture.cb()) && chroma.same(picture.cr()))
+}
+
+/// The state behind a packet with tables whose entries are all 128, and its picture.
+fn decoded(
+    rt: &impl Abort,
+    alloc: Global,
+    state: Option<&State>,
+    packet: &[u8],
+) -> (State, Picture) {
+    let decoded = step(alloc, &Tables::flat(), state, packet);
+    decoded.expect(rt, "a packet")
 }
 
 #[test]
 fn frames_are_grey_and_held(rt: HostRuntime) -> Result<(), Fail> {
     let alloc = rt.alloc();
-    let tables = Tables::flat();
-    let blank = blank(alloc, &tables, 16, 16)?;
-    let hold = hold(alloc, &tables, 16, 16)?;
-    let (state, picture) = step(alloc, &tables, None, &blank).expect(&rt, "a blank packet");
-    assert!(rt; is_grey(&picture));
-    let (_, held) = step(alloc, &tables, Some(&state), &hold).expect(&rt, "a hold packet");
+    let blank = blank(alloc, &Tables::flat(), 16, 16)?;
+    let hold = hold(alloc, &Tables::flat(), 16, 16)?;
+    let (first, picture) = decoded(&rt, alloc, None, blank.as_slice());
+    assert!(rt; is_grey(alloc, &picture)?);
+    let (_, held) = decoded(&rt, alloc, Some(&first), hold.as_slice());
     assert!(rt; same(&picture, &held));
-    let (state, picture) = step(alloc, &tables, Some(&state), &KEY).expect(&rt, "a key packet");
-    assert!(rt; !is_grey(&picture));
-    let (state, held) = step(alloc, &tables, Some(&state), &hold).expect(&rt, "a hold packet");
+    let (second, picture) = decoded(&rt, alloc, Some(&first), KEY.as_slice());
+    assert!(rt; !is_grey(alloc, &picture)?);
+    let (third, held) = decoded(&rt, alloc, Some(&second), hold.as_slice());
     assert!(rt; same(&picture, &held));
-    assert!(rt; same(&picture, &state.references().last));
+    assert!(rt; same(&picture, &third.references().last));
     Ok(())
 }
