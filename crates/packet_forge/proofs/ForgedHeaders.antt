@@ -60,7 +60,7 @@ tag_of-later size rest small =
     rw (long, number) (ap Some (tag_in-later size))
 
 -- a number of two bytes
-two_bytes : (n : ℕ) → n ≤ 16383 → (n % 256 + 256 * (n / 256)) % 16384 ≡ n
+pub two_bytes : (n : ℕ) → n ≤ 16383 → (n % 256 + 256 * (n / 256)) % 16384 ≡ n
 two_bytes n small = omega arith
 
 start_of-key : (before : Option Context) (packet : List ℕ) (size width height : ℕ) → tag_of packet ≡ Some (shown_tag true size) → 10 ≤ length packet → has_start_code packet ≡ true → width_of packet ≡ width → height_of packet ≡ height → 0 < width → 0 < height → start_of before packet ≡ Ok (record { tag = shown_tag true size; place = 10; width = width; height = height })
@@ -108,7 +108,7 @@ blank_header_of tables width height end reader = record {
 first_end-fits : (place size long : ℕ) → long ≡ place + size → nat_lt (long - place) size ≡ false
 first_end-fits place size long is = le-ltb (long - place) size (omega (arith, is))
 
-header_of-blank : (tables : TableEntries) (before : Option Context) (packet first : List ℕ) (width height : ℕ) (m s : Reader) → tag_of packet ≡ Some (shown_tag true (length first)) → length packet ≡ 10 + length first → has_start_code packet ≡ true → width_of packet ≡ width → height_of packet ≡ height → 0 < width → 0 < height → slice_range packet 10 (10 + length first) ≡ first →
+pub header_of-blank : (tables : TableEntries) (before : Option Context) (packet first : List ℕ) (width height : ℕ) (m s : Reader) → tag_of packet ≡ Some (shown_tag true (length first)) → length packet ≡ 10 + length first → has_start_code packet ≡ true → width_of packet ≡ width → height_of packet ≡ height → 0 < width → 0 < height → slice_range packet 10 (10 + length first) ≡ first →
     Reads (zeros 16) (started first) m → Reads (zeros 13 ++ zeros_at tables.updates ++ skip_pairs) m s → length tables.updates ≡ 1056 → header_of tables before packet ≡ Ok (blank_header_of tables width height (10 + length first) s)
 unfolding header_of
 header_of-blank tables before packet first width height m s tag long code wide high some_wide some_high range reads_first reads_second updates =

@@ -6,3 +6,4 @@ pub mod ForgedHeaders
 pub mod BlankModes
 pub mod Frames
 pub mod BlankPlanes
+pub mod BlankStep

@@ -1,3 +1,4 @@
 pub mod Pairs
 pub mod Packets
 pub mod Faults
+pub mod Laws
