@@ -70,7 +70,7 @@ start_of-key before packet size width height tag long code wide high some_wide s
     let has_height : (height == 0) ≡ false = ne_eqb height 0 (λ e. absurd (omega (arith, e, some_high))) in
     rw (tag, enough, code, wide, high, has_width, has_height) refl
 
-start_of-later : (before : Context) (packet : List ℕ) (size : ℕ) → tag_of packet ≡ Some (shown_tag false size) → start_of (Some before) packet ≡ Ok (record { tag = shown_tag false size; place = 3; width = 0; height = 0 })
+pub start_of-later : (before : Context) (packet : List ℕ) (size : ℕ) → tag_of packet ≡ Some (shown_tag false size) → start_of (Some before) packet ≡ Ok (record { tag = shown_tag false size; place = 3; width = 0; height = 0 })
 start_of-later before packet size tag = rw tag refl
 
 -- the one token partition is empty
@@ -105,7 +105,7 @@ blank_header_of tables width height end reader = record {
   reader = reader;
 }
 
-first_end-fits : (place size long : ℕ) → long ≡ place + size → nat_lt (long - place) size ≡ false
+pub first_end-fits : (place size long : ℕ) → long ≡ place + size → nat_lt (long - place) size ≡ false
 first_end-fits place size long is = le-ltb (long - place) size (omega (arith, is))
 
 pub header_of-blank : (tables : TableEntries) (before : Option Context) (packet first : List ℕ) (width height : ℕ) (m s : Reader) → tag_of packet ≡ Some (shown_tag true (length first)) → length packet ≡ 10 + length first → has_start_code packet ≡ true → width_of packet ≡ width → height_of packet ≡ height → 0 < width → 0 < height → slice_range packet 10 (10 + length first) ≡ first →

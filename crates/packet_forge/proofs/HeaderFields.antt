@@ -32,20 +32,20 @@ unfolding more_bits
 more_bits-zeros zero r s reads = rw reads refl
 more_bits-zeros (suc n) r s reads = rw reads.bit (more_bits-zeros n reads.mid s reads.behind)
 
-literal-zeros : (n : ℕ) (r s : Reader) → Reads (zeros n) r s → literal n r ≡ (0, s)
+pub literal-zeros : (n : ℕ) (r s : Reader) → Reads (zeros n) r s → literal n r ≡ (0, s)
 unfolding literal
 literal-zeros n r s reads = more_bits-zeros n r s reads
 
 -- a number of 8 bits
-literal-1 : (r s : Reader) → Reads (byte_pairs 1) r s → literal 8 r ≡ (1, s)
+pub literal-1 : (r s : Reader) → Reads (byte_pairs 1) r s → literal 8 r ≡ (1, s)
 unfolding literal more_bits
 literal-1 r s h = rw (h.bit, h.behind.bit, h.behind.behind.bit, h.behind.behind.behind.bit, h.behind.behind.behind.behind.bit, h.behind.behind.behind.behind.behind.bit, h.behind.behind.behind.behind.behind.behind.bit, h.behind.behind.behind.behind.behind.behind.behind.bit, h.behind.behind.behind.behind.behind.behind.behind.behind) refl
 
-literal-255 : (r s : Reader) → Reads (byte_pairs 255) r s → literal 8 r ≡ (255, s)
+pub literal-255 : (r s : Reader) → Reads (byte_pairs 255) r s → literal 8 r ≡ (255, s)
 unfolding literal more_bits
 literal-255 r s h = rw (h.bit, h.behind.bit, h.behind.behind.bit, h.behind.behind.behind.bit, h.behind.behind.behind.behind.bit, h.behind.behind.behind.behind.behind.bit, h.behind.behind.behind.behind.behind.behind.bit, h.behind.behind.behind.behind.behind.behind.behind.bit, h.behind.behind.behind.behind.behind.behind.behind.behind) refl
 
-literal-128 : (r s : Reader) → Reads (byte_pairs 128) r s → literal 8 r ≡ (128, s)
+pub literal-128 : (r s : Reader) → Reads (byte_pairs 128) r s → literal 8 r ≡ (128, s)
 unfolding literal more_bits
 literal-128 r s h = rw (h.bit, h.behind.bit, h.behind.behind.bit, h.behind.behind.behind.bit, h.behind.behind.behind.behind.bit, h.behind.behind.behind.behind.behind.bit, h.behind.behind.behind.behind.behind.behind.bit, h.behind.behind.behind.behind.behind.behind.behind.bit, h.behind.behind.behind.behind.behind.behind.behind.behind) refl
 
@@ -132,7 +132,7 @@ fields-inter before r s h =
 abbrev pub no_quantizers : Quantizers
 no_quantizers = record { y_ac_index = 0; y_dc_delta = pos 0; y2_dc_delta = pos 0; y2_ac_delta = pos 0; uv_dc_delta = pos 0; uv_ac_delta = pos 0 }
 
-quantizers-zeros : (r s : Reader) → Reads (zeros 12) r s → quantizers r ≡ (no_quantizers, s)
+pub quantizers-zeros : (r s : Reader) → Reads (zeros 12) r s → quantizers r ≡ (no_quantizers, s)
 unfolding quantizers
 quantizers-zeros r s h =
     let a = reads_both (zeros 7) (zeros 5) r s h in
@@ -152,11 +152,11 @@ updated-zero : KeepsAtZero updated
 unfolding updated
 updated-zero update before r s told = rw told refl
 
-vector_probability-zero : KeepsAtZero vector_probability
+pub vector_probability-zero : KeepsAtZero vector_probability
 unfolding vector_probability
 vector_probability-zero update before r s told = rw told refl
 
-skip_probability-1 : (r s : Reader) → Reads skip_pairs r s → skip_probability r ≡ (Some 1, s)
+pub skip_probability-1 : (r s : Reader) → Reads skip_pairs r s → skip_probability r ≡ (Some 1, s)
 unfolding skip_probability
 skip_probability-1 r s h = rw (h.bit, literal-1 h.mid s h.behind) refl
 
@@ -165,7 +165,7 @@ unfolding refreshes
 refreshes-key before r s h = rw (h.bit, h.behind) refl
 
 -- all coefficients stay
-coefficients-stay : (updates before : List ℕ) (r s : Reader) → length updates ≡ 1056 → Reads (zeros_at updates) r s → first_updated updated 1056 updates before r ≡ (before, s)
+pub coefficients-stay : (updates before : List ℕ) (r s : Reader) → length updates ≡ 1056 → Reads (zeros_at updates) r s → first_updated updated 1056 updates before r ≡ (before, s)
 coefficients-stay updates before r s long h =
     let all : take 1056 updates ≡ updates = take_all 1056 updates (omega (arith, long)) in
     updates_none updated 1056 updates before r s updated-zero (omega (arith, long)) (subst (λ us. Reads (zeros_at us) r s) (sym all) h)

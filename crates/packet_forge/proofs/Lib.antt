@@ -7,3 +7,8 @@ pub mod BlankModes
 pub mod Frames
 pub mod BlankPlanes
 pub mod BlankStep
+pub mod HoldFields
+pub mod HoldHeaders
+pub mod HoldModes
+pub mod HoldPlanes
+pub mod HoldStep

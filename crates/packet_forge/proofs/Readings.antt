@@ -78,3 +78,8 @@ updates_none way (suc n) updates before r s keeps fits reads =
     let here = keeps (get_or updates n 0) (get_or before n 0) both.mid both.behind.mid both.behind.bit in
     first_updated-suc way n updates before before r both.mid both.behind.mid (get_or before n 0) before_is here
     ∙ ap (λ (xs : List ℕ). (xs, both.behind.mid)) (set-get_or before n 0) ∙ ap (λ (t : Reader). (before, t)) both.behind.behind
+
+-- what is read behind what was read is read with it
+pub reads_joined : (xs ys : List (Bool × ℕ)) (r m s : Reader) → Reads xs r m → Reads ys m s → Reads (xs ++ ys) r s
+reads_joined [] ys r m s front behind = subst (λ (t : Reader). Reads ys t s) (sym front) behind
+reads_joined (x ∷ xs) ys r m s front behind = record { mid = front.mid; bit = front.bit; behind = reads_joined xs ys front.mid m s front.behind behind }

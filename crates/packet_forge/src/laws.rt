@@ -1,7 +1,7 @@
 //! What forged packets decode to. A law is a function that does nothing: its contract is the law.
 ghost use Rattle.std.specs.Prelude.{◌≡◌, ℕ, ◌<◌, length, slice_index};
 ghost use Rattle.std.specs.Option.{option_copied};
-ghost use Rattle.packet_forge.specs.Laws.{BlankIsGrey};
+ghost use Rattle.packet_forge.specs.Laws.{BlankIsGrey, HoldShowsLast};
 
 use reference_frames::State;
 use vp8_tables::Tables;
@@ -25,3 +25,10 @@ pub fn blank_is_grey(tables: &Tables, state: Option<&State>, width: u16, height:
     array_fits(tables.updates());
     bytes_fit(tables.updates());
 }
+
+/// On a state, the step of a packet of [`hold`](crate::hold) of that state's size gives, with the
+/// same tables, the last reference as its picture and changes no sample of any reference, and the
+/// packet is shown: for all tables and states that keep their types' ranges.
+pub fn hold_shows_last()
+    ensures { HoldShowsLast }
+{}
