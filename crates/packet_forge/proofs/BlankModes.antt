@@ -1,6 +1,6 @@
 -- The modes of a blank frame.
-use Rattle.std.specs.Prelude.{Option, replicate, slice_index_or}
-use Rattle.std.proofs.Common.{◌≡◌, ℕ, zero, suc, ◌+◌, ◌*◌, Bool, true, false, List, [], ◌∷◌, ◌++◌, Some, None, refl, ap, sym, subst, ◌∙◌}
+use Rattle.std.specs.Prelude.{Option, replicate}
+use Rattle.std.proofs.Common.{◌≡◌, ℕ, zero, suc, true, false, List, [], Some, refl, ap, ◌∙◌}
 use Rattle.vp8_tables.specs.Tables.{TableEntries}
 use Rattle.vp8_tables.specs.declared.modes.TheConstants.{KEY_Y_TREE, KEY_Y_PROBABILITIES, UV_TREE, KEY_UV_PROBABILITIES}
 use Rattle.bool_coder.specs.Reader.{Reader, read}
@@ -13,9 +13,8 @@ use Rattle.mode_parser.specs.FrameModes.{mode_at, first_modes}
 use Rattle.mode_parser.proofs.KeyShapes.{replicate-push}
 use Rattle.mode_parser.proofs.KeyTrees.{key_y_mode-leaf, chroma_mode-leaf}
 use Rattle.mode_parser.proofs.Walks.{leaf_below-on, leaf_below-end}
-use Rattle.frame_header.specs.declared.header.Header.{Header}
 use Rattle.packet_forge.specs.Pairs.{blank_macroblock, macroblock_pairs}
-use Rattle.packet_forge.proofs.Readings.{Reads, ReadsPair, ReadsBoth, reads_both}
+use Rattle.packet_forge.proofs.Readings.{Reads, reads_both}
 use Rattle.packet_forge.proofs.ForgedHeaders.{blank_header_of}
 
 -- the record of each macroblock

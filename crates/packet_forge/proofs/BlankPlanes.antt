@@ -1,19 +1,17 @@
 -- The planes of a blank frame.
-use Rattle.std.specs.Prelude.{Option, replicate, slice_index}
-use Rattle.std.proofs.Common.{◌≡◌, ℕ, zero, suc, ◌+◌, ◌-◌, ◌*◌, ◌<◌, ◌≤◌, ◌⊎◌, inl, inr, true, List, [], ◌++◌, Some, None, refl, ap, sym, ◌∙◌, arith, eq-eqb, append-nil}
+use Rattle.std.specs.Prelude.{Option, replicate}
+use Rattle.std.proofs.Common.{◌≡◌, ℕ, suc, ◌+◌, ◌-◌, ◌*◌, ◌<◌, ◌≤◌, inl, inr, List, [], ◌++◌, Some, None, refl, ap, ◌∙◌, arith, eq-eqb, append-nil}
 use Rattle.std.proofs.lemmas.Bool.{cases_eq, ne_eqb, cond-true, cond-false}
 use Rattle.std.proofs.Math.Nat.{mul-le-mul_left}
 use Rattle.intra_predict.specs.Means.{mean_of}
 use Rattle.intra_predict.specs.declared.modes.WholeMode.TheVariants.{Dc}
 use Rattle.intra_predict.specs.WholeSample.{whole_sample, inside}
-use Rattle.pixel_planes.specs.Samples.{Samples, sample_at}
-use Rattle.pixel_planes.specs.PlaneSamples.{PlaneSamples}
-use Rattle.mode_parser.specs.Records.{no_sub_modes, no_vectors}
-use Rattle.reference_frames.specs.Unfiltered.{above, left, above_side, left_side, whole_block_sample, with_block, predicted_whole, intra_macroblock, predicted_macroblock}
+use Rattle.pixel_planes.specs.Samples.{Samples}
+use Rattle.reference_frames.specs.Unfiltered.{above, left, above_side, left_side, whole_block_sample, with_block, intra_macroblock, predicted_macroblock}
 use Rattle.reference_frames.specs.declared.references.References.{References}
 use Rattle.reference_frames.proofs.Flat.{above_row_is, left_column_is}
-use Rattle.packet_forge.proofs.Targets.{IsFrame, IsBefore, IsBegun, begun_more}
-use Rattle.packet_forge.proofs.Frames.{AreBegun, DoesOne}
+use Rattle.packet_forge.proofs.Targets.{IsFrame, IsBegun, begun_more}
+use Rattle.packet_forge.proofs.Frames.{DoesOne}
 use Rattle.packet_forge.proofs.BlankModes.{grey_mode}
 
 abbrev pub grey_at : ℕ → ℕ → ℕ

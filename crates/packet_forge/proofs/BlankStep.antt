@@ -1,7 +1,7 @@
 -- The step of a blank packet.
-use Rattle.std.specs.Prelude.{pos, Option, Result, Ok, Err, replicate, slice_range, slice_index, nat_lt, nat_le, ◌&&◌, ◌==◌, not, if◌then◌else◌, IsOkAnd}
+use Rattle.std.specs.Prelude.{Option, Result, Ok, Err, replicate, slice_range, slice_index, nat_lt, nat_le, ◌&&◌, ◌==◌, not, if◌then◌else◌, IsOkAnd}
 use Rattle.std.specs.Option.{option_map}
-use Rattle.std.proofs.Common.{◌≡◌, ℕ, zero, suc, ◌+◌, ◌-◌, ◌*◌, ◌/◌, ◌%◌, ◌<◌, ◌≤◌, Bool, true, false, List, [], ◌∷◌, ◌++◌, Some, None, length, take, drop, map, get_or, refl, ap, sym, subst, ◌∙◌, arith}
+use Rattle.std.proofs.Common.{◌≡◌, ℕ, zero, suc, ◌+◌, ◌-◌, ◌*◌, ◌<◌, ◌≤◌, Bool, true, false, List, [], ◌∷◌, ◌++◌, Some, None, length, map, refl, ap, sym, subst, ◌∙◌, arith}
 use Rattle.std.specs.List.{All}
 use Rattle.std.proofs.lemmas.Bool.{ltb-true, leb-true, ltb-false, and_parts}
 use Rattle.std.proofs.lemmas.List.{take_all, length-append, length-replicate, get_or-replicate}
@@ -9,13 +9,12 @@ use Rattle.std.proofs.lemmas.List.Elements.{All-nil, All-cons, All-append, All-h
 use Rattle.vp8_tables.specs.Tables.{TableEntries}
 use Rattle.bool_coder.specs.Reader.{Reader, started, bits_of}
 use Rattle.bool_coder.specs.CodeText.{code_text}
-use Rattle.frame_header.specs.Tags.{tag_of, has_key_tag, is_shown, has_start_code, width_of, height_of}
+use Rattle.frame_header.specs.Tags.{tag_of, has_key_tag, is_shown}
 use Rattle.frame_header.specs.Header.{header_of}
 use Rattle.frame_header.specs.declared.cause.Cause.{Cause}
 use Rattle.frame_header.specs.declared.context.Context.{Context}
 use Rattle.frame_header.specs.declared.header.Header.{Header}
 use Rattle.mode_parser.specs.declared.records.MbMode.{MbMode}
-use Rattle.mode_parser.specs.FrameModes.{first_modes}
 use Rattle.pixel_planes.specs.Samples.{Samples, uniform, sample_at}
 use Rattle.pixel_planes.specs.Pictures.{PictureSamples, macroblocks}
 use Rattle.pixel_planes.specs.PlaneSamples.{PlaneSamples}
@@ -28,14 +27,14 @@ use Rattle.reference_frames.specs.Unfiltered.{unfiltered}
 use Rattle.reference_frames.specs.declared.references.References.{References}
 use Rattle.reference_frames.specs.declared.states.State.{State}
 use Rattle.packet_forge.specs.Pairs.{zeros, zeros_at, byte_pairs, skip_pairs, blank_header, blank_macroblock, macroblock_pairs, blank_pairs}
-use Rattle.packet_forge.specs.Packets.{tag_bytes, key_start, blank_partition, blank_packet, forged, blank_of, is_side}
+use Rattle.packet_forge.specs.Packets.{tag_bytes, key_start, blank_partition, blank_packet, forged, is_side}
 use Rattle.packet_forge.specs.Laws.{grey_picture, BlankIsGrey}
 use Rattle.packet_forge.specs.declared.faults.ForgeFault.{ForgeFault}
 use Rattle.packet_forge.specs.declared.faults.ForgeFault.TheVariants.{Size, TooLarge}
-use Rattle.packet_forge.proofs.Readings.{Reads, ReadsAll, ReadsBoth, reads_both, reads_text}
+use Rattle.packet_forge.proofs.Readings.{Reads, ReadsAll, reads_both, reads_text}
 use Rattle.packet_forge.proofs.ForgedHeaders.{shown_tag, tag_of-key, two_bytes, blank_header_of, header_of-blank}
-use Rattle.packet_forge.proofs.Targets.{IsFrame, begun_all, same_plane}
-use Rattle.packet_forge.proofs.Frames.{AreBegun, frame_done}
+use Rattle.packet_forge.proofs.Targets.{IsFrame, begun_all}
+use Rattle.packet_forge.proofs.Frames.{frame_done}
 use Rattle.packet_forge.proofs.BlankModes.{grey_mode, first_modes-grey}
 use Rattle.packet_forge.proofs.BlankPlanes.{grey_at, greys}
 

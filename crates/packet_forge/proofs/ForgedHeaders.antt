@@ -1,25 +1,23 @@
 -- The headers of forged packets.
-use Rattle.std.specs.Prelude.{pos, Option, Result, Ok, Err, slice_range, slice_index, nat_lt, nat_le, ◌==◌, position}
-use Rattle.std.proofs.Common.{◌≡◌, ℕ, zero, suc, ◌+◌, ◌-◌, ◌*◌, ◌/◌, ◌%◌, ◌<◌, ◌≤◌, Bool, true, false, List, [], ◌∷◌, ◌++◌, Some, None, length, take, drop, refl, ap, sym, subst, ◌∙◌, arith}
-use Rattle.std.proofs.lemmas.Bool.{lt-ltb, le-ltb, le-leb, ne_eqb}
-use Rattle.std.proofs.lemmas.List.{take_all, length-append}
+use Rattle.std.specs.Prelude.{Option, Ok, slice_range, nat_lt, nat_le, ◌==◌}
+use Rattle.std.proofs.Common.{◌≡◌, ℕ, ◌+◌, ◌-◌, ◌*◌, ◌/◌, ◌%◌, ◌<◌, ◌≤◌, Bool, true, false, List, [], ◌∷◌, ◌++◌, Some, length, refl, ap, arith}
+use Rattle.std.proofs.lemmas.Bool.{le-ltb, le-leb, ne_eqb}
+use Rattle.std.proofs.lemmas.List.{length-append}
 use Rattle.vp8_tables.specs.Tables.{TableEntries}
 use Rattle.bool_coder.specs.Reader.{Reader, started}
-use Rattle.frame_header.specs.Contexts.{default_context, first_context}
+use Rattle.frame_header.specs.Contexts.{default_context}
 use Rattle.frame_header.specs.Tags.{number_at, tag_in, tag_of, has_key_tag, has_start_code, width_of, height_of}
 use Rattle.frame_header.specs.Start.{start_of}
-use Rattle.frame_header.specs.Fields.{fields}
-use Rattle.frame_header.specs.TrailingFields.{trailing_fields}
 use Rattle.frame_header.specs.Places.{token_places}
-use Rattle.frame_header.specs.Header.{first_end, header_behind, header_of}
+use Rattle.frame_header.specs.Header.{header_of}
 use Rattle.frame_header.specs.References.{all_refreshed}
 use Rattle.frame_header.specs.InterFields.{no_reference_probabilities}
 use Rattle.frame_header.specs.declared.context.Context.{Context}
 use Rattle.frame_header.specs.declared.header.Header.{Header}
 use Rattle.frame_header.specs.declared.tag_fields.Tag.{Tag}
 use Rattle.packet_forge.specs.Pairs.{zeros, zeros_at, skip_pairs}
-use Rattle.packet_forge.specs.Packets.{tag_bytes, key_start}
-use Rattle.packet_forge.proofs.Readings.{Reads, ReadsBoth, reads_both}
+use Rattle.packet_forge.specs.Packets.{tag_bytes}
+use Rattle.packet_forge.proofs.Readings.{Reads}
 use Rattle.packet_forge.proofs.HeaderFields.{no_colors, no_segmentation, no_filter, no_quantizers, fields-key, trailing-key}
 
 -- the tag of a shown frame of version 0

@@ -1,6 +1,6 @@
 -- The planes of a frame whose macroblocks have one record, which has no residual.
 use Rattle.std.specs.Prelude.{Option, replicate, slice_get}
-use Rattle.std.proofs.Common.{◌≡◌, ℕ, zero, suc, ◌+◌, ◌*◌, ◌<◌, ◌≤◌, true, List, length, Some, None, get_or, refl, ap, sym, ◌∙◌, add-zero, zero-mul, arith}
+use Rattle.std.proofs.Common.{◌≡◌, ℕ, zero, suc, ◌+◌, ◌*◌, ◌<◌, ◌≤◌, true, List, length, Some, None, refl, ap, sym, ◌∙◌, add-zero, zero-mul, arith}
 use Rattle.std.proofs.lemmas.List.{length-replicate, get_or-replicate}
 use Rattle.std.proofs.lemmas.Option.{slice_get-get_or}
 use Rattle.pixel_planes.proofs.Rows.{row_fits}

@@ -1,29 +1,24 @@
 -- The fields of the headers of forged packets, as they are read back.
-use Rattle.std.specs.Prelude.{slice_index_or}
-use Rattle.std.proofs.Common.{◌≡◌, ℕ, zero, suc, ◌+◌, Bool, true, false, List, [], ◌∷◌, ◌++◌, Some, None, length, take, refl, ap, sym, subst, ◌∙◌, arith}
-use Rattle.std.specs.Prelude.{pos, Option}
+use Rattle.std.proofs.Common.{◌≡◌, ℕ, zero, suc, true, false, List, [], ◌∷◌, ◌++◌, Some, length, take, refl, sym, subst, arith}
+use Rattle.std.specs.Prelude.{pos}
 use Rattle.std.proofs.lemmas.List.{take_all}
-use Rattle.vp8_tables.specs.declared.vectors.TheConstants.{VECTOR_UPDATE_PROBABILITIES}
-use Rattle.bool_coder.specs.Reader.{Reader, read}
+use Rattle.bool_coder.specs.Reader.{Reader}
 use Rattle.bool_coder.specs.Reading.{more_bits, literal, signed}
 use Rattle.frame_header.specs.Fields.{colors, segmentation, filter, adjustment, partition_count, fields}
 use Rattle.frame_header.specs.TrailingFields.{quantizers, updated, skip_probability, trailing_fields}
-use Rattle.frame_header.specs.References.{all_refreshed, golden_copy, altref_copy, inter_refreshes, refreshes}
-use Rattle.frame_header.specs.InterFields.{no_reference_probabilities, reference_probabilities, y_modes, uv_modes, vector_probability, vectors, inter_fields}
+use Rattle.frame_header.specs.References.{all_refreshed, refreshes}
+use Rattle.frame_header.specs.InterFields.{no_reference_probabilities, vector_probability}
 use Rattle.frame_header.specs.Updates.{first_updated}
 use Rattle.frame_header.specs.declared.context.Context.{Context}
 use Rattle.frame_header.specs.declared.context.Segments.{Segments}
 use Rattle.frame_header.specs.declared.context.FilterDeltas.{FilterDeltas}
 use Rattle.frame_header.specs.declared.context.SignBiases.{SignBiases}
-use Rattle.frame_header.specs.declared.context.Probabilities.{Probabilities}
 use Rattle.frame_header.specs.declared.fields.Colors.{Colors}
 use Rattle.frame_header.specs.declared.fields.Filter.{Filter}
 use Rattle.frame_header.specs.declared.fields.Segmentation.{Segmentation}
-use Rattle.frame_header.specs.declared.references.ReferenceUpdates.{ReferenceUpdates}
-use Rattle.frame_header.specs.declared.inter_fields.ReferenceProbabilities.{ReferenceProbabilities}
 use Rattle.frame_header.specs.declared.trailing_fields.Quantizers.{Quantizers}
-use Rattle.packet_forge.specs.Pairs.{zeros, zeros_at, byte_pairs, skip_pairs, reference_pairs, vector_updates, blank_header, hold_header}
-use Rattle.packet_forge.proofs.Readings.{Reads, ReadsPair, ReadsBoth, reads_both, KeepsAtZero, updates_none}
+use Rattle.packet_forge.specs.Pairs.{zeros, zeros_at, byte_pairs, skip_pairs}
+use Rattle.packet_forge.proofs.Readings.{Reads, reads_both, KeepsAtZero, updates_none}
 
 -- ---- numbers
 

@@ -1,10 +1,10 @@
 -- The fields of the header of a hold packet, behind the number of token partitions.
-use Rattle.std.specs.Prelude.{pos, slice_index_or, Option}
-use Rattle.std.proofs.Common.{◌≡◌, ℕ, Bool, true, false, List, [], ◌∷◌, ◌++◌, Some, None, length, take, refl, ap, sym, subst, ◌∙◌, arith}
+use Rattle.std.specs.Prelude.{slice_index_or}
+use Rattle.std.proofs.Common.{◌≡◌, ℕ, false, List, [], ◌∷◌, ◌++◌, Some, None, length, refl, ap, ◌∙◌, arith}
 use Rattle.vp8_tables.specs.declared.vectors.TheConstants.{VECTOR_UPDATE_PROBABILITIES}
 use Rattle.bool_coder.specs.Reader.{Reader, read}
 use Rattle.bool_coder.specs.Reading.{literal}
-use Rattle.frame_header.specs.TrailingFields.{quantizers, updated, skip_probability, trailing_fields}
+use Rattle.frame_header.specs.TrailingFields.{quantizers, skip_probability, trailing_fields}
 use Rattle.frame_header.specs.References.{golden_copy, altref_copy, inter_refreshes, refreshes}
 use Rattle.frame_header.specs.InterFields.{reference_probabilities, y_modes, uv_modes, vector_probability, vectors, inter_fields}
 use Rattle.frame_header.specs.Updates.{first_updated}
@@ -14,7 +14,7 @@ use Rattle.frame_header.specs.declared.context.Probabilities.{Probabilities}
 use Rattle.frame_header.specs.declared.references.ReferenceUpdates.{ReferenceUpdates}
 use Rattle.frame_header.specs.declared.inter_fields.ReferenceProbabilities.{ReferenceProbabilities}
 use Rattle.packet_forge.specs.Pairs.{zeros, zeros_at, byte_pairs, skip_pairs, reference_pairs, vector_updates}
-use Rattle.packet_forge.proofs.Readings.{Reads, ReadsPair, ReadsBoth, reads_both, reads_joined, updates_none}
+use Rattle.packet_forge.proofs.Readings.{Reads, reads_both, reads_joined, updates_none}
 use Rattle.packet_forge.proofs.HeaderFields.{no_quantizers, quantizers-zeros, literal-zeros, literal-1, literal-255, literal-128, vector_probability-zero, skip_probability-1, coefficients-stay}
 
 -- no reference changes

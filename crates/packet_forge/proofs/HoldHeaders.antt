@@ -1,6 +1,6 @@
 -- The header of a hold packet.
-use Rattle.std.specs.Prelude.{Option, Result, Ok, Err, slice_range, nat_lt}
-use Rattle.std.proofs.Common.{◌≡◌, ℕ, ◌+◌, ◌-◌, ◌<◌, ◌≤◌, Bool, true, false, List, [], ◌∷◌, ◌++◌, Some, None, length, refl, ap, sym, ◌∙◌, arith}
+use Rattle.std.specs.Prelude.{Ok, slice_range, nat_lt}
+use Rattle.std.proofs.Common.{◌≡◌, ℕ, ◌+◌, ◌-◌, ◌≤◌, true, false, List, [], ◌∷◌, ◌++◌, Some, length, refl, arith}
 use Rattle.std.proofs.lemmas.List.{take_all, length-append}
 use Rattle.vp8_tables.specs.Tables.{TableEntries}
 use Rattle.bool_coder.specs.Reader.{Reader, started}

@@ -1,11 +1,11 @@
 -- The modes of a frame that holds the last.
-use Rattle.std.specs.Prelude.{Option, Result, Ok, pos, replicate, slice_get, slice_index, slice_index_or, nat_lt, ◌==◌, ◌||◌, slice_range}
-use Rattle.std.proofs.Common.{◌≡◌, ℕ, zero, suc, ◌+◌, ◌-◌, ◌*◌, ◌/◌, ◌%◌, ◌<◌, ◌≤◌, ◌⊎◌, inl, inr, Bool, true, false, List, [], ◌∷◌, ◌++◌, Some, None, length, refl, ap, sym, subst, ◌∙◌, arith, eq-eqb}
+use Rattle.std.specs.Prelude.{Option, replicate, nat_lt, ◌==◌}
+use Rattle.std.proofs.Common.{◌≡◌, ℕ, zero, suc, ◌+◌, ◌-◌, ◌*◌, ◌/◌, ◌%◌, ◌<◌, ◌≤◌, inl, inr, Bool, true, false, List, [], ◌∷◌, Some, None, refl, ap, ◌∙◌, arith, eq-eqb}
 use Rattle.std.proofs.Math.Nat.{zero-mod, div-eq_of_lt, div-add-mod, mod-lt, mul-zero}
 use Rattle.std.proofs.lemmas.Bool.{lt-ltb, le-ltb, ne_eqb, cases_lt, cases_eq}
 use Rattle.vp8_tables.specs.Tables.{TableEntries}
 use Rattle.vp8_tables.specs.declared.modes.TheConstants.{VECTOR_MODE_TREE}
-use Rattle.bool_coder.specs.Reader.{Reader, started, read}
+use Rattle.bool_coder.specs.Reader.{Reader, read}
 use Rattle.intra_predict.specs.declared.modes.WholeMode.TheVariants.{Dc}
 use Rattle.mode_parser.specs.declared.records.YMode.TheVariants.{Inter}
 use Rattle.mode_parser.specs.declared.records.VectorMode.TheVariants.{Zero}
@@ -21,10 +21,8 @@ use Rattle.mode_parser.proofs.Walks.{leaf_below-end}
 use Rattle.bool_coder.specs.Trees.{leaf}
 use Rattle.frame_header.specs.declared.references.Reference.TheVariants.{Last}
 use Rattle.frame_header.specs.declared.context.Context.{Context}
-use Rattle.frame_header.specs.declared.context.SignBiases.{SignBiases}
-use Rattle.frame_header.specs.declared.header.Header.{Header}
 use Rattle.packet_forge.specs.Pairs.{hold_macroblock, macroblock_pairs, zero_vector_probability}
-use Rattle.packet_forge.proofs.Readings.{Reads, ReadsPair, ReadsBoth, reads_both}
+use Rattle.packet_forge.proofs.Readings.{Reads, reads_both}
 use Rattle.packet_forge.proofs.BlankModes.{skip-1}
 use Rattle.packet_forge.proofs.Frames.{slice_get-replicate}
 use Rattle.packet_forge.proofs.HoldFields.{no_biases, hold_references}

@@ -1,6 +1,6 @@
 -- The planes of a frame that holds the last.
-use Rattle.std.specs.Prelude.{Option, ℤ, pos, ◌+ℤ◌, ◌*ℤ◌, min, slice_index}
-use Rattle.std.proofs.Common.{◌≡◌, ℕ, suc, ◌+◌, ◌-◌, ◌*◌, ◌<◌, ◌≤◌, true, List, Some, None, length, refl, ap, sym, subst, ◌∙◌, add-zero, arith}
+use Rattle.std.specs.Prelude.{ℤ, pos, ◌+ℤ◌}
+use Rattle.std.proofs.Common.{◌≡◌, ℕ, suc, ◌+◌, ◌*◌, ◌<◌, ◌≤◌, Some, refl, ap, ◌∙◌, add-zero, arith}
 use Rattle.std.proofs.Math.Nat.{mul-le-mul_left}
 use Rattle.inter_predict.specs.InterSample.{inter_sample}
 use Rattle.inter_predict.specs.declared.kinds.Kind.TheVariants.{SixTap}
@@ -8,16 +8,15 @@ use Rattle.inter_predict.proofs.FilterLaws.{copies_whole}
 use Rattle.pixel_planes.specs.Samples.{Samples, sample_at}
 use Rattle.pixel_planes.specs.ReferenceSamples.{held_place, reference_sample}
 use Rattle.pixel_planes.specs.Pictures.{PictureSamples}
-use Rattle.pixel_planes.specs.PlaneSamples.{PlaneSamples}
 use Rattle.mode_parser.specs.Records.{no_vectors}
-use Rattle.mode_parser.specs.Vectors.{MotionVector, zero_vector}
+use Rattle.mode_parser.specs.Vectors.{zero_vector}
 use Rattle.mode_parser.specs.declared.records.VectorMode.TheVariants.{Zero}
 use Rattle.reference_frames.specs.InterPrediction.{block_vector, group_vector, luma_sample, chroma_sample}
 use Rattle.reference_frames.specs.Unfiltered.{inter_macroblock, predicted_macroblock}
 use Rattle.reference_frames.specs.declared.references.References.{References}
 use Rattle.packet_forge.specs.Laws.{AreBytes}
-use Rattle.packet_forge.proofs.Targets.{IsFrame, IsBegun, begun_more}
-use Rattle.packet_forge.proofs.Frames.{AreBegun, DoesOne}
+use Rattle.packet_forge.proofs.Targets.{IsFrame, begun_more}
+use Rattle.packet_forge.proofs.Frames.{DoesOne}
 use Rattle.packet_forge.proofs.HoldModes.{hold_mode}
 
 -- the place of a coordinate inside a side

@@ -1,7 +1,6 @@
 -- The step of a hold packet.
-use Rattle.std.specs.Prelude.{Option, Result, Ok, Err, replicate, slice_range, slice_index, nat_le, nat_lt, IsOkAnd}
-use Rattle.std.specs.Option.{option_map}
-use Rattle.std.proofs.Common.{◌≡◌, ℕ, zero, suc, ◌+◌, ◌*◌, ◌/◌, ◌%◌, ◌<◌, ◌≤◌, Bool, true, false, List, [], ◌∷◌, ◌++◌, Some, None, length, refl, ap, sym, subst, ◌∙◌, arith}
+use Rattle.std.specs.Prelude.{Result, Ok, replicate, nat_le, nat_lt, IsOkAnd}
+use Rattle.std.proofs.Common.{◌≡◌, ℕ, ◌+◌, ◌*◌, ◌/◌, ◌%◌, ◌<◌, ◌≤◌, Bool, true, false, List, [], ◌∷◌, ◌++◌, Some, length, refl, ap, sym, subst, ◌∙◌, arith}
 use Rattle.std.specs.List.{All, list_all}
 use Rattle.std.proofs.lemmas.Bool.{and_parts, leb-true}
 use Rattle.std.proofs.lemmas.List.Elements.{All-nil, All-cons, All-append}
@@ -13,9 +12,8 @@ use Rattle.frame_header.specs.Header.{header_of}
 use Rattle.frame_header.specs.declared.cause.Cause.{Cause}
 use Rattle.frame_header.specs.declared.header.Header.{Header}
 use Rattle.mode_parser.specs.declared.records.MbMode.{MbMode}
-use Rattle.pixel_planes.specs.Samples.{Samples, IsWhole, sample_at}
-use Rattle.pixel_planes.specs.Pictures.{PictureSamples, IsWholePicture, macroblocks}
-use Rattle.pixel_planes.specs.PlaneSamples.{PlaneSamples}
+use Rattle.pixel_planes.specs.Samples.{IsWhole, sample_at}
+use Rattle.pixel_planes.specs.Pictures.{PictureSamples, macroblocks}
 use Rattle.loop_filter.specs.Frames.{filtered_planes}
 use Rattle.reference_frames.proofs.Flat.{IsPlane}
 use Rattle.reference_frames.specs.FrameTokens.{TokenState, tokens_start, residual_at}
@@ -24,17 +22,16 @@ use Rattle.reference_frames.specs.Unfiltered.{unfiltered}
 use Rattle.reference_frames.specs.declared.references.References.{References}
 use Rattle.reference_frames.specs.declared.states.State.{State}
 use Rattle.packet_forge.specs.Pairs.{zeros, zeros_at, byte_pairs, skip_pairs, reference_pairs, vector_updates, hold_header, hold_macroblock, macroblock_pairs, hold_pairs, zero_vector_probability}
-use Rattle.packet_forge.specs.Packets.{tag_bytes, hold_partition, hold_packet, hold_of}
+use Rattle.packet_forge.specs.Packets.{tag_bytes, hold_partition, hold_packet}
 use Rattle.packet_forge.specs.Laws.{AreUpdates, HasLast, HoldShowsLast}
-use Rattle.packet_forge.proofs.Readings.{Reads, ReadsAll, ReadsBoth, reads_both, reads_text}
+use Rattle.packet_forge.proofs.Readings.{Reads, ReadsAll, reads_both, reads_text}
 use Rattle.packet_forge.proofs.ForgedHeaders.{shown_tag, tag_of-later}
-use Rattle.packet_forge.proofs.HoldFields.{update_row, update_column}
 use Rattle.packet_forge.proofs.HoldHeaders.{hold_header_of, header_of-hold}
 use Rattle.packet_forge.proofs.HoldModes.{hold_mode, first_modes-hold}
 use Rattle.packet_forge.proofs.HoldPlanes.{IsHeld, holds}
 use Rattle.packet_forge.proofs.Targets.{IsFrame, begun_all}
-use Rattle.packet_forge.proofs.Frames.{AreBegun, frame_done}
-use Rattle.packet_forge.proofs.BlankStep.{IsForged, is_forged, AreProbable, probable_zeros, probable_even, probable_bits, probable_skip, probable_macroblocks, probable_entries, frame_of, same_planes}
+use Rattle.packet_forge.proofs.Frames.{frame_done}
+use Rattle.packet_forge.proofs.BlankStep.{is_forged, AreProbable, probable_zeros, probable_even, probable_bits, probable_skip, probable_macroblocks, probable_entries, frame_of, same_planes}
 
 -- ---- probabilities
 

@@ -1,10 +1,9 @@
 -- Pairs that are read back one after another, and what is made of them.
-use Rattle.std.specs.Prelude.{slice_index, slice_set}
-use Rattle.std.proofs.Common.{◌≡◌, ℕ, zero, suc, ◌+◌, ◌<◌, ◌≤◌, Bool, true, false, List, [], ◌∷◌, ◌++◌, map, length, take, drop, get_or, set, refl, ap, sym, subst, ◌∙◌, add-one, arith}
-use Rattle.std.proofs.lemmas.List.{take_more, take_all, map-append, set-get_or}
+use Rattle.std.proofs.Common.{◌≡◌, ℕ, zero, suc, ◌≤◌, Bool, false, List, [], ◌∷◌, ◌++◌, map, length, take, drop, get_or, set, refl, ap, sym, subst, ◌∙◌, add-one, arith}
+use Rattle.std.proofs.lemmas.List.{take_more, map-append, set-get_or}
 use Rattle.std.specs.List.{All}
 use Rattle.bool_coder.specs.Reader.{Reader, started, read}
-use Rattle.bool_coder.specs.Reading.{Reading, more_bits, literal, signed}
+use Rattle.bool_coder.specs.Reading.{Reading}
 use Rattle.bool_coder.specs.Uncut.{bits_read}
 use Rattle.bool_coder.specs.CodeText.{code_text}
 use Rattle.bool_coder.proofs.RoundTrip.{code_text-read}

@@ -1,4 +1,4 @@
-use Rattle.std.proofs.Common.{◌≡◌, ◌<◌, ◌≤◌, ℕ, length, sym, ap, arith}
+use Rattle.std.proofs.Common.{◌≡◌, ◌<◌, ℕ, length}
 use Rattle.std.specs.Prelude.{slice_index}
 use Rattle.std.specs.Option.{option_copied}
 use Rattle.packet_forge.proofs.BlankStep.{probable_entries, blank_grey}
