@@ -65,36 +65,47 @@ fn sides_are_1_to_16383(rt: HostRuntime) {
 /// A key packet of 16 by 16 samples that reads 0 at every bit: its luma is 129 below row 3.
 const KEY: [u8; 10] = [0x10, 0, 0, 0x9D, 1, 0x2A, 16, 0, 16, 0];
 
-/// Whether a picture of 16 by 16 luma samples is 128 throughout.
-fn is_grey(alloc: Global, picture: &Picture) -> Result<bool, Fail> {
-    let luma = Plane::make(alloc, 16, 16, 128)?;
-    let chroma = Plane::make(alloc, 8, 8, 128)?;
-    Ok(luma.same(picture.luma()) && chroma.same(picture.cb()) && chroma.same(picture.cr()))
+/// Whether each of the first 16 samples of the first 16 rows is 128; past an edge its sample stands
+/// again.
+fn is_grey(plane: &Plane) -> bool {
+    (0..16).all(|y| (0..16).all(|x| plane.sample(x, y) == 128))
 }
 
-/// The state behind a packet with tables whose entries are all 128, and its picture.
-fn decoded(
-    rt: &impl Abort,
-    alloc: Global,
-    state: Option<&State>,
-    packet: &[u8],
-) -> (State, Picture) {
-    let decoded = step(alloc, &Tables::flat(), state, packet);
-    decoded.expect(rt, "a packet")
+/// Whether a picture is 128 in that square of each plane.
+fn is_grey_picture(picture: &Picture) -> bool {
+    is_grey(picture.luma()) && is_grey(picture.cb()) && is_grey(picture.cr())
+}
+
+/// The state behind a packet from none, with tables whose entries are all 128, and its picture.
+fn decoded(rt: &impl Abort, alloc: Global, packet: &[u8]) -> (State, Picture) {
+    let decoded = step(alloc, &Tables::flat(), None, packet);
+    decoded.expect(rt, "a key packet")
+}
+
+/// The same from a state.
+fn decoded_after(rt: &impl Abort, alloc: Global, state: &State, packet: &[u8]) -> (State, Picture) {
+    let decoded = step(alloc, &Tables::flat(), Some(state), packet);
+    decoded.expect(rt, "a packet behind a state")
+}
+
+/// Forged packets of 16 by 16 samples, with those tables.
+fn packets(alloc: Global) -> Result<(Vec<u8>, Vec<u8>), Fail> {
+    let blank = blank(alloc, &Tables::flat(), 16, 16)?;
+    let hold = hold(alloc, &Tables::flat(), 16, 16)?;
+    Ok((blank, hold))
 }
 
 #[test]
 fn frames_are_grey_and_held(rt: HostRuntime) -> Result<(), Fail> {
     let alloc = rt.alloc();
-    let blank = blank(alloc, &Tables::flat(), 16, 16)?;
-    let hold = hold(alloc, &Tables::flat(), 16, 16)?;
-    let (first, picture) = decoded(&rt, alloc, None, blank.as_slice());
-    assert!(rt; is_grey(alloc, &picture)?);
-    let (_, held) = decoded(&rt, alloc, Some(&first), hold.as_slice());
+    let (blank, hold) = packets(alloc)?;
+    let (first, picture) = decoded(&rt, alloc, blank.as_slice());
+    assert!(rt; is_grey_picture(&picture));
+    let (_, held) = decoded_after(&rt, alloc, &first, hold.as_slice());
     assert!(rt; same(&picture, &held));
-    let (second, picture) = decoded(&rt, alloc, Some(&first), KEY.as_slice());
-    assert!(rt; !is_grey(alloc, &picture)?);
-    let (third, held) = decoded(&rt, alloc, Some(&second), hold.as_slice());
+    let (second, picture) = decoded(&rt, alloc, KEY.as_slice());
+    assert!(rt; !is_grey_picture(&picture));
+    let (third, held) = decoded_after(&rt, alloc, &second, hold.as_slice());
     assert!(rt; same(&picture, &held));
     assert!(rt; same(&picture, &third.references().last));
     Ok(())
