@@ -32,7 +32,7 @@ impl Model for Session {
 
     ghost Value = { Now };
 
-    ghost view = { λ s. record { tables = s.tables; head = s.head; list = s.list; spare = s.spare; size = s.size; decoded = s.decoded } };
+    ghost view = { λ s. record { tables = s.tables; head = s.head; list = s.list.list; spare = s.spare; size = s.size; decoded = s.decoded } };
 }
 
 impl Session {
