@@ -1,5 +1,5 @@
 -- Lists of packets around a place, and marks that are set there.
-use Rattle.std.proofs.Common.{◌≡◌, ℕ, zero, suc, ◌+◌, ◌<◌, ◌≤◌, Bool, true, false, not, ◌&&◌, ◌||◌, List, [], ◌∷◌, ◌++◌, Option, Some, None, length, map, take, drop, slice_get, slice_set, refl, sym, ap, subst, ◌∙◌, arith}
+use Rattle.std.proofs.Common.{◌≡◌, ℕ, zero, suc, Bool, not, ◌&&◌, ◌||◌, List, [], ◌∷◌, ◌++◌, Some, length, map, take, drop, slice_get, slice_set, refl, sym, ap, subst, ◌∙◌, arith}
 use Rattle.vp8_tables.specs.Tables.{TableEntries}
 use Rattle.frame_header.specs.Tags.{has_key_tag}
 use Rattle.packet_edits.specs.declared.entry.Entry.{Entry}

@@ -1,5 +1,5 @@
 -- What a turn keeps true, and what reaching a place answers.
-use Rattle.std.proofs.Common.{◌≡◌, ℕ, zero, suc, ◌+◌, ◌-◌, ◌<◌, ◌≤◌, Bool, true, false, not, ◌&&◌, List, [], ◌∷◌, Option, Some, None, option_and_then, Ok, Err, length, slice_get, refl, sym, ap, subst, ◌∙◌, arith}
+use Rattle.std.proofs.Common.{◌≡◌, ℕ, suc, ◌+◌, ◌-◌, ◌<◌, ◌≤◌, Bool, true, false, not, ◌&&◌, List, [], ◌∷◌, Option, Some, None, option_and_then, Result, Ok, Err, length, slice_get, refl, sym, ap, subst, ◌∙◌, arith}
 use Rattle.std.proofs.lemmas.List.{length-map}
 use Rattle.vp8_tables.specs.Tables.{TableEntries}
 use Rattle.packet_edits.specs.declared.entry.Entry.{Entry}
@@ -9,9 +9,10 @@ use Rattle.packet_edits.specs.Shown.{stream_of}
 use Rattle.reference_frames.specs.Steps.{step_of}
 use Rattle.state_cache.specs.declared.outcomes.Broken.{Broken}
 use Rattle.state_cache.specs.declared.outcomes.Kept.{Kept}
+use Rattle.state_cache.specs.declared.outcomes.ReachFault.{ReachFault}
 use Rattle.state_cache.specs.declared.outcomes.ReachFault.TheVariants.{Refused, NoMemory}
 use Rattle.state_cache.specs.Decoding.{outcomes}
-use Rattle.state_cache.specs.Reaching.{Begins, IsNext, Met, Reaches, Tells, passed_marks, state_from}
+use Rattle.state_cache.specs.Reaching.{Begins, IsNext, KeptAnswers, Met, Reaches, StepGives, Tells, passed_marks, state_from}
 use Rattle.state_cache.specs.Searches.{mark_at}
 use Rattle.state_cache.specs.Views.{Drops, IsCoherent, Seen, View, is_cut, is_usable, key_at, seens_of, told, with_kept}
 use Rattle.state_cache.proofs.Decoded.{outcome_present}
@@ -61,6 +62,10 @@ module _ (tables : TableEntries) (list : Listing) (ms : List Bool) (kept : View)
       let named : slice_get (outcomes tables (stream_of list)) i ≡ Some (Err (record { place = i; cause = broken.cause })) = subst (λ bs. slice_get (outcomes tables bs) i ≡ Some (Err (record { place = i; cause = broken.cause }))) (bytes_seens list.entries ms) there in
       subst (λ (n : ℕ). slice_get (outcomes tables (stream_of list)) i ≡ Some (Err (record { place = n; cause = broken.cause }))) (sym place) named
 
+  pub turn_fault : (i : ℕ) (fault : ReachFault) → Begins (seens_of list.entries ms) kept i → StepGives tables (seens_of list.entries ms) kept i (Err fault) → Tells tables list i fault
+  turn_fault i (Refused broken) begins g = turn_told i g.0 broken g.1 begins g.2.0 g.2.1
+  turn_fault i NoMemory begins g = tt
+
   -- what is kept at a usable place is the answer
   pub reaches_kept : (i : ℕ) (k : Kept) → i < length list.entries → is_usable (seens_of list.entries ms) kept i ≡ true → option_and_then (λ (packet : Seen). kept packet.id) (slice_get (seens_of list.entries ms) i) ≡ Some k → Reaches tables list i (Ok k)
   reaches_kept i k within usable kept_is =
@@ -86,6 +91,15 @@ reaches_nothing tables list i within =
     let long : length (stream_of list) ≡ length list.entries = length-map list.entries (λ (e : Entry). e.bytes) in
     let some = outcome_present tables 0 (Ok None) (stream_of list) i (omega (arith, long, within)) in
     (some.0, some.1, tt)
+
+pub reaches_fault : (tables : TableEntries) (list : Listing) (ms : List Bool) (kept : View) (coherent : IsCoherent tables (seens_of list.entries ms) kept) (i m : ℕ) (fault : ReachFault) → i < length list.entries → m ≤ i → IsNext (seens_of list.entries ms) kept i m → Tells tables list m fault → Reaches tables list i (Err fault)
+reaches_fault tables list ms kept coherent i m (Refused broken) within low next told_there = reaches_refused tables list ms kept coherent i m broken within low next told_there
+reaches_fault tables list ms kept coherent i m NoMemory within low next told_there = reaches_nothing tables list i within
+
+pub reaches_answer : (tables : TableEntries) (list : Listing) (ms : List Bool) (kept : View) (coherent : IsCoherent tables (seens_of list.entries ms) kept) (i : ℕ) (result : Result Kept ReachFault) → i < length list.entries → is_usable (seens_of list.entries ms) kept i ≡ true → KeptAnswers (seens_of list.entries ms) kept i result → Reaches tables list i result
+reaches_answer tables list ms kept coherent i (Ok k) within usable answered = reaches_kept tables list ms kept coherent i k within usable answered
+reaches_answer tables list ms kept coherent i (Err (Refused broken)) within usable answered = absurd answered
+reaches_answer tables list ms kept coherent i (Err NoMemory) within usable answered = reaches_nothing tables list i within
 
 -- no usable place lies behind the one to step
 pub beyond : (xs : List Seen) (kept : View) (i n u : ℕ) → IsNext xs kept i n → u ≤ i → is_usable xs kept u ≡ true → u + 1 ≤ n

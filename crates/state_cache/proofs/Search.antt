@@ -1,12 +1,12 @@
 -- Looking back from a place finds the greatest usable one.
-use Rattle.std.proofs.Common.{◌≡◌, ℕ, zero, suc, ◌+◌, ◌<◌, ◌≤◌, Bool, true, false, cond, not, ◌&&◌, ◌||◌, List, [], ◌∷◌, ◌++◌, Option, Some, None, is_some, take, slice_get, refl, sym, ap, subst, ◌∙◌, arith, nat_eq}
+use Rattle.std.proofs.Common.{◌≡◌, ℕ, ◌+◌, ◌<◌, ◌≤◌, Bool, true, false, not, ◌&&◌, List, Option, Some, None, take, slice_get, refl, sym, ap, subst, ◌∙◌, arith, nat_eq}
 use Rattle.std.proofs.lemmas.Bool.{eqb-true}
 use Rattle.std.specs.Cmp.{nat_eq_equiv}
 use Rattle.frame_header.specs.Tags.{has_key_tag}
-use Rattle.state_cache.specs.Reaching.{Begins, IsNext, at_key, at_start, behind}
+use Rattle.state_cache.specs.Reaching.{IsNext, at_key, at_start, behind}
 use Rattle.state_cache.specs.Searches.{looked, mark_at, next_of}
 use Rattle.state_cache.specs.Views.{Seen, View, is_usable, kept_at, key_at, trusted_after}
-use Rattle.state_cache.proofs.Steps.{key_here, trusted_here, usable_here}
+use Rattle.state_cache.proofs.Steps.{key_here, trusted_here}
 
 -- whether the packets before a place end in a run that is trusted
 abbrev pub trust : List Seen → ℕ → Bool
@@ -54,6 +54,9 @@ not_usable_trust xs kept p h = ap (λ (b : Bool). kept_at xs kept p && b) h ∙ 
 usable_both : (xs : List Seen) (kept : View) (p : ℕ) → kept_at xs kept p ≡ true → trust xs (p + 1) ≡ true → is_usable xs kept p ≡ true
 usable_both xs kept p h k = rw (h, k) refl
 
+arrive : (xs : List Seen) (kept : View) (i u : ℕ) → u ≤ i → is_usable xs kept u ≡ true → i < u + 1 → is_usable xs kept i ≡ true
+arrive xs kept i u low usable up = let same : u ≡ i = omega (arith, low, up) in subst (λ (n : ℕ). is_usable xs kept n ≡ true) same usable
+
 -- a packet with no key tag, and its mark
 trust_marked : (xs : List Seen) (j : ℕ) (p : Seen) → slice_get xs j ≡ Some p → has_key_tag p.bytes ≡ false → p.marked ≡ true → trust xs (j + 1) ≡ false
 trust_marked xs j p h k m = trusted_here xs j p h ∙ rw (k, m) refl
@@ -94,6 +97,7 @@ module _ (xs : List Seen) (kept : View) (i j : ℕ) (p : Seen) (h : slice_get xs
       record {
         within = omega (arith, high);
         begins = behind u refl (usable_both xs kept u l.finds.2 (l.finds.3 (trust_key xs j p h k)));
+        arrived = arrive xs kept i u high (usable_both xs kept u l.finds.2 (l.finds.3 (trust_key xs j p h k)));
         no_key = λ q a b. l.no_key q (omega (arith, a, low)) b;
         greatest = λ q a b. l.finds.4 q (omega (arith, a)) b;
       }
@@ -102,6 +106,7 @@ module _ (xs : List Seen) (kept : View) (i j : ℕ) (p : Seen) (h : slice_get xs
   behind_key k eo l = record {
     within = omega (arith, up);
     begins = behind j refl (usable_both xs kept j eo (trust_key xs j p h k));
+    arrived = arrive xs kept i j up (usable_both xs kept j eo (trust_key xs j p h k));
     no_key = λ q a b. l.no_key q (omega (arith, a)) b;
     greatest = l.finds;
   }
@@ -110,6 +115,7 @@ module _ (xs : List Seen) (kept : View) (i j : ℕ) (p : Seen) (h : slice_get xs
   at_it k eo l = record {
     within = omega (arith, up);
     begins = at_key (key_here xs j p h ∙ k);
+    arrived = λ a. absurd (omega (arith, a, up));
     no_key = λ q a b. l.no_key q (omega (arith, a)) b;
     greatest = at_or_behind (λ q. is_usable xs kept q ≡ false) j i (not_usable_kept xs kept j eo) l.finds;
   }
@@ -143,12 +149,14 @@ pub looking_end : (xs : List Seen) (kept : View) (i : ℕ) (found : Option ℕ) 
 looking_end xs kept i None l = record {
   within = omega arith;
   begins = at_start refl;
+  arrived = λ a. absurd (omega (arith, a));
   no_key = λ p a b. l.no_key p (omega arith) b;
   greatest = l.finds;
 }
 looking_end xs kept i (Some u) l = record {
   within = let up : u ≤ i = l.finds.1 in omega (arith, up);
   begins = behind u refl (usable_both xs kept u l.finds.2 (l.finds.3 refl));
+  arrived = arrive xs kept i u l.finds.1 (usable_both xs kept u l.finds.2 (l.finds.3 refl));
   no_key = λ p a b. l.no_key p (omega arith) b;
   greatest = λ p a b. l.finds.4 p (omega (arith, a)) b;
 }

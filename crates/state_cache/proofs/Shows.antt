@@ -1,8 +1,9 @@
 -- What a store's calls tell of the packet at a place.
-use Rattle.std.proofs.Common.{◌≡◌, ℕ, zero, suc, ◌+◌, ◌<◌, ◌≤◌, Bool, true, false, List, [], ◌∷◌, Option, Some, None, option_map, option_and_then, is_some, length, map, slice_get, refl, sym, ap, ◌∙◌, arith}
+use Rattle.std.proofs.Common.{◌≡◌, ℕ, zero, suc, ◌-◌, ◌<◌, Bool, false, List, [], ◌∷◌, Option, Some, option_map, option_and_then, is_some, length, map, slice_get, refl, sym, ap, ◌∙◌, arith}
 use Rattle.frame_header.specs.Tags.{has_key_tag}
 use Rattle.packet_edits.specs.declared.entry.Entry.{Entry}
 use Rattle.state_cache.specs.declared.outcomes.Kept.{Kept}
+use Rattle.state_cache.specs.Reaching.{state_from}
 use Rattle.state_cache.specs.Searches.{mark_at}
 use Rattle.state_cache.specs.Views.{Seen, View, key_at, kept_at, seen, seens_of}
 use Rattle.state_cache.proofs.Marked.{bytes_seens}
@@ -58,3 +59,12 @@ pub kept_answered : (es : List Entry) (ms : List Bool) (kept : View) (i r : ℕ)
 kept_answered es ms kept i r k h told e =
     let s = shows es ms i h in
     ap (λ (o : Option Seen). option_and_then (λ (packet : Seen). kept packet.id) o) s.is ∙ ap kept (sym (id_shown es ms i s.packet r s.is told)) ∙ e
+
+pub state_told : (es : List Entry) (ms : List Bool) (kept : View) (i r : ℕ) → 0 < i → i < length es → key_at (seens_of es ms) i ≡ false → option_map (λ (e : Entry). e.id) (slice_get es (i - 1)) ≡ Some r → option_map (λ (k : Kept). k.state) (kept r) ≡ state_from (seens_of es ms) kept i
+state_told es ms kept zero r some h k told = absurd (omega (arith, some))
+state_told es ms kept (suc i) r some h k told =
+    let s = shows es ms i (omega (arith, h)) in
+    let back : suc i - 1 ≡ i = omega arith in
+    let there : option_map (λ (e : Entry). e.id) (slice_get es i) ≡ Some r = ap (λ (n : ℕ). option_map (λ (e : Entry). e.id) (slice_get es n)) (sym back) ∙ told in
+    let id_is : r ≡ s.packet.id = id_shown es ms i s.packet r s.is there in
+    rw (k, s.is, id_is) refl

@@ -1,5 +1,5 @@
 -- What is kept at a usable place is what decoding from the start gives.
-use Rattle.std.proofs.Common.{◌≡◌, ℕ, zero, suc, ◌+◌, ◌<◌, ◌≤◌, Bool, true, false, cond, not, ◌&&◌, ◌||◌, List, [], ◌∷◌, ◌++◌, Option, Some, None, Result, Ok, Err, length, map, take, drop, slice_get, refl, sym, ap, subst, ◌∙◌, arith, add-one, add-zero}
+use Rattle.std.proofs.Common.{◌≡◌, ℕ, zero, suc, ◌+◌, ◌<◌, ◌≤◌, Bool, true, false, cond, not, ◌&&◌, ◌||◌, List, [], ◌∷◌, ◌++◌, Option, Some, None, Result, Ok, Err, length, map, take, drop, slice_get, refl, sym, ap, subst, ◌∙◌, arith, add-zero}
 use Rattle.vp8_tables.specs.Tables.{TableEntries}
 use Rattle.frame_header.specs.Tags.{has_key_tag}
 use Rattle.frame_header.specs.declared.cause.Cause.{Cause}
@@ -11,7 +11,7 @@ use Rattle.state_cache.specs.declared.outcomes.Kept.{Kept}
 use Rattle.state_cache.specs.Decoding.{Outcome, Standing, behind, left_by, outcome, outcomes, standing_after, told_at}
 use Rattle.state_cache.specs.Reaching.{Begins, state_before, state_from}
 use Rattle.state_cache.specs.Views.{Before, CoherentFrom, Fits, Follows, IsCoherent, Seen, View, entering, failed, is_usable, key_at, known, known_after, leaving, told, trusted_after, unknown}
-use Rattle.state_cache.proofs.Decoded.{outcome_at, outcome_present, stands_more}
+use Rattle.state_cache.proofs.Decoded.{outcome_at, stands_more}
 use Rattle.state_cache.proofs.Known.{coherent_parts}
 use Rattle.state_cache.proofs.Marked.{split_here}
 use Rattle.state_cache.proofs.Steps.{begins_stands, both_true, key_here, usable_here}

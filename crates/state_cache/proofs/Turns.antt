@@ -1,5 +1,5 @@
 -- One turn of a search.
-use Rattle.std.proofs.Common.{◌≡◌, ℕ, suc, zero, ◌+◌, ◌-◌, ◌<◌, ◌≤◌, Bool, true, false, List, Option, Some, None, length, refl, sym, ap, subst, ◌∙◌, arith}
+use Rattle.std.proofs.Common.{◌≡◌, ℕ, ◌+◌, ◌-◌, ◌<◌, ◌≤◌, Bool, true, false, List, Option, length, sym, ap, subst, ◌∙◌, arith}
 use Rattle.packet_edits.specs.declared.entry.Entry.{Entry}
 use Rattle.state_cache.specs.Reaching.{IsNext}
 use Rattle.state_cache.specs.Searches.{looked, mark_at, next_of}

@@ -1,11 +1,11 @@
 -- Reaching a place, and what it costs.
-use Rattle.std.specs.Prelude.{◌≡◌, ℕ, zero, suc, cond, option_map, option_and_then, ◌+◌, ◌-◌, ◌<◌, ◌≤◌, Bool, true, false, List, slice_get, Option, Some, None, Result, Ok, Err}
+use Rattle.std.specs.Prelude.{◌≡◌, ℕ, zero, suc, cond, option_map, option_and_then, ◌+◌, ◌<◌, ◌≤◌, Bool, true, false, List, slice_get, Option, Some, None, Result, Ok, Err}
 use Rattle.vp8_tables.specs.Tables.{TableEntries}
 use Rattle.frame_header.specs.declared.cause.Cause.{Cause}
 use Rattle.pixel_planes.specs.Pictures.{PictureSamples}
 use Rattle.reference_frames.specs.Steps.{step_of}
 use Rattle.packet_edits.specs.Edits.{Listing}
-use Rattle.packet_edits.specs.Marks.{StoreValue, marked_at, unmarked_at}
+use Rattle.packet_edits.specs.Marks.{marked_at, unmarked_at}
 use Rattle.reference_frames.specs.declared.states.State.{State}
 use Rattle.packet_edits.specs.Shown.{stream_of}
 use Rattle.state_cache.specs.declared.outcomes.Kept.{Kept}
@@ -53,6 +53,7 @@ Met has_met before new = has_met ≡ true → (old : Kept) × (before ≡ Some o
 pub record IsNext (packets : List Seen) (kept : View) (place next : ℕ) : Type 0 where
   pub within : next ≤ place + 1
   pub begins : Begins packets kept next
+  pub arrived : place < next → is_usable packets kept place ≡ true
   pub no_key : (p : ℕ) → next < p → p ≤ place → key_at packets p ≡ false
   pub greatest : (p : ℕ) → next ≤ p → p ≤ place → is_usable packets kept p ≡ false
 

@@ -82,7 +82,10 @@ impl Cache {
     {
         let mut next = self.next_step(store, place);
         while next <= place {
-            self.turn(tables, store, next)?;
+            match self.turn(tables, store, next) {
+                Ok(()) => {}
+                Err(fault) => return Err(fault),
+            }
             next = self.next_step(store, place);
         }
         self.answer(store, place)
@@ -118,7 +121,11 @@ impl Cache {
         ensures rises { self.old.decoded ≤ self.new.decoded }
     {
         self.decoded = self.decoded.saturating_add(1);
-        let new = self.stepped(tables, store, place)?;
+        let _whole = store.len();
+        let new = match self.stepped(tables, store, place) {
+            Ok(new) => new,
+            Err(fault) => return Err(fault),
+        };
         let is_cut = is_cut(store, place);
         let Ok(has_met) = self.keep(store.id(place), new) else {
             return Err(ReachFault::NoMemory);
@@ -284,7 +291,8 @@ fn pass_mark(store: &mut Store, place: usize, is_cut: bool, has_met: bool)
     if has_met {
         return;
     }
-    if place + 1 < store.len() {
+    let len = store.len();
+    if place < len - 1 {
         store.set_mark(place + 1);
     }
 }

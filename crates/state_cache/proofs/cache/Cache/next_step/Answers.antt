@@ -1,4 +1,4 @@
-use Rattle.std.proofs.Common.{◌≤◌, ◌<◌, ℕ, sym, subst, arith, rules}
+use Rattle.std.proofs.Common.{ℕ, sym, subst, arith, rules}
 use Rattle.state_cache.specs.Reaching.{IsNext, view_of}
 use Rattle.state_cache.specs.Views.{seens}
 use Rattle.state_cache.proofs.Turns.{turn_end, turn_key, turn_more}

@@ -1,4 +1,3 @@
-use Rattle.std.proofs.Common.{◌<◌, ◌≤◌, length}
 use Rattle.state_cache.specs.Reaching.{view_of}
 use Rattle.state_cache.specs.Views.{seens}
 use Rattle.state_cache.proofs.Search.{Looking}
