@@ -24,8 +24,8 @@ pub enum Edit {
 /// An insertion is refused as `Place`, `Full`, `Spent` and then `NoMemory`, a replacement as `Place`
 /// and then `Spent`, and the others as `Place`; the list is then as it was.
 pub fn make_edit(list: &mut Store, edit: Edit) -> Result<u64, Refusal>
-    ensures gives { EditGives list.old edit result }
-    ensures after { list.new ≡ after_edit edit list.old result }
+    ensures gives { EditGives list.old.list edit result }
+    ensures after { list.new.list ≡ after_edit edit list.old.list result }
 {
     match edit {
         Edit::Insert { at, stamp, bytes } => insert(list, at, stamp, bytes),
@@ -36,8 +36,8 @@ pub fn make_edit(list: &mut Store, edit: Edit) -> Result<u64, Refusal>
 }
 
 fn insert(list: &mut Store, at: u64, stamp: u64, bytes: Bytes) -> Result<u64, Refusal>
-    ensures gives { Gives (edit_of list.old (Edit.Insert at stamp bytes)) result }
-    ensures after { list.new ≡ after_edit (Edit.Insert at stamp bytes) list.old result }
+    ensures gives { Gives (edit_of list.old.list (Edit.Insert at stamp bytes)) result }
+    ensures after { list.new.list ≡ after_edit (Edit.Insert at stamp bytes) list.old.list result }
 {
     match list.insert(at, stamp, bytes) {
         Ok(()) => Ok(list.len() as u64),
@@ -46,8 +46,8 @@ fn insert(list: &mut Store, at: u64, stamp: u64, bytes: Bytes) -> Result<u64, Re
 }
 
 fn replace(list: &mut Store, at: u64, bytes: Bytes) -> Result<u64, Refusal>
-    ensures gives { result ≡ edit_of list.old (Edit.Replace at bytes) }
-    ensures after { list.new ≡ after_edit (Edit.Replace at bytes) list.old result }
+    ensures gives { result ≡ edit_of list.old.list (Edit.Replace at bytes) }
+    ensures after { list.new.list ≡ after_edit (Edit.Replace at bytes) list.old.list result }
 {
     match list.replace(at, bytes) {
         Ok(()) => Ok(list.len() as u64),
@@ -56,8 +56,8 @@ fn replace(list: &mut Store, at: u64, bytes: Bytes) -> Result<u64, Refusal>
 }
 
 fn delete(list: &mut Store, at: u64) -> Result<u64, Refusal>
-    ensures gives { result ≡ edit_of list.old (Edit.Delete at) }
-    ensures after { list.new ≡ after_edit (Edit.Delete at) list.old result }
+    ensures gives { result ≡ edit_of list.old.list (Edit.Delete at) }
+    ensures after { list.new.list ≡ after_edit (Edit.Delete at) list.old.list result }
 {
     match list.delete(at) {
         Ok(()) => Ok(list.len() as u64),
@@ -66,8 +66,8 @@ fn delete(list: &mut Store, at: u64) -> Result<u64, Refusal>
 }
 
 fn move_to(list: &mut Store, from: u64, to: u64) -> Result<u64, Refusal>
-    ensures gives { result ≡ edit_of list.old (Edit.Move from to) }
-    ensures after { list.new ≡ after_edit (Edit.Move from to) list.old result }
+    ensures gives { result ≡ edit_of list.old.list (Edit.Move from to) }
+    ensures after { list.new.list ≡ after_edit (Edit.Move from to) list.old.list result }
 {
     match list.move_to(from, to) {
         Ok(()) => Ok(list.len() as u64),

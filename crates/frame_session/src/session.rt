@@ -36,7 +36,7 @@ impl Model for Session {
 
     ghost Value = { Now };
 
-    ghost view = { λ s. record { tables = s.tables; head = s.head; list = s.list; script = s.script; spare = s.spare; size = s.size; decoded = s.decoded } };
+    ghost view = { λ s. record { tables = s.tables; head = s.head; list = s.list.list; script = s.script; spare = s.spare; size = s.size; decoded = s.decoded } };
 }
 
 impl Session {

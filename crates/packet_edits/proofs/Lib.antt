@@ -4,3 +4,4 @@ pub mod Mapped
 pub mod Shown
 pub mod Ids
 pub mod Indexed
+pub mod Whole

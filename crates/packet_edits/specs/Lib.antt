@@ -2,5 +2,6 @@ pub mod Faults
 pub mod Edits
 pub mod Shown
 pub mod FrameCounts
-pub mod Stores
 pub mod Laws
+pub mod Marks
+pub mod Stores

@@ -6,6 +6,7 @@ mod entry;
 mod fault;
 mod frame_index;
 pub mod laws;
+mod marks;
 mod moves;
 mod store;
 

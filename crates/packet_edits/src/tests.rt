@@ -43,6 +43,25 @@ fn holds(store: &Store, rows: &[(u64, u64, &[u8])]) -> bool {
         })
 }
 
+/// Whether the packets at these places are marked and no other.
+fn marks(store: &Store, places: &[usize]) -> bool {
+    (0..store.len()).all(|i| store.marked(i) == places.contains(&i))
+}
+
+/// Takes the mark off packet 2, where it stands.
+fn clear_second(store: &mut Store) {
+    if 2 < store.len() {
+        store.clear_mark(2);
+    }
+}
+
+/// Marks the last packet, where one stands.
+fn mark_last(store: &mut Store) {
+    if 0 < store.len() {
+        store.set_mark(store.len() - 1);
+    }
+}
+
 /// Whether the packets at these places are shown and no other.
 fn shows(store: &Store, places: &[usize]) -> bool {
     store.frames() == places.len()
@@ -228,6 +247,32 @@ fn the_most_packets(rt: HostRuntime) -> Result<(), Fail> {
     assert_eq!(rt; store.frames(), 1_048_575);
     assert_eq!(rt; store.shown(1_048_574), Some(1_048_575));
     assert_eq!(rt; store.shown(1_048_575), None);
+    Ok(())
+}
+
+/// What each edit of four packets marks, and marks that are set and taken off.
+#[test]
+fn marks_of_edits(rt: HostRuntime) -> Result<(), Fail> {
+    let alloc = rt.alloc();
+    let mut store = Store::starting(alloc, 0);
+    let rows = &[(0, SHOWN), (0, SHOWN), (0, SHOWN), (0, SHOWN)];
+    assert_eq!(rt; store.push_all(packets_of(alloc, rows)?), Ok(()));
+    assert!(rt; marks(&store, &[]));
+    let bytes = Bytes::from_slice(alloc, HIDDEN)?;
+    assert_eq!(rt; store.insert(1, 0, bytes), Ok(()));
+    assert!(rt; marks(&store, &[2]));
+    clear_second(&mut store);
+    assert!(rt; marks(&store, &[]));
+    let bytes = Bytes::from_slice(alloc, HIDDEN)?;
+    assert_eq!(rt; store.replace(1, bytes), Ok(()));
+    assert!(rt; marks(&store, &[2]));
+    assert_eq!(rt; store.delete(2), Ok(()));
+    assert!(rt; marks(&store, &[2]));
+    clear_second(&mut store);
+    assert_eq!(rt; store.move_to(3, 0), Ok(()));
+    assert!(rt; marks(&store, &[0, 1]));
+    mark_last(&mut store);
+    assert!(rt; marks(&store, &[0, 1, 3]));
     Ok(())
 }
 

@@ -3,8 +3,8 @@ use Rattle.std.proofs.lemmas.Bool.{cases_eq}
 use Rattle.std.proofs.lemmas.List.{length-set, get_or-set_same, get_or-set_other}
 use Rattle.std.proofs.lemmas.List.FromFn.{fill_by_all}
 use Rattle.reference_frames.specs.FrameTokens.{block_of, blocks_of, firsts_of}
-use Rattle.reference_frames.proofs.frame_tokens.blocks_of.Goals as goal
-use Rattle.reference_frames.proofs.frame_tokens.blocks_of.Goals.{then-has_y2, else-has_y2}
+use Rattle.reference_frames.proofs.frame_tokens.dequantise_blocks.Goals as goal
+use Rattle.reference_frames.proofs.frame_tokens.dequantise_blocks.Goals.{then-has_y2, else-has_y2}
 
 pub loop-k-preserved : goal.loop-k-preserved
 loop-k-preserved c = record {

@@ -1,7 +1,7 @@
 use Rattle.std.proofs.Common.{◌≡◌, ℕ, ◌<◌, [], length}
 use Rattle.std.specs.Prelude.{slice_index_or}
 use Rattle.reference_frames.specs.FrameTokens.{block_of}
-use Rattle.reference_frames.proofs.frame_tokens.blocks_of.Given as goal
+use Rattle.reference_frames.proofs.frame_tokens.dequantise_blocks.Given as goal
 
 abbrev pub invariant-loop-k : goal.invariant-loop-k
 invariant-loop-k l = record {
