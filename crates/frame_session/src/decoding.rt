@@ -62,8 +62,8 @@ fn standing_behind(
     count: usize,
     steps: &mut u64,
 ) -> Result<Before, NoMemory>
-    requires { count ≤ length packets.now.entries }
-    ensures stands { IfOk result (λ standing. standing ≡ standing_after tables.now 0 (Ok None) (take count (stream_of packets.now))) }
+    requires { count ≤ length packets.now.list.entries }
+    ensures stands { IfOk result (λ standing. standing ≡ standing_after tables.now 0 (Ok None) (take count (stream_of packets.now.list))) }
     ensures counted { steps.old ≤ steps.new }
 {
     let mut standing = Ok(None);
@@ -87,8 +87,8 @@ pub fn decode(
     place: usize,
     steps: &mut u64,
 ) -> Result<(State, Picture), DecodeFault>
-    requires { place < length packets.now.entries }
-    ensures answers { (want : Outcome) × (slice_get (outcomes tables.now (stream_of packets.now)) place ≡ Some want) × OutcomeAnswers want result }
+    requires { place < length packets.now.list.entries }
+    ensures answers { (want : Outcome) × (slice_get (outcomes tables.now (stream_of packets.now.list)) place ≡ Some want) × OutcomeAnswers want result }
     ensures counted { steps.old ≤ steps.new }
 {
     let standing = match standing_behind(alloc, tables, packets, place, steps) {

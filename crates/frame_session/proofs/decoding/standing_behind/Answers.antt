@@ -6,7 +6,7 @@ use Rattle.frame_session.proofs.decoding.standing_behind.Goals.{in-Ok, in-Err-Re
 
 pub loop-place-preserved : goal.loop-place-preserved
 loop-place-preserved c =
-    let more = stands_more c.args.tables.now (stream_of c.args.packets.now) c.loop-place.place c.packet-packet.result.now c.loop-place.standing in
+    let more = stands_more c.args.tables.now (stream_of c.args.packets.now.list) c.loop-place.place c.packet-packet.result.now c.loop-place.standing in
     record {
       stands = elim c.match-outcome.branch [
         | in-Ok w ↦ w.standing-is ∙ more _ c.packet-packet.ensures c.loop-place.invariant.stands w.in-Ok.ensures.answers

@@ -1,0 +1,10 @@
+pub mod Known
+pub mod Marked
+pub mod Decoded
+pub mod Steps
+pub mod Truth
+pub mod Search
+pub mod Entries
+pub mod Shows
+pub mod Turns
+pub mod Reached

@@ -1,0 +1,4 @@
+pub mod Decoding
+pub mod Views
+pub mod Reaching
+pub mod Searches
