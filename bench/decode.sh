@@ -28,15 +28,20 @@ make_clip 640 360 300 1000
 make_clip 1280 720 120 2500
 make_clip 1920 1080 60 5000
 
-# The default is built last, so that it is what serve.sh finds.
-for level in v3 v2; do
-    (cd "$crate" && rt run --jobs 1 --cpu "x86-64-$level" < /dev/null) > "$room/build.log" 2>&1 || { tail -n 20 "$room/build.log"; exit 1; }
-    cp "$crate/out/vp8serve" "$room/x86-64-$level"
+# For x86-64-v2, and for what serve.sh builds for on this machine, which comes last, so that serve.sh finds it. Where
+# WOKURETI_CPU names a processor, for that alone.
+"$here/../serve.sh" < /dev/null
+own=$(cat "$crate/out/built")
+levels=$own
+[ -n "${WOKURETI_CPU:-}" ] || [ "$own" = x86-64-v2 ] || levels="x86-64-v2 $own"
+for level in $levels; do
+    WOKURETI_CPU=$level "$here/../serve.sh" < /dev/null
+    cp "$crate/out/vp8serve" "$room/$level"
 done
 
-python3 - "$room" "$clips" <<'END'
+python3 - "$room" "$clips" $levels <<'END'
 import resource, subprocess, sys
-room, clips = sys.argv[1:]
+room, clips, *levels = sys.argv[1:]
 RUNS = 5
 
 def user_time(words):
@@ -48,12 +53,10 @@ for name, frames in [("640x360", 300), ("1280x720", 120), ("1920x1080", 60)]:
     clip, requests = f"{clips}/{name}.ivf", f"{room}/{name}"
     with open(requests, "w") as file:
         file.write(f"frame {frames - 1}\n")
-    served = subprocess.run([f"{room}/x86-64-v3", clip, requests, "/dev/null"], check=True, capture_output=True, text=True)
+    served = subprocess.run([f"{room}/{levels[-1]}", clip, requests, "/dev/null"], check=True, capture_output=True, text=True)
     assert served.stdout == f"served {frames - 1}\n", served.stdout
     ffmpeg = ["ffmpeg", "-v", "error", "-threads", "1"]
-    ways = {
-        "x86-64-v3": [f"{room}/x86-64-v3", clip, requests, "/dev/null"],
-        "x86-64-v2": [f"{room}/x86-64-v2", clip, requests, "/dev/null"],
+    ways = {level: [f"{room}/{level}", clip, requests, "/dev/null"] for level in levels} | {
         "vpxdec": ["vpxdec", "--threads=1", "--noblit", clip],
         "ffmpeg": [*ffmpeg, "-i", clip, "-f", "null", "-"],
         "ffmpeg without SIMD": [*ffmpeg, "-cpuflags", "0", "-i", clip, "-f", "null", "-"],
@@ -64,11 +67,11 @@ for name, frames in [("640x360", 300), ("1280x720", 120), ("1920x1080", 60)]:
             best[way] = min(best[way], user_time(words))
     print(f"{name}, {frames} frames")
     for way, time in best.items():
-        ratios = f"v3 {best['x86-64-v3'] / time:5.2f}  v2 {best['x86-64-v2'] / time:5.2f} of it"
+        ratios = "  ".join(f"{level} {best[level] / time:5.2f}" for level in levels) + " of it"
         print(f"  {way:20}{1000 * time:6.0f} ms user {frames / time:6.0f} frames a second  {ratios}")
 END
 
 command -v perf > /dev/null || exit 0
-echo "x86-64-v3, 1920x1080, percent of the time by function"
-perf record -q -F 10000 -o "$room/perf" "$room/x86-64-v3" "$clips/1920x1080.ivf" "$room/1920x1080" /dev/null > /dev/null 2>&1
+echo "$own, 1920x1080, percent of the time by function"
+perf record -q -F 10000 -o "$room/perf" "$room/$own" "$clips/1920x1080.ivf" "$room/1920x1080" /dev/null > /dev/null 2>&1
 perf report -i "$room/perf" --stdio --percent-limit 1 2> /dev/null | grep -E '^ +[0-9]' || true

@@ -19,7 +19,7 @@ use transforms::{dct_add, dct_add_first};
 pub type Blocks = [[i16; 16]; 24];
 
 /// Whether a block has no coefficient behind its first.
-#[inline]
+#[inline(always)]
 fn has_only_first(coefficients: &[i16; 16]) -> bool
     ensures { IsTrue result → All (λ c. c ≡ pos 0) (slice_range coefficients.now 1 16) }
 {
@@ -32,7 +32,7 @@ fn has_only_first(coefficients: &[i16; 16]) -> bool
 
 /// Adds the residual of a block to its 4 by 4 samples at the start of `samples`, in rows `stride`
 /// apart.
-#[inline]
+#[inline(always)]
 fn add_block(coefficients: &[i16; 16], samples: &mut [u8], stride: usize)
     requires wide { (4 ≤ stride) × (stride ≤ 16) }
     requires room { 3 * stride + 4 ≤ length samples.old }
@@ -46,7 +46,7 @@ fn add_block(coefficients: &[i16; 16], samples: &mut [u8], stride: usize)
 }
 
 /// Adds the residual of a block to its samples in a square, from this column and row on.
-#[inline]
+#[inline(always)]
 fn add_at(coefficients: &[i16; 16], samples: &mut [u8], size: BlockSize, column: usize, row: usize)
     requires square { length samples.old ≡ side_of size * side_of size }
     requires column { column + 4 ≤ side_of size }
