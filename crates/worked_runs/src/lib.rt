@@ -16,6 +16,8 @@ mod frames;
 #[cfg(test)]
 mod inter;
 #[cfg(test)]
+mod kept;
+#[cfg(test)]
 mod modes;
 #[cfg(test)]
 mod packets;
