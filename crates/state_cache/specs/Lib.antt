@@ -2,3 +2,4 @@ pub mod Decoding
 pub mod Views
 pub mod Reaching
 pub mod Searches
+pub mod Costs
