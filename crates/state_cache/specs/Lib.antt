@@ -3,3 +3,4 @@ pub mod Views
 pub mod Reaching
 pub mod Searches
 pub mod Costs
+pub mod Walks
