@@ -7,13 +7,13 @@ use Rattle.packet_edits.specs.Edits.{Listing}
 use Rattle.packet_edits.specs.Laws.{HasOwnIds}
 use Rattle.packet_edits.specs.Marks.{StoreValue}
 use Rattle.state_cache.specs.declared.outcomes.Kept.{Kept}
-use Rattle.state_cache.specs.Costs.{AreUnsettled, HasRoom, IsIdOf, IsSettled, unkept_from}
+use Rattle.state_cache.specs.Costs.{HasRoom, IsIdOf, IsSettled, unkept_from}
 use Rattle.state_cache.specs.Reaching.{CacheValue, IsNext, Met, view_of}
 use Rattle.state_cache.specs.Views.{Drops, IsCoherent, Seen, View, is_cut, is_usable, kept_at, seen, seens, seens_of, with_kept}
-use Rattle.state_cache.specs.Walks.{Advances, IsBehindKept, IsPut, IsTurned, MeetsSame, entries_with}
+use Rattle.state_cache.specs.Walks.{Advances, IsBehindKept, IsPut, IsTurned, MeetsSame}
 use Rattle.state_cache.proofs.Marked.{IsOwn, own_seens}
 use Rattle.state_cache.proofs.Onward.{cut_marked, joined_gap, joined_next, joined_onward, passed_next, passed_onward, plain_next, plain_onward}
-use Rattle.state_cache.proofs.Passed.{other_outcome, still_kept}
+use Rattle.state_cache.proofs.Passed.{still_kept}
 use Rattle.state_cache.proofs.Reached.{length_seens}
 use Rattle.state_cache.proofs.Rooms.{one_missing, unkept_further, unkept_step}
 use Rattle.state_cache.proofs.Settled.{SettlesSame, first_unsettled}

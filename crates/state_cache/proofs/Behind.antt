@@ -1,5 +1,5 @@
 -- Looking on along a run for its last kept place.
-use Rattle.std.proofs.Common.{◌≡◌, ℕ, ◌+◌, ◌<◌, ◌≤◌, ◌⊎◌, inl, inr, Bool, true, false, cond, List, refl, sym, subst, ◌∙◌, arith}
+use Rattle.std.proofs.Common.{◌≡◌, ℕ, ◌+◌, ◌<◌, ◌≤◌, ◌⊎◌, inl, inr, Bool, true, false, cond, List, refl, sym, subst, arith}
 use Rattle.state_cache.specs.Costs.{IsOneRun, cut_at}
 use Rattle.state_cache.specs.Views.{Seen, View, kept_at}
 use Rattle.state_cache.specs.Walks.{IsBehindKept}

@@ -1,5 +1,5 @@
 -- Where a walk goes on behind a step that is kept, and what it leaves settled.
-use Rattle.std.proofs.Common.{◌≡◌, ℕ, ◌+◌, ◌<◌, ◌≤◌, Bool, true, false, not, ◌&&◌, ◌||◌, List, Option, Some, None, Result, Ok, Err, is_some, length, slice_get, option_and_then, nat_eq, refl, sym, ap, subst, ◌∙◌, arith}
+use Rattle.std.proofs.Common.{◌≡◌, ℕ, ◌+◌, ◌<◌, ◌≤◌, Bool, true, false, not, ◌&&◌, ◌||◌, List, Option, Some, None, Ok, Err, is_some, length, slice_get, option_and_then, nat_eq, refl, sym, ap, subst, ◌∙◌, arith}
 use Rattle.vp8_tables.specs.Tables.{TableEntries}
 use Rattle.frame_header.specs.Tags.{has_key_tag}
 use Rattle.reference_frames.specs.declared.states.State.{State}
@@ -15,7 +15,7 @@ use Rattle.state_cache.proofs.Passed.{bytes_passed, cut_joined, kept_before_at, 
 use Rattle.state_cache.proofs.Runs.{mark_ends, not_true, one_run_trusted, usable_along}
 use Rattle.state_cache.proofs.Search.{mark_here, trust, usable_both}
 use Rattle.state_cache.proofs.Settled.{SettlesSame, joined_same, passed_same, plain_same}
-use Rattle.state_cache.proofs.Steps.{both_true, key_here, passed_at, usable_trusted}
+use Rattle.state_cache.proofs.Steps.{both_true, passed_at, usable_trusted}
 use Rattle.state_cache.proofs.Truth.{bytes_of, kept_true, present}
 
 -- a step that is kept at m: the walk goes on at `further`, places behind m are settled as they were, and those that are
@@ -26,7 +26,7 @@ pub record Onward (tables : TableEntries) (xs ys : List Seen) (kept kept' : View
   pub same : SettlesSame tables xs ys kept kept' m place
   pub gap : (q : ℕ) → m < q → q < further → IsSettled tables ys kept' place q
 
-state_in : State → Option Outcome → State
+abbrev state_in : State → Option Outcome → State
 state_in other None = other
 state_in other (Some (Ok decoded)) = decoded.0
 state_in other (Some (Err broken)) = other
@@ -121,6 +121,7 @@ module _ (tables : TableEntries) (xs : List Seen) (kept kept' : View) (place m :
         }
 
     told_there : slice_get (outcomes tables (bytes_of xs)) m ≡ Some (Ok (new.state, new.picture))
+    unfolding new_decoded
     told_there = sym (ap (λ (bs : List (List ℕ)). slice_get (outcomes tables bs) m) (bytes_passed xs m cut met)) ∙ new_decoded.is_decoded
 
     -- where the states met, decoding's was kept before

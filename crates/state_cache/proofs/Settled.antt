@@ -1,11 +1,10 @@
 -- Settled places: the first place of a walk is none, and behind it a step that is kept leaves each as it was.
-use Rattle.std.proofs.Common.{◌≡◌, ℕ, ◌+◌, ◌<◌, ◌≤◌, ◌⊎◌, inl, inr, Bool, true, false, List, length, refl, sym, ap, subst, ◌∙◌, arith}
+use Rattle.std.proofs.Common.{◌≡◌, ℕ, ◌+◌, ◌<◌, ◌≤◌, ◌⊎◌, inl, inr, true, false, List, length, sym, subst, ◌∙◌, arith}
 use Rattle.vp8_tables.specs.Tables.{TableEntries}
 use Rattle.state_cache.specs.Costs.{IsKeptAsDecoded, IsOneRun, IsSettled, cut_at}
 use Rattle.state_cache.specs.Reaching.{Begins, IsNext, at_key, at_start, behind}
 use Rattle.state_cache.specs.Views.{Seen, View, is_usable, kept_at}
-use Rattle.state_cache.proofs.Runs.{no_cut, same_or_not, trust_along, up_to_or_behind, usable_along}
-use Rattle.state_cache.proofs.Search.{trust}
+use Rattle.state_cache.proofs.Runs.{no_cut, same_or_not, up_to_or_behind, usable_along}
 use Rattle.state_cache.proofs.Steps.{usable_trusted}
 
 module _ (tables : TableEntries) (xs : List Seen) (kept : View) (place m : ℕ) (next : IsNext xs kept place m) (within : place < length xs) where

@@ -1,5 +1,5 @@
 -- A step that is kept takes just the first place off the list of those that are not settled.
-use Rattle.std.proofs.Common.{◌≡◌, ℕ, zero, suc, ◌+◌, ◌<◌, ◌≤◌, ◌⊎◌, inl, inr, true, List, [], ◌∷◌, Some, length, slice_get, refl, sym, ap, subst, ◌∙◌, arith}
+use Rattle.std.proofs.Common.{◌≡◌, ℕ, zero, suc, ◌<◌, ◌≤◌, ◌⊎◌, inl, inr, true, List, [], ◌∷◌, Some, length, slice_get, refl, sym, ap, subst, arith}
 use Rattle.vp8_tables.specs.Tables.{TableEntries}
 use Rattle.state_cache.specs.Costs.{AreUnsettled, IsSettled}
 use Rattle.state_cache.specs.Views.{Seen, View, kept_at}

@@ -9,10 +9,9 @@ use Rattle.packet_edits.specs.Marks.{StoreValue}
 use Rattle.state_cache.specs.declared.outcomes.Kept.{Kept}
 use Rattle.state_cache.specs.Costs.{AreStepped, AreUnsettled, Costs, HasRoom, IsIdOf, IsSettled, most_steps}
 use Rattle.state_cache.specs.Reaching.{CacheValue, IsNext, view_of}
-use Rattle.state_cache.specs.Views.{Seen, View, is_usable, kept_at, kept_in, seens, seens_of}
+use Rattle.state_cache.specs.Views.{View, is_usable, kept_at, kept_in, seens, seens_of}
 use Rattle.state_cache.specs.Walks.{Advances}
-use Rattle.state_cache.proofs.Reached.{beyond, length_seens}
-use Rattle.state_cache.proofs.Settled.{first_unsettled}
+use Rattle.state_cache.proofs.Reached.{beyond}
 use Rattle.state_cache.proofs.Unsettled.{none_left, some_left}
 
 -- the places that are not settled yet, and the number of steps that were counted on the way

@@ -64,9 +64,13 @@ impl Cache {
     /// The outcome at `place`, a place that stands in the store: what decoding from the stream's start
     /// gives there. It goes on from what is kept, one step at a time.
     ///
+    /// It makes no more steps than places lie from the first one that it steps up to `place`, and none
+    /// where `place` is usable. Where all that comes on the way can be kept besides what is kept, it
+    /// makes just one step for each place on the way that is not settled, and drops nothing.
+    ///
     /// `Refused` where decoding finds the stream broken, with the place and the cause of the break;
     /// `NoMemory` where a growth or a share was refused before. Whatever it answers, it changes no
-    /// packet, and what is kept stays true.
+    /// packet, what is kept stays true, and no fewer outcomes are kept.
     pub fn reach(
         &mut self,
         tables: &Tables,
@@ -171,8 +175,7 @@ impl Cache {
         let Ok(has_met) = self.keep(store.id(place), new) else {
             return Err(ReachFault::NoMemory);
         };
-        pass_mark(store, place, is_cut, has_met);
-        Ok(is_cut && has_met)
+        Ok(pass_mark(store, place, is_cut, has_met))
     }
 
     /// The place behind the last kept one of a run, from `first`, which is kept, up to `place`.
@@ -369,22 +372,25 @@ fn begins_run(store: &Store, place: usize) -> bool
     is_marked(store, place)
 }
 
-/// Passes the mark of a packet that was stepped.
-fn pass_mark(store: &mut Store, place: usize, is_cut: bool, has_met: bool)
+/// Passes the mark of a packet that was stepped. It says whether the runs on both sides of the packet
+/// are one now.
+fn pass_mark(store: &mut Store, place: usize, is_cut: bool, has_met: bool) -> bool
     requires { place < length store.old.list.entries }
-    ensures { store.new ≡ record store.old { marks = passed_marks is_cut has_met place store.old.marks } }
+    ensures marks { store.new ≡ record store.old { marks = passed_marks is_cut has_met place store.old.marks } }
+    ensures joined { result ≡ (is_cut && has_met) }
 {
     if !is_cut {
-        return;
+        return false;
     }
     store.clear_mark(place);
     if has_met {
-        return;
+        return true;
     }
     let len = store.len();
     if place < len - 1 {
         store.set_mark(place + 1);
     }
+    false
 }
 
 /// The place behind what a search found, or where it ended.

@@ -1,5 +1,4 @@
-use Rattle.std.proofs.Common.{◌≡◌, ◌+◌, ◌<◌, ◌≤◌, ◌∙◌, length, sym, arith, rules}
-use Rattle.state_cache.specs.Walks.{Advances}
+use Rattle.std.proofs.Common.{◌∙◌}
 use Rattle.state_cache.proofs.Advanced.{advances_joined, advances_one}
 use Rattle.state_cache.proofs.cache.Cache.advance.Goals as goal
 

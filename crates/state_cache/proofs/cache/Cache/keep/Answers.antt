@@ -1,4 +1,4 @@
-use Rattle.std.proofs.Common.{◌∙◌, ℕ, ◌+◌, ◌≤◌, length, nat_eq, ap, subst, sym}
+use Rattle.std.proofs.Common.{◌∙◌, ℕ, ◌≤◌, length, nat_eq, ap, subst, sym}
 use Rattle.std.specs.Cmp.{nat_eq_equiv}
 use Rattle.std.specs.Map.{lookup}
 use Rattle.lru.specs.LruCache.{LruCache}
@@ -34,3 +34,6 @@ pub returns-in-Ok-clause-bounded : goal.returns-in-Ok-clause-bounded
 returns-in-Ok-clause-bounded c =
     subst (λ (kept : LruCache ℕ Kept). length kept.entries ≤ kept.cap) (sym c.in-Ok.ensures.entries)
     (put_bounded c.self.inside.kept c.args.id c.args.new c.len-valid.ensures.valid.1 c.len-valid.ensures.valid.2)
+
+pub returns-clause-bounded : goal.returns-clause-bounded
+returns-clause-bounded c = subst (λ (kept : LruCache ℕ Kept). length kept.entries ≤ kept.cap) (sym c.in-Err.ensures.err) c.len-valid.ensures.valid.1

@@ -1,4 +1,4 @@
-use Rattle.std.proofs.Common.{◌+◌, ◌<◌, ◌≤◌, ◌∙◌, Err, length, refl, subst, sym, arith, rules}
+use Rattle.std.proofs.Common.{◌<◌, ◌≤◌, ◌∙◌, Err, length, refl, subst, sym, arith, rules}
 use Rattle.std.specs.Prelude.{is_ok}
 use Rattle.packet_edits.specs.Edits.{Listing}
 use Rattle.state_cache.specs.Costs.{most_steps}
@@ -28,7 +28,7 @@ loop-next-preserved c =
       coherent = c.advance.ensures.coherent;
       next = c.in-Ok.ensures.advances.first;
       so_far = walk_more c.args.tables.now c.args.store.now c.loop-next.store c.args.self.now c.loop-next.self c.args.place c.loop-next.next inv.so_far low inv.list c.advance.new.store c.advance.new.self c.in-Ok.further c.in-Ok.ensures.advances
-      c.advance.ensures.counted c.advance.ensures.capacity c.advance.ensures.list;
+          c.advance.ensures.counted c.advance.ensures.capacity c.advance.ensures.list;
     }
 
 pub returns-in-Err-clause-reaches : goal.returns-in-Err-clause-reaches
