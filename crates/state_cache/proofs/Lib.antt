@@ -18,3 +18,4 @@ pub mod Turned
 pub mod Behind
 pub mod Advanced
 pub mod Walked
+pub mod KeptView

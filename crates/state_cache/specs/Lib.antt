@@ -4,3 +4,4 @@ pub mod Reaching
 pub mod Searches
 pub mod Costs
 pub mod Walks
+pub mod KeptViews
