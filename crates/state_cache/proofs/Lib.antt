@@ -19,3 +19,4 @@ pub mod Behind
 pub mod Advanced
 pub mod Walked
 pub mod KeptView
+pub mod CostLaw

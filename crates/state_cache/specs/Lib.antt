@@ -5,3 +5,4 @@ pub mod Searches
 pub mod Costs
 pub mod Walks
 pub mod KeptViews
+pub mod CostLaws
