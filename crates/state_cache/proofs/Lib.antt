@@ -8,3 +8,15 @@ pub mod Entries
 pub mod Shows
 pub mod Turns
 pub mod Reached
+pub mod Runs
+pub mod Settled
+pub mod Passed
+pub mod Onward
+pub mod Unsettled
+pub mod Rooms
+pub mod Turned
+pub mod Behind
+pub mod Advanced
+pub mod Walked
+pub mod KeptView
+pub mod CostLaw
