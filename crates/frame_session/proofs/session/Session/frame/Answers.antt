@@ -8,7 +8,7 @@ use Rattle.frame_session.proofs.session.Session.frame.Goals as goal
 pub returns-clause-gives : goal.returns-clause-gives
 returns-clause-gives c =
     let s = c.self.inside in
-    let old : Now = record { tables = s.tables; head = s.head; list = s.list; script = s.script; spare = s.spare; size = s.size; decoded = s.decoded } in
+    let old : Now = record { tables = s.tables; head = s.head; list = s.list.list; script = s.script; spare = s.spare; size = s.size; decoded = s.decoded } in
     let made = c.in-Ok.made in
     let C : Now → Type 0 = λ now. c.shown.result ≡ shown_count now in
     let D : Now → Type 0 = λ now. picture_from (slice_get (outcomes now.tables (stream_of now)) c.in-Some-shown.place) ≡ Ok c.in_ok-picture.picture in
