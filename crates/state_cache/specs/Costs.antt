@@ -64,7 +64,8 @@ IsIdOf list id = (place : ℕ) × (option_map (λ entry. entry.id) (slice_get li
 abbrev pub most_steps : ℕ
 most_steps = 2 ^ 64 - 1
 
--- with this many places that are not settled, each of them was stepped once; at most these, where the place was not reached
+-- as many steps were counted as there are such places, short of the most that are counted; where the place was not reached,
+-- no more
 pub record AreStepped (before : ℕ) (is_ok : Bool) (after places : ℕ) : Type 0 where
   pub at_most : after ≤ before + places
   pub exactly : is_ok ≡ true → after ≡ min (before + places) most_steps
@@ -86,7 +87,7 @@ pub record Costs (tables : TableEntries) (old : StoreValue) (before : CacheValue
   pub capacity : after.capacity ≡ before.capacity
   -- what is kept was kept before, or is of a packet that stands
   pub stand : (id : ℕ) → IsSome (view_of after id) → IsSome (view_of before id) ⊎ IsIdOf old.list id
-  -- with room, just the places that are not settled are stepped
+  -- with room, as many steps are counted as places on the way are not settled
   pub meets : HasRoom old.list before next place → (places : List ℕ) → AreUnsettled tables (seens old) (view_of before) next place places → AreStepped before.decoded is_ok after.decoded (length places)
   -- with room, all that was kept is kept still
   pub stays : HasRoom old.list before next place → (id : ℕ) → IsSome (view_of before id) → IsSome (view_of after id)
