@@ -1,4 +1,6 @@
 pub mod Decoding
+pub mod DecodingLaws
 pub mod Views
 pub mod Reaching
 pub mod Searches
+pub mod EditLaws

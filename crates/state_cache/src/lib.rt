@@ -3,6 +3,7 @@
 #![tactic(auto)]
 
 mod cache;
+pub mod laws;
 mod outcomes;
 
 pub use cache::Cache;
