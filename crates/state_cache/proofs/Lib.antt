@@ -8,3 +8,6 @@ pub mod Entries
 pub mod Shows
 pub mod Turns
 pub mod Reached
+pub mod Breaks
+pub mod Edited
+pub mod Standing

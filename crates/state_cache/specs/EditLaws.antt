@@ -1,11 +1,11 @@
 -- What an edit of the packets leaves true of what is kept.
-use Rattle.std.specs.Prelude.{◌≡◌, ℕ, List, length, slice_get, Option, Some, None, option_map}
+use Rattle.std.specs.Prelude.{◌≡◌, ℕ, List, length, slice_get, Option, Some, None, option_map, IsSome}
 use Rattle.vp8_tables.specs.Tables.{TableEntries}
 use Rattle.packet_edits.specs.declared.entry.Entry.{Entry}
 use Rattle.packet_edits.specs.Edits.{Listing, deleted, inserted, replaced, with_move}
 use Rattle.packet_edits.specs.Laws.{HasOwnIds}
 use Rattle.packet_edits.specs.Marks.{StoreValue, marks_deleted, marks_inserted, marks_moved, marks_replaced}
-use Rattle.state_cache.specs.declared.outcomes.Kept.{Kept}
+use Rattle.state_cache.specs.Costs.{IsIdOf}
 use Rattle.state_cache.specs.Views.{IsCoherent, View, seens}
 
 -- a store behind each edit that is accepted: its packets and its marks
@@ -29,13 +29,9 @@ IsMarked store = length store.marks ≡ length store.list.entries
 abbrev pub id_at : List Entry → ℕ → Option ℕ
 id_at entries place = option_map (λ entry. entry.id) (slice_get entries place)
 
--- an id is that of a packet of these
-abbrev pub HasId : List Entry → ℕ → Type 0
-HasId entries id = (place : ℕ) × (id_at entries place ≡ Some id)
-
 -- each id for which an outcome is kept is that of a packet that stands
-abbrev pub StandIn : List Entry → View → Type 0
-StandIn entries kept = (id : ℕ) (outcome : Kept) → kept id ≡ Some outcome → HasId entries id
+abbrev pub StandIn : Listing → View → Type 0
+StandIn list kept = (id : ℕ) → IsSome (kept id) → IsIdOf list id
 
 -- nothing is kept for an id any more, and for each other id what was kept
 pub record IsWithout (id : ℕ) (old new : View) : Type 0 where
@@ -62,13 +58,11 @@ pub record EditsKeepCoherence (tables : TableEntries) : Type 0 where
 
 -- behind each edit each id for which an outcome is kept is still that of a packet that stands
 pub record EditsKeepIds : Type 0 where
-  pub insertions : (list : Listing) (kept : View) (at stamp : ℕ) (bytes : List ℕ) → StandIn list.entries kept → StandIn (inserted at stamp bytes list).entries kept
-  pub replacements : (list : Listing) (old new : View) (at : ℕ) (bytes : List ℕ) → IsKeptWithout (id_at list.entries at) old new
-      → StandIn list.entries old → StandIn (replaced at bytes list).entries new
-  pub deletions : (list : Listing) (old new : View) (at : ℕ) → IsKeptWithout (id_at list.entries at) old new
-      → StandIn list.entries old → StandIn (deleted at list).entries new
-  pub moves : (list : Listing) (kept : View) (from to : ℕ) → StandIn list.entries kept → StandIn (with_move from to list).entries kept
+  pub insertions : (list : Listing) (kept : View) (at stamp : ℕ) (bytes : List ℕ) → StandIn list kept → StandIn (inserted at stamp bytes list) kept
+  pub replacements : (list : Listing) (old new : View) (at : ℕ) (bytes : List ℕ) → IsKeptWithout (id_at list.entries at) old new → StandIn list old → StandIn (replaced at bytes list) new
+  pub deletions : (list : Listing) (old new : View) (at : ℕ) → IsKeptWithout (id_at list.entries at) old new → StandIn list old → StandIn (deleted at list) new
+  pub moves : (list : Listing) (kept : View) (from to : ℕ) → StandIn list kept → StandIn (with_move from to list) kept
 
 -- where each packet has an id of its own and outcomes are kept for packets that stand alone, none is kept for the next id
 abbrev pub NextIdIsNotKept : Type 0
-NextIdIsNotKept = (list : Listing) (kept : View) → HasOwnIds list → StandIn list.entries kept → kept list.next_id ≡ None
+NextIdIsNotKept = (list : Listing) (kept : View) → HasOwnIds list → StandIn list kept → kept list.next_id ≡ None

@@ -3,4 +3,5 @@ pub mod DecodingLaws
 pub mod Views
 pub mod Reaching
 pub mod Searches
+pub mod Costs
 pub mod EditLaws

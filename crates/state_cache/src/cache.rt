@@ -1,4 +1,5 @@
-ghost use Rattle.std.specs.Prelude.{◌≡◌, ◌+◌, ◌^◌, ◌<◌, ◌≤◌, ◌&&◌, ℕ, [], length, not, IfErr, IfOk, IfSome, None, OnErr, OnOk, Some, false, option_copied, true};
+ghost use Rattle.std.specs.Prelude.{◌≡◌, ◌+◌, ◌^◌, ◌<◌, ◌≤◌, ◌&&◌, ℕ, [], length, not, IfErr, IfOk, IfSome, None, OnErr, OnOk, Some, false, option_copied, is_ok, true};
+ghost use Rattle.state_cache.specs.Costs.{Costs};
 ghost use Rattle.state_cache.specs.Reaching.{Begins, IsNext, KeptAnswers, Met, Reaches, StepGives, StepsWithin, Tells, passed_marks, state_from, view_of};
 ghost use Rattle.state_cache.specs.Searches.{looked, mark_at, next_of};
 ghost use Rattle.state_cache.specs.Views.{Drops, IsCoherent, is_usable, kept_at, key_at, seens, with_kept};
@@ -75,10 +76,7 @@ impl Cache {
         ensures reaches { Reaches tables.now store.old.list place result }
         ensures list { store.new.list ≡ store.old.list }
         ensures coherent { IsCoherent tables.now (seens store.new) (view_of self.new) }
-        ensures steps { StepsWithin (seens store.old) (view_of self.old) place self.old.decoded self.new.decoded }
-        ensures rises { self.old.decoded ≤ self.new.decoded }
-        ensures usable { OnOk result (is_usable (seens store.new) (view_of self.new) place ≡ true) }
-        ensures free { is_usable (seens store.old) (view_of self.old) place ≡ true → (self.new ≡ self.old) × (store.new ≡ store.old) }
+        ensures costs { Costs tables.now store.old self.old place (is_ok result) store.new self.new }
     {
         let mut next = self.next_step(store, place);
         while next <= place {
@@ -196,6 +194,7 @@ impl Cache {
     pub fn edited(&mut self, id: u64)
         ensures dropped { view_of self.new id ≡ None }
         ensures others { (q : ℕ) → (q ≡ id → ⊥) → view_of self.new q ≡ view_of self.old q }
+        ensures bounded { length self.new.entries ≤ self.new.capacity }
         ensures rest { (self.new.capacity ≡ self.old.capacity) × (self.new.decoded ≡ self.old.decoded) }
     {
         let _valid = self.kept.len();
