@@ -11,9 +11,9 @@ use Rattle.packet_edits.specs.Edits.{moved}
 use Rattle.packet_edits.specs.Marks.{StoreValue, marked_at}
 use Rattle.state_cache.specs.declared.outcomes.Kept.{Kept}
 use Rattle.state_cache.specs.EditLaws.{EditsKeepCoherence, IsKeptWithout, IsMarked, IsWithout, behind_deletion, behind_insertion, behind_move, behind_replacement, id_at}
-use Rattle.state_cache.specs.Views.{Before, CoherentFrom, Drops, Fits, IsCoherent, Seen, View, entering, known, leaving, seen, seens, seens_of, unknown}
+use Rattle.state_cache.specs.Views.{Before, CoherentFrom, Drops, Fits, IsCoherent, Seen, View, entering, failed, known, leaving, seen, seens, seens_of, unknown}
 use Rattle.state_cache.proofs.Known.{Below, drops_same, weaker}
-use Rattle.state_cache.proofs.Marked.{mark_set, seens_set}
+use Rattle.state_cache.proofs.Marked.{get_seen, mark_set, seens_set}
 use Rattle.state_cache.proofs.Steps.{marked_any}
 
 -- packets and marks that are put in, taken out and changed together
@@ -88,12 +88,6 @@ no_mark [] (x ∷ ms) i h s = absurd (omega (arith, h))
 no_mark (y ∷ es) [] i h s = absurd (omega (arith, h))
 no_mark (y ∷ es) (x ∷ ms) zero h s = cc
 no_mark (y ∷ es) (x ∷ ms) (suc i) h s = no_mark es ms i (omega (arith, h)) s
-
-seen_there : (es : List Entry) (ms : List Bool) (i : ℕ) (e : Entry) (m : Bool) → slice_get es i ≡ Some e → slice_get ms i ≡ Some m → slice_get (seens_of es ms) i ≡ Some (seen e m)
-seen_there [] ms i e m h k = cc
-seen_there (x ∷ es) [] i e m h k = cc
-seen_there (x ∷ es) (y ∷ ms) zero e m h k = let a : x ≡ e = cc in let b : y ≡ m = cc in rw (a, b) refl
-seen_there (x ∷ es) (y ∷ ms) (suc i) e m h k = seen_there es ms i e m h k
 
 -- what is kept without an id is what was kept, or less
 kept_less : (id : ℕ) (old new : View) (q : ℕ) (same : Bool) → nat_eq q id ≡ same → IsWithout id old new → Drops (new q) (old q)
@@ -266,7 +260,7 @@ module _ (tables : TableEntries) where
       ∙ ap (λ (ps : List Seen). mark_set (to + 1) true ps) (seens_inserted (remove es from) (remove ns from) to e true shorter)
       ∙ ap (λ (ps : List Seen). mark_set (to + 1) true (insert ps to (seen e true))) (seens_removed es ns from long ∙ ap (λ (ps : List Seen). remove ps from) twice)
       ∙ ap (λ (n : ℕ). mark_set n true (insert left to (seen e true))) (add-one to) in
-      let there = fits_there (known None) (seens_of es ms) from (seen e m.mark) kept (seen_there es ms from e m.mark here m.stands) f in
+      let there = fits_there (known None) (seens_of es ms) from (seen e m.mark) kept (get_seen es ms from e m.mark here m.stands) f in
       let fits : FitsAnywhere (seen e true) kept = λ before. marked_fits e.bytes (kept e.id) (has_key_tag e.bytes) m.mark there.before there.fits in
       subst (λ (ps : List Seen). CoherentFrom tables (known None) ps kept) (sym is)
       (inserted_coherent (known None) left to (seen e true) kept fits
