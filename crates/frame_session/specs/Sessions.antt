@@ -107,7 +107,7 @@ pub record IsAfterFrame (old : Now) (served : Option Size) (new : Now) : Type 0 
 
 -- what stands after an edit that was answered so
 abbrev pub behind_edit : Edit → Now → Result ℕ Refusal → Now
-behind_edit edit now answer = record now { list = after_edit edit now.list answer }
+behind_edit edit now answer = record now { list = after_edit now.tables edit now.list answer }
 
 -- the answer to a script: how many packets stand, or the first fault of its text
 abbrev pub script_answer : Now → List ℕ → Result ℕ Refusal

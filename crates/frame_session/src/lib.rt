@@ -4,6 +4,7 @@
 
 mod decoding;
 mod edit;
+mod forged;
 mod hex_text;
 pub mod laws;
 mod lines;

@@ -113,7 +113,7 @@ fn serve_edit<R: Write>(
     edit: Edit,
     replies: &mut R,
 ) -> Result<(), WriteFault>
-    ensures { OnOk result ((edited : Result ℕ Refusal) × EditGives session.old.list edit edited × (session.new ≡ behind_edit edit session.old edited) × Appends (R.contents replies.old) (R.contents replies.new) (edit_line edited)) }
+    ensures { OnOk result ((edited : Result ℕ Refusal) × EditGives session.old.tables session.old.list edit edited × (session.new ≡ behind_edit edit session.old edited) × Appends (R.contents replies.old) (R.contents replies.new) (edit_line edited)) }
 {
     let edited = session.edit(edit);
     write_edited(replies, edited)
@@ -142,6 +142,10 @@ fn serve<F: Write, R: Write>(
         }
         Line::Delete { at } => serve_edit(session, Edit::Delete { at }, replies),
         Line::Move { from, to } => serve_edit(session, Edit::Move { from, to }, replies),
+        Line::Blank { at, width, height } => {
+            serve_edit(session, Edit::Blank { at, width, height }, replies)
+        }
+        Line::Hold { at } => serve_edit(session, Edit::Hold { at }, replies),
         Line::Script(text) => {
             let set = session.set_script(text.as_slice());
             write_edited(replies, set)

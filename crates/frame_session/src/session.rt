@@ -1,4 +1,7 @@
-ghost use Rattle.std.specs.Prelude.{◌≡◌, ◌<◌, ◌≤◌, IfOk, OnErr, length, slice_get};
+ghost use Rattle.std.specs.Prelude.{◌≡◌, ◌<◌, ◌≤◌, IfOk, OnErr, OnOk, length, slice_get};
+ghost use Rattle.std.specs.Io.KnownBytes.{Appends};
+ghost use Rattle.stream_files.specs.Texts.{written_text};
+ghost use Rattle.packet_edits.specs.Saved.{packets_of};
 ghost use Rattle.packet_edits.specs.Shown.{stream_of};
 ghost use Rattle.frame_session.specs.Decoding.{outcomes};
 ghost use Rattle.frame_session.specs.Gives.{Gives, GivesFrame};
@@ -14,8 +17,9 @@ use packet_edits::Store;
 use pixel_planes::{NoMemory, Picture};
 use script_nodes::{Script, apply};
 use std::alloc::Global;
+use std::io::Write;
 use std::marker::Model;
-use stream_files::{Head, Ivf};
+use stream_files::{Head, Ivf, WriteFault};
 use vp8_tables::Tables;
 
 /// A stream and what was asked of it so far.
@@ -163,15 +167,17 @@ impl Session {
     /// Makes an edit of the packet list, and gives how many packets stand then.
     ///
     /// An insertion is refused as `Place` where `at` is above the number of packets, `Full` where
-    /// 1,048,576 packets stand, `Spent` where no id is left, and `NoMemory`, in this order; a
+    /// 1,048,576 packets stand, `Spent` where no id is left, and `NoMemory`, in this order; one of a
+    /// forged packet, behind `Spent`, as `Size` where no frame has the size, `TooLarge` where its first
+    /// partition has more than 524,287 bytes, and `NoMemory`, which may stand in place of `TooLarge`; a
     /// replacement as `Place` where no packet stands at `at`, and `Spent`; a deletion or a move as
     /// `Place` where no packet stands at one of its places. A refused edit changes nothing.
     pub fn edit(&mut self, edit: Edit) -> Result<u64, Refusal>
-        ensures gives { EditGives self.old.list edit result }
+        ensures gives { EditGives self.old.tables self.old.list edit result }
         ensures after { self.new ≡ behind_edit edit self.old result }
         ensures refused { OnErr result (self.new ≡ self.old) }
     {
-        make_edit(&mut self.list, edit)
+        make_edit(self.alloc, &self.tables, &mut self.list, edit)
     }
 
     /// Puts in a packet of bytes that are made once nothing else is refused.
@@ -181,7 +187,7 @@ impl Session {
         stamp: u64,
         bytes: Hex<'_>,
     ) -> Result<u64, Refusal>
-        ensures gives { Gives (edit_of self.old.list (Insert at stamp bytes.entry)) result }
+        ensures gives { Gives (edit_of self.old.tables self.old.list (Insert at stamp bytes.entry)) result }
         ensures after { self.new ≡ behind_edit (Insert at stamp bytes.entry) self.old result }
     {
         if let Err(fault) = self.list.may_insert(at) {
@@ -195,7 +201,7 @@ impl Session {
 
     /// Replaces a packet by bytes that are made once nothing else is refused.
     pub(crate) fn replace_written(&mut self, at: u64, bytes: Hex<'_>) -> Result<u64, Refusal>
-        ensures gives { Gives (edit_of self.old.list (Replace at bytes.entry)) result }
+        ensures gives { Gives (edit_of self.old.tables self.old.list (Replace at bytes.entry)) result }
         ensures after { self.new ≡ behind_edit (Replace at bytes.entry) self.old result }
     {
         if let Err(fault) = self.list.may_replace(at) {
@@ -230,6 +236,16 @@ impl Session {
             None => Some(self.head),
             Some(_) => None,
         }
+    }
+
+    /// Writes the packets as they stand as an IVF file, with the head of the file that the session began
+    /// with. No memory is taken, and the session stays as it is.
+    ///
+    /// `Write` where the writer gives an error; nothing is told then of how much went out.
+    pub fn save<W: Write>(&self, w: &mut W) -> Result<(), WriteFault>
+        ensures { OnOk result (Appends (W.contents w.old) (W.contents w.new) (written_text self.now.head (packets_of self.now.list))) }
+    {
+        self.list.save(w, self.head)
     }
 
     /// How many bytes stood behind the last whole record of the file.

@@ -5,3 +5,5 @@ pub mod FrameCounts
 pub mod Laws
 pub mod Marks
 pub mod Stores
+pub mod Sizes
+pub mod Saved

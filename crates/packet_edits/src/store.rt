@@ -1,19 +1,24 @@
-ghost use Rattle.std.specs.Prelude.{◌≡◌, ◌+◌, ◌^◌, ◌++◌, ◌<◌, ◌≤◌, [], IfSome, Some, is_ok, if◌then◌else◌, length, map, option_map, slice_get};
+ghost use Rattle.std.specs.Prelude.{◌≡◌, ◌+◌, ◌^◌, ◌++◌, ◌<◌, ◌≤◌, [], IfSome, OnOk, Some, is_ok, if◌then◌else◌, length, map, option_map, slice_get};
+ghost use Rattle.std.specs.Io.KnownBytes.{Appends};
 ghost use Rattle.frame_header.specs.Tags.{is_shown};
 ghost use Rattle.packet_edits.specs.Edits.{numbered};
 ghost use Rattle.packet_edits.specs.Faults.{Answers, unless_refused};
 ghost use Rattle.packet_edits.specs.Marks.{marks_pushed};
+ghost use Rattle.stream_files.specs.Texts.{written_text};
 
 use crate::entry::Entry;
 use crate::fault::EditFault;
 use crate::frame_index::FrameIndex;
+use crate::key_sizes::{before, last_key_size};
 use crate::marks::{mark, move_marked};
 use crate::moves::move_within;
+use crate::saving::write_records;
 use frame_header::is_shown;
 use pixel_planes::NoMemory;
 use std::alloc::Global;
+use std::io::Write;
 use std::marker::Model;
-use stream_files::{Bytes, MAX_PACKETS, Packets};
+use stream_files::{Bytes, Head, MAX_PACKETS, Packets, WriteFault, ivf_start};
 
 /// The id that is never given.
 const SPENT_ID: u64 = u64::MAX;
@@ -45,7 +50,9 @@ impl Store {
     ghost use Rattle.packet_edits.specs.Edits.{deleted, inserted, pushed, refused_deletion, refused_id, refused_insertion, refused_move, refused_push, refused_replacement, replaced, starting, with_move};
     ghost use Rattle.packet_edits.specs.Laws.{HasOwnIds};
     ghost use Rattle.packet_edits.specs.Marks.{marked_at, marks_deleted, marks_inserted, marks_moved, marks_replaced, unmarked_at};
+    ghost use Rattle.packet_edits.specs.Saved.{packets_of};
     ghost use Rattle.packet_edits.specs.Shown.{shown_places, stream_of};
+    ghost use Rattle.packet_edits.specs.Sizes.{size_at};
 
     /// No packets; the first one put in gets the id `first_id`. No memory is taken.
     pub fn starting(alloc: Global, first_id: u64) -> Store
@@ -303,6 +310,26 @@ impl Store {
         ensures { result ≡ length (shown_places (stream_of self.now.list)) }
     {
         self.shown.frames()
+    }
+
+    /// The width and height, in luma samples, that the last packet with a key tag before place `at`
+    /// tells. `None` where there is none, and where that packet tells no size: it has fewer than 10
+    /// bytes, no start code, or a side of 0. `at` may be any number.
+    pub fn size_at(&self, at: u64) -> Option<(u16, u16)>
+        ensures { result ≡ size_at at self.now.list }
+    {
+        last_key_size(before(&self.entries, at))
+    }
+
+    /// Writes the packets as an IVF file with this head: version 0, a header of 32 bytes with the number
+    /// of packets, and a record for each. No memory is taken.
+    ///
+    /// `Write` where the writer gives an error; nothing is told then of how much went out.
+    pub fn save<W: Write>(&self, w: &mut W, head: Head) -> Result<(), WriteFault>
+        ensures { OnOk result (Appends (W.contents w.old) (W.contents w.new) (written_text head (packets_of self.now.list))) }
+    {
+        ivf_start(w, head, self.len() as u32)?;
+        write_records(w, &self.entries)
     }
 }
 
