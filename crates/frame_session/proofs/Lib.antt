@@ -1,5 +1,3 @@
-pub mod Outcomes
-pub mod Breaks
 pub mod Splits
 pub mod Numbers
 pub mod Given

@@ -1,4 +1,6 @@
 ghost use Rattle.std.specs.Prelude.{◌≡◌};
+ghost use Rattle.state_cache.specs.EditLaws.{id_at};
+ghost use Rattle.frame_session.specs.Cached.{leaving, marks_after};
 ghost use Rattle.vp8_tables.specs.declared.tables.Tables.{Tables};
 ghost use Rattle.frame_session.specs.Edits.{EditGives, after_edit, edit_of};
 ghost use Rattle.frame_session.specs.Gives.{Gives};
@@ -43,6 +45,7 @@ pub fn make_edit(
 ) -> Result<u64, Refusal>
     ensures gives { EditGives tables.now list.old.list edit result }
     ensures after { list.new.list ≡ after_edit tables.now edit list.old.list result }
+    ensures marks { list.new.marks ≡ marks_after edit list.old.marks result }
 {
     match edit {
         Edit::Insert { at, stamp, bytes } => insert(list, at, stamp, bytes),
@@ -62,6 +65,7 @@ pub(crate) fn insert(
 ) -> Result<u64, Refusal>
     ensures gives { (tables : Tables) → Gives (edit_of tables list.old.list (Edit.Insert at stamp bytes)) result }
     ensures after { (tables : Tables) → list.new.list ≡ after_edit tables (Edit.Insert at stamp bytes) list.old.list result }
+    ensures marks { list.new.marks ≡ marks_after (Edit.Insert at stamp bytes) list.old.marks result }
 {
     match list.insert(at, stamp, bytes) {
         Ok(()) => Ok(list.len() as u64),
@@ -72,6 +76,7 @@ pub(crate) fn insert(
 fn replace(list: &mut Store, at: u64, bytes: Bytes) -> Result<u64, Refusal>
     ensures gives { (tables : Tables) → result ≡ edit_of tables list.old.list (Edit.Replace at bytes) }
     ensures after { (tables : Tables) → list.new.list ≡ after_edit tables (Edit.Replace at bytes) list.old.list result }
+    ensures marks { list.new.marks ≡ marks_after (Edit.Replace at bytes) list.old.marks result }
 {
     match list.replace(at, bytes) {
         Ok(()) => Ok(list.len() as u64),
@@ -82,6 +87,7 @@ fn replace(list: &mut Store, at: u64, bytes: Bytes) -> Result<u64, Refusal>
 fn delete(list: &mut Store, at: u64) -> Result<u64, Refusal>
     ensures gives { (tables : Tables) → result ≡ edit_of tables list.old.list (Edit.Delete at) }
     ensures after { (tables : Tables) → list.new.list ≡ after_edit tables (Edit.Delete at) list.old.list result }
+    ensures marks { list.new.marks ≡ marks_after (Edit.Delete at) list.old.marks result }
 {
     match list.delete(at) {
         Ok(()) => Ok(list.len() as u64),
@@ -92,9 +98,32 @@ fn delete(list: &mut Store, at: u64) -> Result<u64, Refusal>
 fn move_to(list: &mut Store, from: u64, to: u64) -> Result<u64, Refusal>
     ensures gives { (tables : Tables) → result ≡ edit_of tables list.old.list (Edit.Move from to) }
     ensures after { (tables : Tables) → list.new.list ≡ after_edit tables (Edit.Move from to) list.old.list result }
+    ensures marks { list.new.marks ≡ marks_after (Edit.Move from to) list.old.marks result }
 {
     match list.move_to(from, to) {
         Ok(()) => Ok(list.len() as u64),
         Err(fault) => Err(Refusal::by(fault)),
+    }
+}
+
+/// The id of the packet at place `at`, if one stands there.
+fn id_at(list: &Store, at: u64) -> Option<u64>
+    ensures { result ≡ id_at list.now.list.entries at }
+{
+    if at < list.len() as u64 {
+        Some(list.id(at as usize))
+    } else {
+        None
+    }
+}
+
+/// The id of the packet that an edit takes out of the list, if it takes one.
+pub fn leaving(list: &Store, edit: &Edit) -> Option<u64>
+    ensures { result ≡ leaving edit.now list.now.list }
+{
+    match edit {
+        Edit::Replace { at, .. } => id_at(list, *at),
+        Edit::Delete { at } => id_at(list, *at),
+        _ => None,
     }
 }

@@ -2,7 +2,6 @@
 //! and `run`, which does all of that over the bytes of a file and of a request list.
 #![tactic(auto)]
 
-mod decoding;
 mod edit;
 mod forged;
 mod hex_text;

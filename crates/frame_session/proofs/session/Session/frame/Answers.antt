@@ -1,5 +1,5 @@
 use Rattle.std.proofs.Common.{◌≡◌, ℕ, true, Ok, slice_get, rules, subst, sym}
-use Rattle.frame_session.specs.Decoding.{outcomes}
+use Rattle.state_cache.specs.Decoding.{outcomes}
 use Rattle.frame_session.specs.Gives.{GivesFrame}
 use Rattle.frame_session.specs.Sessions.{Now, fits, frame_of, picture_from, shown_count, stream_of}
 use Rattle.frame_session.proofs.Given.{frame_given}
