@@ -7,3 +7,4 @@ pub mod Determined
 pub mod Answered
 pub mod HexWords
 pub mod Kept
+pub mod Sound

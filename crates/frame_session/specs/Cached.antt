@@ -58,10 +58,14 @@ marks_edited (Move from to) marks = marks_moved from to marks
 marks_edited (Blank at width height) marks = marks_inserted at marks
 marks_edited (Hold at) marks = marks_inserted at marks
 
+-- what stands behind an edit that was answered so: what it makes, or what stood before where it is refused
+abbrev pub behind_answer : {A : Type 0} → A → A → Result ℕ Refusal → A
+behind_answer made before (Ok count) = made
+behind_answer made before (Err refusal) = before
+
 -- the marks behind an edit that was answered so
 abbrev pub marks_after : Edit → List Bool → Result ℕ Refusal → List Bool
-marks_after edit marks (Ok count) = marks_edited edit marks
-marks_after edit marks (Err refusal) = marks
+marks_after edit marks answer = behind_answer (marks_edited edit marks) marks answer
 
 -- the id of the packet that an edit takes out of the list, if it takes one
 abbrev pub leaving : Edit → Listing → Option ℕ
@@ -71,8 +75,7 @@ leaving edit list = None
 
 -- the id that left by an edit that was answered so
 abbrev pub left_behind : Edit → Listing → Result ℕ Refusal → Option ℕ
-left_behind edit list (Ok count) = leaving edit list
-left_behind edit list (Err refusal) = None
+left_behind edit list answer = behind_answer (leaving edit list) None answer
 
 -- where a packet left, nothing is kept for its id any more and all else is as it was; where none did, the cache is as it was
 abbrev pub CacheWithout : Option ℕ → CacheValue → CacheValue → Type 0

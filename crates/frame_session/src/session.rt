@@ -9,7 +9,7 @@ ghost use Rattle.frame_session.specs.Gives.{Gives, GivesFrame};
 ghost use Rattle.frame_session.specs.Edits.{EditGives, edit_of};
 ghost use Rattle.frame_session.specs.declared.edit.Edit.TheVariants.{Insert, Replace};
 
-use crate::edit::{Edit, leaving, make_edit};
+use crate::edit::{Edit, drop_left, leaving, make_edit};
 use crate::hex_text::Hex;
 use crate::refusal::Refusal;
 use crate::size::Size;
@@ -192,9 +192,7 @@ impl Session {
         let _standing = self.list.len();
         let left = leaving(&self.list, &edit);
         let count = make_edit(self.alloc, &self.tables, &mut self.list, edit)?;
-        if let Some(id) = left {
-            self.cache.edited(id);
-        }
+        drop_left(&mut self.cache, left);
         Ok(count)
     }
 
