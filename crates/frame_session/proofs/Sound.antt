@@ -1,15 +1,18 @@
 -- What a session keeps stays sound, and what its frames cost.
 use Rattle.std.proofs.Common.{◌≡◌, ℕ, zero, suc, ◌<◌, ◌≤◌, ◌⊎◌, inl, inr, Bool, true, false, List, [], ◌∷◌, Option, Some, None, Result, Ok, Err, length, slice_get, option_map, refl, sym, ap, subst, ◌∙◌, arith}
 use Rattle.std.specs.Prelude.{option_and_then, IsSome}
+use Rattle.std.specs.Result.{result_unwrap_or}
 use Rattle.vp8_tables.specs.declared.tables.Tables.{Tables}
 use Rattle.packet_edits.specs.declared.entry.Entry.{Entry}
 use Rattle.packet_edits.specs.Edits.{Listing}
 use Rattle.packet_edits.specs.Laws.{HasOwnIds}
 use Rattle.packet_edits.specs.Marks.{StoreValue}
 use Rattle.packet_edits.specs.Shown.{shown_places}
+use Rattle.packet_forge.specs.Packets.{blank_of}
 use Rattle.script_nodes.specs.declared.traces.Step.{Step}
 use Rattle.script_nodes.specs.Frames.{Origin, traced}
 use Rattle.script_nodes.specs.Scripts.{origin_of}
+use Rattle.state_cache.specs.declared.outcomes.Kept.{Kept}
 use Rattle.state_cache.specs.Costs.{Costs, IsIdOf}
 use Rattle.state_cache.specs.EditLaws.{EditsKeepCoherence, EditsKeepIds, IsKeptWithout, IsMarked, NextIdIsNotKept, StandIn, behind_deletion, behind_insertion, behind_move, behind_replacement, id_at}
 use Rattle.state_cache.specs.Reaching.{CacheValue, view_of}
@@ -34,11 +37,16 @@ module _ (tables : Tables) where
   none_coherent b (p ∷ ps) = (tt, none_coherent (leaving_packet tables (entering b p) p.bytes (kept_in [] p.id)) ps)
 
   pub begun_sound : (store : StoreValue) (cache : CacheValue) → cache.entries ≡ [] → IsSound tables store cache
-  begun_sound store cache none = record {
-    coherent = rw none (none_coherent (known None) (seens store));
-    stand = λ id some. (let no : false ≡ true = rw none at some in cc);
-    bounded = rw none (omega arith);
-  }
+  begun_sound store cache none =
+      let few : 0 ≤ cache.capacity = omega arith in
+      record {
+        coherent = subst (λ (es : List (ℕ × Kept)). IsCoherent tables (seens store) (kept_in es)) (sym none) (none_coherent (known None) (seens store));
+        stand = λ id some. nothing_stands store.list id (subst (λ (es : List (ℕ × Kept)). IsSome (kept_in es id)) none some);
+        bounded = subst (λ (es : List (ℕ × Kept)). length es ≤ cache.capacity) (sym none) few;
+      }
+    where
+      nothing_stands : (list : Listing) (id : ℕ) → IsSome (kept_in [] id) → IsIdOf list id
+      nothing_stands list id some = cc
 
   -- a place is reached, or not
   stands_still : (list new : Listing) (before : CacheValue) (id : ℕ) → new ≡ list → StandIn list (view_of before) → IsSome (view_of before id) ⊎ IsIdOf list id → IsIdOf new id
@@ -53,6 +61,10 @@ module _ (tables : Tables) where
   }
 
   -- an edit
+  same_store : (made : StoreValue) (list : Listing) (marks : List Bool) → made.list ≡ list → made.marks ≡ marks → made ≡ record { list = list; marks = marks }
+  same_store made list marks a b =
+      subst (λ (m : List Bool). made ≡ record { list = list; marks = m }) b (subst (λ (l : Listing). made ≡ record { list = l; marks = made.marks }) a refl)
+
   kept_without : (left : Option ℕ) (old new : CacheValue) → CacheWithout left old new → IsKeptWithout left (view_of old) (view_of new)
   kept_without None old new h = λ q. ap (λ (c : CacheValue). view_of c q) h
   kept_without (Some id) old new h = h.0
@@ -85,16 +97,16 @@ module _ (tables : Tables) where
       stand = ids.moves store.list (view_of old) from to s.stand;
       bounded = s.bounded;
     })
-    edited_sound (Blank at width height) store old new marked own s without few = inserted_sound at (stamp_before at store.list) _ store old new marked own s without
-    edited_sound (Hold at) store old new marked own s without few = inserted_sound at (stamp_before at store.list) _ store old new marked own s without
+    edited_sound (Blank at width height) store old new marked own s without few = inserted_sound at (stamp_before at store.list) (result_unwrap_or (blank_of tables width height) []) store old new marked own s without
+    edited_sound (Hold at) store old new marked own s without few = inserted_sound at (stamp_before at store.list) (result_unwrap_or (held_at tables store.list at) []) store old new marked own s without
 
     pub answered_sound : (edit : Edit) (store made : StoreValue) (old new : CacheValue) (answer : Result ℕ Refusal) → IsMarked store → HasOwnIds store.list → made.list ≡ after_edit tables edit store.list answer → made.marks ≡ marks_after edit store.marks answer
         → IsSound tables store old → CacheWithout (left_behind edit store.list answer) old new → (length old.entries ≤ old.capacity → length new.entries ≤ new.capacity) → IsSound tables made new
     answered_sound edit store made old new (Ok count) marked own list marks s without few =
-        let is : made ≡ record { list = edited tables edit store.list; marks = marks_edited edit store.marks } = rw (← list, ← marks) refl in
+        let is : made ≡ record { list = edited tables edit store.list; marks = marks_edited edit store.marks } = same_store made (edited tables edit store.list) (marks_edited edit store.marks) list marks in
         subst (λ (m : StoreValue). IsSound tables m new) (sym is) (edited_sound edit store old new marked own s without (few s.bounded))
     answered_sound edit store made old new (Err refusal) marked own list marks s without few =
-        let is : made ≡ store = rw (← list, ← marks) refl in
+        let is : made ≡ store = same_store made store.list store.marks list marks in
         subst (λ (m : StoreValue). IsSound tables m new) (sym is) (subst (λ (c : CacheValue). IsSound tables store c) (sym without) s)
 
 -- the place that a frame comes from
