@@ -5,3 +5,5 @@ pub mod Shown
 pub mod Ids
 pub mod Indexed
 pub mod Whole
+pub mod Keys
+pub mod Records

@@ -10,6 +10,8 @@ mod filters;
 #[cfg(test)]
 mod fixtures;
 #[cfg(test)]
+mod forged;
+#[cfg(test)]
 mod frames;
 #[cfg(test)]
 mod inter;

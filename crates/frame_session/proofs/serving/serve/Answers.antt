@@ -7,7 +7,7 @@ use Rattle.frame_session.specs.Replies.{refused_line, edit_line, count_line, sta
 use Rattle.frame_session.specs.Sessions.{frame_count, packet_count}
 use Rattle.frame_session.specs.Answers.{Serves}
 use Rattle.frame_session.specs.Cached.{SessionValue}
-use Rattle.frame_session.proofs.Served.{serves_silent, serves_unknown, serves_inserted, serves_replaced, serves_deleted, serves_moved, serves_script, serves_count, serves_stats}
+use Rattle.frame_session.proofs.Served.{serves_silent, serves_unknown, serves_inserted, serves_replaced, serves_deleted, serves_moved, serves_blanked, serves_held, serves_script, serves_count, serves_stats}
 use Rattle.frame_session.proofs.serving.serve.Goals as goal
 
 pub returns-in-Silent : goal.returns-in-Silent
@@ -56,6 +56,20 @@ returns-in-Move g c =
     let r = g.R.Write.contents c.args.replies.now in
     let r' = g.R.Write.contents c.serve_edit-in-Move.new.replies in
     rw c.in-Move.is (on_ok_weaker c.serve_edit-in-Move.result (serves_moved c.args.session.now.now f f r r' c.in-Move.from c.in-Move.to c.serve_edit-in-Move.new.session.now) c.serve_edit-in-Move.ensures)
+
+pub returns-in-Blank : goal.returns-in-Blank
+returns-in-Blank g c =
+    let f = g.F.Write.contents c.args.frames.now in
+    let r = g.R.Write.contents c.args.replies.now in
+    let r' = g.R.Write.contents c.serve_edit-in-Blank.new.replies in
+    rw c.in-Blank.is (on_ok_weaker c.serve_edit-in-Blank.result (serves_blanked c.args.session.now.now f f r r' c.in-Blank.at c.in-Blank.width c.in-Blank.height c.serve_edit-in-Blank.new.session.now) c.serve_edit-in-Blank.ensures)
+
+pub returns-in-Hold : goal.returns-in-Hold
+returns-in-Hold g c =
+    let f = g.F.Write.contents c.args.frames.now in
+    let r = g.R.Write.contents c.args.replies.now in
+    let r' = g.R.Write.contents c.serve_edit-in-Hold.new.replies in
+    rw c.in-Hold.is (on_ok_weaker c.serve_edit-in-Hold.result (serves_held c.args.session.now.now f f r r' c.in-Hold.at c.serve_edit-in-Hold.new.session.now) c.serve_edit-in-Hold.ensures)
 
 pub returns-in-Script : goal.returns-in-Script
 returns-in-Script g c =
