@@ -9,20 +9,26 @@ use Rattle.packet_edits.specs.Laws.{HasOwnIds}
 use Rattle.packet_edits.specs.Marks.{StoreValue}
 use Rattle.packet_edits.specs.Shown.{shown_places}
 use Rattle.packet_forge.specs.Packets.{blank_of}
+use Rattle.pixel_planes.specs.Pictures.{PictureSamples}
 use Rattle.script_nodes.specs.declared.traces.Step.{Step}
 use Rattle.script_nodes.specs.Frames.{Origin, traced}
 use Rattle.script_nodes.specs.Scripts.{origin_of}
 use Rattle.state_cache.specs.declared.outcomes.Kept.{Kept}
+use Rattle.state_cache.specs.declared.outcomes.Broken.{Broken}
+use Rattle.state_cache.specs.declared.outcomes.ReachFault.TheVariants.{Refused, NoMemory}
 use Rattle.state_cache.specs.Costs.{Costs, IsIdOf}
+use Rattle.state_cache.specs.Decoding.{Outcome}
 use Rattle.state_cache.specs.EditLaws.{EditsKeepCoherence, EditsKeepIds, IsKeptWithout, IsMarked, NextIdIsNotKept, StandIn, behind_deletion, behind_insertion, behind_move, behind_replacement, id_at}
-use Rattle.state_cache.specs.Reaching.{CacheValue, view_of}
+use Rattle.state_cache.specs.Reaching.{CacheValue, ReachAnswers, view_of}
 use Rattle.state_cache.specs.Views.{Before, CoherentFrom, IsCoherent, Seen, entering, kept_in, known, leaving as leaving_packet, seens}
 use Rattle.frame_session.specs.declared.edit.Edit.{Edit}
 use Rattle.frame_session.specs.declared.edit.Edit.TheVariants.{Insert, Replace, Delete, Move, Blank, Hold}
 use Rattle.frame_session.specs.declared.refusal.Refusal.{Refusal}
+use Rattle.frame_session.specs.declared.refusal.Refusal.TheVariants as refusals
+use Rattle.frame_session.specs.Gives.{Gives, MayLackMemory}
 use Rattle.frame_session.specs.Edits.{after_edit, edited, held_at, stamp_before}
 use Rattle.frame_session.specs.Cached.{CacheWithout, FrameCosts, IsSound, SessionValue, leaving, left_behind, marks_after, marks_edited, place_of, store_of}
-use Rattle.frame_session.specs.Sessions.{Now, shown_count, stream_of}
+use Rattle.frame_session.specs.Sessions.{Now, picture_from, shown_count, stream_of}
 
 -- no packet stands behind the last
 pub no_id : (es : List Entry) (at : ℕ) → length es ≤ at → None ≡ id_at es at
@@ -59,6 +65,20 @@ module _ (tables : Tables) where
     stand = λ id some. stands_still store.list new.list before id same sound.stand (costs.stand id some);
     bounded = costs.bounded;
   }
+
+  -- what reaching a place answers is what may be told of it
+  pub picture_given : (o : Option Outcome) (kept : Kept) → (want : Outcome) × (o ≡ Some want) × ReachAnswers want (Ok kept) → Gives (picture_from o) (Ok kept.picture)
+  picture_given o kept reached = ap picture_from (reached.1 ∙ ap Some reached.2)
+
+  pub break_given : (o : Option Outcome) (broken : Broken) → (want : Outcome) × (o ≡ Some want) × ReachAnswers want (Err (Refused broken)) → Gives {PictureSamples} (picture_from o) (Err (refusals.Packet broken.place broken.cause))
+  break_given o broken reached = ap picture_from (reached.1 ∙ ap Some reached.2)
+
+  pub nothing_given : (o : Option Outcome) → (want : Outcome) × (o ≡ Some want) × ReachAnswers want (Err NoMemory) → Gives {PictureSamples} (picture_from o) (Err refusals.NoMemory)
+  nothing_given o reached = subst (λ (p : Option Outcome). MayLackMemory (picture_from p)) (sym reached.1) (may_lack reached.0)
+    where
+      may_lack : (want : Outcome) → MayLackMemory (picture_from (Some want))
+      may_lack (Ok decoded) = tt
+      may_lack (Err broken) = tt
 
   -- an edit
   same_store : (made : StoreValue) (list : Listing) (marks : List Bool) → made.list ≡ list → made.marks ≡ marks → made ≡ record { list = list; marks = marks }

@@ -1,6 +1,5 @@
-ghost use Rattle.std.specs.Prelude.{◌≡◌, ◌≤◌, length};
-ghost use Rattle.state_cache.specs.EditLaws.{id_at};
-ghost use Rattle.frame_session.specs.Cached.{CacheWithout, leaving, marks_after};
+ghost use Rattle.std.specs.Prelude.{◌≡◌};
+ghost use Rattle.frame_session.specs.Cached.{marks_after};
 ghost use Rattle.vp8_tables.specs.declared.tables.Tables.{Tables};
 ghost use Rattle.frame_session.specs.Edits.{EditGives, after_edit, edit_of};
 ghost use Rattle.frame_session.specs.Gives.{Gives};
@@ -8,7 +7,6 @@ ghost use Rattle.frame_session.specs.Gives.{Gives};
 use crate::forged::{insert_blank, insert_hold};
 use crate::refusal::Refusal;
 use packet_edits::Store;
-use state_cache::Cache;
 use std::alloc::Global;
 use stream_files::Bytes;
 use vp8_tables::Tables;
@@ -104,38 +102,5 @@ fn move_to(list: &mut Store, from: u64, to: u64) -> Result<u64, Refusal>
     match list.move_to(from, to) {
         Ok(()) => Ok(list.len() as u64),
         Err(fault) => Err(Refusal::by(fault)),
-    }
-}
-
-/// The id of the packet at place `at`, if one stands there.
-#[tactic(auto, using(crate::proofs::Sound::no_id))]
-fn id_at(list: &Store, at: u64) -> Option<u64>
-    ensures { result ≡ id_at list.now.list.entries at }
-{
-    if at < list.len() as u64 {
-        Some(list.id(at as usize))
-    } else {
-        None
-    }
-}
-
-/// The id of the packet that an edit takes out of the list, if it takes one.
-pub fn leaving(list: &Store, edit: &Edit) -> Option<u64>
-    ensures { result ≡ leaving edit.now list.now.list }
-{
-    match edit {
-        Edit::Replace { at, .. } => id_at(list, *at),
-        Edit::Delete { at } => id_at(list, *at),
-        _ => None,
-    }
-}
-
-/// Drops what is kept for the packet that left, where one did.
-pub fn drop_left(cache: &mut Cache, left: Option<u64>)
-    ensures without { CacheWithout left cache.old cache.new }
-    ensures bounded { length cache.old.entries ≤ cache.old.capacity → length cache.new.entries ≤ cache.new.capacity }
-{
-    if let Some(id) = left {
-        cache.edited(id);
     }
 }

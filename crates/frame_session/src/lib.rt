@@ -5,6 +5,7 @@
 mod edit;
 mod forged;
 mod hex_text;
+mod keeping;
 pub mod laws;
 mod lines;
 mod refusal;

@@ -9,15 +9,15 @@ ghost use Rattle.frame_session.specs.Gives.{Gives, GivesFrame};
 ghost use Rattle.frame_session.specs.Edits.{EditGives, edit_of};
 ghost use Rattle.frame_session.specs.declared.edit.Edit.TheVariants.{Insert, Replace};
 
-use crate::edit::{Edit, drop_left, leaving, make_edit};
+use crate::edit::Edit;
 use crate::hex_text::Hex;
+use crate::keeping::{edit_kept, picture_at};
 use crate::refusal::Refusal;
 use crate::size::Size;
 use packet_edits::Store;
 use pixel_planes::{NoMemory, Picture};
 use script_nodes::{Script, apply};
-use state_cache::laws::{edits_keep_coherence, edits_keep_ids, next_id_is_not_kept};
-use state_cache::{Cache, ReachFault};
+use state_cache::Cache;
 use std::alloc::Global;
 use std::io::Write;
 use std::marker::Model;
@@ -98,14 +98,7 @@ impl Session {
         ensures costs { Costs self.old.now.tables (store_of self.old) self.old.cache place (is_ok result) (store_of self.new) self.new.cache }
         ensures rises { self.old.now.decoded ≤ self.new.now.decoded }
     {
-        match self.cache.reach(&self.tables, &mut self.list, place) {
-            Ok(kept) => Ok(kept.picture),
-            Err(ReachFault::Refused(broken)) => Err(Refusal::Packet {
-                place: broken.place,
-                cause: broken.cause,
-            }),
-            Err(ReachFault::NoMemory) => Err(Refusal::NoMemory),
-        }
+        picture_at(&self.tables, &mut self.list, &mut self.cache, place)
     }
 
     /// Whether a picture has the size of the stream, if that is fixed.
@@ -186,14 +179,13 @@ impl Session {
         ensures cache { CacheWithout (left_behind edit self.old.now.list result) self.old.cache self.new.cache }
         ensures refused { OnErr result (self.new ≡ self.old) }
     {
-        edits_keep_coherence(&self.tables);
-        edits_keep_ids();
-        next_id_is_not_kept();
-        let _standing = self.list.len();
-        let left = leaving(&self.list, &edit);
-        let count = make_edit(self.alloc, &self.tables, &mut self.list, edit)?;
-        drop_left(&mut self.cache, left);
-        Ok(count)
+        edit_kept(
+            self.alloc,
+            &self.tables,
+            &mut self.list,
+            &mut self.cache,
+            edit,
+        )
     }
 
     /// Puts in a packet of bytes that are made once nothing else is refused.
