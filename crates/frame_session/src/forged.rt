@@ -1,7 +1,7 @@
 // Edits that put in a forged packet.
 ghost use Rattle.std.specs.Prelude.{◌≡◌, Ok, IfOk, IfErr};
 ghost use Rattle.packet_forge.specs.Faults.{ForgeRefuses};
-ghost use Rattle.packet_forge.specs.Packets.{blank_of};
+ghost use Rattle.packet_forge.specs.Packets.{blank_of, is_side};
 ghost use Rattle.frame_session.specs.Edits.{after_edit, edit_of, held, stamp_before};
 ghost use Rattle.frame_session.specs.Cached.{marks_after};
 ghost use Rattle.frame_session.specs.Gives.{Gives};
@@ -28,6 +28,13 @@ fn stamp_before(list: &Store, at: u64) -> u64
     list.stamp((at - 1) as usize)
 }
 
+/// Whether a frame can have a side.
+fn is_side(side: u64) -> bool
+    ensures { result ≡ is_side side }
+{
+    0 < side && side <= 16_383
+}
+
 /// A blank packet of a size of any numbers.
 fn forge_blank(
     alloc: Global,
@@ -38,10 +45,7 @@ fn forge_blank(
     ensures bytes { IfOk result (λ packet. blank_of tables.now width height ≡ Ok packet.items) }
     ensures refused { IfErr result (ForgeRefuses (blank_of tables.now width height)) }
 {
-    if width > 16_383 {
-        return Err(ForgeFault::Size);
-    }
-    if height > 16_383 {
+    if !is_side(width) || !is_side(height) {
         return Err(ForgeFault::Size);
     }
     blank(alloc, tables, width as u16, height as u16)

@@ -285,7 +285,14 @@ fn sizes_before_places(rt: HostRuntime) -> Result<(), Fail> {
     let narrow: &[u8] = &[0x10, 0, 0, 0x9D, 1, 0x2A, 16, 0, 9, 0x40];
     let wide: &[u8] = &[0x10, 0, 0, 0x9D, 1, 0x2A, 0x2C, 0x81, 9, 0, 7];
     let short: &[u8] = &[0x10, 0, 0, 0x9D, 1, 0x2A];
-    let rows = &[(0, SHOWN), (0, narrow), (0, HIDDEN), (0, wide), (0, short), (0, SHOWN)];
+    let rows = &[
+        (0, SHOWN),
+        (0, narrow),
+        (0, HIDDEN),
+        (0, wide),
+        (0, short),
+        (0, SHOWN),
+    ];
     assert_eq!(rt; store.push_all(packets_of(alloc, rows)?), Ok(()));
     let wants = [
         None,
@@ -328,8 +335,8 @@ const HEAD: Head = Head {
 
 /// A header with the number of packets, and a record for each.
 const SAVED: [u8; 59] = [
-    b'D', b'K', b'I', b'F', 0, 0, 32, 0, b'V', b'P', b'8', b'0', 16, 0, 9, 0, 30, 0, 0, 0, 1, 0,
-    0, 0, 2, 0, 0, 0, 0, 0, 0, 0, //
+    b'D', b'K', b'I', b'F', 0, 0, 32, 0, b'V', b'P', b'8', b'0', 16, 0, 9, 0, 30, 0, 0, 0, 1, 0, 0,
+    0, 2, 0, 0, 0, 0, 0, 0, 0, //
     3, 0, 0, 0, 20, 0, 0, 0, 0, 0, 0, 0, 0x11, 0, 0, //
     0, 0, 0, 0, 1, 2, 0, 0, 0, 0, 0, 0x80,
 ];

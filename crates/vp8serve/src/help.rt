@@ -10,7 +10,11 @@ in a second packet, saves both as IVF and writes both frames:
   printf 'blank 0 64 48\\nhold 1\\nframe 0\\nframe 1\\n' | vp8serve - - out.y4m --save out.ivf
 
 It prints the replies `ok 1`, `ok 2`, `served 0` and `served 1`.
-`ffplay out.y4m` shows the frames, and `vp8serve out.ivf` reads the packets again.";
+`ffplay out.y4m` shows the frames, and `vp8serve out.ivf` reads the packets again.
+
+To watch frames as they are served, with the replies in a file:
+
+  vp8serve in.ivf requests /dev/fd/3 3>&1 >replies | ffplay -";
 
 /// The lines of requests and the nodes of scripts.
 pub const GRAMMAR: &str = "\
@@ -25,8 +29,9 @@ Requests, a line each; the reply goes to standard output:
   script TEXT           edit the frames, see below    ok K
   count                                               packets K frames F
   stats                                               decoded D (packets so far)
-Packets and frames are numbered from 0. HEX is an even number of hexadecimal
-digits, or `-` for none. Empty lines and lines that begin with # have no reply.
+Packets and frames are numbered from 0. STAMP is a packet's time stamp, HEX its
+bytes as hexadecimal digits, or `-` for none. Empty lines and lines that begin
+with # have no reply.
 A request that is refused changes nothing; the reply says why:
   refused Line | Place | Full | Spent | Size | TooLarge | NoMemory
   refused Syntax | Nodes | Reference | Number             (script)

@@ -1,5 +1,5 @@
 // What the program reads.
-ghost use Rattle.std.specs.Prelude.{◌≡◌, IfOk, IfErr, IfSome, Ok, codes, None};
+ghost use Rattle.std.specs.Prelude.{◌≡◌, IfOk, IfErr, IfSome, Ok, codes, None, false, is_some};
 ghost use Rattle.vp8_tables.specs.Rfc.{rfc_entries};
 ghost use Rattle.vp8_tables.specs.Tables.{entries_of};
 ghost use Rattle.vp8serve.specs.Statuses.{status_of};
@@ -57,11 +57,14 @@ pub fn read_tables<'a, R: Files + AllocGlobal>(
     rt: &R,
     path: Option<&'a str>,
 ) -> Result<Tables, Fault<'a>>
-    ensures rfc { path.entry ≡ None → IfOk result (λ tables. tables ≡ rfc_entries) }
+    ensures rfc { is_some path.entry ≡ false → IfOk result (λ tables. tables ≡ rfc_entries) }
     ensures status { IfErr result (λ fault. status_of fault ≡ 1) }
 {
     match path {
-        Some(path) => tables_of(read_file(rt, path)?.as_slice()),
+        Some(path) => {
+            let bytes = read_file(rt, path)?;
+            tables_of(bytes.as_slice())
+        }
         None => Ok(Tables::rfc()),
     }
 }

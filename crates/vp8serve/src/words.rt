@@ -1,5 +1,5 @@
 // The words of the command line.
-ghost use Rattle.std.specs.Prelude.{◌≡◌, IfSome, None, codes};
+ghost use Rattle.std.specs.Prelude.{◌≡◌, ◌≤◌, IfSome, None, codes};
 ghost use Rattle.clap.specs.Matches.{first_value, found_of};
 ghost use Rattle.vp8serve.specs.Capacities.{capacity_given};
 
@@ -38,7 +38,8 @@ impl Words<'_> {
     /// How many decoded states a session may keep: the number given, or 32. `None` where it is not 1
     /// to 4,096.
     pub fn capacity(self) -> Option<u16>
-        ensures { result ≡ capacity_given self.entry.cache }
+        ensures given { result ≡ capacity_given self.entry.cache }
+        ensures range { IfSome result (λ count. (1 ≤ count) × (count ≤ 4096)) }
     {
         match self.cache {
             None => Some(CAPACITY),
