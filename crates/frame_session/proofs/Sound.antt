@@ -70,10 +70,10 @@ module _ (tables : Tables) where
   pub picture_given : (o : Option Outcome) (kept : Kept) → (want : Outcome) × (o ≡ Some want) × ReachAnswers want (Ok kept) → Gives (picture_from o) (Ok kept.picture)
   picture_given o kept reached = ap picture_from (reached.1 ∙ ap Some reached.2)
 
-  pub break_given : (o : Option Outcome) (broken : Broken) → (want : Outcome) × (o ≡ Some want) × ReachAnswers want (Err (Refused broken)) → Gives {PictureSamples} (picture_from o) (Err (refusals.Packet broken.place broken.cause))
+  pub break_given : (o : Option Outcome) (broken : Broken) → (want : Outcome) × (o ≡ Some want) × ReachAnswers want (Err (Refused broken)) → Gives {A = PictureSamples} (picture_from o) (Err (refusals.Packet broken.place broken.cause))
   break_given o broken reached = ap picture_from (reached.1 ∙ ap Some reached.2)
 
-  pub nothing_given : (o : Option Outcome) → (want : Outcome) × (o ≡ Some want) × ReachAnswers want (Err NoMemory) → Gives {PictureSamples} (picture_from o) (Err refusals.NoMemory)
+  pub nothing_given : (o : Option Outcome) → (want : Outcome) × (o ≡ Some want) × ReachAnswers want (Err NoMemory) → Gives {A = PictureSamples} (picture_from o) (Err refusals.NoMemory)
   nothing_given o reached = subst (λ (p : Option Outcome). MayLackMemory (picture_from p)) (sym reached.1) (may_lack reached.0)
     where
       may_lack : (want : Outcome) → MayLackMemory (picture_from (Some want))
