@@ -11,3 +11,14 @@ pub mod Reached
 pub mod Breaks
 pub mod Edited
 pub mod Standing
+pub mod Runs
+pub mod Settled
+pub mod Passed
+pub mod Onward
+pub mod Unsettled
+pub mod Rooms
+pub mod Turned
+pub mod Behind
+pub mod Advanced
+pub mod Walked
+pub mod KeptView

@@ -78,7 +78,7 @@ apart_all id [] ms a = tt
 apart_all id (e ∷ es) [] a = (a.0, apart_all id es [] a.1)
 apart_all id (e ∷ es) (m ∷ ms) a = (a.0, apart_all id es ms a.1)
 
-apart_get : (id : ℕ) (xs : List Seen) (i : ℕ) (p : Seen) → Apart id xs → slice_get xs i ≡ Some p → (id ≡ p.id → ⊥)
+pub apart_get : (id : ℕ) (xs : List Seen) (i : ℕ) (p : Seen) → Apart id xs → slice_get xs i ≡ Some p → (id ≡ p.id → ⊥)
 apart_get id [] i p a h = cc
 apart_get id (x ∷ xs) zero p a h = let e : x ≡ p = cc in λ same. a.0 (ap (λ (y : Seen). y.id) e ∙ sym same)
 apart_get id (x ∷ xs) (suc i) p a h = apart_get id xs i p a.1 h

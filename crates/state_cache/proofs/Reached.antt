@@ -21,7 +21,7 @@ use Rattle.state_cache.proofs.Shows.{shows}
 use Rattle.state_cache.proofs.Steps.{key_here, missing_here, passed_at, seens_passed, stands_before, step_kept, usable_after}
 use Rattle.state_cache.proofs.Truth.{bytes_of, kept_true, refused_true, stays_broken}
 
-length_seens : (es : List Entry) (ms : List Bool) → length (seens_of es ms) ≡ length es
+pub length_seens : (es : List Entry) (ms : List Bool) → length (seens_of es ms) ≡ length es
 length_seens [] ms = refl
 length_seens (e ∷ es) [] = ap suc (length_seens es [])
 length_seens (e ∷ es) (m ∷ ms) = ap suc (length_seens es ms)
@@ -29,7 +29,7 @@ length_seens (e ∷ es) (m ∷ ms) = ap suc (length_seens es ms)
 mark_seen : (xs : List Seen) (i : ℕ) (p : Seen) → slice_get xs i ≡ Some p → mark_at xs i ≡ p.marked
 mark_seen xs i p h = rw h refl
 
-cut_seen : (xs : List Seen) (i : ℕ) (p : Seen) → slice_get xs i ≡ Some p → (mark_at xs i && not (key_at xs i)) ≡ is_cut p
+pub cut_seen : (xs : List Seen) (i : ℕ) (p : Seen) → slice_get xs i ≡ Some p → (mark_at xs i && not (key_at xs i)) ≡ is_cut p
 cut_seen xs i p h = ap (λ (m : Bool). m && not (key_at xs i)) (mark_seen xs i p h) ∙ ap (λ (k : Bool). p.marked && not k) (key_here xs i p h)
 
 module _ (tables : TableEntries) (es : List Entry) (ms : List Bool) (kept kept' : View) (i id : ℕ) (cut met : Bool) (p : Seen) (new : Kept) (h : slice_get (seens_of es ms) i ≡ Some p) (many : length ms ≡ length es) (begins : Begins (seens_of es ms) kept i)

@@ -48,23 +48,23 @@ and_false : (a : Bool) → (a && false) ≡ false
 and_false true = refl
 and_false false = refl
 
-not_usable_trust : (xs : List Seen) (kept : View) (p : ℕ) → trust xs (p + 1) ≡ false → is_usable xs kept p ≡ false
+pub not_usable_trust : (xs : List Seen) (kept : View) (p : ℕ) → trust xs (p + 1) ≡ false → is_usable xs kept p ≡ false
 not_usable_trust xs kept p h = ap (λ (b : Bool). kept_at xs kept p && b) h ∙ and_false (kept_at xs kept p)
 
-usable_both : (xs : List Seen) (kept : View) (p : ℕ) → kept_at xs kept p ≡ true → trust xs (p + 1) ≡ true → is_usable xs kept p ≡ true
+pub usable_both : (xs : List Seen) (kept : View) (p : ℕ) → kept_at xs kept p ≡ true → trust xs (p + 1) ≡ true → is_usable xs kept p ≡ true
 usable_both xs kept p h k = rw (h, k) refl
 
 arrive : (xs : List Seen) (kept : View) (i u : ℕ) → u ≤ i → is_usable xs kept u ≡ true → i < u + 1 → is_usable xs kept i ≡ true
 arrive xs kept i u low usable up = let same : u ≡ i = omega (arith, low, up) in subst (λ (n : ℕ). is_usable xs kept n ≡ true) same usable
 
 -- a packet with no key tag, and its mark
-trust_marked : (xs : List Seen) (j : ℕ) (p : Seen) → slice_get xs j ≡ Some p → has_key_tag p.bytes ≡ false → p.marked ≡ true → trust xs (j + 1) ≡ false
+pub trust_marked : (xs : List Seen) (j : ℕ) (p : Seen) → slice_get xs j ≡ Some p → has_key_tag p.bytes ≡ false → p.marked ≡ true → trust xs (j + 1) ≡ false
 trust_marked xs j p h k m = trusted_here xs j p h ∙ rw (k, m) refl
 
-trust_plain : (xs : List Seen) (j : ℕ) (p : Seen) → slice_get xs j ≡ Some p → has_key_tag p.bytes ≡ false → p.marked ≡ false → trust xs (j + 1) ≡ trust xs j
+pub trust_plain : (xs : List Seen) (j : ℕ) (p : Seen) → slice_get xs j ≡ Some p → has_key_tag p.bytes ≡ false → p.marked ≡ false → trust xs (j + 1) ≡ trust xs j
 trust_plain xs j p h k m = trusted_here xs j p h ∙ rw (k, m) refl
 
-trust_false : (xs : List Seen) (j : ℕ) (p : Seen) → slice_get xs j ≡ Some p → has_key_tag p.bytes ≡ false → trust xs j ≡ false → trust xs (j + 1) ≡ false
+pub trust_false : (xs : List Seen) (j : ℕ) (p : Seen) → slice_get xs j ≡ Some p → has_key_tag p.bytes ≡ false → trust xs j ≡ false → trust xs (j + 1) ≡ false
 trust_false xs j p h k t = trusted_here xs j p h ∙ rw (k, t) (and_false (not p.marked))
 
 trust_key : (xs : List Seen) (j : ℕ) (p : Seen) → slice_get xs j ≡ Some p → has_key_tag p.bytes ≡ true → trust xs (j + 1) ≡ true
@@ -132,7 +132,7 @@ module _ (xs : List Seen) (kept : View) (i j : ℕ) (p : Seen) (h : slice_get xs
   pub looking_key : (found : Option ℕ) → has_key_tag p.bytes ≡ true → Looking xs kept i (j + 1) found → IsNext xs kept i (next_of (looked true p.marked (kept_at xs kept j) j found) j)
   looking_key found k l = key_case found p.marked (kept_at xs kept j) k refl l
 
-mark_here : (xs : List Seen) (j : ℕ) (p : Seen) → slice_get xs j ≡ Some p → mark_at xs j ≡ p.marked
+pub mark_here : (xs : List Seen) (j : ℕ) (p : Seen) → slice_get xs j ≡ Some p → mark_at xs j ≡ p.marked
 mark_here xs j p h = rw h refl
 
 -- one place more, by what is seen there

@@ -37,7 +37,7 @@ got_bytes [] i p h = cc
 got_bytes (x ∷ xs) zero p h = let e : x ≡ p = cc in ap (λ (y : Seen). Some y.bytes) e
 got_bytes (x ∷ xs) (suc i) p h = got_bytes xs i p h
 
-present : (xs : List Seen) (i : ℕ) → i < length xs → (p : Seen) × (slice_get xs i ≡ Some p)
+pub present : (xs : List Seen) (i : ℕ) → i < length xs → (p : Seen) × (slice_get xs i ≡ Some p)
 present [] i h = absurd (omega (arith, h))
 present (x ∷ xs) zero h = (x, refl)
 present (x ∷ xs) (suc i) h = present xs i (omega (arith, h))

@@ -1,5 +1,5 @@
 -- What reaching a place costs, and what it leaves kept.
-use Rattle.std.specs.Prelude.{◌≡◌, ℕ, ◌+◌, ◌-◌, ◌^◌, ◌<◌, ◌≤◌, ◌||◌, ◌⊎◌, Bool, true, false, min, nat_eq, List, map, length, take, drop, count_by, slice_get, Some, option_map, is_none, IsSome, Ok}
+use Rattle.std.specs.Prelude.{◌≡◌, ℕ, ◌+◌, ◌-◌, ◌^◌, ◌<◌, ◌≤◌, ◌||◌, ◌⊎◌, Bool, true, false, min, nat_eq, List, map, length, take, drop, count_by, slice_get, Option, Some, option_map, option_and_then, is_none, IsSome, Ok}
 use Rattle.vp8_tables.specs.Tables.{TableEntries}
 use Rattle.pixel_planes.specs.Pictures.{PictureSamples}
 use Rattle.packet_edits.specs.declared.entry.Entry.{Entry}
@@ -19,13 +19,15 @@ cut_at packets place = nat_eq place 0 || (key_at packets place || mark_at packet
 abbrev pub IsOneRun : List Seen → ℕ → ℕ → Type 0
 IsOneRun packets first last = (p : ℕ) → first < p → p ≤ last → cut_at packets p ≡ false
 
+-- the outcome that is kept of the packet at a place
+abbrev pub outcome_at : List Seen → View → ℕ → Option Kept
+outcome_at packets kept place = option_and_then (λ packet. kept packet.id) (slice_get packets place)
+
 -- what is kept at a place has the state that decoding from the start has there
 pub record IsKeptAsDecoded (tables : TableEntries) (packets : List Seen) (kept : View) (place : ℕ) : Type 0 where
-  pub packet : Seen
   pub outcome : Kept
   pub picture : PictureSamples
-  pub stands : slice_get packets place ≡ Some packet
-  pub is_kept : kept packet.id ≡ Some outcome
+  pub is_kept : outcome_at packets kept place ≡ Some outcome
   pub is_decoded : slice_get (outcomes tables (map (λ packet. packet.bytes) packets)) place ≡ Some (Ok (outcome.state, picture))
 
 -- a place is settled, on the way to `place`: a state of decoding's is kept before it in its run, and it or a place behind it

@@ -5,3 +5,5 @@ pub mod Reaching
 pub mod Searches
 pub mod Costs
 pub mod EditLaws
+pub mod Walks
+pub mod KeptViews

@@ -82,10 +82,6 @@ abbrev pub Tells : TableEntries → Listing → ℕ → ReachFault → Type 0
 Tells tables list place (Refused broken) = slice_get (outcomes tables (stream_of list)) place ≡ Some (Err broken)
 Tells tables list place NoMemory = Unit {0}
 
--- at most as many steps were made as places lie from the one that is stepped first up to the one that was asked for
-abbrev pub StepsWithin : List Seen → View → ℕ → ℕ → ℕ → Type 0
-StepsWithin packets kept place before after = (next : ℕ) × IsNext packets kept place next × (after + next ≤ before + place + 1)
-
 -- the answer is what is kept at a place, or that there was no memory
 abbrev pub KeptAnswers : List Seen → View → ℕ → Result Kept ReachFault → Type 0
 KeptAnswers packets kept place (Ok outcome) = option_and_then (λ packet. kept packet.id) (slice_get packets place) ≡ Some outcome

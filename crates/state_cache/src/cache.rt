@@ -1,7 +1,8 @@
-ghost use Rattle.std.specs.Prelude.{◌≡◌, ◌+◌, ◌^◌, ◌<◌, ◌≤◌, ◌&&◌, ℕ, [], length, not, IfErr, IfOk, IfSome, None, OnErr, OnOk, Some, false, option_copied, is_ok, true};
-ghost use Rattle.state_cache.specs.Costs.{Costs};
-ghost use Rattle.state_cache.specs.Reaching.{Begins, IsNext, KeptAnswers, Met, Reaches, StepGives, StepsWithin, Tells, passed_marks, state_from, view_of};
+ghost use Rattle.std.specs.Prelude.{◌≡◌, ◌+◌, ◌^◌, ◌<◌, ◌≤◌, ◌&&◌, ℕ, [], cond, length, not, IfErr, IfOk, IfSome, None, OnErr, OnOk, Some, false, is_ok, min, option_copied, true};
+ghost use Rattle.state_cache.specs.Costs.{Costs, cut_at, most_steps};
+ghost use Rattle.state_cache.specs.Reaching.{Begins, IsNext, KeptAnswers, Met, Reaches, StepGives, Tells, passed_marks, state_from, view_of};
 ghost use Rattle.state_cache.specs.Searches.{looked, mark_at, next_of};
+ghost use Rattle.state_cache.specs.Walks.{Advances, IsBehindKept, IsPut, IsTurned, MeetsSame, entries_with};
 ghost use Rattle.state_cache.specs.Views.{Drops, IsCoherent, is_usable, kept_at, key_at, seens, with_kept};
 
 use crate::outcomes::{Broken, Kept, ReachFault};
@@ -54,7 +55,8 @@ impl Cache {
 
     /// How many steps of decoding were made, whatever they answered; at most 18,446,744,073,709,551,615.
     pub fn decoded(&self) -> u64
-        ensures { result ≡ self.now.decoded }
+        ensures value { result ≡ self.now.decoded }
+        ensures most { result ≤ most_steps }
     {
         self.decoded
     }
@@ -62,9 +64,13 @@ impl Cache {
     /// The outcome at `place`, a place that stands in the store: what decoding from the stream's start
     /// gives there. It goes on from what is kept, one step at a time.
     ///
+    /// It makes no more steps than places lie from the first one that it steps up to `place`, and none
+    /// where `place` is usable. Where all that comes on the way can be kept besides what is kept, it
+    /// makes just one step for each place on the way that is not settled, and drops nothing.
+    ///
     /// `Refused` where decoding finds the stream broken, with the place and the cause of the break;
     /// `NoMemory` where a growth or a share was refused before. Whatever it answers, it changes no
-    /// packet, and what is kept stays true.
+    /// packet, what is kept stays true, and no fewer outcomes are kept.
     pub fn reach(
         &mut self,
         tables: &Tables,
@@ -78,13 +84,13 @@ impl Cache {
         ensures coherent { IsCoherent tables.now (seens store.new) (view_of self.new) }
         ensures costs { Costs tables.now store.old self.old place (is_ok result) store.new self.new }
     {
+        let _count = self.decoded();
         let mut next = self.next_step(store, place);
         while next <= place {
-            match self.turn(tables, store, next) {
-                Ok(()) => {}
+            match self.advance(tables, store, place, next) {
+                Ok(further) => next = further,
                 Err(fault) => return Err(fault),
             }
-            next = self.next_step(store, place);
         }
         self.answer(store, place)
     }
@@ -92,8 +98,10 @@ impl Cache {
     /// What is kept for the packet at `place`, which is usable.
     fn answer(&self, store: &Store, place: usize) -> Result<Kept, ReachFault>
         requires place { place < length store.now.list.entries }
-        ensures { KeptAnswers (seens store.now) (view_of self.now) place result }
+        ensures kept { KeptAnswers (seens store.now) (view_of self.now) place result }
+        ensures bounded { length self.now.entries ≤ self.now.capacity }
     {
+        let _valid = self.kept.len();
         let id = store.id(place);
         let Some(kept) = self.kept.peek(&id) else {
             return Err(ReachFault::NoMemory);
@@ -104,8 +112,43 @@ impl Cache {
         }
     }
 
-    /// Steps the packet at `place`, keeps its outcome, and passes its mark.
-    fn turn(&mut self, tables: &Tables, store: &mut Store, place: usize) -> Result<(), ReachFault>
+    /// Steps the packet at `next`, which is stepped first on the way to `place`, and gives the place to
+    /// step then.
+    fn advance(
+        &mut self,
+        tables: &Tables,
+        store: &mut Store,
+        place: usize,
+        next: usize,
+    ) -> Result<usize, ReachFault>
+        requires place { place < length store.old.list.entries }
+        requires coherent { IsCoherent tables.now (seens store.old) (view_of self.old) }
+        requires first { IsNext (seens store.old) (view_of self.old) place next }
+        requires low { next ≤ place }
+        ensures list { store.new.list ≡ store.old.list }
+        ensures coherent { IsCoherent tables.now (seens store.new) (view_of self.new) }
+        ensures told { IfErr result (λ fault. Tells tables.now store.old.list next fault) }
+        ensures refused { OnErr result ((store.new ≡ store.old) × (self.new.entries ≡ self.old.entries)) }
+        ensures counted { self.new.decoded ≡ min (self.old.decoded + 1) most_steps }
+        ensures capacity { self.new.capacity ≡ self.old.capacity }
+        ensures bounded { length self.new.entries ≤ self.new.capacity }
+        ensures advances { IfOk result (λ further. Advances tables.now store.old self.old place next store.new self.new further) }
+    {
+        let _whole = store.len();
+        let is_joined = match self.turn(tables, store, next) {
+            Ok(is_joined) => is_joined,
+            Err(fault) => return Err(fault),
+        };
+        if is_joined {
+            Ok(self.behind_kept(store, next, place))
+        } else {
+            Ok(next + 1)
+        }
+    }
+
+    /// Steps the packet at `place`, keeps its outcome, and passes its mark. It says whether the packet
+    /// was a cut by its mark that is none any more.
+    fn turn(&mut self, tables: &Tables, store: &mut Store, place: usize) -> Result<bool, ReachFault>
         requires place { place < length store.old.list.entries }
         requires coherent { IsCoherent tables.now (seens store.old) (view_of self.old) }
         requires begins { Begins (seens store.old) (view_of self.old) place }
@@ -115,11 +158,15 @@ impl Cache {
         ensures usable { OnOk result (is_usable (seens store.new) (view_of self.new) place ≡ true) }
         ensures told { IfErr result (λ fault. Tells tables.now store.old.list place fault) }
         ensures refused { OnErr result ((store.new ≡ store.old) × (self.new.entries ≡ self.old.entries)) }
-        ensures steps { self.new.decoded ≤ self.old.decoded + 1 }
-        ensures rises { self.old.decoded ≤ self.new.decoded }
+        ensures counted { self.new.decoded ≡ min (self.old.decoded + 1) most_steps }
+        ensures capacity { self.new.capacity ≡ self.old.capacity }
+        ensures bounded { length self.new.entries ≤ self.new.capacity }
+        ensures number { length self.old.entries ≤ length self.new.entries }
+        ensures turned { IfOk result (λ joined. IsTurned store.old self.old place joined store.new self.new) }
     {
         self.decoded = self.decoded.saturating_add(1);
         let _whole = store.len();
+        let _valid = self.kept.len();
         let new = match self.stepped(tables, store, place) {
             Ok(new) => new,
             Err(fault) => return Err(fault),
@@ -128,8 +175,38 @@ impl Cache {
         let Ok(has_met) = self.keep(store.id(place), new) else {
             return Err(ReachFault::NoMemory);
         };
-        pass_mark(store, place, is_cut, has_met);
-        Ok(())
+        Ok(pass_mark(store, place, is_cut, has_met))
+    }
+
+    /// The place behind the last kept one of a run, from `first`, which is kept, up to `place`.
+    fn behind_kept(&self, store: &Store, first: usize, place: usize) -> usize
+        requires within { (first ≤ place) × (place < length store.now.list.entries) }
+        requires kept { kept_at (seens store.now) (view_of self.now) first ≡ true }
+        ensures { IsBehindKept (seens store.now) (view_of self.now) first place result }
+    {
+        let _few = store.len();
+        let mut last = first;
+        let mut at = first + 1;
+        while at <= place {
+            if begins_run(store, at) {
+                return last + 1;
+            }
+            last = self.later_kept(store, last, at);
+            at += 1;
+        }
+        last + 1
+    }
+
+    /// `place` where an outcome of its packet is kept, and `last` where none is.
+    fn later_kept(&self, store: &Store, last: usize, place: usize) -> usize
+        requires { place < length store.now.list.entries }
+        ensures { result ≡ cond (kept_at (seens store.now) (view_of self.now) place) place last }
+    {
+        if self.holds(store, place) {
+            place
+        } else {
+            last
+        }
     }
 
     /// The step of the packet at `place`.
@@ -169,6 +246,10 @@ impl Cache {
         ensures drops { OnOk result ((q : ℕ) → Drops (view_of self.new q) (with_kept (view_of self.old) id new q)) }
         ensures kept { OnOk result (view_of self.new id ≡ Some new) }
         ensures met { IfOk result (λ met. Met met (view_of self.old id) new) }
+        ensures meets_same { IfOk result (λ met. MeetsSame met (view_of self.old id) new) }
+        ensures room { OnOk result (entries_with self.old id ≤ self.old.capacity → IsPut self.old id new self.new) }
+        ensures number { length self.old.entries ≤ length self.new.entries }
+        ensures bounded { length self.new.entries ≤ self.new.capacity }
         ensures same { OnErr result (self.new ≡ self.old) }
         ensures rest { (self.new.capacity ≡ self.old.capacity) × (self.new.decoded ≡ self.old.decoded) }
     {
@@ -182,7 +263,8 @@ impl Cache {
 
     /// Whether the outcome kept for an id has this outcome's state.
     fn meets(&self, id: u64, new: &Kept) -> bool
-        ensures { Met result (view_of self.now id) new.now }
+        ensures met { Met result (view_of self.now id) new.now }
+        ensures meets_same { MeetsSame result (view_of self.now id) new.now }
     {
         match self.kept.peek(&id) {
             Some(old) => same_state(&old.state, &new.state),
@@ -278,22 +360,37 @@ fn is_cut(store: &Store, place: usize) -> bool
     is_marked(store, place) && !is_key
 }
 
-/// Passes the mark of a packet that was stepped.
-fn pass_mark(store: &mut Store, place: usize, is_cut: bool, has_met: bool)
+/// Whether a run begins at `place`, which is not the first: its packet is marked, or has a key tag.
+fn begins_run(store: &Store, place: usize) -> bool
+    requires place { place < length store.now.list.entries }
+    requires first { 0 < place }
+    ensures { result ≡ cut_at (seens store.now) place }
+{
+    if has_key(store, place) {
+        return true;
+    }
+    is_marked(store, place)
+}
+
+/// Passes the mark of a packet that was stepped. It says whether the runs on both sides of the packet
+/// are one now.
+fn pass_mark(store: &mut Store, place: usize, is_cut: bool, has_met: bool) -> bool
     requires { place < length store.old.list.entries }
-    ensures { store.new ≡ record store.old { marks = passed_marks is_cut has_met place store.old.marks } }
+    ensures marks { store.new ≡ record store.old { marks = passed_marks is_cut has_met place store.old.marks } }
+    ensures joined { result ≡ (is_cut && has_met) }
 {
     if !is_cut {
-        return;
+        return false;
     }
     store.clear_mark(place);
     if has_met {
-        return;
+        return true;
     }
     let len = store.len();
     if place < len - 1 {
         store.set_mark(place + 1);
     }
+    false
 }
 
 /// The place behind what a search found, or where it ended.

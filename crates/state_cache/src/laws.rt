@@ -1,6 +1,7 @@
 //! Laws over the definitions of this crate: each is the contract of a function that does nothing.
 ghost use Rattle.state_cache.specs.DecodingLaws.{BreaksAreNamed, EachHasOutcome, KeysBeginAnew};
 ghost use Rattle.state_cache.specs.EditLaws.{EditsKeepCoherence, EditsKeepIds, NextIdIsNotKept};
+ghost use Rattle.state_cache.specs.KeptViews.{CoherentIsKeptView};
 
 use vp8_tables::Tables;
 
@@ -34,4 +35,11 @@ pub fn edits_keep_ids()
 /// gets.
 pub fn next_id_is_not_kept()
     ensures { NextIdIsNotKept }
+{}
+
+/// A view is coherent just where each kept outcome is what the steps give from the nearest kept one
+/// before it in its run, and, with none kept before it, from none, where its run begins at a key tag
+/// or at place 0 with no mark.
+pub fn coherent_views_are_kept_views()
+    ensures { CoherentIsKeptView }
 {}

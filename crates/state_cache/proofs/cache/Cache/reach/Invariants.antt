@@ -1,6 +1,7 @@
-use Rattle.std.proofs.Common.{◌≡◌, ◌+◌, ◌-◌, ◌≤◌, true}
-use Rattle.state_cache.specs.Reaching.{IsNext, StepsWithin, view_of}
-use Rattle.state_cache.specs.Views.{IsCoherent, is_usable, seens}
+use Rattle.std.proofs.Common.{◌≡◌, ◌+◌, ◌-◌}
+use Rattle.state_cache.specs.Reaching.{IsNext, view_of}
+use Rattle.state_cache.specs.Views.{IsCoherent, seens}
+use Rattle.state_cache.proofs.Walked.{SoFar}
 use Rattle.state_cache.proofs.cache.Cache.reach.Given as goal
 
 abbrev pub invariant-loop-next : goal.invariant-loop-next
@@ -8,9 +9,7 @@ invariant-loop-next l = record {
   list : l.store.list ≡ l.fn.store.list;
   coherent : IsCoherent l.tables (seens l.store) (view_of l.self);
   next : IsNext (seens l.store) (view_of l.self) l.place l.next;
-  steps : StepsWithin (seens l.fn.store) (view_of l.fn.self) l.place (l.fn.self.decoded + l.next) (l.self.decoded + l.place + 1);
-  rises : l.fn.self.decoded ≤ l.self.decoded;
-  free : is_usable (seens l.fn.store) (view_of l.fn.self) l.place ≡ true → (l.self ≡ l.fn.self) × (l.store ≡ l.fn.store) × (l.place + 1 ≤ l.next);
+  so_far : SoFar l.tables l.fn.store l.fn.self l.place l.store l.self l.next;
 }
 
 abbrev pub decreases-loop-next : goal.decreases-loop-next
