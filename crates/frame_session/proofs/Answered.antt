@@ -23,7 +23,7 @@ use Rattle.packet_forge.specs.declared.faults.ForgeFault.{ForgeFault}
 use Rattle.packet_forge.specs.declared.faults.ForgeFault.TheVariants as forging
 use Rattle.packet_forge.specs.Packets.{blank_of}
 use Rattle.vp8_tables.specs.declared.tables.Tables.{Tables}
-use Rattle.frame_session.proofs.Forged.{blank_lacks_none, held_lacks_none}
+use Rattle.frame_session.proofs.Forging.{blank_lacks_none, held_lacks_none}
 use Rattle.frame_session.specs.Edits.{edit_of, held, held_at, refusal_by, refused_forged, unless_refused}
 use Rattle.frame_session.specs.Replies.{refused_line, served_line, ok_line, edit_line, count_line, stats_line}
 use Rattle.frame_session.specs.Scripts.{told_script}

@@ -3,7 +3,7 @@ pub mod Numbers
 pub mod Given
 pub mod Texts
 pub mod Served
-pub mod Forged
+pub mod Forging
 pub mod Determined
 pub mod Answered
 pub mod HexWords
