@@ -56,12 +56,7 @@ pub fn make_edit(
     }
 }
 
-pub(crate) fn insert(
-    list: &mut Store,
-    at: u64,
-    stamp: u64,
-    bytes: Bytes,
-) -> Result<u64, Refusal>
+pub(crate) fn insert(list: &mut Store, at: u64, stamp: u64, bytes: Bytes) -> Result<u64, Refusal>
     ensures gives { (tables : Tables) → Gives (edit_of tables list.old.list (Edit.Insert at stamp bytes)) result }
     ensures after { (tables : Tables) → list.new.list ≡ after_edit tables (Edit.Insert at stamp bytes) list.old.list result }
     ensures marks { list.new.marks ≡ marks_after (Edit.Insert at stamp bytes) list.old.marks result }
