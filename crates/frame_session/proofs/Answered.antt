@@ -14,7 +14,7 @@ use Rattle.frame_session.specs.declared.edit.Edit.TheVariants as edits
 use Rattle.frame_session.specs.declared.refusal.Refusal.{Refusal}
 use Rattle.frame_session.specs.declared.refusal.Refusal.TheVariants as refusals
 use Rattle.frame_session.specs.declared.size.Size.{Size}
-use Rattle.frame_session.specs.Decoding.{Outcome}
+use Rattle.state_cache.specs.Decoding.{Outcome}
 use Rattle.frame_session.specs.Gives.{Gives}
 use Rattle.packet_edits.specs.declared.fault.EditFault.TheVariants as faults
 use Rattle.packet_edits.specs.Edits.{Listing, refused_insertion}

@@ -1,5 +1,3 @@
-pub mod Outcomes
-pub mod Breaks
 pub mod Splits
 pub mod Numbers
 pub mod Given
@@ -10,3 +8,4 @@ pub mod Determined
 pub mod Answered
 pub mod HexWords
 pub mod Kept
+pub mod Sound

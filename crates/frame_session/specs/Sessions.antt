@@ -9,7 +9,7 @@ use Rattle.frame_session.specs.declared.refusal.Refusal.{Refusal}
 use Rattle.frame_session.specs.declared.refusal.Refusal.TheVariants as refusals
 use Rattle.frame_session.specs.declared.size.Size.{Size}
 use Rattle.frame_session.specs.declared.edit.Edit.{Edit}
-use Rattle.frame_session.specs.Decoding.{Outcome, outcomes}
+use Rattle.state_cache.specs.Decoding.{Outcome, outcomes}
 use Rattle.packet_edits.specs.Edits.{Listing, listing_of}
 use Rattle.packet_edits.specs.Shown.{shown_places}
 use Rattle.script_nodes.specs.declared.nodes.Node.{Node}

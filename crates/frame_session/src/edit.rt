@@ -1,4 +1,5 @@
 ghost use Rattle.std.specs.Prelude.{◌≡◌};
+ghost use Rattle.frame_session.specs.Cached.{marks_after};
 ghost use Rattle.vp8_tables.specs.declared.tables.Tables.{Tables};
 ghost use Rattle.frame_session.specs.Edits.{EditGives, after_edit, edit_of};
 ghost use Rattle.frame_session.specs.Gives.{Gives};
@@ -43,6 +44,7 @@ pub fn make_edit(
 ) -> Result<u64, Refusal>
     ensures gives { EditGives tables.now list.old.list edit result }
     ensures after { list.new.list ≡ after_edit tables.now edit list.old.list result }
+    ensures marks { list.new.marks ≡ marks_after edit list.old.marks result }
 {
     match edit {
         Edit::Insert { at, stamp, bytes } => insert(list, at, stamp, bytes),
@@ -54,14 +56,10 @@ pub fn make_edit(
     }
 }
 
-pub(crate) fn insert(
-    list: &mut Store,
-    at: u64,
-    stamp: u64,
-    bytes: Bytes,
-) -> Result<u64, Refusal>
+pub(crate) fn insert(list: &mut Store, at: u64, stamp: u64, bytes: Bytes) -> Result<u64, Refusal>
     ensures gives { (tables : Tables) → Gives (edit_of tables list.old.list (Edit.Insert at stamp bytes)) result }
     ensures after { (tables : Tables) → list.new.list ≡ after_edit tables (Edit.Insert at stamp bytes) list.old.list result }
+    ensures marks { list.new.marks ≡ marks_after (Edit.Insert at stamp bytes) list.old.marks result }
 {
     match list.insert(at, stamp, bytes) {
         Ok(()) => Ok(list.len() as u64),
@@ -72,6 +70,7 @@ pub(crate) fn insert(
 fn replace(list: &mut Store, at: u64, bytes: Bytes) -> Result<u64, Refusal>
     ensures gives { (tables : Tables) → result ≡ edit_of tables list.old.list (Edit.Replace at bytes) }
     ensures after { (tables : Tables) → list.new.list ≡ after_edit tables (Edit.Replace at bytes) list.old.list result }
+    ensures marks { list.new.marks ≡ marks_after (Edit.Replace at bytes) list.old.marks result }
 {
     match list.replace(at, bytes) {
         Ok(()) => Ok(list.len() as u64),
@@ -82,6 +81,7 @@ fn replace(list: &mut Store, at: u64, bytes: Bytes) -> Result<u64, Refusal>
 fn delete(list: &mut Store, at: u64) -> Result<u64, Refusal>
     ensures gives { (tables : Tables) → result ≡ edit_of tables list.old.list (Edit.Delete at) }
     ensures after { (tables : Tables) → list.new.list ≡ after_edit tables (Edit.Delete at) list.old.list result }
+    ensures marks { list.new.marks ≡ marks_after (Edit.Delete at) list.old.marks result }
 {
     match list.delete(at) {
         Ok(()) => Ok(list.len() as u64),
@@ -92,6 +92,7 @@ fn delete(list: &mut Store, at: u64) -> Result<u64, Refusal>
 fn move_to(list: &mut Store, from: u64, to: u64) -> Result<u64, Refusal>
     ensures gives { (tables : Tables) → result ≡ edit_of tables list.old.list (Edit.Move from to) }
     ensures after { (tables : Tables) → list.new.list ≡ after_edit tables (Edit.Move from to) list.old.list result }
+    ensures marks { list.new.marks ≡ marks_after (Edit.Move from to) list.old.marks result }
 {
     match list.move_to(from, to) {
         Ok(()) => Ok(list.len() as u64),

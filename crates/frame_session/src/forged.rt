@@ -3,6 +3,7 @@ ghost use Rattle.std.specs.Prelude.{◌≡◌, Ok, IfOk, IfErr};
 ghost use Rattle.packet_forge.specs.Faults.{ForgeRefuses};
 ghost use Rattle.packet_forge.specs.Packets.{blank_of, is_side};
 ghost use Rattle.frame_session.specs.Edits.{after_edit, edit_of, held, stamp_before};
+ghost use Rattle.frame_session.specs.Cached.{marks_after};
 ghost use Rattle.frame_session.specs.Gives.{Gives};
 ghost use Rattle.frame_session.specs.declared.edit.Edit.TheVariants.{Blank, Hold};
 
@@ -76,6 +77,7 @@ pub(crate) fn insert_blank(
 ) -> Result<u64, Refusal>
     ensures gives { Gives (edit_of tables.now list.old.list (Blank at width height)) result }
     ensures after { list.new.list ≡ after_edit tables.now (Blank at width height) list.old.list result }
+    ensures marks { list.new.marks ≡ marks_after (Blank at width height) list.old.marks result }
 {
     if let Err(fault) = list.may_insert(at) {
         return Err(Refusal::by(fault));
@@ -96,6 +98,7 @@ pub(crate) fn insert_hold(
 ) -> Result<u64, Refusal>
     ensures gives { Gives (edit_of tables.now list.old.list (Hold at)) result }
     ensures after { list.new.list ≡ after_edit tables.now (Hold at) list.old.list result }
+    ensures marks { list.new.marks ≡ marks_after (Hold at) list.old.marks result }
 {
     if let Err(fault) = list.may_insert(at) {
         return Err(Refusal::by(fault));

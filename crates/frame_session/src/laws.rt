@@ -7,24 +7,9 @@ ghost use Rattle.frame_session.specs.declared.lines.Line.TheVariants as requests
 ghost use Rattle.frame_session.specs.declared.refusal.Refusal.TheVariants as refusals;
 ghost use Rattle.frame_session.specs.Edits.{edited, edit_of, stamp_before};
 ghost use Rattle.frame_session.specs.Requests.{asked_by};
-ghost use Rattle.frame_session.specs.Laws.{AnswersAreOne, AnswersExist, BreaksAreNamed, EachHasOutcome, KeysBeginAnew, RefusedLinesChangeNothing, StepsNeverFall};
+ghost use Rattle.frame_session.specs.Laws.{AnswersAreOne, AnswersExist, RefusedLinesChangeNothing, StepsNeverFall};
 
 use vp8_tables::Tables;
-
-/// Each packet of a stream has one outcome.
-pub fn each_has_outcome()
-    ensures { EachHasOutcome }
-{}
-
-/// A broken outcome names the packet that broke the stream.
-pub fn breaks_are_named()
-    ensures { BreaksAreNamed }
-{}
-
-/// The outcome of a packet with a key tag depends on nothing before it.
-pub fn keys_begin_anew()
-    ensures { KeysBeginAnew }
-{}
 
 /// Each request list has a meaning in which memory is never refused.
 pub fn answers_exist()

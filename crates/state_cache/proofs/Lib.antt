@@ -8,6 +8,9 @@ pub mod Entries
 pub mod Shows
 pub mod Turns
 pub mod Reached
+pub mod Breaks
+pub mod Edited
+pub mod Standing
 pub mod Runs
 pub mod Settled
 pub mod Passed

@@ -59,7 +59,7 @@ pub fn run_to<F: Write, P: Write>(
     replies: &mut P,
 ) -> Result<Session, Fault<'static>>
     requires { (1 ≤ capacity) × (capacity ≤ 4096) }
-    ensures answered { IfOk result (λ end. Means tables stream.now requests.now (F.contents frames.old) (F.contents frames.new) (P.contents replies.old) (P.contents replies.new) end) }
+    ensures answered { IfOk result (λ session. Means tables stream.now requests.now (F.contents frames.old) (F.contents frames.new) (P.contents replies.old) (P.contents replies.new) session.now) }
     ensures refused { IfErr result (IsRunFault stream.now (F.contents frames.old) (F.contents frames.new) (P.contents replies.old) (P.contents replies.new)) }
 {
     let session = run(alloc, tables, capacity, stream, requests, frames, replies)?;
@@ -79,7 +79,7 @@ fn run_to_path<R: Files + AllocGlobal, P: Write>(
     replies: &mut P,
 ) -> Result<Session, Fault<'static>>
     requires { (1 ≤ capacity) × (capacity ≤ 4096) }
-    ensures replied { IfOk result (λ end. IsReplied tables stream.now requests.now (P.contents replies.old) (P.contents replies.new) end) }
+    ensures replied { IfOk result (λ session. IsReplied tables stream.now requests.now (P.contents replies.old) (P.contents replies.new) session.now) }
     ensures refused { IfErr result (IsRefused stream.now (P.contents replies.old) (P.contents replies.new)) }
     ensures fault { IfErr result (λ fault. status_of fault ≡ 1) }
 {
@@ -112,7 +112,7 @@ fn run_to_path<R: Files + AllocGlobal, P: Write>(
 
 /// Writes the packets that stand behind the run, and sees that all is written.
 pub fn save_to<W: Write>(session: &Session, w: &mut W) -> Result<(), Fault<'static>>
-    ensures saved { OnOk result (Appends (W.contents w.old) (W.contents w.new) (saved_text session.now)) }
+    ensures saved { OnOk result (Appends (W.contents w.old) (W.contents w.new) (saved_text session.now.now)) }
     ensures fault { IfErr result (λ fault. fault ≡ Fault.CannotWrite) }
 {
     session.save(w).map_err(|_| Fault::CannotWrite)?;

@@ -6,8 +6,8 @@ use Rattle.frame_header.specs.Tags.{has_key_tag}
 use Rattle.pixel_planes.specs.Pictures.{PictureSamples}
 use Rattle.reference_frames.specs.declared.states.State.{State}
 use Rattle.reference_frames.specs.Steps.{step_of}
-use Rattle.frame_session.specs.declared.decoding.Broken.{Broken}
-use Rattle.frame_session.specs.Decoding.{Outcome, Standing, behind, left_by, outcome, outcomes, outcomes_from, told_at}
+use Rattle.state_cache.specs.declared.outcomes.Broken.{Broken}
+use Rattle.state_cache.specs.Decoding.{Outcome, Standing, behind, left_by, outcome, outcomes, outcomes_from, told_at}
 
 length-outcomes_from : (tables : Tables) (place : ℕ) (standing : Standing) (xs : List (List ℕ)) → length (outcomes_from tables place standing xs) ≡ length xs
 length-outcomes_from tables place standing [] = refl
