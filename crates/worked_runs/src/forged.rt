@@ -74,8 +74,7 @@ fn a_blank_frame_is_grey(rt: HostRuntime) -> Result<(), Fail> {
 
 #[test]
 fn a_stream_from_nothing(rt: HostRuntime) -> Result<(), Fail> {
-    let requests =
-        b"blank 0 16 16\nhold 1\ncount\nframe 1\nstats\ndelete 5\nframe 9\nhold 0\n";
+    let requests = b"blank 0 16 16\nhold 1\ncount\nframe 1\nstats\ndelete 5\nframe 9\nhold 0\n";
     let ran = run_over(rt.alloc(), &EMPTY, requests);
     assert_eq!(rt;
         ran.replies.as_slice(),
