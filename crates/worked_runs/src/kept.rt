@@ -19,8 +19,7 @@ fn a_replacement_by_the_same(rt: HostRuntime) -> Result<(), Fail> {
         ran.replies.as_slice(),
         b"served 3\ndecoded 4\nok 4\nserved 3\ndecoded 6\n".as_slice()
     );
-    let grey = [(64, 0x80), (192, 0x81), (128, 0x80)];
-    let want = y4m_of(rt.alloc(), LINE, &[&grey, &grey])?;
+    let want = y4m_of(rt.alloc(), LINE, &[&[(384, 0x80)], &[(384, 0x80)]])?;
     assert_eq!(rt; ran.frames.as_slice(), want.as_slice());
     Ok(())
 }
@@ -229,11 +228,7 @@ fn replace(
 }
 
 /// A random edit of packets, which is made of this list too.
-fn edit(
-    alloc: Global,
-    dice: &mut Dice,
-    standing: &mut Vec<&'static [u8]>,
-) -> Result<Edit, Fail> {
+fn edit(alloc: Global, dice: &mut Dice, standing: &mut Vec<&'static [u8]>) -> Result<Edit, Fail> {
     let count = standing.len();
     let at = dice.below(count);
     let kind = dice.below(6);
@@ -267,12 +262,7 @@ fn edit(
 fn session(alloc: Global, capacity: u16, packets: &[&[u8]]) -> Result<Session, Fail> {
     let text = ivf_of(alloc, packets)?;
     let file = ivf_read(alloc, text.as_slice())?;
-    Ok(Session::new(
-        alloc,
-        Tables::rfc(),
-        capacity.clamp(1, 4096),
-        file,
-    )?)
+    Ok(Session::new(alloc, Tables::rfc(), capacity.clamp(1, 4096), file)?)
 }
 
 /// Whether two sessions answer frame `n` alike.
@@ -301,7 +291,12 @@ fn random_lists(rt: HostRuntime) -> Result<(), Fail> {
             } else {
                 let n = dice.below(standing.len() + 1) as u64;
                 let mut alone = session(alloc, 1, standing.as_slice())?;
-                assert!(rt; answer_alike(&mut edited, &mut alone, n), "list {}, frame {}", list, n);
+                assert!(rt;
+                    answer_alike(&mut edited, &mut alone, n),
+                    "list {}, frame {}",
+                    list,
+                    n
+                );
                 if alone.frame(n).is_ok() {
                     served += 1;
                 }
