@@ -279,7 +279,7 @@ fn answer_alike(one: &mut Session, other: &mut Session, n: u64) -> bool {
 fn random_lists(rt: HostRuntime) -> Result<(), Fail> {
     let alloc = rt.alloc();
     let mut dice = Dice { state: 6386 };
-    let mut served = 0;
+    let mut served: u32 = 0;
     for list in 0..48 {
         let mut standing = Vec::new(alloc);
         standing.extend_from_slice(&[FIRST_KEY, FIRST_MOVE, FIRST_NEXT, FIRST_LAST, OTHER_MOVE])?;
@@ -298,7 +298,7 @@ fn random_lists(rt: HostRuntime) -> Result<(), Fail> {
                     n
                 );
                 if alone.frame(n).is_ok() {
-                    served += 1;
+                    served = served.saturating_add(1);
                 }
             }
         }
