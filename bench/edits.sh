@@ -7,7 +7,7 @@ count=${1:-100000}
 room=$(mktemp -d)
 trap 'rm -rf "$room"' EXIT
 
-(cd "$here/../crates/vp8serve" && rt run < stdin) > "$room/build.log" 2>&1 || { tail -n 20 "$room/build.log"; exit 1; }
+"$here/../serve.sh" < /dev/null
 rustc -O --edition 2021 -o "$room/plain" "$here/edits.rs" 2> "$room/rustc.log" || { cat "$room/rustc.log"; exit 1; }
 
 python3 - "$room" "$count" <<'END'

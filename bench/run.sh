@@ -7,7 +7,7 @@ frames=${1:-200}
 room=$(mktemp -d)
 trap 'rm -rf "$room"' EXIT
 
-(cd "$here/../crates/vp8serve" && rt run < /dev/null) > "$room/build.log" 2>&1 || { tail -n 20 "$room/build.log"; exit 1; }
+"$here/../serve.sh" < /dev/null
 rustc -O --edition 2021 -o "$room/fill" "$here/fill.rs"
 
 python3 - "$room" "$frames" <<'END'

@@ -46,8 +46,21 @@ impl<'a> Window<'a> {
         ensures room { self.new.left ≤ 56 }
     {
         if self.left < 7 {
-            *self = self.refilled(range);
+            self.refill(range);
         }
+    }
+
+    /// Takes in bytes. It stands apart from `ready` so that room for what `refilled` gives is cleared
+    /// only where bytes come in, and not before each bit.
+    #[inline(always)]
+    fn refill(&mut self, range: u32)
+        requires range { range ≤ 255 }
+        requires short { self.old.left < 7 }
+        ensures same { level (reader_of self.new.value self.new.left self.new.bytes.now range) ≡ level (reader_of self.old.value self.old.left self.old.bytes.now range) }
+        ensures enough { 7 ≤ self.new.left }
+        ensures room { self.new.left ≤ 56 }
+    {
+        *self = self.refilled(range);
     }
 
     /// This window with at least 7 unread bits, with zeros behind the last byte. It is taken and

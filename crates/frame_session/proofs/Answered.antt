@@ -1,5 +1,5 @@
 -- Each request list has a meaning in which memory is never refused.
-use Rattle.std.proofs.Common.{◌≡◌, ℕ, List, [], ◌∷◌, Bool, true, false, cond, Option, Some, None, Result, Ok, Err, get_or, refl, ap, arith}
+use Rattle.std.proofs.Common.{◌≡◌, ℕ, List, [], ◌∷◌, Bool, true, false, cond, Option, Some, None, Result, Ok, Err, get_or, option_map, refl, ap, arith}
 use Rattle.pixel_planes.specs.Pictures.{PictureSamples}
 use Rattle.script_nodes.specs.declared.faults.ScriptFault.TheVariants as scripts
 use Rattle.script_nodes.specs.declared.nodes.Node.{Node}
@@ -8,17 +8,23 @@ use Rattle.script_nodes.specs.Frames.{Origin, traced}
 use Rattle.script_nodes.specs.Nodes.{nodes_of, script_by}
 use Rattle.script_nodes.specs.Shown.{Shown, shown_in, steps_shown}
 use Rattle.frame_session.specs.declared.lines.Line.{Line}
-use Rattle.frame_session.specs.declared.lines.Line.TheVariants.{Silent, Unknown, Frame, Insert, Replace, Delete, Move, Script, Count, Stats}
+use Rattle.frame_session.specs.declared.lines.Line.TheVariants.{Silent, Unknown, Frame, Insert, Replace, Delete, Move, Blank, Hold, Script, Count, Stats}
 use Rattle.frame_session.specs.declared.edit.Edit.{Edit}
 use Rattle.frame_session.specs.declared.edit.Edit.TheVariants as edits
 use Rattle.frame_session.specs.declared.refusal.Refusal.{Refusal}
 use Rattle.frame_session.specs.declared.refusal.Refusal.TheVariants as refusals
 use Rattle.frame_session.specs.declared.size.Size.{Size}
-use Rattle.frame_session.specs.Decoding.{Outcome}
+use Rattle.state_cache.specs.Decoding.{Outcome}
 use Rattle.frame_session.specs.Gives.{Gives}
 use Rattle.packet_edits.specs.declared.fault.EditFault.TheVariants as faults
-use Rattle.packet_edits.specs.Edits.{Listing}
-use Rattle.frame_session.specs.Edits.{edit_of, unless_refused}
+use Rattle.packet_edits.specs.Edits.{Listing, refused_insertion}
+use Rattle.packet_edits.specs.Sizes.{size_at}
+use Rattle.packet_forge.specs.declared.faults.ForgeFault.{ForgeFault}
+use Rattle.packet_forge.specs.declared.faults.ForgeFault.TheVariants as forging
+use Rattle.packet_forge.specs.Packets.{blank_of}
+use Rattle.vp8_tables.specs.declared.tables.Tables.{Tables}
+use Rattle.frame_session.proofs.Forging.{blank_lacks_none, held_lacks_none}
+use Rattle.frame_session.specs.Edits.{edit_of, held, held_at, refusal_by, refused_forged, unless_refused}
 use Rattle.frame_session.specs.Replies.{refused_line, served_line, ok_line, edit_line, count_line, stats_line}
 use Rattle.frame_session.specs.Scripts.{told_script}
 use Rattle.frame_session.specs.Sessions.{Now, after_frame, behind_edit, behind_script, fits, fitted, frame_count, frame_from, frame_made, frame_of, outcome_of, packet_count, picture_from, script_answer, shown_count, size_of, size_served}
@@ -50,6 +56,8 @@ refusal_told refusals.Line some e = let other : 76 ≡ 78 = ap (λ (l : List ℕ
 refusal_told refusals.Place some e = let other : 80 ≡ 78 = ap (λ (l : List ℕ). get_or l 8 0) e in absurd (omega (arith, other))
 refusal_told refusals.Full some e = let other : 70 ≡ 78 = ap (λ (l : List ℕ). get_or l 8 0) e in absurd (omega (arith, other))
 refusal_told refusals.Spent some e = let other : 83 ≡ 78 = ap (λ (l : List ℕ). get_or l 8 0) e in absurd (omega (arith, other))
+refusal_told refusals.Size some e = let other : 83 ≡ 78 = ap (λ (l : List ℕ). get_or l 8 0) e in absurd (omega (arith, other))
+refusal_told refusals.TooLarge some e = let other : 84 ≡ 78 = ap (λ (l : List ℕ). get_or l 8 0) e in absurd (omega (arith, other))
 refusal_told refusals.NoSuchFrame some e = let other : 83 ≡ 77 = ap (λ (l : List ℕ). get_or l 10 0) e in absurd (omega (arith, other))
 refusal_told refusals.CropOutside some e = let other : 67 ≡ 78 = ap (λ (l : List ℕ). get_or l 8 0) e in absurd (omega (arith, other))
 refusal_told refusals.Syntax some e = let other : 83 ≡ 78 = ap (λ (l : List ℕ). get_or l 8 0) e in absurd (omega (arith, other))
@@ -101,28 +109,48 @@ full_told = record { gives = refl; enough = refusal_told refusals.Full (λ h. cc
 spent_told : IsTold (Err refusals.Spent)
 spent_told = record { gives = refl; enough = refusal_told refusals.Spent (λ h. cc) }
 
-id_told : (spent : Bool) (count : ℕ) → IsTold (unless_refused (cond spent (Some faults.Spent) None) count)
+id_told : (spent : Bool) (count : ℕ) → IsTold (unless_refused (option_map refusal_by (cond spent (Some faults.Spent) None)) count)
 id_told true count = spent_told
 id_told false count = ok_told count
 
-insertion_told : (outside full spent : Bool) (count : ℕ) → IsTold (unless_refused (cond outside (Some faults.Place) (cond full (Some faults.Full) (cond spent (Some faults.Spent) None))) count)
+insertion_told : (outside full spent : Bool) (count : ℕ) → IsTold (unless_refused (option_map refusal_by (cond outside (Some faults.Place) (cond full (Some faults.Full) (cond spent (Some faults.Spent) None)))) count)
 insertion_told true full spent count = place_told
 insertion_told false true spent count = full_told
 insertion_told false false spent count = id_told spent count
 
-replacement_told : (inside spent : Bool) (count : ℕ) → IsTold (unless_refused (cond inside (cond spent (Some faults.Spent) None) (Some faults.Place)) count)
+replacement_told : (inside spent : Bool) (count : ℕ) → IsTold (unless_refused (option_map refusal_by (cond inside (cond spent (Some faults.Spent) None) (Some faults.Place))) count)
 replacement_told true spent count = id_told spent count
 replacement_told false spent count = place_told
 
-place_or_told : (inside : Bool) (count : ℕ) → IsTold (unless_refused (cond inside None (Some faults.Place)) count)
+place_or_told : (inside : Bool) (count : ℕ) → IsTold (unless_refused (option_map refusal_by (cond inside None (Some faults.Place))) count)
 place_or_told true count = ok_told count
 place_or_told false count = place_told
 
-edit_told : (list : Listing) (edit : Edit) → IsTold (edit_of list edit)
-edit_told list (edits.Insert at stamp bytes) = insertion_told _ _ _ _
-edit_told list (edits.Replace at bytes) = replacement_told _ _ _
-edit_told list (edits.Delete at) = place_or_told _ _
-edit_told list (edits.Move from to) = place_or_told _ _
+size_told : IsTold (Err refusals.Size)
+size_told = record { gives = refl; enough = refusal_told refusals.Size (λ h. cc) }
+
+large_told : IsTold (Err refusals.TooLarge)
+large_told = record { gives = refl; enough = refusal_told refusals.TooLarge (λ h. cc) }
+
+forging_told : (forged : Result (List ℕ) ForgeFault) (count : ℕ) → (forged ≡ Err forging.NoMemory → ⊥) → IsTold (unless_refused (refused_forged None forged) count)
+forging_told (Ok packet) count some = ok_told count
+forging_told (Err forging.Size) count some = size_told
+forging_told (Err forging.TooLarge) count some = large_told
+forging_told (Err forging.NoMemory) count some = absurd (some refl)
+
+forged_told : (outside full spent : Bool) (forged : Result (List ℕ) ForgeFault) (count : ℕ) → (forged ≡ Err forging.NoMemory → ⊥) → IsTold (unless_refused (refused_forged (cond outside (Some faults.Place) (cond full (Some faults.Full) (cond spent (Some faults.Spent) None))) forged) count)
+forged_told true full spent forged count some = place_told
+forged_told false true spent forged count some = full_told
+forged_told false false true forged count some = spent_told
+forged_told false false false forged count some = forging_told forged count some
+
+edit_told : (tables : Tables) (list : Listing) (edit : Edit) → IsTold (edit_of tables list edit)
+edit_told tables list (edits.Insert at stamp bytes) = insertion_told _ _ _ _
+edit_told tables list (edits.Replace at bytes) = replacement_told _ _ _
+edit_told tables list (edits.Delete at) = place_or_told _ _
+edit_told tables list (edits.Move from to) = place_or_told _ _
+edit_told tables list (edits.Blank at width height) = forged_told _ _ _ (blank_of tables width height) _ (blank_lacks_none tables width height)
+edit_told tables list (edits.Hold at) = forged_told _ _ _ (held_at tables list at) _ (held_lacks_none tables (size_at at list))
 
 -- and so a script
 nodes_told : (count : ℕ) (nodes : List Node) (many wrong odd : Bool) → IsTold (told_script count (cond many (Err scripts.Nodes) (cond wrong (Err scripts.Reference) (cond odd (Err scripts.Number) (Ok nodes)))))
@@ -161,22 +189,32 @@ answered old (Frame n) =
     }
 answered old (Insert at stamp bytes) =
     let edit = edits.Insert at stamp bytes in
-    let answer = edit_of old.list edit in
-    let is = edit_told old.list edit in
+    let answer = edit_of old.tables old.list edit in
+    let is = edit_told old.tables old.list edit in
     record { answer = told (edit_line answer); new = behind_edit edit old answer; means = (answer, is.gives, (refl, refl)); enough = is.enough }
 answered old (Replace at bytes) =
     let edit = edits.Replace at bytes in
-    let answer = edit_of old.list edit in
-    let is = edit_told old.list edit in
+    let answer = edit_of old.tables old.list edit in
+    let is = edit_told old.tables old.list edit in
+    record { answer = told (edit_line answer); new = behind_edit edit old answer; means = (answer, is.gives, (refl, refl)); enough = is.enough }
+answered old (Blank at width height) =
+    let edit = edits.Blank at width height in
+    let answer = edit_of old.tables old.list edit in
+    let is = edit_told old.tables old.list edit in
+    record { answer = told (edit_line answer); new = behind_edit edit old answer; means = (answer, is.gives, (refl, refl)); enough = is.enough }
+answered old (Hold at) =
+    let edit = edits.Hold at in
+    let answer = edit_of old.tables old.list edit in
+    let is = edit_told old.tables old.list edit in
     record { answer = told (edit_line answer); new = behind_edit edit old answer; means = (answer, is.gives, (refl, refl)); enough = is.enough }
 answered old (Delete at) =
     let edit = edits.Delete at in
-    let answer = edit_of old.list edit in
-    record { answer = told (edit_line answer); new = behind_edit edit old answer; means = (refl, refl); enough = (edit_told old.list edit).enough }
+    let answer = edit_of old.tables old.list edit in
+    record { answer = told (edit_line answer); new = behind_edit edit old answer; means = (refl, refl); enough = (edit_told old.tables old.list edit).enough }
 answered old (Move from to) =
     let edit = edits.Move from to in
-    let answer = edit_of old.list edit in
-    record { answer = told (edit_line answer); new = behind_edit edit old answer; means = (refl, refl); enough = (edit_told old.list edit).enough }
+    let answer = edit_of old.tables old.list edit in
+    record { answer = told (edit_line answer); new = behind_edit edit old answer; means = (refl, refl); enough = (edit_told old.tables old.list edit).enough }
 answered old (Script text) =
     let set = script_answer old text in
     let is = script_told (packet_count old) (nodes_of text) in

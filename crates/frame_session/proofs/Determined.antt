@@ -2,7 +2,7 @@
 use Rattle.std.proofs.Common.{◌≡◌, ℕ, List, [], ◌∷◌, Option, Some, None, Result, Ok, Err, refl, sym, ap, ◌∙◌, subst}
 use Rattle.script_nodes.specs.Shown.{Shown}
 use Rattle.frame_session.specs.declared.lines.Line.{Line}
-use Rattle.frame_session.specs.declared.lines.Line.TheVariants.{Silent, Unknown, Frame, Insert, Replace, Delete, Move, Script, Count, Stats}
+use Rattle.frame_session.specs.declared.lines.Line.TheVariants.{Silent, Unknown, Frame, Insert, Replace, Delete, Move, Blank, Hold, Script, Count, Stats}
 use Rattle.frame_session.specs.declared.edit.Edit.{Edit}
 use Rattle.frame_session.specs.declared.edit.Edit.TheVariants as edits
 use Rattle.frame_session.specs.declared.refusal.Refusal.{Refusal}
@@ -27,6 +27,8 @@ given want (Err refusals.Line) enough gives = gives
 given want (Err refusals.Place) enough gives = gives
 given want (Err refusals.Full) enough gives = gives
 given want (Err refusals.Spent) enough gives = gives
+given want (Err refusals.Size) enough gives = gives
+given want (Err refusals.TooLarge) enough gives = gives
 given want (Err refusals.NoSuchFrame) enough gives = gives
 given want (Err refusals.CropOutside) enough gives = gives
 given want (Err refusals.SizeDiffers) enough gives = gives
@@ -63,10 +65,10 @@ same_edit old steps edit edited edited' answer answer' new new' same first secon
 told_edit : (edited : Result ℕ Refusal) (answer : Answer) → answer ≡ told (edit_line edited) → (answer.reply ≡ refused_line refusals.NoMemory → ⊥) → edited ≡ Err refusals.NoMemory → ⊥
 told_edit edited answer is enough lacks = enough (ap (λ (a : Answer). a.reply) is ∙ ap edit_line lacks)
 
-one_edit : (old : Now) (steps : ℕ) (edit : Edit) (edited edited' : Result ℕ Refusal) (answer answer' : Answer) (new new' : Now) → Gives (edit_of old.list edit) edited → Gives (edit_of old.list edit) edited' → AnswersEdit old edit edited answer new → AnswersEdit (counted old steps) edit edited' answer' new' → (answer.reply ≡ refused_line refusals.NoMemory → ⊥) → (answer'.reply ≡ refused_line refusals.NoMemory → ⊥) → (answer' ≡ answer) × (new' ≡ counted new new'.decoded)
+one_edit : (old : Now) (steps : ℕ) (edit : Edit) (edited edited' : Result ℕ Refusal) (answer answer' : Answer) (new new' : Now) → Gives (edit_of old.tables old.list edit) edited → Gives (edit_of old.tables old.list edit) edited' → AnswersEdit old edit edited answer new → AnswersEdit (counted old steps) edit edited' answer' new' → (answer.reply ≡ refused_line refusals.NoMemory → ⊥) → (answer'.reply ≡ refused_line refusals.NoMemory → ⊥) → (answer' ≡ answer) × (new' ≡ counted new new'.decoded)
 one_edit old steps edit edited edited' answer answer' new new' gives gives' first second enough enough' =
-    let wanted : edit_of old.list edit ≡ edited = given (edit_of old.list edit) edited (told_edit edited answer first.0 enough) gives in
-    let wanted' : edit_of old.list edit ≡ edited' = given (edit_of old.list edit) edited' (told_edit edited' answer' second.0 enough') gives' in
+    let wanted : edit_of old.tables old.list edit ≡ edited = given (edit_of old.tables old.list edit) edited (told_edit edited answer first.0 enough) gives in
+    let wanted' : edit_of old.tables old.list edit ≡ edited' = given (edit_of old.tables old.list edit) edited' (told_edit edited' answer' second.0 enough') gives' in
     same_edit old steps edit edited edited' answer answer' new new' (sym wanted' ∙ wanted) first second
 
 -- the same of a script
@@ -93,6 +95,10 @@ one_answer old steps (Insert at stamp bytes) answer answer' new new' first secon
     one_edit old steps (edits.Insert at stamp bytes) first.0 second.0 answer answer' new new' first.1 second.1 first.2 second.2 enough enough'
 one_answer old steps (Replace at bytes) answer answer' new new' first second enough enough' =
     one_edit old steps (edits.Replace at bytes) first.0 second.0 answer answer' new new' first.1 second.1 first.2 second.2 enough enough'
+one_answer old steps (Blank at width height) answer answer' new new' first second enough enough' =
+    one_edit old steps (edits.Blank at width height) first.0 second.0 answer answer' new new' first.1 second.1 first.2 second.2 enough enough'
+one_answer old steps (Hold at) answer answer' new new' first second enough enough' =
+    one_edit old steps (edits.Hold at) first.0 second.0 answer answer' new new' first.1 second.1 first.2 second.2 enough enough'
 one_answer old steps (Delete at) answer answer' new new' first second enough enough' =
     same_edit old steps (edits.Delete at) _ _ answer answer' new new' refl first second
 one_answer old steps (Move from to) answer answer' new new' first second enough enough' =

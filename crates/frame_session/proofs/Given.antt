@@ -15,7 +15,7 @@ use Rattle.script_nodes.specs.Shown.{Shown, Shows, shown_in, steps_shown}
 use Rattle.frame_session.specs.declared.refusal.Refusal.{Refusal}
 use Rattle.frame_session.specs.declared.refusal.Refusal.TheVariants as refusals
 use Rattle.frame_session.specs.declared.size.Size.{Size}
-use Rattle.frame_session.specs.Decoding.{Outcome, outcomes}
+use Rattle.state_cache.specs.Decoding.{Outcome, outcomes}
 use Rattle.frame_session.specs.Gives.{GivesFrame}
 use Rattle.frame_session.specs.Sessions.{Now, fits, fitted, frame_from, frame_made, frame_of, outcome_of, picture_from, shown_count, size_of, stream_of}
 

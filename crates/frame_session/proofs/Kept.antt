@@ -2,7 +2,7 @@
 use Rattle.std.proofs.Common.{◌≡◌, ℕ, ◌≤◌, List, [], ◌∷◌, Result, Ok, Err, sym, ap, ◌∙◌, arith}
 use Rattle.script_nodes.specs.Shown.{Shown}
 use Rattle.frame_session.specs.declared.lines.Line.{Line}
-use Rattle.frame_session.specs.declared.lines.Line.TheVariants.{Silent, Unknown, Frame, Insert, Replace, Delete, Move, Script, Count, Stats}
+use Rattle.frame_session.specs.declared.lines.Line.TheVariants.{Silent, Unknown, Frame, Insert, Replace, Delete, Move, Blank, Hold, Script, Count, Stats}
 use Rattle.frame_session.specs.declared.edit.Edit.{Edit}
 use Rattle.frame_session.specs.declared.edit.Edit.TheVariants as edits
 use Rattle.frame_session.specs.declared.refusal.Refusal.{Refusal}
@@ -24,6 +24,8 @@ line_counts old new Unknown answer means = rw means.1 (omega arith)
 line_counts old new (Frame n) answer means = means.3.steps
 line_counts old new (Insert at stamp bytes) answer means = rw means.2.1 (omega arith)
 line_counts old new (Replace at bytes) answer means = rw means.2.1 (omega arith)
+line_counts old new (Blank at width height) answer means = rw means.2.1 (omega arith)
+line_counts old new (Hold at) answer means = rw means.2.1 (omega arith)
 line_counts old new (Delete at) answer means = rw means.1 (omega arith)
 line_counts old new (Move from to) answer means = rw means.1 (omega arith)
 line_counts old new (Script text) answer means = script_counts old new text means.0 means.2.1
@@ -67,8 +69,10 @@ refused_kept old new Unknown answer refusal means e = same old new means.1
 refused_kept old new (Frame n) answer refusal means e = frame_kept old new n means.0 refusal means.3 (reply_of answer _ _ means.2 e)
 refused_kept old new (Insert at stamp bytes) answer refusal means e = edit_kept old new (edits.Insert at stamp bytes) means.0 refusal means.2.1 (reply_of answer _ _ means.2.0 e)
 refused_kept old new (Replace at bytes) answer refusal means e = edit_kept old new (edits.Replace at bytes) means.0 refusal means.2.1 (reply_of answer _ _ means.2.0 e)
-refused_kept old new (Delete at) answer refusal means e = edit_kept old new (edits.Delete at) (edit_of old.list (edits.Delete at)) refusal means.1 (reply_of answer _ _ means.0 e)
-refused_kept old new (Move from to) answer refusal means e = edit_kept old new (edits.Move from to) (edit_of old.list (edits.Move from to)) refusal means.1 (reply_of answer _ _ means.0 e)
+refused_kept old new (Blank at width height) answer refusal means e = edit_kept old new (edits.Blank at width height) means.0 refusal means.2.1 (reply_of answer _ _ means.2.0 e)
+refused_kept old new (Hold at) answer refusal means e = edit_kept old new (edits.Hold at) means.0 refusal means.2.1 (reply_of answer _ _ means.2.0 e)
+refused_kept old new (Delete at) answer refusal means e = edit_kept old new (edits.Delete at) (edit_of old.tables old.list (edits.Delete at)) refusal means.1 (reply_of answer _ _ means.0 e)
+refused_kept old new (Move from to) answer refusal means e = edit_kept old new (edits.Move from to) (edit_of old.tables old.list (edits.Move from to)) refusal means.1 (reply_of answer _ _ means.0 e)
 refused_kept old new (Script text) answer refusal means e = script_kept old new text means.0 refusal means.2.1 (reply_of answer _ _ means.2.0 e)
 refused_kept old new Count answer refusal means e = same old new means.1
 refused_kept old new Stats answer refusal means e = same old new means.1

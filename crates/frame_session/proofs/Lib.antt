@@ -1,11 +1,11 @@
-pub mod Outcomes
-pub mod Breaks
 pub mod Splits
 pub mod Numbers
 pub mod Given
 pub mod Texts
 pub mod Served
+pub mod Forging
 pub mod Determined
 pub mod Answered
 pub mod HexWords
 pub mod Kept
+pub mod Sound

@@ -7,7 +7,7 @@ use Rattle.pixel_planes.specs.Pictures.{PictureSamples}
 use Rattle.script_nodes.specs.Shown.{Shown}
 use Rattle.stream_files.specs.Y4m.{frame_text}
 use Rattle.frame_session.specs.declared.lines.Line.{Line}
-use Rattle.frame_session.specs.declared.lines.Line.TheVariants.{Silent, Unknown, Frame, Insert, Replace, Delete, Move, Script, Count, Stats}
+use Rattle.frame_session.specs.declared.lines.Line.TheVariants.{Silent, Unknown, Frame, Insert, Replace, Delete, Move, Blank, Hold, Script, Count, Stats}
 use Rattle.frame_session.specs.declared.edit.Edit.TheVariants as edits
 use Rattle.frame_session.specs.declared.refusal.Refusal.{Refusal}
 use Rattle.frame_session.specs.declared.refusal.Refusal.TheVariants as refusals
@@ -55,7 +55,7 @@ module _ (old : Now) (f f' r r' : Option (List ℕ)) where
     said = said;
   }
 
-  pub serves_inserted : (at stamp : ℕ) (bytes : List ℕ) (edited : Result ℕ Refusal) (new : Now) → Gives (edit_of old.list (edits.Insert at stamp bytes)) edited → new ≡ behind_edit (edits.Insert at stamp bytes) old edited → Appends r r' (edit_line edited) → Serves old (Insert at stamp bytes) f f r r' new
+  pub serves_inserted : (at stamp : ℕ) (bytes : List ℕ) (edited : Result ℕ Refusal) (new : Now) → Gives (edit_of old.tables old.list (edits.Insert at stamp bytes)) edited → new ≡ behind_edit (edits.Insert at stamp bytes) old edited → Appends r r' (edit_line edited) → Serves old (Insert at stamp bytes) f f r r' new
   serves_inserted at stamp bytes edited new gives after said = record {
     answer = told (edit_line edited);
     means = (edited, gives, (refl, after));
@@ -63,7 +63,7 @@ module _ (old : Now) (f f' r r' : Option (List ℕ)) where
     said = said;
   }
 
-  pub serves_replaced : (at : ℕ) (bytes : List ℕ) (edited : Result ℕ Refusal) (new : Now) → Gives (edit_of old.list (edits.Replace at bytes)) edited → new ≡ behind_edit (edits.Replace at bytes) old edited → Appends r r' (edit_line edited) → Serves old (Replace at bytes) f f r r' new
+  pub serves_replaced : (at : ℕ) (bytes : List ℕ) (edited : Result ℕ Refusal) (new : Now) → Gives (edit_of old.tables old.list (edits.Replace at bytes)) edited → new ≡ behind_edit (edits.Replace at bytes) old edited → Appends r r' (edit_line edited) → Serves old (Replace at bytes) f f r r' new
   serves_replaced at bytes edited new gives after said = record {
     answer = told (edit_line edited);
     means = (edited, gives, (refl, after));
@@ -71,17 +71,33 @@ module _ (old : Now) (f f' r r' : Option (List ℕ)) where
     said = said;
   }
 
-  pub serves_deleted : (at : ℕ) (new : Now) → ((edited : Result ℕ Refusal) × EditGives old.list (edits.Delete at) edited × (new ≡ behind_edit (edits.Delete at) old edited) × Appends r r' (edit_line edited)) → Serves old (Delete at) f f r r' new
+  pub serves_deleted : (at : ℕ) (new : Now) → ((edited : Result ℕ Refusal) × EditGives old.tables old.list (edits.Delete at) edited × (new ≡ behind_edit (edits.Delete at) old edited) × Appends r r' (edit_line edited)) → Serves old (Delete at) f f r r' new
   serves_deleted at new made =
       let P : Result ℕ Refusal → Type 0 = λ e. (new ≡ behind_edit (edits.Delete at) old e) × Appends r r' (edit_line e) in
       let so = subst P made.1 (made.2, made.3) in
-      record { answer = told (edit_line (edit_of old.list (edits.Delete at))); means = (refl, so.0); shown = Appends-nil f; said = so.1 }
+      record { answer = told (edit_line (edit_of old.tables old.list (edits.Delete at))); means = (refl, so.0); shown = Appends-nil f; said = so.1 }
 
-  pub serves_moved : (from to : ℕ) (new : Now) → ((edited : Result ℕ Refusal) × EditGives old.list (edits.Move from to) edited × (new ≡ behind_edit (edits.Move from to) old edited) × Appends r r' (edit_line edited)) → Serves old (Move from to) f f r r' new
+  pub serves_moved : (from to : ℕ) (new : Now) → ((edited : Result ℕ Refusal) × EditGives old.tables old.list (edits.Move from to) edited × (new ≡ behind_edit (edits.Move from to) old edited) × Appends r r' (edit_line edited)) → Serves old (Move from to) f f r r' new
   serves_moved from to new made =
       let P : Result ℕ Refusal → Type 0 = λ e. (new ≡ behind_edit (edits.Move from to) old e) × Appends r r' (edit_line e) in
       let so = subst P made.1 (made.2, made.3) in
-      record { answer = told (edit_line (edit_of old.list (edits.Move from to))); means = (refl, so.0); shown = Appends-nil f; said = so.1 }
+      record { answer = told (edit_line (edit_of old.tables old.list (edits.Move from to))); means = (refl, so.0); shown = Appends-nil f; said = so.1 }
+
+  pub serves_blanked : (at width height : ℕ) (new : Now) → ((edited : Result ℕ Refusal) × EditGives old.tables old.list (edits.Blank at width height) edited × (new ≡ behind_edit (edits.Blank at width height) old edited) × Appends r r' (edit_line edited)) → Serves old (Blank at width height) f f r r' new
+  serves_blanked at width height new made = record {
+    answer = told (edit_line made.0);
+    means = (made.0, made.1, (refl, made.2));
+    shown = Appends-nil f;
+    said = made.3;
+  }
+
+  pub serves_held : (at : ℕ) (new : Now) → ((edited : Result ℕ Refusal) × EditGives old.tables old.list (edits.Hold at) edited × (new ≡ behind_edit (edits.Hold at) old edited) × Appends r r' (edit_line edited)) → Serves old (Hold at) f f r r' new
+  serves_held at new made = record {
+    answer = told (edit_line made.0);
+    means = (made.0, made.1, (refl, made.2));
+    shown = Appends-nil f;
+    said = made.3;
+  }
 
   pub serves_count : Appends r r' (count_line (packet_count old) (frame_count old)) → Serves old Count f f r r' old
   serves_count said = record { answer = told (count_line (packet_count old) (frame_count old)); means = (refl, refl); shown = Appends-nil f; said = said }

@@ -62,11 +62,15 @@ Answers old requests.Unknown answer new = (answer ≡ told (refused_line refusal
 Answers old (requests.Frame n) answer new =
     (frame : Result Shown Refusal) × Gives (frame_of old n) frame × (answer ≡ answer_to_frame old n frame) × IsAfterFrame old (size_served frame) new
 Answers old (requests.Insert at stamp bytes) answer new =
-    (edited : Result ℕ Refusal) × Gives (edit_of old.list (edits.Insert at stamp bytes)) edited × AnswersEdit old (edits.Insert at stamp bytes) edited answer new
+    (edited : Result ℕ Refusal) × Gives (edit_of old.tables old.list (edits.Insert at stamp bytes)) edited × AnswersEdit old (edits.Insert at stamp bytes) edited answer new
 Answers old (requests.Replace at bytes) answer new =
-    (edited : Result ℕ Refusal) × Gives (edit_of old.list (edits.Replace at bytes)) edited × AnswersEdit old (edits.Replace at bytes) edited answer new
-Answers old (requests.Delete at) answer new = AnswersEdit old (edits.Delete at) (edit_of old.list (edits.Delete at)) answer new
-Answers old (requests.Move from to) answer new = AnswersEdit old (edits.Move from to) (edit_of old.list (edits.Move from to)) answer new
+    (edited : Result ℕ Refusal) × Gives (edit_of old.tables old.list (edits.Replace at bytes)) edited × AnswersEdit old (edits.Replace at bytes) edited answer new
+Answers old (requests.Delete at) answer new = AnswersEdit old (edits.Delete at) (edit_of old.tables old.list (edits.Delete at)) answer new
+Answers old (requests.Move from to) answer new = AnswersEdit old (edits.Move from to) (edit_of old.tables old.list (edits.Move from to)) answer new
+Answers old (requests.Blank at width height) answer new =
+    (edited : Result ℕ Refusal) × Gives (edit_of old.tables old.list (edits.Blank at width height)) edited × AnswersEdit old (edits.Blank at width height) edited answer new
+Answers old (requests.Hold at) answer new =
+    (edited : Result ℕ Refusal) × Gives (edit_of old.tables old.list (edits.Hold at)) edited × AnswersEdit old (edits.Hold at) edited answer new
 Answers old (requests.Script text) answer new =
     (set : Result ℕ Refusal) × Gives (script_answer old text) set × AnswersScript old text set answer new
 Answers old requests.Count answer new = (answer ≡ told (count_line (packet_count old) (frame_count old))) × (new ≡ old)

@@ -1,10 +1,17 @@
 -- Edits as a session is asked for them: what each makes of the packet list, and its answer.
-use Rattle.std.specs.Prelude.{ℕ, length, Option, Some, None, Result, Ok, Err, ◌≡◌}
+use Rattle.std.specs.Prelude.{ℕ, ◌-◌, ◌==◌, [], List, length, slice_get, Option, Some, None, Result, Ok, Err, option_map, if◌then◌else◌, ◌≡◌}
+use Rattle.std.specs.Option.{option_map_or}
+use Rattle.std.specs.Result.{result_unwrap_or}
+use Rattle.vp8_tables.specs.declared.tables.Tables.{Tables}
 use Rattle.packet_edits.specs.declared.fault.EditFault.{EditFault}
 use Rattle.packet_edits.specs.declared.fault.EditFault.TheVariants as faults
 use Rattle.packet_edits.specs.Edits.{Listing, deleted, inserted, refused_deletion, refused_insertion, refused_move, refused_replacement, replaced, with_move}
+use Rattle.packet_edits.specs.Sizes.{size_at}
+use Rattle.packet_forge.specs.declared.faults.ForgeFault.{ForgeFault}
+use Rattle.packet_forge.specs.declared.faults.ForgeFault.TheVariants as forging
+use Rattle.packet_forge.specs.Packets.{blank_of, hold_of}
 use Rattle.frame_session.specs.declared.edit.Edit.{Edit}
-use Rattle.frame_session.specs.declared.edit.Edit.TheVariants.{Insert, Replace, Delete, Move}
+use Rattle.frame_session.specs.declared.edit.Edit.TheVariants.{Insert, Replace, Delete, Move, Blank, Hold}
 use Rattle.frame_session.specs.declared.refusal.Refusal.{Refusal}
 use Rattle.frame_session.specs.declared.refusal.Refusal.TheVariants as refusals
 use Rattle.frame_session.specs.Gives.{Gives}
@@ -16,35 +23,70 @@ refusal_by faults.Full = refusals.Full
 refusal_by faults.Spent = refusals.Spent
 refusal_by faults.NoMemory = refusals.NoMemory
 
--- the list after an edit that is accepted
-abbrev pub edited : Edit → Listing → Listing
-edited (Insert at stamp bytes) list = inserted at stamp bytes list
-edited (Replace at bytes) list = replaced at bytes list
-edited (Delete at) list = deleted at list
-edited (Move from to) list = with_move from to list
+-- the refusal of a request whose packet is not forged
+abbrev pub refusal_by_forging : ForgeFault → Refusal
+refusal_by_forging forging.Size = refusals.Size
+refusal_by_forging forging.TooLarge = refusals.TooLarge
+refusal_by_forging forging.NoMemory = refusals.NoMemory
 
--- the first fault of an edit, if there is one
-abbrev pub refused_edit : Listing → Edit → Option EditFault
-refused_edit list (Insert at stamp bytes) = refused_insertion list at
-refused_edit list (Replace at bytes) = refused_replacement list at
-refused_edit list (Delete at) = refused_deletion list at
-refused_edit list (Move from to) = refused_move list from to
+-- the stamp of the packet before a place, and 0 where none stands there
+abbrev pub stamp_before : ℕ → Listing → ℕ
+stamp_before at list = if at == 0 then 0 else option_map_or (λ entry. entry.stamp) (slice_get list.entries (at - 1)) 0
+
+-- what is forged to hold a picture of this size: nothing where there is none
+abbrev pub held : Tables → Option (ℕ × ℕ) → Result (List ℕ) ForgeFault
+held tables None = Err forging.Size
+held tables (Some size) = hold_of tables size.0 size.1
+
+-- the packet that holds the picture at a place: its size is that of the key frames before it
+abbrev pub held_at : Tables → Listing → ℕ → Result (List ℕ) ForgeFault
+held_at tables list at = held tables (size_at at list)
+
+-- a forged packet put in at a place, with the stamp of the packet before
+abbrev pub inserted_forged : ℕ → Result (List ℕ) ForgeFault → Listing → Listing
+inserted_forged at forged list = inserted at (stamp_before at list) (result_unwrap_or forged []) list
+
+-- the list after an edit that is accepted
+abbrev pub edited : Tables → Edit → Listing → Listing
+edited tables (Insert at stamp bytes) list = inserted at stamp bytes list
+edited tables (Replace at bytes) list = replaced at bytes list
+edited tables (Delete at) list = deleted at list
+edited tables (Move from to) list = with_move from to list
+edited tables (Blank at width height) list = inserted_forged at (blank_of tables width height) list
+edited tables (Hold at) list = inserted_forged at (held_at tables list at) list
+
+-- the first refusal of a forged packet: that of its insertion, or else that of its forging
+abbrev pub refused_forged : Option EditFault → Result (List ℕ) ForgeFault → Option Refusal
+refused_forged (Some fault) forged = Some (refusal_by fault)
+refused_forged None (Err fault) = Some (refusal_by_forging fault)
+refused_forged None (Ok packet) = None
+
+-- the first refusal of an edit, if there is one
+abbrev pub refused_edit : Tables → Listing → Edit → Option Refusal
+refused_edit tables list (Insert at stamp bytes) = option_map refusal_by (refused_insertion list at)
+refused_edit tables list (Replace at bytes) = option_map refusal_by (refused_replacement list at)
+refused_edit tables list (Delete at) = option_map refusal_by (refused_deletion list at)
+refused_edit tables list (Move from to) = option_map refusal_by (refused_move list from to)
+refused_edit tables list (Blank at width height) = refused_forged (refused_insertion list at) (blank_of tables width height)
+refused_edit tables list (Hold at) = refused_forged (refused_insertion list at) (held_at tables list at)
 
 -- the answer where nothing is refused
-abbrev pub unless_refused : Option EditFault → ℕ → Result ℕ Refusal
+abbrev pub unless_refused : Option Refusal → ℕ → Result ℕ Refusal
 unless_refused None count = Ok count
-unless_refused (Some fault) count = Err (refusal_by fault)
+unless_refused (Some refusal) count = Err refusal
 
 -- an edit's answer: how many packets stand behind it, or the first refusal
-abbrev pub edit_of : Listing → Edit → Result ℕ Refusal
-edit_of list edit = unless_refused (refused_edit list edit) (length (edited edit list).entries)
+abbrev pub edit_of : Tables → Listing → Edit → Result ℕ Refusal
+edit_of tables list edit = unless_refused (refused_edit tables list edit) (length (edited tables edit list).entries)
 
--- what may be answered to an edit: want of memory to an insertion alone
-abbrev pub EditGives : Listing → Edit → Result ℕ Refusal → Type 0
-EditGives list (Insert at stamp bytes) answer = Gives (edit_of list (Insert at stamp bytes)) answer
-EditGives list edit answer = answer ≡ edit_of list edit
+-- what may be answered to an edit: want of memory where a packet is put in
+abbrev pub EditGives : Tables → Listing → Edit → Result ℕ Refusal → Type 0
+EditGives tables list (Insert at stamp bytes) answer = Gives (edit_of tables list (Insert at stamp bytes)) answer
+EditGives tables list (Blank at width height) answer = Gives (edit_of tables list (Blank at width height)) answer
+EditGives tables list (Hold at) answer = Gives (edit_of tables list (Hold at)) answer
+EditGives tables list edit answer = answer ≡ edit_of tables list edit
 
 -- the list after an edit that was answered so
-abbrev pub after_edit : Edit → Listing → Result ℕ Refusal → Listing
-after_edit edit list (Ok count) = edited edit list
-after_edit edit list (Err refusal) = list
+abbrev pub after_edit : Tables → Edit → Listing → Result ℕ Refusal → Listing
+after_edit tables edit list (Ok count) = edited tables edit list
+after_edit tables edit list (Err refusal) = list

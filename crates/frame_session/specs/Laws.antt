@@ -1,32 +1,12 @@
--- What the definitions of decoding and of a request list come to, as laws over them.
-use Rattle.std.specs.Prelude.{◌≡◌, ℕ, ◌≤◌, true, List, [], ◌∷◌, length, Some, None, Err, slice_get}
-use Rattle.vp8_tables.specs.declared.tables.Tables.{Tables}
-use Rattle.frame_header.specs.Tags.{has_key_tag}
-use Rattle.reference_frames.specs.Steps.{step_of}
-use Rattle.frame_session.specs.declared.decoding.Broken.{Broken}
+-- What the meaning of a request list comes to, as laws over its definition.
+use Rattle.std.specs.Prelude.{◌≡◌, ℕ, ◌≤◌, List, [], ◌∷◌}
 use Rattle.frame_session.specs.declared.lines.Line.{Line}
 use Rattle.frame_session.specs.declared.lines.Line.TheVariants.{Stats}
 use Rattle.frame_session.specs.declared.refusal.Refusal.{Refusal}
 use Rattle.frame_session.specs.declared.refusal.Refusal.TheVariants as refusals
-use Rattle.frame_session.specs.Decoding.{outcomes, told_at}
 use Rattle.frame_session.specs.Replies.{refused_line, stats_line}
 use Rattle.frame_session.specs.Sessions.{Now}
 use Rattle.frame_session.specs.Answers.{Answer, Answers, Run, told}
-
--- each packet has one outcome
-abbrev pub EachHasOutcome : Type 0
-EachHasOutcome = (tables : Tables) (packets : List (List ℕ)) → length (outcomes tables packets) ≡ length packets
-
--- a broken outcome names the packet that broke the stream: it stands at that place or before the one that was asked,
--- and its own outcome is this break
-abbrev pub BreaksAreNamed : Type 0
-BreaksAreNamed = (tables : Tables) (packets : List (List ℕ)) (i : ℕ) (broken : Broken) → slice_get (outcomes tables packets) i ≡ Some (Err broken)
-    → (broken.place ≤ i) × (slice_get (outcomes tables packets) broken.place ≡ Some (Err broken))
-
--- the outcome of a packet with a key tag depends on nothing before it
-abbrev pub KeysBeginAnew : Type 0
-KeysBeginAnew = (tables : Tables) (packets : List (List ℕ)) (i : ℕ) (packet : List ℕ) → slice_get packets i ≡ Some packet → has_key_tag packet ≡ true
-    → slice_get (outcomes tables packets) i ≡ Some (told_at i (step_of tables None packet))
 
 -- no answer tells of want of memory
 abbrev pub HaveMemory : List Answer → Type 0

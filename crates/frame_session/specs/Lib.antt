@@ -1,4 +1,3 @@
-pub mod Decoding
 pub mod Gives
 pub mod Edits
 pub mod Scripts
@@ -7,5 +6,6 @@ pub mod Words
 pub mod Requests
 pub mod Replies
 pub mod Sessions
+pub mod Cached
 pub mod Answers
 pub mod Laws

@@ -4,7 +4,7 @@ use Rattle.std.specs.List.{starts_with}
 use Rattle.std.specs.Option.{option_map_or}
 use Rattle.std.specs.Str.{bytes_eq}
 use Rattle.frame_session.specs.declared.lines.Line.{Line}
-use Rattle.frame_session.specs.declared.lines.Line.TheVariants.{Silent, Unknown, Frame, Insert, Replace, Delete, Move, Script, Count, Stats}
+use Rattle.frame_session.specs.declared.lines.Line.TheVariants.{Silent, Unknown, Frame, Insert, Replace, Delete, Move, Blank, Hold, Script, Count, Stats}
 use Rattle.frame_session.specs.Words.{words_of, number_of, bytes_of, behind_word}
 
 -- a line that goes on with a number, and with what is asked for behind it
@@ -38,6 +38,12 @@ delete_by words = with_number (λ at. at_end (Delete at)) words
 abbrev pub move_by : List (List ℕ) → Line
 move_by words = with_number (λ from. with_number (λ to. at_end (Move from to))) words
 
+abbrev pub blank_by : List (List ℕ) → Line
+blank_by words = with_number (λ at. with_number (λ width. with_number (λ height. at_end (Blank at width height)))) words
+
+abbrev pub hold_by : List (List ℕ) → Line
+hold_by words = with_number (λ at. at_end (Hold at)) words
+
 -- a script: the text behind the command, which has these words
 abbrev pub script_by : List ℕ → List (List ℕ) → Line
 script_by text [] = Unknown
@@ -53,6 +59,8 @@ asked_by_words text (command ∷ words) =
     else if bytes_eq command (codes "replace") then replace_by words
     else if bytes_eq command (codes "delete") then delete_by words
     else if bytes_eq command (codes "move") then move_by words
+    else if bytes_eq command (codes "blank") then blank_by words
+    else if bytes_eq command (codes "hold") then hold_by words
     else if bytes_eq command (codes "script") then script_by text words
     else if bytes_eq command (codes "count") then at_end Count words
     else if bytes_eq command (codes "stats") then at_end Stats words

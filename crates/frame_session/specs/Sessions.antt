@@ -9,7 +9,7 @@ use Rattle.frame_session.specs.declared.refusal.Refusal.{Refusal}
 use Rattle.frame_session.specs.declared.refusal.Refusal.TheVariants as refusals
 use Rattle.frame_session.specs.declared.size.Size.{Size}
 use Rattle.frame_session.specs.declared.edit.Edit.{Edit}
-use Rattle.frame_session.specs.Decoding.{Outcome, outcomes}
+use Rattle.state_cache.specs.Decoding.{Outcome, outcomes}
 use Rattle.packet_edits.specs.Edits.{Listing, listing_of}
 use Rattle.packet_edits.specs.Shown.{shown_places}
 use Rattle.script_nodes.specs.declared.nodes.Node.{Node}
@@ -107,7 +107,7 @@ pub record IsAfterFrame (old : Now) (served : Option Size) (new : Now) : Type 0 
 
 -- what stands after an edit that was answered so
 abbrev pub behind_edit : Edit → Now → Result ℕ Refusal → Now
-behind_edit edit now answer = record now { list = after_edit edit now.list answer }
+behind_edit edit now answer = record now { list = after_edit now.tables edit now.list answer }
 
 -- the answer to a script: how many packets stand, or the first fault of its text
 abbrev pub script_answer : Now → List ℕ → Result ℕ Refusal

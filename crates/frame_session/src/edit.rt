@@ -1,10 +1,15 @@
 ghost use Rattle.std.specs.Prelude.{◌≡◌};
+ghost use Rattle.frame_session.specs.Cached.{marks_after};
+ghost use Rattle.vp8_tables.specs.declared.tables.Tables.{Tables};
 ghost use Rattle.frame_session.specs.Edits.{EditGives, after_edit, edit_of};
 ghost use Rattle.frame_session.specs.Gives.{Gives};
 
+use crate::forged::{insert_blank, insert_hold};
 use crate::refusal::Refusal;
 use packet_edits::Store;
+use std::alloc::Global;
 use stream_files::Bytes;
+use vp8_tables::Tables;
 
 /// A change of the packet list. Places are counted from 0.
 #[derive(Debug, Drop)]
@@ -17,27 +22,44 @@ pub enum Edit {
     Delete { at: u64 },
     /// The packet at place `from` is taken out and put in at place `to` of the shortened list.
     Move { from: u64, to: u64 },
+    /// A packet whose picture is 128 throughout is put in at place `at`: a key frame of `width` by
+    /// `height` luma samples, each 1 to 16,383. It has the time stamp of the packet before, or 0.
+    Blank { at: u64, width: u64, height: u64 },
+    /// A packet that shows the last reference again is put in at place `at`, of the size that the last
+    /// packet with a key tag before it tells. It has the time stamp of the packet before, or 0.
+    Hold { at: u64 },
 }
 
 /// Makes an edit, and gives how many packets stand then.
 ///
-/// An insertion is refused as `Place`, `Full`, `Spent` and then `NoMemory`, a replacement as `Place`
-/// and then `Spent`, and the others as `Place`; the list is then as it was.
-pub fn make_edit(list: &mut Store, edit: Edit) -> Result<u64, Refusal>
-    ensures gives { EditGives list.old edit result }
-    ensures after { list.new ≡ after_edit edit list.old result }
+/// An insertion is refused as `Place`, `Full`, `Spent` and then `NoMemory`; that of a forged packet as
+/// `Place`, `Full`, `Spent`, `Size`, `TooLarge` and then `NoMemory`, which may stand in place of
+/// `TooLarge`; a replacement as `Place` and then `Spent`, and the others as `Place`. The list is then
+/// as it was.
+pub fn make_edit(
+    alloc: Global,
+    tables: &Tables,
+    list: &mut Store,
+    edit: Edit,
+) -> Result<u64, Refusal>
+    ensures gives { EditGives tables.now list.old.list edit result }
+    ensures after { list.new.list ≡ after_edit tables.now edit list.old.list result }
+    ensures marks { list.new.marks ≡ marks_after edit list.old.marks result }
 {
     match edit {
         Edit::Insert { at, stamp, bytes } => insert(list, at, stamp, bytes),
         Edit::Replace { at, bytes } => replace(list, at, bytes),
         Edit::Delete { at } => delete(list, at),
         Edit::Move { from, to } => move_to(list, from, to),
+        Edit::Blank { at, width, height } => insert_blank(alloc, tables, list, at, width, height),
+        Edit::Hold { at } => insert_hold(alloc, tables, list, at),
     }
 }
 
-fn insert(list: &mut Store, at: u64, stamp: u64, bytes: Bytes) -> Result<u64, Refusal>
-    ensures gives { Gives (edit_of list.old (Edit.Insert at stamp bytes)) result }
-    ensures after { list.new ≡ after_edit (Edit.Insert at stamp bytes) list.old result }
+pub(crate) fn insert(list: &mut Store, at: u64, stamp: u64, bytes: Bytes) -> Result<u64, Refusal>
+    ensures gives { (tables : Tables) → Gives (edit_of tables list.old.list (Edit.Insert at stamp bytes)) result }
+    ensures after { (tables : Tables) → list.new.list ≡ after_edit tables (Edit.Insert at stamp bytes) list.old.list result }
+    ensures marks { list.new.marks ≡ marks_after (Edit.Insert at stamp bytes) list.old.marks result }
 {
     match list.insert(at, stamp, bytes) {
         Ok(()) => Ok(list.len() as u64),
@@ -46,8 +68,9 @@ fn insert(list: &mut Store, at: u64, stamp: u64, bytes: Bytes) -> Result<u64, Re
 }
 
 fn replace(list: &mut Store, at: u64, bytes: Bytes) -> Result<u64, Refusal>
-    ensures gives { result ≡ edit_of list.old (Edit.Replace at bytes) }
-    ensures after { list.new ≡ after_edit (Edit.Replace at bytes) list.old result }
+    ensures gives { (tables : Tables) → result ≡ edit_of tables list.old.list (Edit.Replace at bytes) }
+    ensures after { (tables : Tables) → list.new.list ≡ after_edit tables (Edit.Replace at bytes) list.old.list result }
+    ensures marks { list.new.marks ≡ marks_after (Edit.Replace at bytes) list.old.marks result }
 {
     match list.replace(at, bytes) {
         Ok(()) => Ok(list.len() as u64),
@@ -56,8 +79,9 @@ fn replace(list: &mut Store, at: u64, bytes: Bytes) -> Result<u64, Refusal>
 }
 
 fn delete(list: &mut Store, at: u64) -> Result<u64, Refusal>
-    ensures gives { result ≡ edit_of list.old (Edit.Delete at) }
-    ensures after { list.new ≡ after_edit (Edit.Delete at) list.old result }
+    ensures gives { (tables : Tables) → result ≡ edit_of tables list.old.list (Edit.Delete at) }
+    ensures after { (tables : Tables) → list.new.list ≡ after_edit tables (Edit.Delete at) list.old.list result }
+    ensures marks { list.new.marks ≡ marks_after (Edit.Delete at) list.old.marks result }
 {
     match list.delete(at) {
         Ok(()) => Ok(list.len() as u64),
@@ -66,8 +90,9 @@ fn delete(list: &mut Store, at: u64) -> Result<u64, Refusal>
 }
 
 fn move_to(list: &mut Store, from: u64, to: u64) -> Result<u64, Refusal>
-    ensures gives { result ≡ edit_of list.old (Edit.Move from to) }
-    ensures after { list.new ≡ after_edit (Edit.Move from to) list.old result }
+    ensures gives { (tables : Tables) → result ≡ edit_of tables list.old.list (Edit.Move from to) }
+    ensures after { (tables : Tables) → list.new.list ≡ after_edit tables (Edit.Move from to) list.old.list result }
+    ensures marks { list.new.marks ≡ marks_after (Edit.Move from to) list.old.marks result }
 {
     match list.move_to(from, to) {
         Ok(()) => Ok(list.len() as u64),

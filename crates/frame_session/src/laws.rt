@@ -5,24 +5,11 @@ ghost use Rattle.packet_edits.specs.Laws.{packet, three};
 ghost use Rattle.frame_session.specs.declared.edit.Edit.TheVariants as edits;
 ghost use Rattle.frame_session.specs.declared.lines.Line.TheVariants as requests;
 ghost use Rattle.frame_session.specs.declared.refusal.Refusal.TheVariants as refusals;
-ghost use Rattle.frame_session.specs.Edits.{edited, edit_of};
+ghost use Rattle.frame_session.specs.Edits.{edited, edit_of, stamp_before};
 ghost use Rattle.frame_session.specs.Requests.{asked_by};
-ghost use Rattle.frame_session.specs.Laws.{AnswersAreOne, AnswersExist, BreaksAreNamed, EachHasOutcome, KeysBeginAnew, RefusedLinesChangeNothing, StepsNeverFall};
+ghost use Rattle.frame_session.specs.Laws.{AnswersAreOne, AnswersExist, RefusedLinesChangeNothing, StepsNeverFall};
 
-/// Each packet of a stream has one outcome.
-pub fn each_has_outcome()
-    ensures { EachHasOutcome }
-{}
-
-/// A broken outcome names the packet that broke the stream.
-pub fn breaks_are_named()
-    ensures { BreaksAreNamed }
-{}
-
-/// The outcome of a packet with a key tag depends on nothing before it.
-pub fn keys_begin_anew()
-    ensures { KeysBeginAnew }
-{}
+use vp8_tables::Tables;
 
 /// Each request list has a meaning in which memory is never refused.
 pub fn answers_exist()
@@ -46,18 +33,24 @@ pub fn refused_lines_change_nothing()
     ensures { RefusedLinesChangeNothing }
 {}
 
-/// Each edit of three packets, and refusals in their order.
-pub fn worked_edits()
-    ensures insert { (edited (edits.Insert 1 5 (68 ∷ [])) three).entries ≡ packet 0 10 65 ∷ packet 3 5 68 ∷ packet 1 20 66 ∷ packet 2 30 67 ∷ [] }
-    ensures replace { (edited (edits.Replace 1 (68 ∷ [])) three).entries ≡ packet 0 10 65 ∷ packet 3 20 68 ∷ packet 2 30 67 ∷ [] }
-    ensures delete { (edited (edits.Delete 1) three).entries ≡ packet 0 10 65 ∷ packet 2 30 67 ∷ [] }
-    ensures move_up { (edited (edits.Move 0 2) three).entries ≡ packet 1 20 66 ∷ packet 2 30 67 ∷ packet 0 10 65 ∷ [] }
-    ensures move_down { (edited (edits.Move 2 1) three).entries ≡ packet 0 10 65 ∷ packet 2 30 67 ∷ packet 1 20 66 ∷ [] }
-    ensures stays { (edited (edits.Move 1 1) three).entries ≡ three.entries }
-    ensures next { (edited (edits.Insert 3 5 []) three).next_id ≡ 4 }
-    ensures told { edit_of three (edits.Insert 3 5 []) ≡ Ok 4 }
-    ensures place { edit_of (record three { next_id = 0xFFFF_FFFF_FFFF_FFFF }) (edits.Insert 4 5 []) ≡ Err refusals.Place }
-    ensures spent { edit_of (record three { next_id = 0xFFFF_FFFF_FFFF_FFFF }) (edits.Replace 2 []) ≡ Err refusals.Spent }
+/// Each edit of three packets, none of which has a key tag, and refusals in their order.
+pub fn worked_edits(tables: &Tables)
+    ensures insert { (edited tables.now (edits.Insert 1 5 (68 ∷ [])) three).entries ≡ packet 0 10 65 ∷ packet 3 5 68 ∷ packet 1 20 66 ∷ packet 2 30 67 ∷ [] }
+    ensures replace { (edited tables.now (edits.Replace 1 (68 ∷ [])) three).entries ≡ packet 0 10 65 ∷ packet 3 20 68 ∷ packet 2 30 67 ∷ [] }
+    ensures delete { (edited tables.now (edits.Delete 1) three).entries ≡ packet 0 10 65 ∷ packet 2 30 67 ∷ [] }
+    ensures move_up { (edited tables.now (edits.Move 0 2) three).entries ≡ packet 1 20 66 ∷ packet 2 30 67 ∷ packet 0 10 65 ∷ [] }
+    ensures move_down { (edited tables.now (edits.Move 2 1) three).entries ≡ packet 0 10 65 ∷ packet 2 30 67 ∷ packet 1 20 66 ∷ [] }
+    ensures stays { (edited tables.now (edits.Move 1 1) three).entries ≡ three.entries }
+    ensures next { (edited tables.now (edits.Insert 3 5 []) three).next_id ≡ 4 }
+    ensures told { edit_of tables.now three (edits.Insert 3 5 []) ≡ Ok 4 }
+    ensures place { edit_of tables.now (record three { next_id = 0xFFFF_FFFF_FFFF_FFFF }) (edits.Insert 4 5 []) ≡ Err refusals.Place }
+    ensures spent { edit_of tables.now (record three { next_id = 0xFFFF_FFFF_FFFF_FFFF }) (edits.Replace 2 []) ≡ Err refusals.Spent }
+    ensures stamp { (stamp_before 0 three ≡ 0) × (stamp_before 1 three ≡ 10) × (stamp_before 3 three ≡ 30) }
+    ensures place_before_size { edit_of tables.now three (edits.Blank 4 0 0) ≡ Err refusals.Place }
+    ensures spent_before_size { edit_of tables.now (record three { next_id = 0xFFFF_FFFF_FFFF_FFFF }) (edits.Blank 3 0 16) ≡ Err refusals.Spent }
+    ensures no_side { edit_of tables.now three (edits.Blank 3 0 16) ≡ Err refusals.Size }
+    ensures wide_side { edit_of tables.now three (edits.Blank 0 16 16384) ≡ Err refusals.Size }
+    ensures no_key { edit_of tables.now three (edits.Hold 3) ≡ Err refusals.Size }
 {}
 
 /// What lines ask for.
@@ -67,6 +60,9 @@ pub fn worked_lines()
     ensures replace { asked_by (codes "  replace  3  - ") ≡ requests.Replace 3 [] }
     ensures delete { asked_by (codes "delete 18446744073709551615") ≡ requests.Delete 18446744073709551615 }
     ensures move_up { asked_by (codes "move 0 2") ≡ requests.Move 0 2 }
+    ensures blank { asked_by (codes "blank 0 16 9") ≡ requests.Blank 0 16 9 }
+    ensures hold { asked_by (codes "hold 1") ≡ requests.Hold 1 }
+    ensures no_height { asked_by (codes "blank 0 16") ≡ requests.Unknown }
     ensures count { asked_by (codes "count") ≡ requests.Count }
     ensures stats { asked_by (codes "stats") ≡ requests.Stats }
     ensures script { asked_by (codes "script trim 0 1 2; splice 1 0") ≡ requests.Script (codes " trim 0 1 2; splice 1 0") }

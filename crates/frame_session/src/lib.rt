@@ -2,9 +2,10 @@
 //! and `run`, which does all of that over the bytes of a file and of a request list.
 #![tactic(auto)]
 
-mod decoding;
 mod edit;
+mod forged;
 mod hex_text;
+mod keeping;
 pub mod laws;
 mod lines;
 mod refusal;

@@ -5,7 +5,7 @@ ghost use Rattle.std.specs.Char.{is_ascii_digit};
 ghost use Rattle.std.specs.List.{list_all, position_or_len, prefix_len};
 ghost use Rattle.std.specs.Str.Lines.{lines, strip_carriage_return};
 ghost use Rattle.frame_session.specs.Words.{words_of, number_of, behind_word};
-ghost use Rattle.frame_session.specs.Requests.{with_number, with_bytes, at_end, frame_by, insert_by, replace_by, delete_by, move_by, script_by, asked_by};
+ghost use Rattle.frame_session.specs.Requests.{with_number, with_bytes, at_end, frame_by, insert_by, replace_by, delete_by, move_by, blank_by, hold_by, script_by, asked_by};
 ghost use Rattle.frame_session.specs.declared.lines.Line.{Line};
 ghost use Rattle.frame_session.specs.declared.lines.Line.TheVariants.{Unknown};
 
@@ -33,6 +33,10 @@ pub enum Line<'a> {
     Delete { at: u64 },
     /// The packet at place `from` moved to place `to` of the others.
     Move { from: u64, to: u64 },
+    /// A blank packet put in at place `at`, of this many luma samples.
+    Blank { at: u64, width: u64, height: u64 },
+    /// A packet put in at place `at` that holds the picture before it.
+    Hold { at: u64 },
     /// Another script.
     Script(ScriptText<'a>),
     /// How many packets stand, and how many frames the script serves.
@@ -156,8 +160,8 @@ fn ended<'a>(asked: Line<'a>, rest: &[u8]) -> Line<'a>
 /// What a line asks for.
 ///
 /// A line without words and one whose first word begins with `#` ask for nothing. The requests are
-/// `frame N`, `insert AT STAMP HEX`, `replace AT HEX`, `delete AT`, `move FROM TO`, `script TEXT`,
-/// `count` and `stats`, where HEX is `-` or an even number of hexadecimal digits, TEXT is the rest of
+/// `frame N`, `insert AT STAMP HEX`, `replace AT HEX`, `delete AT`, `move FROM TO`, `blank AT W H`,
+/// `hold AT`, `script TEXT`, `count` and `stats`, where HEX is `-` or an even number of hexadecimal digits, TEXT is the rest of
 /// the line, with a word in it, and the others are numbers; every other line is unknown.
 pub fn read_line(line: &[u8]) -> Line<'_>
     ensures { result ≡ asked_by line.now }
@@ -177,6 +181,10 @@ pub fn read_line(line: &[u8]) -> Line<'_>
         delete_line(words)
     } else if command == b"move".as_slice() {
         move_line(words)
+    } else if command == b"blank".as_slice() {
+        blank_line(words)
+    } else if command == b"hold".as_slice() {
+        hold_line(words)
     } else if command == b"script".as_slice() {
         script_line(words)
     } else if command == b"count".as_slice() {
@@ -245,6 +253,30 @@ fn move_line(words: &[u8]) -> Line<'_>
     ended(Line::Move { from, to }, rest)
 }
 
+fn blank_line(words: &[u8]) -> Line<'_>
+    ensures { result ≡ blank_by (words_of words.now) }
+{
+    let Some((at, rest)) = next_number(words) else {
+        return Line::Unknown;
+    };
+    let Some((width, rest)) = next_number(rest) else {
+        return Line::Unknown;
+    };
+    let Some((height, rest)) = next_number(rest) else {
+        return Line::Unknown;
+    };
+    ended(Line::Blank { at, width, height }, rest)
+}
+
+fn hold_line(words: &[u8]) -> Line<'_>
+    ensures { result ≡ hold_by (words_of words.now) }
+{
+    let Some((at, rest)) = next_number(words) else {
+        return Line::Unknown;
+    };
+    ended(Line::Hold { at }, rest)
+}
+
 fn script_line(text: &[u8]) -> Line<'_>
     ensures { result ≡ script_by text.now (words_of text.now) }
 {
@@ -292,6 +324,8 @@ mod tests {
             Line::Replace { at, .. } => ("replace", *at, 0),
             Line::Delete { at } => ("delete", *at, 0),
             Line::Move { from, to } => ("move", *from, *to),
+            Line::Blank { at, width, .. } => ("blank", *at, *width),
+            Line::Hold { at } => ("hold", *at, 0),
             Line::Script(_) => ("script", 0, 0),
             Line::Count => ("count", 0, 0),
             Line::Stats => ("stats", 0, 0),
@@ -300,7 +334,7 @@ mod tests {
 
     const UNKNOWN: Asked = ("unknown", 0, 0, b"");
 
-    const ROWS: [(&[u8], Asked); 46] = [
+    const ROWS: [(&[u8], Asked); 56] = [
         (b"", ("silent", 0, 0, b"")),
         (b"   ", ("silent", 0, 0, b"")),
         (b"# x", ("silent", 0, 0, b"")),
@@ -349,6 +383,19 @@ mod tests {
         (b"delete 5 6", UNKNOWN),
         (b"move 1 0", ("move", 1, 0, b"")),
         (b"move 1", UNKNOWN),
+        (b"blank 3 16 9", ("blank", 3, 16, b"")),
+        (
+            b" blank  0  18446744073709551615  0 ",
+            ("blank", 0, 18_446_744_073_709_551_615, b""),
+        ),
+        (b"blank 3 16", UNKNOWN),
+        (b"blank 3 16 9 1", UNKNOWN),
+        (b"blank 3 16 -", UNKNOWN),
+        (b"blank 3 16 18446744073709551616", UNKNOWN),
+        (b"hold 5", ("hold", 5, 0, b"")),
+        (b"hold", UNKNOWN),
+        (b"hold 5 6", UNKNOWN),
+        (b"holds 5", UNKNOWN),
         (b"script", UNKNOWN),
         (b"script  ", UNKNOWN),
         (b"scripts -", UNKNOWN),

@@ -2,6 +2,7 @@ ghost use Rattle.std.specs.Prelude.{◌≡◌};
 
 use frame_header::Cause;
 use packet_edits::EditFault;
+use packet_forge::ForgeFault;
 use script_nodes::{ApplyFault, ScriptFault};
 use thiserror::Error;
 
@@ -20,6 +21,12 @@ pub enum Refusal {
     /// No id is left for another packet.
     #[error("no id is left")]
     Spent,
+    /// No frame has the size that a packet was to be forged for.
+    #[error("no frame has the size")]
+    Size,
+    /// The first partition of a packet that was to be forged is too large.
+    #[error("the forged packet is too large")]
+    TooLarge,
     /// Fewer frames are shown.
     #[error("fewer frames are shown")]
     NoSuchFrame,
@@ -50,7 +57,7 @@ pub enum Refusal {
 }
 
 impl Refusal {
-    ghost use Rattle.frame_session.specs.Edits.{refusal_by};
+    ghost use Rattle.frame_session.specs.Edits.{refusal_by, refusal_by_forging};
     ghost use Rattle.frame_session.specs.Scripts.{refusal_by_apply, refusal_by_script};
     ghost use Rattle.frame_session.specs.Replies.{refusal_word};
 
@@ -63,6 +70,17 @@ impl Refusal {
             EditFault::Full => Refusal::Full,
             EditFault::Spent => Refusal::Spent,
             EditFault::NoMemory => Refusal::NoMemory,
+        }
+    }
+
+    /// The refusal of a request whose packet is not forged.
+    pub(crate) fn by_forging(fault: ForgeFault) -> Refusal
+        ensures { result ≡ refusal_by_forging fault }
+    {
+        match fault {
+            ForgeFault::Size => Refusal::Size,
+            ForgeFault::TooLarge => Refusal::TooLarge,
+            ForgeFault::NoMemory => Refusal::NoMemory,
         }
     }
 
@@ -98,6 +116,8 @@ impl Refusal {
             Refusal::Place => "Place",
             Refusal::Full => "Full",
             Refusal::Spent => "Spent",
+            Refusal::Size => "Size",
+            Refusal::TooLarge => "TooLarge",
             Refusal::NoSuchFrame => "NoSuchFrame",
             Refusal::Packet { .. } => "packet",
             Refusal::CropOutside => "CropOutside",

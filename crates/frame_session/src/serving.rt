@@ -87,7 +87,7 @@ fn serve_frame<F: Write, R: Write>(
     frames: &mut F,
     replies: &mut R,
 ) -> Result<(), WriteFault>
-    ensures { OnOk result (Serves session.old (Line.Frame n) (F.contents frames.old) (F.contents frames.new) (R.contents replies.old) (R.contents replies.new) session.new) }
+    ensures { OnOk result (Serves session.old.now (Line.Frame n) (F.contents frames.old) (F.contents frames.new) (R.contents replies.old) (R.contents replies.new) session.new.now) }
 {
     let head_due = session.head_due();
     match session.frame(n) {
@@ -101,7 +101,7 @@ fn serve_frame<F: Write, R: Write>(
 
 /// Tells how many packets stand, and how many frames are served.
 fn tell_count<R: Write>(session: &Session, replies: &mut R) -> Result<(), WriteFault>
-    ensures { OnOk result (Appends (R.contents replies.old) (R.contents replies.new) (count_line (packet_count session.now) (frame_count session.now))) }
+    ensures { OnOk result (Appends (R.contents replies.old) (R.contents replies.new) (count_line (packet_count session.now.now) (frame_count session.now.now))) }
 {
     let (packets, frames) = session.count();
     write_count(replies, packets, frames)
@@ -113,7 +113,7 @@ fn serve_edit<R: Write>(
     edit: Edit,
     replies: &mut R,
 ) -> Result<(), WriteFault>
-    ensures { OnOk result ((edited : Result ℕ Refusal) × EditGives session.old.list edit edited × (session.new ≡ behind_edit edit session.old edited) × Appends (R.contents replies.old) (R.contents replies.new) (edit_line edited)) }
+    ensures { OnOk result ((edited : Result ℕ Refusal) × EditGives session.old.now.tables session.old.now.list edit edited × (session.new.now ≡ behind_edit edit session.old.now edited) × Appends (R.contents replies.old) (R.contents replies.new) (edit_line edited)) }
 {
     let edited = session.edit(edit);
     write_edited(replies, edited)
@@ -126,7 +126,7 @@ fn serve<F: Write, R: Write>(
     frames: &mut F,
     replies: &mut R,
 ) -> Result<(), WriteFault>
-    ensures { OnOk result (Serves session.old line.entry (F.contents frames.old) (F.contents frames.new) (R.contents replies.old) (R.contents replies.new) session.new) }
+    ensures { OnOk result (Serves session.old.now line.entry (F.contents frames.old) (F.contents frames.new) (R.contents replies.old) (R.contents replies.new) session.new.now) }
 {
     match line {
         Line::Silent => Ok(()),
@@ -142,6 +142,10 @@ fn serve<F: Write, R: Write>(
         }
         Line::Delete { at } => serve_edit(session, Edit::Delete { at }, replies),
         Line::Move { from, to } => serve_edit(session, Edit::Move { from, to }, replies),
+        Line::Blank { at, width, height } => {
+            serve_edit(session, Edit::Blank { at, width, height }, replies)
+        }
+        Line::Hold { at } => serve_edit(session, Edit::Hold { at }, replies),
         Line::Script(text) => {
             let set = session.set_script(text.as_slice());
             write_edited(replies, set)
@@ -158,7 +162,7 @@ fn serve_all<F: Write, R: Write>(
     frames: &mut F,
     replies: &mut R,
 ) -> Result<(), WriteFault>
-    ensures { OnOk result (Runs session.old (requests_of requests.now) (F.contents frames.old) (F.contents frames.new) (R.contents replies.old) (R.contents replies.new) session.new) }
+    ensures { OnOk result (Runs session.old.now (requests_of requests.now) (F.contents frames.old) (F.contents frames.new) (R.contents replies.old) (R.contents replies.new) session.new.now) }
 {
     let mut rest = requests;
     'lines: loop {
@@ -190,7 +194,7 @@ pub fn run<F: Write, R: Write>(
     replies: &mut R,
 ) -> Result<Session, RunFault>
     requires { (1 ≤ capacity) × (capacity ≤ 4096) }
-    ensures means { IfOk result (Means tables ivf.now requests.now (F.contents frames.old) (F.contents frames.new) (R.contents replies.old) (R.contents replies.new)) }
+    ensures means { IfOk result (λ session. Means tables ivf.now requests.now (F.contents frames.old) (F.contents frames.new) (R.contents replies.old) (R.contents replies.new) session.now) }
     ensures refused { IfErr result (RunRefuses ivf.now) }
     ensures frames { IfErr result (λ fault. Leaves fault (F.contents frames.old) (F.contents frames.new)) }
     ensures replies { IfErr result (λ fault. Leaves fault (R.contents replies.old) (R.contents replies.new)) }

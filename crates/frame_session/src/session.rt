@@ -1,24 +1,31 @@
-ghost use Rattle.std.specs.Prelude.{◌≡◌, ◌<◌, ◌≤◌, IfOk, OnErr, length, slice_get};
+ghost use Rattle.std.specs.Prelude.{◌≡◌, ◌<◌, ◌≤◌, IfOk, OnErr, OnOk, is_ok, length, slice_get};
+ghost use Rattle.std.specs.Io.KnownBytes.{Appends};
+ghost use Rattle.stream_files.specs.Texts.{written_text};
+ghost use Rattle.packet_edits.specs.Saved.{packets_of};
 ghost use Rattle.packet_edits.specs.Shown.{stream_of};
-ghost use Rattle.frame_session.specs.Decoding.{outcomes};
+ghost use Rattle.state_cache.specs.Decoding.{outcomes};
+ghost use Rattle.state_cache.specs.Costs.{Costs};
 ghost use Rattle.frame_session.specs.Gives.{Gives, GivesFrame};
 ghost use Rattle.frame_session.specs.Edits.{EditGives, edit_of};
 ghost use Rattle.frame_session.specs.declared.edit.Edit.TheVariants.{Insert, Replace};
 
-use crate::decoding::{DecodeFault, decode};
-use crate::edit::{Edit, make_edit};
+use crate::edit::Edit;
 use crate::hex_text::Hex;
+use crate::keeping::{edit_kept, picture_at};
 use crate::refusal::Refusal;
 use crate::size::Size;
 use packet_edits::Store;
 use pixel_planes::{NoMemory, Picture};
 use script_nodes::{Script, apply};
+use state_cache::Cache;
 use std::alloc::Global;
+use std::io::Write;
 use std::marker::Model;
-use stream_files::{Head, Ivf};
+use stream_files::{Head, Ivf, WriteFault};
 use vp8_tables::Tables;
 
-/// A stream and what was asked of it so far.
+/// A stream and what was asked of it so far, with decoded states that are kept from one request to the
+/// next.
 #[derive(Drop)]
 pub struct Session {
     alloc: Global,
@@ -28,31 +35,36 @@ pub struct Session {
     script: Script,
     spare: u64,
     size: Option<Size>,
-    decoded: u64,
+    cache: Cache,
 }
 
 impl Model for Session {
-    ghost use Rattle.frame_session.specs.Sessions.{Now};
+    ghost use Rattle.frame_session.specs.Cached.{IsSound, SessionValue};
 
-    ghost Value = { Now };
+    ghost Value = { SessionValue };
 
-    ghost view = { λ s. record { tables = s.tables; head = s.head; list = s.list; script = s.script; spare = s.spare; size = s.size; decoded = s.decoded } };
+    ghost view = { λ s. record { now = record { tables = s.tables; head = s.head; list = s.list.list; script = s.script; spare = s.spare; size = s.size; decoded = s.cache.decoded }; marks = s.list.marks; cache = s.cache } };
+
+    ghost invariant = { λ s. IsSound s.tables s.list s.cache };
 }
 
 impl Session {
-    ghost use Rattle.frame_session.specs.Sessions.{IsAfterFrame, behind_edit, behind_script, fits, frame_count, frame_of, head_due, packet_count, picture_from, script_answer, shown_count, size_given, start};
+    ghost use Rattle.frame_session.specs.Cached.{CacheWithout, FrameCosts, IsSound, begun, left_behind, marks_after, place_of, store_of};
+    ghost use Rattle.frame_session.specs.Sessions.{IsAfterFrame, behind_edit, behind_script, fits, frame_count, frame_of, head_due, packet_count, picture_from, script_answer, shown_count, size_given};
 
     /// A session over a file's packets, which are at most 1,048,576. `capacity`, 1 to 4,096, is how
     /// many decoded states may be kept; none is kept yet. The packets get ids from 0 on, and the script
     /// is empty.
     ///
-    /// `NoMemory` where memory for the packet list was refused.
+    /// `NoMemory` where memory for the packet list or for what is kept was refused.
     pub fn new(alloc: Global, tables: Tables, capacity: u16, file: Ivf) -> Result<Session, NoMemory>
         requires capacity { (1 ≤ capacity) × (capacity ≤ 4096) }
         requires few { length file.packets ≤ 1048576 }
-        ensures { IfOk result (λ session. session ≡ start tables file) }
+        ensures { IfOk result (λ session. session ≡ begun tables capacity file) }
     {
-        let _ = capacity;
+        let Ok(cache) = Cache::new(alloc, capacity) else {
+            return Err(NoMemory);
+        };
         let mut list = Store::starting(alloc, 0);
         let Ok(()) = list.push_all(file.packets) else {
             return Err(NoMemory);
@@ -65,13 +77,13 @@ impl Session {
             script: Script::empty(alloc),
             spare: file.spare,
             size: None,
-            decoded: 0,
+            cache,
         })
     }
 
     /// How many packets are shown, at most 1,048,576.
     fn shown(&self) -> u64
-        ensures value { result ≡ shown_count self.now }
+        ensures value { result ≡ shown_count self.now.now }
         ensures few { result ≤ 1048576 }
     {
         let _standing = self.list.len();
@@ -80,27 +92,18 @@ impl Session {
 
     /// The picture at the place of a packet.
     fn decoded_at(&mut self, place: usize) -> Result<Picture, Refusal>
-        requires { place < length self.old.list.entries }
-        ensures gives { Gives (picture_from (slice_get (outcomes self.old.tables (stream_of self.old.list)) place)) result }
-        ensures after { self.new ≡ record self.old { decoded = self.new.decoded } }
-        ensures counted { self.old.decoded ≤ self.new.decoded }
+        requires { place < length self.old.now.list.entries }
+        ensures gives { Gives (picture_from (slice_get (outcomes self.old.now.tables (stream_of self.old.now.list)) place)) result }
+        ensures after { self.new.now ≡ record self.old.now { decoded = self.new.now.decoded } }
+        ensures costs { Costs self.old.now.tables (store_of self.old) self.old.cache place (is_ok result) (store_of self.new) self.new.cache }
+        ensures rises { self.old.now.decoded ≤ self.new.now.decoded }
     {
-        let mut steps = self.decoded;
-        let answer = decode(self.alloc, &self.tables, &self.list, place, &mut steps);
-        self.decoded = steps;
-        match answer {
-            Ok((_, picture)) => Ok(picture),
-            Err(DecodeFault::Refused(broken)) => Err(Refusal::Packet {
-                place: broken.place,
-                cause: broken.cause,
-            }),
-            Err(DecodeFault::NoMemory) => Err(Refusal::NoMemory),
-        }
+        picture_at(&self.tables, &mut self.list, &mut self.cache, place)
     }
 
     /// Whether a picture has the size of the stream, if that is fixed.
     fn fits(&self, size: Size) -> bool
-        ensures { result ≡ fits self.now.size size }
+        ensures { result ≡ fits self.now.now.size size }
     {
         match self.size {
             None => true,
@@ -116,8 +119,9 @@ impl Session {
     /// `SizeDiffers` where the frame has another size than the first one given; and as `NoMemory`, in
     /// place of any but the first.
     pub fn frame(&mut self, n: u64) -> Result<Picture, Refusal>
-        ensures gives { GivesFrame (frame_of self.old n) result }
-        ensures after { IsAfterFrame self.old (size_given result) self.new }
+        ensures gives { GivesFrame (frame_of self.old.now n) result }
+        ensures after { IsAfterFrame self.old.now (size_given result) self.new.now }
+        ensures costs { FrameCosts (place_of self.old.now n) self.old (is_ok result) self.new }
     {
         let Some((source, trace)) = self.script.trace(self.shown(), n) else {
             return Err(Refusal::NoSuchFrame);
@@ -147,8 +151,8 @@ impl Session {
     /// Refused as `Syntax`, `Nodes`, `Reference`, `Number` and then `NoMemory`, each over the whole
     /// text: the old script stands then.
     pub fn set_script(&mut self, text: &[u8]) -> Result<u64, Refusal>
-        ensures gives { Gives (script_answer self.old text.now) result }
-        ensures after { self.new ≡ behind_script text.now self.old result }
+        ensures gives { Gives (script_answer self.old.now text.now) result }
+        ensures after { self.new ≡ record self.old { now = behind_script text.now self.old.now result } }
         ensures refused { OnErr result (self.new ≡ self.old) }
     {
         match Script::parse(self.alloc, text) {
@@ -163,15 +167,25 @@ impl Session {
     /// Makes an edit of the packet list, and gives how many packets stand then.
     ///
     /// An insertion is refused as `Place` where `at` is above the number of packets, `Full` where
-    /// 1,048,576 packets stand, `Spent` where no id is left, and `NoMemory`, in this order; a
+    /// 1,048,576 packets stand, `Spent` where no id is left, and `NoMemory`, in this order; one of a
+    /// forged packet, behind `Spent`, as `Size` where no frame has the size, `TooLarge` where its first
+    /// partition has more than 524,287 bytes, and `NoMemory`, which may stand in place of `TooLarge`; a
     /// replacement as `Place` where no packet stands at `at`, and `Spent`; a deletion or a move as
     /// `Place` where no packet stands at one of its places. A refused edit changes nothing.
     pub fn edit(&mut self, edit: Edit) -> Result<u64, Refusal>
-        ensures gives { EditGives self.old.list edit result }
-        ensures after { self.new ≡ behind_edit edit self.old result }
+        ensures gives { EditGives self.old.now.tables self.old.now.list edit result }
+        ensures after { self.new.now ≡ behind_edit edit self.old.now result }
+        ensures marks { self.new.marks ≡ marks_after edit self.old.marks result }
+        ensures cache { CacheWithout (left_behind edit self.old.now.list result) self.old.cache self.new.cache }
         ensures refused { OnErr result (self.new ≡ self.old) }
     {
-        make_edit(&mut self.list, edit)
+        edit_kept(
+            self.alloc,
+            &self.tables,
+            &mut self.list,
+            &mut self.cache,
+            edit,
+        )
     }
 
     /// Puts in a packet of bytes that are made once nothing else is refused.
@@ -181,8 +195,8 @@ impl Session {
         stamp: u64,
         bytes: Hex<'_>,
     ) -> Result<u64, Refusal>
-        ensures gives { Gives (edit_of self.old.list (Insert at stamp bytes.entry)) result }
-        ensures after { self.new ≡ behind_edit (Insert at stamp bytes.entry) self.old result }
+        ensures gives { Gives (edit_of self.old.now.tables self.old.now.list (Insert at stamp bytes.entry)) result }
+        ensures after { self.new.now ≡ behind_edit (Insert at stamp bytes.entry) self.old.now result }
     {
         if let Err(fault) = self.list.may_insert(at) {
             return Err(Refusal::by(fault));
@@ -195,8 +209,8 @@ impl Session {
 
     /// Replaces a packet by bytes that are made once nothing else is refused.
     pub(crate) fn replace_written(&mut self, at: u64, bytes: Hex<'_>) -> Result<u64, Refusal>
-        ensures gives { Gives (edit_of self.old.list (Replace at bytes.entry)) result }
-        ensures after { self.new ≡ behind_edit (Replace at bytes.entry) self.old result }
+        ensures gives { Gives (edit_of self.old.now.tables self.old.now.list (Replace at bytes.entry)) result }
+        ensures after { self.new.now ≡ behind_edit (Replace at bytes.entry) self.old.now result }
     {
         if let Err(fault) = self.list.may_replace(at) {
             return Err(Refusal::by(fault));
@@ -209,22 +223,23 @@ impl Session {
 
     /// How many packets stand, and how many frames the script serves of those that are shown.
     pub fn count(&self) -> (u64, u64)
-        ensures packets { result.0 ≡ packet_count self.now }
-        ensures frames { result.1 ≡ frame_count self.now }
+        ensures packets { result.0 ≡ packet_count self.now.now }
+        ensures frames { result.1 ≡ frame_count self.now.now }
     {
         (self.list.len() as u64, self.script.length(self.shown()))
     }
 
     /// How many steps of decoding were made, whatever they answered; at most 18,446,744,073,709,551,615.
     pub fn decoded(&self) -> u64
-        ensures { result ≡ self.now.decoded }
+        ensures value { result ≡ self.now.now.decoded }
+        ensures sound { IsSound self.now.now.tables (store_of self.now) self.now.cache }
     {
-        self.decoded
+        self.cache.decoded()
     }
 
     /// The file's head, while no frame was served and the line that opens the frames is not written.
     pub(crate) fn head_due(&self) -> Option<Head>
-        ensures { result ≡ head_due self.now }
+        ensures { result ≡ head_due self.now.now }
     {
         match self.size {
             None => Some(self.head),
@@ -232,9 +247,19 @@ impl Session {
         }
     }
 
+    /// Writes the packets as they stand as an IVF file, with the head of the file that the session began
+    /// with. No memory is taken, and the session stays as it is.
+    ///
+    /// `Write` where the writer gives an error; nothing is told then of how much went out.
+    pub fn save<W: Write>(&self, w: &mut W) -> Result<(), WriteFault>
+        ensures { OnOk result (Appends (W.contents w.old) (W.contents w.new) (written_text self.now.now.head (packets_of self.now.now.list))) }
+    {
+        self.list.save(w, self.head)
+    }
+
     /// How many bytes stood behind the last whole record of the file.
     pub fn spare(&self) -> u64
-        ensures { result ≡ self.now.spare }
+        ensures { result ≡ self.now.now.spare }
     {
         self.spare
     }

@@ -106,8 +106,9 @@ fn read_vector_mode(reader: &mut Decoder, counts: &[u8; 4]) -> VectorMode
     }
 }
 
-/// The vectors of all blocks of a macroblock below and to the right of these.
-#[inline]
+/// The vectors of all blocks of a macroblock below and to the right of these. It is a call of its
+/// own, so that each way writes the list in memory, and no list is held in registers one by one.
+#[inline(never)]
 #[tactic(auto, unfolding(crate::specs::InterRecords::vectors_by))]
 fn read_vectors(
     reader: &mut Decoder,
@@ -186,8 +187,8 @@ fn read_referenced_mode(
 }
 
 /// The record of a macroblock at `place`, below and to the right of these, in an inter frame, in
-/// segment 0.
-#[inline]
+/// segment 0. It is a call of its own for the same reason as `read_vectors`.
+#[inline(never)]
 #[tactic(auto, unfolding(crate::specs::InterRecords::inter_mode))]
 pub(crate) fn read_inter_mode(
     reader: &mut Decoder,

@@ -41,7 +41,7 @@ pub struct Near {
 
 /// A component of a vector, held so that a macroblock that it moves along a row or column of `count`
 /// is at most one macroblock out of the frame.
-#[inline]
+#[inline(always)]
 fn held(place: usize, count: usize, component: i32) -> i32
     requires inside { place < count }
     requires most { count ≤ 1024 }
@@ -55,7 +55,7 @@ fn held(place: usize, count: usize, component: i32) -> i32
 
 /// The vector held so that a macroblock at `place` that it moves is at most one macroblock out of
 /// the frame.
-#[inline]
+#[inline(always)]
 fn clamped(place: MbPlace, vector: Vector) -> Vector
     requires across { (place.column < place.columns) × (place.columns ≤ 1024) }
     requires down { (place.row < place.rows) × (place.rows ≤ 1024) }
@@ -69,8 +69,8 @@ fn clamped(place: MbPlace, vector: Vector) -> Vector
 }
 
 /// The nearest vector, or zero where zero vectors weigh more.
-#[inline]
-fn best_in(zeros: u8, nearest: &Weighted) -> Vector
+#[inline(always)]
+fn best_in(zeros: u32, nearest: &Weighted) -> Vector
     ensures { result ≡ best_in zeros nearest.now }
 {
     if zeros <= nearest.weight {
@@ -81,8 +81,10 @@ fn best_in(zeros: u8, nearest: &Weighted) -> Vector
 }
 
 /// The near vectors where zero vectors weigh `zeros` and split macroblocks `split`.
-#[inline]
-fn near_in(place: MbPlace, zeros: u8, nearest: &Weighted, near: &Weighted, split: u8) -> Near
+#[inline(always)]
+fn near_in(place: MbPlace, zeros: u32, nearest: &Weighted, near: &Weighted, split: u8) -> Near
+    requires few { zeros ≤ 5 }
+    requires light { (nearest.now.weight ≤ 5) × (near.now.weight ≤ 5) }
     requires across { (place.column < place.columns) × (place.columns ≤ 1024) }
     requires down { (place.row < place.rows) × (place.rows ≤ 1024) }
     ensures value { result ≡ near_in place zeros nearest.now near.now split }
@@ -90,7 +92,7 @@ fn near_in(place: MbPlace, zeros: u8, nearest: &Weighted, near: &Weighted, split
     ensures down { IsWithin 65536 result.best.y }
 {
     Near {
-        counts: [zeros, nearest.weight, near.weight, split],
+        counts: [zeros as u8, nearest.weight as u8, near.weight as u8, split],
         best: clamped(place, best_in(zeros, nearest)),
         nearest: clamped(place, nearest.vector),
         near: clamped(place, near.vector),

@@ -10,11 +10,12 @@ use crate::records::{MbMode, VectorMode, YMode};
 use crate::vectors::Vector;
 use frame_header::{Reference, SignBiases};
 
-/// A vector that neighbours have, with their weights together.
+/// A vector that neighbours have, with their weights together. A weight has 32 bits, so that no
+/// padding stands between the fields, which would be copied in pieces.
 #[derive(Clone, Copy)]
 pub(crate) struct Weighted {
     pub(crate) vector: Vector,
-    pub(crate) weight: u8,
+    pub(crate) weight: u32,
 }
 
 /// The vectors of neighbours that are not zero, in the order in which they were listed.
@@ -29,12 +30,12 @@ pub(crate) enum Listed {
 /// What neighbours have: the weight of zero vectors, and the other vectors.
 #[derive(Clone, Copy)]
 pub(crate) struct Neighbours {
-    pub(crate) zeros: u8,
+    pub(crate) zeros: u32,
     pub(crate) listed: Listed,
 }
 
 /// Whether the vectors to a reference are kept with the other sign (RFC 6386, section 9.7).
-#[inline]
+#[inline(always)]
 fn is_biased(biases: SignBiases, reference: Reference) -> bool
     ensures { result ≡ is_biased biases reference }
 {
@@ -46,7 +47,7 @@ fn is_biased(biases: SignBiases, reference: Reference) -> bool
 }
 
 /// A vector to `other` as it counts for `reference`.
-#[inline]
+#[inline(always)]
 fn toward(biases: SignBiases, reference: Reference, other: Reference, vector: Vector) -> Vector
     ensures { result ≡ toward biases reference other vector }
 {
@@ -58,8 +59,8 @@ fn toward(biases: SignBiases, reference: Reference, other: Reference, vector: Ve
 }
 
 /// These vectors with one that is not zero.
-#[inline]
-fn listed_with(before: Listed, vector: Vector, weight: u8) -> Listed
+#[inline(always)]
+fn listed_with(before: Listed, vector: Vector, weight: u32) -> Listed
     requires room { length (listed_in before) < 3 }
     requires light { listed_weight before + weight ≤ 255 }
     ensures value { listed_in result ≡ listed_with (listed_in before) vector weight }
@@ -87,8 +88,8 @@ fn listed_with(before: Listed, vector: Vector, weight: u8) -> Listed
     }
 }
 
-#[inline]
-fn heavier(listed: Weighted, weight: u8) -> Weighted
+#[inline(always)]
+fn heavier(listed: Weighted, weight: u32) -> Weighted
     requires { listed.weight + weight ≤ 255 }
     ensures { result ≡ record { vector = listed.vector; weight = listed.weight + weight } }
 {
@@ -99,8 +100,8 @@ fn heavier(listed: Weighted, weight: u8) -> Weighted
 }
 
 /// What neighbours have with a vector more.
-#[inline]
-fn with_vector(before: Neighbours, vector: Vector, weight: u8) -> Neighbours
+#[inline(always)]
+fn with_vector(before: Neighbours, vector: Vector, weight: u32) -> Neighbours
     requires room { length (listed_in before.listed) < 3 }
     requires light { weight_in before + weight ≤ 255 }
     ensures value { listing_in result ≡ with_vector (listing_in before) vector weight }
@@ -122,11 +123,11 @@ fn with_vector(before: Neighbours, vector: Vector, weight: u8) -> Neighbours
 
 /// What neighbours have with a macroblock more, which weighs `weight`. One outside the frame or
 /// without a reference is passed over.
-#[inline]
+#[inline(always)]
 fn with_neighbour(
     before: Neighbours,
     macroblock: Option<&MbMode>,
-    weight: u8,
+    weight: u32,
     reference: Reference,
     biases: SignBiases,
 ) -> Neighbours
@@ -150,7 +151,7 @@ fn with_neighbour(
 }
 
 /// What the macroblocks above, to the left, and above and to the left have.
-#[inline]
+#[inline(always)]
 #[tactic(auto, unfolding(crate::specs::NearVectors::listing_of))]
 pub(crate) fn neighbours_of(
     above: Option<&MbMode>,
@@ -173,7 +174,7 @@ pub(crate) fn neighbours_of(
 }
 
 /// The first vector that is listed, which weighs 1 more where it comes again as the third.
-#[inline]
+#[inline(always)]
 pub(crate) fn first_in(listed: &Listed) -> Weighted
     requires light { listed_weight listed.now ≤ 5 }
     requires third { ThirdWeighs 1 listed.now }
@@ -197,7 +198,7 @@ pub(crate) fn first_in(listed: &Listed) -> Weighted
 }
 
 /// The second vector that is listed.
-#[inline]
+#[inline(always)]
 pub(crate) fn second_in(listed: &Listed) -> Weighted
     ensures value { result ≡ listed_at (listed_in listed.now) 1 }
     ensures light { result.weight ≤ listed_weight listed.now }
@@ -212,7 +213,7 @@ pub(crate) fn second_in(listed: &Listed) -> Weighted
 }
 
 /// 1 for a macroblock that is split, else 0.
-#[inline]
+#[inline(always)]
 pub(crate) fn splits(macroblock: Option<&MbMode>) -> u8
     ensures value { result ≡ splits (option_copied macroblock.entry) }
     ensures small { result ≤ 1 }

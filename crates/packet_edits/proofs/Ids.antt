@@ -8,12 +8,12 @@ use Rattle.packet_edits.specs.Edits.{Listing, deleted, inserted, numbered, pushe
 use Rattle.packet_edits.specs.Laws.{HaveOwnIds, IdsStayOwn, IsNotAmong, KeepsIdsOwn}
 
 -- ids below a number are below a greater one
-above_all : (next more : ℕ) (es : List Entry) → next ≤ more → HaveOwnIds next es → HaveOwnIds more es
+pub above_all : (next more : ℕ) (es : List Entry) → next ≤ more → HaveOwnIds next es → HaveOwnIds more es
 above_all next more [] up own = tt
 above_all next more (e ∷ es) up own = (let below : e.id < next = own.0 in omega (arith, below, up), own.1, above_all next more es up own.2)
 
 -- and the number itself is not among them
-next_not_among : (next : ℕ) (es : List Entry) → HaveOwnIds next es → IsNotAmong next es
+pub next_not_among : (next : ℕ) (es : List Entry) → HaveOwnIds next es → IsNotAmong next es
 next_not_among next [] own = tt
 next_not_among next (e ∷ es) own = (λ same. let below : e.id < next = own.0 in omega (arith, below, same), next_not_among next es own.2)
 
@@ -23,7 +23,7 @@ not_among_inserted id zero e es other rest = (other, rest)
 not_among_inserted id (suc i) e [] other rest = (other, tt)
 not_among_inserted id (suc i) e (x ∷ es) other rest = (rest.0, not_among_inserted id i e es other rest.1)
 
-own_inserted : (next i : ℕ) (e : Entry) (es : List Entry) → e.id < next → IsNotAmong e.id es → HaveOwnIds next es → HaveOwnIds next (insert es i e)
+pub own_inserted : (next i : ℕ) (e : Entry) (es : List Entry) → e.id < next → IsNotAmong e.id es → HaveOwnIds next es → HaveOwnIds next (insert es i e)
 own_inserted next zero e es below new own = (below, new, own)
 own_inserted next (suc i) e [] below new own = (below, tt, tt)
 own_inserted next (suc i) e (x ∷ es) below new own = (own.0, not_among_inserted x.id i e es (λ same. new.0 (sym same)) own.1, own_inserted next i e es below new.1 own.2)
@@ -43,7 +43,7 @@ not_among_removed id i [] rest = nothing id i
 not_among_removed id zero (x ∷ es) rest = rest.1
 not_among_removed id (suc i) (x ∷ es) rest = (rest.0, not_among_removed id i es rest.1)
 
-own_removed : (next i : ℕ) (es : List Entry) → HaveOwnIds next es → HaveOwnIds next (remove es i)
+pub own_removed : (next i : ℕ) (es : List Entry) → HaveOwnIds next es → HaveOwnIds next (remove es i)
 own_removed next i [] own = none_own next i
 own_removed next zero (x ∷ es) own = own.2
 own_removed next (suc i) (x ∷ es) own = (own.0, not_among_removed x.id i es own.1, own_removed next i es own.2)
@@ -74,7 +74,7 @@ not_among_set id i e [] other rest = tt
 not_among_set id zero e (x ∷ es) other rest = (other, rest.1)
 not_among_set id (suc i) e (x ∷ es) other rest = (rest.0, not_among_set id i e es other rest.1)
 
-own_set : (next i : ℕ) (e : Entry) (es : List Entry) → e.id < next → IsNotAmong e.id es → HaveOwnIds next es → HaveOwnIds next (slice_set es i e)
+pub own_set : (next i : ℕ) (e : Entry) (es : List Entry) → e.id < next → IsNotAmong e.id es → HaveOwnIds next es → HaveOwnIds next (slice_set es i e)
 own_set next i e [] below new own = tt
 own_set next zero e (x ∷ es) below new own = (below, new.1, own.2)
 own_set next (suc i) e (x ∷ es) below new own = (own.0, not_among_set x.id i e es (λ same. new.0 (sym same)) own.1, own_set next i e es below new.1 own.2)
@@ -85,7 +85,7 @@ replaced_own list at bytes None own = above_all list.next_id (list.next_id + 1) 
 replaced_own list at bytes (Some entry) own =
     own_set (list.next_id + 1) at (record entry { id = list.next_id; bytes = bytes }) list.entries (omega arith) (next_not_among list.next_id list.entries own) (above_all list.next_id (list.next_id + 1) list.entries (omega arith) own)
 
-moved_own : (next from to : ℕ) (es : List Entry) (o : Option Entry) → slice_get es from ≡ o → HaveOwnIds next es → HaveOwnIds next (option_map_or (λ entry. insert (remove es from) to entry) o es)
+pub moved_own : (next from to : ℕ) (es : List Entry) (o : Option Entry) → slice_get es from ≡ o → HaveOwnIds next es → HaveOwnIds next (option_map_or (λ entry. insert (remove es from) to entry) o es)
 moved_own next from to es None found own = own
 moved_own next from to es (Some entry) found own =
     let out = taken_out next from entry es own found in
@@ -104,7 +104,7 @@ numbered_own : (id next : ℕ) (packets : List Packet) → id + length packets �
 numbered_own id next [] whole = tt
 numbered_own id next (packet ∷ packets) whole = (omega (arith, whole), numbered_above (id + 1) id packets (omega arith), numbered_own (id + 1) next packets (omega (arith, whole)))
 
-pushed_own : (next : ℕ) (es : List Entry) (packets : List Packet) → HaveOwnIds next es → HaveOwnIds (next + length packets) (es ++ numbered next packets)
+pub pushed_own : (next : ℕ) (es : List Entry) (packets : List Packet) → HaveOwnIds next es → HaveOwnIds (next + length packets) (es ++ numbered next packets)
 pushed_own next [] packets own = numbered_own next (next + length packets) packets refl
 pushed_own next (e ∷ es) packets own =
     let below : e.id < next = own.0 in

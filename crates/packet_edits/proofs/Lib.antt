@@ -4,3 +4,6 @@ pub mod Mapped
 pub mod Shown
 pub mod Ids
 pub mod Indexed
+pub mod Whole
+pub mod Keys
+pub mod Records

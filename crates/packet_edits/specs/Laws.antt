@@ -1,5 +1,5 @@
 -- What edits and the shown list come to, as laws over them and on worked lists.
-use Rattle.std.specs.Prelude.{◌≡◌, ℕ, ◌<◌, ◌≤◌, true, List, [], ◌∷◌, length, Some, slice_get}
+use Rattle.std.specs.Prelude.{◌≡◌, ℕ, ◌<◌, ◌≤◌, Bool, true, false, List, [], ◌∷◌, length, Some, slice_get}
 use Rattle.frame_header.specs.Tags.{is_shown}
 use Rattle.stream_files.specs.declared.packets.Packet.{Packet}
 use Rattle.packet_edits.specs.declared.entry.Entry.{Entry}
@@ -55,3 +55,7 @@ packet id stamp byte = record { id = id; stamp = stamp; bytes = byte ∷ [] }
 -- three packets
 abbrev pub three : Listing
 three = record { entries = packet 0 10 65 ∷ packet 1 20 66 ∷ packet 2 30 67 ∷ []; next_id = 3 }
+
+-- four packets with no mark
+abbrev pub unmarked : List Bool
+unmarked = false ∷ false ∷ false ∷ false ∷ []

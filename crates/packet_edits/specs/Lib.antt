@@ -2,5 +2,8 @@ pub mod Faults
 pub mod Edits
 pub mod Shown
 pub mod FrameCounts
-pub mod Stores
 pub mod Laws
+pub mod Marks
+pub mod Stores
+pub mod Sizes
+pub mod Saved

@@ -1,7 +1,8 @@
 -- What a store keeps up beside its packets.
-use Rattle.std.specs.Prelude.{◌≡◌, ◌≤◌, Bool, List, map, length}
+use Rattle.std.specs.Prelude.{◌≡◌, ℕ, ◌≤◌, Bool, List, map, length}
 use Rattle.frame_header.specs.Tags.{is_shown}
 use Rattle.packet_edits.specs.declared.entry.Entry.{Entry}
+use Rattle.packet_edits.specs.Laws.{HaveOwnIds}
 
 -- which packets are shown
 abbrev pub flags_of : List Entry → List Bool
@@ -11,3 +12,9 @@ flags_of entries = map (λ entry. is_shown entry.bytes) entries
 pub record IsIndexed (entries : List Entry) (flags : List Bool) : Type 0 where
   pub shown : flags ≡ flags_of entries
   pub few : length entries ≤ 1048576
+
+-- each packet has an id of its own and a mark or none, and the index is theirs
+pub record IsWhole (entries : List Entry) (next_id : ℕ) (marks flags : List Bool) : Type 0 where
+  pub indexed : IsIndexed entries flags
+  pub marked : length marks ≡ length entries
+  pub own : HaveOwnIds next_id entries

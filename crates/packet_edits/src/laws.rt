@@ -1,9 +1,10 @@
 //! Laws over the definitions of this crate: each is the contract of a function that does nothing.
 
-ghost use Rattle.std.specs.Prelude.{◌≡◌, [], ◌∷◌, None, Some};
+ghost use Rattle.std.specs.Prelude.{◌≡◌, [], ◌∷◌, None, Some, true, false};
 ghost use Rattle.packet_edits.specs.declared.fault.EditFault.TheVariants as faults;
 ghost use Rattle.packet_edits.specs.Edits.{deleted, inserted, pushed, refused_insertion, refused_push, refused_replacement, replaced, starting, with_move};
-ghost use Rattle.packet_edits.specs.Laws.{IdsStayOwn, IsShownList, PushesAreInsertions, packet, three};
+ghost use Rattle.packet_edits.specs.Laws.{IdsStayOwn, IsShownList, PushesAreInsertions, packet, three, unmarked};
+ghost use Rattle.packet_edits.specs.Marks.{marks_deleted, marks_inserted, marks_moved, marks_replaced};
 ghost use Rattle.packet_edits.specs.Shown.{shown_places};
 
 /// The shown list has the places of the shown packets and no other, in their order.
@@ -35,6 +36,19 @@ pub fn worked_edits()
     ensures spent { refused_replacement (record three { next_id = 0xFFFF_FFFF_FFFF_FFFF }) 2 ≡ Some faults.Spent }
     ensures last_id { refused_push (record three { next_id = 0xFFFF_FFFF_FFFF_FFFE }) (record { stamp = 0; bytes = [] } ∷ []) ≡ None }
     ensures one_too_many { refused_push (record three { next_id = 0xFFFF_FFFF_FFFF_FFFE }) (record { stamp = 0; bytes = [] } ∷ record { stamp = 0; bytes = [] } ∷ []) ≡ Some faults.Spent }
+{}
+
+/// What each edit marks, of four packets with no mark: an insertion and a replacement the packet
+/// behind, a deletion the packet now at the place, and a move the packet behind the old place, the
+/// moved packet and the one behind it.
+pub fn worked_marks()
+    ensures insert { marks_inserted 1 unmarked ≡ false ∷ false ∷ true ∷ false ∷ false ∷ [] }
+    ensures insert_last { marks_inserted 4 unmarked ≡ false ∷ false ∷ false ∷ false ∷ false ∷ [] }
+    ensures replace { marks_replaced 1 (true ∷ true ∷ false ∷ false ∷ []) ≡ true ∷ false ∷ true ∷ false ∷ [] }
+    ensures delete { marks_deleted 1 unmarked ≡ false ∷ true ∷ false ∷ [] }
+    ensures delete_last { marks_deleted 3 unmarked ≡ false ∷ false ∷ false ∷ [] }
+    ensures move_up { marks_moved 0 2 unmarked ≡ true ∷ false ∷ true ∷ true ∷ [] }
+    ensures move_down { marks_moved 2 0 unmarked ≡ true ∷ true ∷ false ∷ true ∷ [] }
 {}
 
 /// A hidden packet between a shown one and an empty one: their tags have the show bit but for the second.

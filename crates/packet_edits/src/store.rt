@@ -1,17 +1,24 @@
-ghost use Rattle.std.specs.Prelude.{◌≡◌, ◌+◌, ◌^◌, ◌++◌, ◌<◌, ◌≤◌, IfSome, Some, is_ok, if◌then◌else◌, length, map, option_map, slice_get};
+ghost use Rattle.std.specs.Prelude.{◌≡◌, ◌+◌, ◌^◌, ◌++◌, ◌<◌, ◌≤◌, [], IfSome, OnOk, Some, is_ok, if◌then◌else◌, length, map, option_map, slice_get};
+ghost use Rattle.std.specs.Io.KnownBytes.{Appends};
 ghost use Rattle.frame_header.specs.Tags.{is_shown};
 ghost use Rattle.packet_edits.specs.Edits.{numbered};
 ghost use Rattle.packet_edits.specs.Faults.{Answers, unless_refused};
+ghost use Rattle.packet_edits.specs.Marks.{marks_pushed};
+ghost use Rattle.stream_files.specs.Texts.{written_text};
 
 use crate::entry::Entry;
 use crate::fault::EditFault;
 use crate::frame_index::FrameIndex;
+use crate::key_sizes::{before, last_key_size};
+use crate::marks::{mark, move_marked};
 use crate::moves::move_within;
+use crate::saving::write_records;
 use frame_header::is_shown;
 use pixel_planes::NoMemory;
 use std::alloc::Global;
+use std::io::Write;
 use std::marker::Model;
-use stream_files::{Bytes, MAX_PACKETS, Packets};
+use stream_files::{Bytes, Head, MAX_PACKETS, Packets, WriteFault, ivf_start};
 
 /// The id that is never given.
 const SPENT_ID: u64 = u64::MAX;
@@ -23,31 +30,37 @@ const SPENT_ID: u64 = u64::MAX;
 #[derive(Drop)]
 pub struct Store {
     entries: Vec<Entry>,
+    marks: Vec<bool>,
     shown: FrameIndex,
     next_id: u64,
 }
 
 impl Model for Store {
-    ghost use Rattle.packet_edits.specs.Edits.{Listing};
-    ghost use Rattle.packet_edits.specs.Stores.{IsIndexed};
+    ghost use Rattle.packet_edits.specs.Marks.{StoreValue};
+    ghost use Rattle.packet_edits.specs.Stores.{IsWhole};
 
-    ghost Value = { Listing };
+    ghost Value = { StoreValue };
 
-    ghost view = { λ s. record { entries = s.entries.items; next_id = s.next_id } };
+    ghost view = { λ s. record { list = record { entries = s.entries.items; next_id = s.next_id }; marks = s.marks.items } };
 
-    ghost invariant = { λ s. IsIndexed s.entries.items s.shown };
+    ghost invariant = { λ s. IsWhole s.entries.items s.next_id s.marks.items s.shown };
 }
 
 impl Store {
     ghost use Rattle.packet_edits.specs.Edits.{deleted, inserted, pushed, refused_deletion, refused_id, refused_insertion, refused_move, refused_push, refused_replacement, replaced, starting, with_move};
+    ghost use Rattle.packet_edits.specs.Laws.{HasOwnIds};
+    ghost use Rattle.packet_edits.specs.Marks.{marked_at, marks_deleted, marks_inserted, marks_moved, marks_replaced, unmarked_at};
+    ghost use Rattle.packet_edits.specs.Saved.{packets_of};
     ghost use Rattle.packet_edits.specs.Shown.{shown_places, stream_of};
+    ghost use Rattle.packet_edits.specs.Sizes.{size_at};
 
     /// No packets; the first one put in gets the id `first_id`. No memory is taken.
     pub fn starting(alloc: Global, first_id: u64) -> Store
-        ensures { result ≡ starting first_id }
+        ensures { result ≡ record { list = starting first_id; marks = [] } }
     {
         Store {
             entries: Vec::new(alloc),
+            marks: Vec::new(alloc),
             shown: FrameIndex::new(alloc),
             next_id: first_id,
         }
@@ -58,8 +71,9 @@ impl Store {
     /// `Full` where more than 1,048,576 packets would stand, `Spent` where one of them would get the
     /// id 18,446,744,073,709,551,615, and `NoMemory`, in this order.
     pub fn push_all(&mut self, packets: Packets) -> Result<(), EditFault>
-        ensures answers { Answers (refused_push self.old packets) result }
-        ensures after { self.new ≡ (if is_ok result then pushed packets self.old else self.old) }
+        ensures answers { Answers (refused_push self.old.list packets) result }
+        ensures after { self.new.list ≡ (if is_ok result then pushed packets self.old.list else self.old.list) }
+        ensures marks { self.new.marks ≡ (if is_ok result then marks_pushed packets self.old.marks else self.old.marks) }
     {
         self.may_push(&packets)?;
         let len = self.entries.len();
@@ -67,25 +81,36 @@ impl Store {
         let Ok(()) = push_flags(&mut self.shown, &packets) else {
             return Err(EditFault::NoMemory);
         };
+        let Ok(()) = push_marks(&mut self.marks, &packets) else {
+            self.shown.truncate(len);
+            return Err(EditFault::NoMemory);
+        };
         let Ok(()) = push_entries(&mut self.entries, self.next_id, packets) else {
             self.shown.truncate(len);
+            self.marks.truncate(len);
             return Err(EditFault::NoMemory);
         };
         self.next_id = next_id;
         Ok(())
     }
 
-    /// Puts a packet in at place `at`, which is at most the number of packets.
+    /// Puts a packet in at place `at`, which is at most the number of packets. It has no mark, and the
+    /// one behind it is marked.
     ///
     /// `Place`, `Full` where 1,048,576 packets stand, `Spent` where no id is left, and `NoMemory`, in
     /// this order.
     pub fn insert(&mut self, at: u64, stamp: u64, bytes: Bytes) -> Result<(), EditFault>
-        ensures answers { Answers (refused_insertion self.old at) result }
-        ensures after { self.new ≡ (if is_ok result then inserted at stamp bytes self.old else self.old) }
+        ensures answers { Answers (refused_insertion self.old.list at) result }
+        ensures after { self.new.list ≡ (if is_ok result then inserted at stamp bytes self.old.list else self.old.list) }
+        ensures marks { self.new.marks ≡ (if is_ok result then marks_inserted at self.old.marks else self.old.marks) }
     {
         self.may_insert(at)?;
         let place = at as usize;
+        let Ok(()) = self.marks.insert(place, false) else {
+            return Err(EditFault::NoMemory);
+        };
         let Ok(()) = self.shown.insert(place, is_shown(bytes.as_slice())) else {
+            self.marks.remove(place);
             return Err(EditFault::NoMemory);
         };
         let entry = Entry {
@@ -95,18 +120,22 @@ impl Store {
         };
         let Ok(()) = self.entries.insert(place, entry) else {
             self.shown.remove(place);
+            self.marks.remove(place);
             return Err(EditFault::NoMemory);
         };
+        mark(&mut self.marks, place + 1);
         self.next_id += 1;
         Ok(())
     }
 
-    /// Gives the packet at place `at` other bytes and a new id; its time stamp stays.
+    /// Gives the packet at place `at` other bytes and a new id; its time stamp stays. It has no mark
+    /// then, and the packet behind it is marked.
     ///
     /// `Place` where no packet stands there, and `Spent` where no id is left, in this order.
     pub fn replace(&mut self, at: u64, bytes: Bytes) -> Result<(), EditFault>
-        ensures told { result ≡ unless_refused (refused_replacement self.old at) }
-        ensures after { self.new ≡ (if is_ok result then replaced at bytes self.old else self.old) }
+        ensures told { result ≡ unless_refused (refused_replacement self.old.list at) }
+        ensures after { self.new.list ≡ (if is_ok result then replaced at bytes self.old.list else self.old.list) }
+        ensures marks { self.new.marks ≡ (if is_ok result then marks_replaced at self.old.marks else self.old.marks) }
     {
         self.may_replace(at)?;
         let place = at as usize;
@@ -114,28 +143,36 @@ impl Store {
         let entry = &mut self.entries[place];
         entry.id = self.next_id;
         entry.bytes = bytes;
+        self.marks[place] = false;
+        mark(&mut self.marks, place + 1);
         self.next_id += 1;
         Ok(())
     }
 
-    /// Takes the packet at place `at` out. `Place` where no packet stands there.
+    /// Takes the packet at place `at` out, and marks the one that stands there now. `Place` where no
+    /// packet stands there.
     pub fn delete(&mut self, at: u64) -> Result<(), EditFault>
-        ensures told { result ≡ unless_refused (refused_deletion self.old at) }
-        ensures after { self.new ≡ (if is_ok result then deleted at self.old else self.old) }
+        ensures told { result ≡ unless_refused (refused_deletion self.old.list at) }
+        ensures after { self.new.list ≡ (if is_ok result then deleted at self.old.list else self.old.list) }
+        ensures marks { self.new.marks ≡ (if is_ok result then marks_deleted at self.old.marks else self.old.marks) }
     {
         if at >= self.entries.len() as u64 {
             return Err(EditFault::Place);
         }
         self.shown.remove(at as usize);
         self.entries.remove(at as usize);
+        self.marks.remove(at as usize);
+        mark(&mut self.marks, at as usize);
         Ok(())
     }
 
     /// Takes the packet at place `from` out and puts it in at place `to` of the shortened list. It
-    /// keeps its id. `Place` where no packet stands at one of the two places.
+    /// keeps its id; it is marked, and so are the packet behind its old place and the one behind it
+    /// now. `Place` where no packet stands at one of the two places.
     pub fn move_to(&mut self, from: u64, to: u64) -> Result<(), EditFault>
-        ensures told { result ≡ unless_refused (refused_move self.old from to) }
-        ensures after { self.new ≡ (if is_ok result then with_move from to self.old else self.old) }
+        ensures told { result ≡ unless_refused (refused_move self.old.list from to) }
+        ensures after { self.new.list ≡ (if is_ok result then with_move from to self.old.list else self.old.list) }
+        ensures marks { self.new.marks ≡ (if is_ok result then marks_moved from to self.old.marks else self.old.marks) }
     {
         let len = self.entries.len() as u64;
         if from >= len {
@@ -146,12 +183,13 @@ impl Store {
         }
         self.shown.move_to(from as usize, to as usize);
         move_within(&mut self.entries, from as usize, to as usize);
+        move_marked(&mut self.marks, from as usize, to as usize);
         Ok(())
     }
 
     /// Why these packets may not be put in at the end: `Full` or `Spent`, in this order.
     fn may_push(&self, packets: &Packets) -> Result<(), EditFault>
-        ensures { result ≡ unless_refused (refused_push self.now packets.now) }
+        ensures { result ≡ unless_refused (refused_push self.now.list packets.now) }
     {
         if MAX_PACKETS - self.entries.len() < packets.len() {
             Err(EditFault::Full)
@@ -164,7 +202,7 @@ impl Store {
 
     /// Why no packet may be put in at place `at`: `Place`, `Full` or `Spent`, in this order.
     pub fn may_insert(&self, at: u64) -> Result<(), EditFault>
-        ensures { result ≡ unless_refused (refused_insertion self.now at) }
+        ensures { result ≡ unless_refused (refused_insertion self.now.list at) }
     {
         if (self.entries.len() as u64) < at {
             Err(EditFault::Place)
@@ -177,7 +215,7 @@ impl Store {
 
     /// Why the packet at place `at` may not be replaced: `Place` or `Spent`, in this order.
     pub fn may_replace(&self, at: u64) -> Result<(), EditFault>
-        ensures { result ≡ unless_refused (refused_replacement self.now at) }
+        ensures { result ≡ unless_refused (refused_replacement self.now.list at) }
     {
         if at < self.entries.len() as u64 {
             self.may_number()
@@ -188,7 +226,7 @@ impl Store {
 
     /// Why no packet may get a new id: `Spent`.
     fn may_number(&self) -> Result<(), EditFault>
-        ensures { result ≡ unless_refused (refused_id self.now) }
+        ensures { result ≡ unless_refused (refused_id self.now.list) }
     {
         if self.next_id == SPENT_ID {
             Err(EditFault::Spent)
@@ -199,16 +237,18 @@ impl Store {
 
     /// How many packets stand, at most 1,048,576.
     pub fn len(&self) -> usize
-        ensures value { result ≡ length self.now.entries }
+        ensures value { result ≡ length self.now.list.entries }
         ensures few { result ≤ 1048576 }
+        ensures marks { length self.now.marks ≡ result }
+        ensures own_ids { HasOwnIds self.now.list }
     {
         self.entries.len()
     }
 
     /// The bytes of the packet at place `i`, where one stands.
     pub fn packet(&self, i: usize) -> &[u8]
-        requires { i < length self.now.entries }
-        ensures { slice_get (stream_of self.now) i ≡ Some result.now }
+        requires { i < length self.now.list.entries }
+        ensures { slice_get (stream_of self.now.list) i ≡ Some result.now }
     {
         self.entries[i].bytes.as_slice()
     }
@@ -216,35 +256,80 @@ impl Store {
     /// The time stamp of the packet at place `i`, where one stands, in units of `scale / rate`
     /// seconds.
     pub fn stamp(&self, i: usize) -> u64
-        requires { i < length self.now.entries }
-        ensures { option_map (λ entry. entry.stamp) (slice_get self.now.entries i) ≡ Some result }
+        requires { i < length self.now.list.entries }
+        ensures { option_map (λ entry. entry.stamp) (slice_get self.now.list.entries i) ≡ Some result }
     {
         self.entries[i].stamp
     }
 
     /// The id of the packet at place `i`, where one stands.
     pub fn id(&self, i: usize) -> u64
-        requires { i < length self.now.entries }
-        ensures { option_map (λ entry. entry.id) (slice_get self.now.entries i) ≡ Some result }
+        requires { i < length self.now.list.entries }
+        ensures { option_map (λ entry. entry.id) (slice_get self.now.list.entries i) ≡ Some result }
     {
         self.entries[i].id
+    }
+
+    /// Whether the packet at place `i`, where one stands, is marked: what was decoded of it before may
+    /// no longer follow from the packet before it.
+    pub fn marked(&self, i: usize) -> bool
+        requires { i < length self.now.list.entries }
+        ensures { slice_get self.now.marks i ≡ Some result }
+    {
+        self.marks[i]
+    }
+
+    /// Marks the packet at place `i`, where one stands.
+    pub fn set_mark(&mut self, i: usize)
+        requires { i < length self.old.list.entries }
+        ensures { self.new ≡ record self.old { marks = marked_at i self.old.marks } }
+    {
+        self.marks[i] = true;
+    }
+
+    /// Takes the mark off the packet at place `i`, where one stands.
+    pub fn clear_mark(&mut self, i: usize)
+        requires { i < length self.old.list.entries }
+        ensures { self.new ≡ record self.old { marks = unmarked_at i self.old.marks } }
+    {
+        self.marks[i] = false;
     }
 
     /// The place of shown packet `n`, counted from 0, or `None` where fewer are shown. A packet is
     /// shown where its tag has the show bit, or where it is under 3 bytes (RFC 6386, section 9.1).
     /// No packet is looked at: it takes about 20 comparisons at most.
     pub fn shown(&self, n: u64) -> Option<usize>
-        ensures place { result ≡ slice_get (shown_places (stream_of self.now)) n }
-        ensures within { IfSome result (λ place. place < length self.now.entries) }
+        ensures place { result ≡ slice_get (shown_places (stream_of self.now.list)) n }
+        ensures within { IfSome result (λ place. place < length self.now.list.entries) }
     {
         self.shown.place(n)
     }
 
     /// How many packets are shown.
     pub fn frames(&self) -> usize
-        ensures { result ≡ length (shown_places (stream_of self.now)) }
+        ensures { result ≡ length (shown_places (stream_of self.now.list)) }
     {
         self.shown.frames()
+    }
+
+    /// The width and height, in luma samples, that the last packet with a key tag before place `at`
+    /// tells. `None` where there is none, and where that packet tells no size: it has fewer than 10
+    /// bytes, no start code, or a side of 0. `at` may be any number.
+    pub fn size_at(&self, at: u64) -> Option<(u16, u16)>
+        ensures { result ≡ size_at at self.now.list }
+    {
+        last_key_size(before(&self.entries, at))
+    }
+
+    /// Writes the packets as an IVF file with this head: version 0, a header of 32 bytes with the number
+    /// of packets, and a record for each. No memory is taken.
+    ///
+    /// `Write` where the writer gives an error; nothing is told then of how much went out.
+    pub fn save<W: Write>(&self, w: &mut W, head: Head) -> Result<(), WriteFault>
+        ensures { OnOk result (Appends (W.contents w.old) (W.contents w.new) (written_text head (packets_of self.now.list))) }
+    {
+        ivf_start(w, head, self.len() as u32)?;
+        write_records(w, &self.entries)
     }
 }
 
@@ -262,6 +347,21 @@ fn push_flags(index: &mut FrameIndex, packets: &Packets) -> Result<(), NoMemory>
             .is_err()
         {
             index.truncate(len);
+            return Err(NoMemory);
+        }
+    }
+    Ok(())
+}
+
+/// Puts in, at the end of a list of marks, that these packets have none. Where memory is refused
+/// nothing changes.
+fn push_marks(marks: &mut Vec<bool>, packets: &Packets) -> Result<(), NoMemory>
+    ensures { marks.new.items ≡ (if is_ok result then marks_pushed packets.now marks.old.items else marks.old.items) }
+{
+    let len = marks.len();
+    for _packet in packets.as_slice() {
+        if marks.push(false).is_err() {
+            marks.truncate(len);
             return Err(NoMemory);
         }
     }

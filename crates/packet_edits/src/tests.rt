@@ -1,8 +1,9 @@
 use crate::{EditFault, Store};
 use pixel_planes::NoMemory;
 use std::alloc::Global;
+use std::io::{self, ErrorKind, Write};
 use std::test::Fail;
-use stream_files::{Bytes, Packet, Packets};
+use stream_files::{Bytes, Head, Packet, Packets, WriteFault};
 
 /// The last number of 64 bits, which is no packet's id.
 const LAST: u64 = 18_446_744_073_709_551_615;
@@ -41,6 +42,25 @@ fn holds(store: &Store, rows: &[(u64, u64, &[u8])]) -> bool {
         && rows.iter().enumerate().all(|(i, (id, stamp, bytes))| {
             store.id(i) == *id && store.stamp(i) == *stamp && store.packet(i) == *bytes
         })
+}
+
+/// Whether the packets at these places are marked and no other.
+fn marks(store: &Store, places: &[usize]) -> bool {
+    (0..store.len()).all(|i| store.marked(i) == places.contains(&i))
+}
+
+/// Takes the mark off packet 2, where it stands.
+fn clear_second(store: &mut Store) {
+    if 2 < store.len() {
+        store.clear_mark(2);
+    }
+}
+
+/// Marks the last packet, where one stands.
+fn mark_last(store: &mut Store) {
+    if 0 < store.len() {
+        store.set_mark(store.len() - 1);
+    }
 }
 
 /// Whether the packets at these places are shown and no other.
@@ -228,6 +248,112 @@ fn the_most_packets(rt: HostRuntime) -> Result<(), Fail> {
     assert_eq!(rt; store.frames(), 1_048_575);
     assert_eq!(rt; store.shown(1_048_574), Some(1_048_575));
     assert_eq!(rt; store.shown(1_048_575), None);
+    Ok(())
+}
+
+/// What each edit of four packets marks, and marks that are set and taken off.
+#[test]
+fn marks_of_edits(rt: HostRuntime) -> Result<(), Fail> {
+    let alloc = rt.alloc();
+    let mut store = Store::starting(alloc, 0);
+    let rows = &[(0, SHOWN), (0, SHOWN), (0, SHOWN), (0, SHOWN)];
+    assert_eq!(rt; store.push_all(packets_of(alloc, rows)?), Ok(()));
+    assert!(rt; marks(&store, &[]));
+    let bytes = Bytes::from_slice(alloc, HIDDEN)?;
+    assert_eq!(rt; store.insert(1, 0, bytes), Ok(()));
+    assert!(rt; marks(&store, &[2]));
+    clear_second(&mut store);
+    assert!(rt; marks(&store, &[]));
+    let bytes = Bytes::from_slice(alloc, HIDDEN)?;
+    assert_eq!(rt; store.replace(1, bytes), Ok(()));
+    assert!(rt; marks(&store, &[2]));
+    assert_eq!(rt; store.delete(2), Ok(()));
+    assert!(rt; marks(&store, &[2]));
+    clear_second(&mut store);
+    assert_eq!(rt; store.move_to(3, 0), Ok(()));
+    assert!(rt; marks(&store, &[0, 1]));
+    mark_last(&mut store);
+    assert!(rt; marks(&store, &[0, 1, 3]));
+    Ok(())
+}
+
+/// The size that the last key packet before each place tells.
+#[test]
+fn sizes_before_places(rt: HostRuntime) -> Result<(), Fail> {
+    let alloc = rt.alloc();
+    let mut store = Store::starting(alloc, 0);
+    let narrow: &[u8] = &[0x10, 0, 0, 0x9D, 1, 0x2A, 16, 0, 9, 0x40];
+    let wide: &[u8] = &[0x10, 0, 0, 0x9D, 1, 0x2A, 0x2C, 0x81, 9, 0, 7];
+    let short: &[u8] = &[0x10, 0, 0, 0x9D, 1, 0x2A];
+    let rows = &[
+        (0, SHOWN),
+        (0, narrow),
+        (0, HIDDEN),
+        (0, wide),
+        (0, short),
+        (0, SHOWN),
+    ];
+    assert_eq!(rt; store.push_all(packets_of(alloc, rows)?), Ok(()));
+    let wants = [
+        None,
+        None,
+        Some((16, 9)),
+        Some((16, 9)),
+        Some((300, 9)),
+        None,
+        None,
+    ];
+    for (at, want) in wants.iter().enumerate() {
+        assert_eq!(rt; store.size_at(at as u64), *want, "{at}");
+    }
+    assert_eq!(rt; store.size_at(LAST), None);
+    assert_eq!(rt; store.delete(4), Ok(()));
+    assert_eq!(rt; store.size_at(LAST), Some((300, 9)));
+    Ok(())
+}
+
+/// A writer that gives errors alone.
+#[derive(Drop)]
+struct Broken {}
+
+impl Write for Broken {
+    fn write(&mut self, _buf: &[u8]) -> io::Result<usize> {
+        Err(ErrorKind::Other.into())
+    }
+
+    fn flush(&mut self) -> io::Result<()> {
+        Err(ErrorKind::Other.into())
+    }
+}
+
+const HEAD: Head = Head {
+    width: 16,
+    height: 9,
+    rate: 30,
+    scale: 1,
+};
+
+/// A header with the number of packets, and a record for each.
+const SAVED: [u8; 59] = [
+    b'D', b'K', b'I', b'F', 0, 0, 32, 0, b'V', b'P', b'8', b'0', 16, 0, 9, 0, 30, 0, 0, 0, 1, 0, 0,
+    0, 2, 0, 0, 0, 0, 0, 0, 0, //
+    3, 0, 0, 0, 20, 0, 0, 0, 0, 0, 0, 0, 0x11, 0, 0, //
+    0, 0, 0, 0, 1, 2, 0, 0, 0, 0, 0, 0x80,
+];
+
+#[test]
+fn saves_the_packets(rt: HostRuntime) -> Result<(), Fail> {
+    let alloc = rt.alloc();
+    let mut store = Store::starting(alloc, 7);
+    let mut none = Vec::new(alloc);
+    assert_eq!(rt; store.save(&mut none, HEAD), Ok(()));
+    assert_eq!(rt; (none.len(), none[24]), (32, 0));
+    let rows = &[(20, SHOWN), (0x8000_0000_0000_0201, b"".as_slice())];
+    assert_eq!(rt; store.push_all(packets_of(alloc, rows)?), Ok(()));
+    let mut saved = Vec::new(alloc);
+    assert_eq!(rt; store.save(&mut saved, HEAD), Ok(()));
+    assert_eq!(rt; saved.as_slice(), SAVED.as_slice());
+    assert_eq!(rt; store.save(&mut Broken {}, HEAD), Err(WriteFault::Write));
     Ok(())
 }
 

@@ -9,3 +9,4 @@ pub mod MacroblockOrder
 pub mod Flat
 pub mod FlatFrames
 pub mod Behind
+pub mod PutRows

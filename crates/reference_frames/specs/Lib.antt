@@ -10,3 +10,4 @@ pub mod Unfiltered
 pub mod UnfilteredLaws
 pub mod Steps
 pub mod StepLaws
+pub mod WrittenBlocks

@@ -2,10 +2,11 @@
 //! (RFC 6386, sections 9.5 and 13).
 
 ghost use Rattle.std.specs.Prelude.{◌≡◌, ◌+◌, ◌%◌, ◌<◌, ◌≤◌, [], length, map, slice_index_or, slice_set, All, IfOk};
+ghost use Rattle.std.specs.Option.{option_copied};
 ghost use Rattle.bool_coder.specs.Reader.{started};
 ghost use Rattle.token_parser.specs.Blocks.{cleared, macroblock};
 ghost use Rattle.transforms.specs.Factors.{factors_of};
-ghost use Rattle.reference_frames.specs.FrameTokenValue.{state_of};
+ghost use Rattle.reference_frames.specs.FrameTokenValue.{state_of, kept_residual};
 ghost use Rattle.reference_frames.specs.FrameTokens.{has_y2 as has_y2_of, block_with, y2_results, block_of, blocks_of, reader_of, tokens_at, tokens_start, state_with, residual_with, flag_with};
 
 use crate::inter::is_split;
@@ -70,20 +71,23 @@ fn block_of(
     block
 }
 
-/// The coefficients of the 24 blocks of a macroblock that have samples, dequantised.
-fn blocks_of(factors: Factors, has_y2: bool, coefficients: &[[i16; 16]; 25]) -> Blocks
-    ensures { result ≡ blocks_of factors has_y2 coefficients.now }
+/// Writes the coefficients of the 24 blocks of a macroblock that have samples, dequantised.
+fn dequantise_blocks(
+    factors: Factors,
+    has_y2: bool,
+    coefficients: &[[i16; 16]; 25],
+    blocks: &mut Blocks,
+)
+    ensures { blocks.new ≡ blocks_of factors has_y2 coefficients.now }
 {
     let firsts = if has_y2 {
         Some(y2_results(factors, &coefficients[24]))
     } else {
         None
     };
-    let mut blocks = [[0; 16]; 24];
     for k in 0..24 {
         blocks[k] = block_of(factors, &firsts, coefficients, k);
     }
-    blocks
 }
 
 /// The readers of the token partitions, each from its start.
@@ -112,6 +116,8 @@ pub struct FrameTokens<'a> {
     above: Vec<[bool; 9]>,
     /// The flags to the left, and the coefficients of one macroblock.
     tokens: Tokens,
+    /// The dequantised blocks of the last macroblock that was not skipped.
+    blocks: Blocks,
     /// One of the blocks of the macroblock that was read last has a token.
     pub has_tokens: bool,
 }
@@ -132,17 +138,18 @@ impl<'a> FrameTokens<'a> {
             readers: partition_readers(alloc, packet, partitions)?,
             above: vec![in alloc; [false; 9]; columns]?,
             tokens: Tokens::new(),
+            blocks: [[0; 16]; 24],
             has_tokens: false,
         })
     }
 
-    /// Reads the tokens of a macroblock in row `my`, behind its flags, and gives its residual.
-    fn read_blocks(&mut self, header: &Header, my: usize, mode: &MbMode) -> Blocks
+    /// Reads the tokens of a macroblock in row `my`, behind its flags, and keeps its residual.
+    fn read_blocks(&mut self, header: &Header, my: usize, mode: &MbMode)
         requires { 0 < length self.old.readers.items }
         ensures tokens { (self.new.tokens, slice_index_or self.new.readers.items (my % length self.old.readers.items) (started [])) ≡ macroblock header.now.context.probabilities.coefficients (has_y2_of mode.now.y_mode) (cleared self.old.tokens) (slice_index_or self.old.readers.items (my % length self.old.readers.items) (started [])) }
         ensures readers { self.new.readers.items ≡ slice_set self.old.readers.items (my % length self.old.readers.items) (slice_index_or self.new.readers.items (my % length self.old.readers.items) (started [])) }
         ensures above { self.new.above.items ≡ self.old.above.items }
-        ensures value { result ≡ blocks_of (factors_of header.now mode.now.segment) (has_y2_of mode.now.y_mode) self.new.tokens.coefficients }
+        ensures value { self.new.blocks ≡ blocks_of (factors_of header.now mode.now.segment) (has_y2_of mode.now.y_mode) self.new.tokens.coefficients }
     {
         let has_y2 = has_y2(mode);
         let partition = my % self.readers.len();
@@ -155,37 +162,48 @@ impl<'a> FrameTokens<'a> {
             &mut self.tokens,
         );
         self.readers[partition] = reader;
-        blocks_of(
+        dequantise_blocks(
             factors(header, mode.segment),
             has_y2,
             &self.tokens.coefficients,
-        )
+            &mut self.blocks,
+        );
     }
 
-    /// Reads the tokens of the macroblock in column `mx` of row `my`, which stands next, and gives its
-    /// residual. Where it is skipped, nothing is read, and it has none.
+    /// Reads the tokens of the macroblock in column `mx` of row `my`, which stands next, and keeps its
+    /// residual. Where it is skipped, nothing is read.
     #[tactic(auto, unfolding(crate::specs::FrameTokens::tokens_at))]
-    pub fn read(&mut self, header: &Header, mx: usize, my: usize, mode: &MbMode) -> Option<Blocks>
+    pub fn read(&mut self, header: &Header, mx: usize, my: usize, mode: &MbMode)
         requires some { 0 < length (state_of self.old).readers }
         requires column { mx < length (state_of self.old).above }
         ensures state { state_of self.new ≡ state_with (state_of self.old) mx my (tokens_at header.now.context.probabilities.coefficients (state_of self.old) mx my mode.now) }
         ensures flag { self.new.has_tokens ≡ flag_with mode.now (tokens_at header.now.context.probabilities.coefficients (state_of self.old) mx my mode.now).0 }
-        ensures residual { result ≡ residual_with (factors_of header.now mode.now.segment) mode.now (tokens_at header.now.context.probabilities.coefficients (state_of self.old) mx my mode.now).0 }
+        ensures residual { kept_residual self.new mode.now ≡ residual_with (factors_of header.now mode.now.segment) mode.now (tokens_at header.now.context.probabilities.coefficients (state_of self.old) mx my mode.now).0 }
     {
         self.tokens.above = self.above[mx];
         if mx == 0 {
             self.tokens.left = [false; 9];
         }
-        let residual = if mode.is_skipped {
+        if mode.is_skipped {
             skip_macroblock(has_y2(mode), &mut self.tokens);
             self.has_tokens = false;
+        } else {
+            self.read_blocks(header, my, mode);
+            self.has_tokens = self.tokens.has_tokens(has_y2(mode));
+        }
+        self.above[mx] = self.tokens.above;
+    }
+
+    /// The residual of the macroblock that was read last, of which this is the record. Where it is
+    /// skipped it has none.
+    #[inline]
+    pub fn residual(&self, mode: &MbMode) -> Option<&Blocks>
+        ensures { option_copied result ≡ kept_residual self.now mode.now }
+    {
+        if mode.is_skipped {
             None
         } else {
-            let blocks = self.read_blocks(header, my, mode);
-            self.has_tokens = self.tokens.has_tokens(has_y2(mode));
-            Some(blocks)
-        };
-        self.above[mx] = self.tokens.above;
-        residual
+            Some(&self.blocks)
+        }
     }
 }

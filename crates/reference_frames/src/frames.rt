@@ -42,8 +42,9 @@ fn predict_macroblocks(
     let mut mx = 0;
     let mut my = 0;
     for mode in modes {
-        let residual = tokens.read(header, mx, my, mode);
-        predict_macroblock(planes, sources, mx, my, mode, residual.as_ref());
+        tokens.read(header, mx, my, mode);
+        let residual = tokens.residual(mode);
+        predict_macroblock(planes, sources, mx, my, mode, residual);
         flags.push(tokens.has_tokens)?;
         mx += 1;
         if mx == columns {

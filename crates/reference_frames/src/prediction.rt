@@ -4,6 +4,7 @@ ghost use Rattle.std.specs.Option.{option_copied, ForSome};
 ghost use Rattle.intra_predict.specs.WholeSample.{side_of};
 ghost use Rattle.pixel_planes.specs.PlaneSamples.{shown_of};
 ghost use Rattle.pixel_planes.specs.Samples.{sample_at};
+ghost use Rattle.reference_frames.specs.WrittenBlocks.{block_rows_put};
 ghost use Rattle.reference_frames.specs.Unfiltered.{HoldsSquare, HoldsMacroblock, HaveRoomFor, SameSides, SameShape, above, left, corner, above_row, left_column, above_eight, with_block, predicted_sub_block, predicted_sub_blocks, predicted_whole, predicted_luma, intra_macroblock, referred_macroblock, predicted_macroblock};
 
 use crate::inter::predict_inter;
@@ -136,6 +137,23 @@ fn read_left(plane: &Plane, x: usize, y: usize, out: &mut [u8])
     }
 }
 
+/// Writes the rows of a block of `side` by `side` samples, the first at `start` and each further one
+/// `stride` places behind the last.
+#[inline(always)]
+fn write_rows(samples: &mut [u8], start: usize, stride: usize, side: usize, block: &[u8])
+    requires wide { side ≤ stride }
+    requires small { (side ≤ 16) × (stride ≤ 16384) }
+    requires room { start + side * stride ≤ length samples.old + (stride - side) }
+    requires whole { length block.now ≡ side * side }
+    ensures { samples.new ≡ block_rows_put samples.old start stride side (λ column row. slice_index block.now (row * side + column)) side }
+{
+    for row in 0..side {
+        let from = row * side;
+        let to = start + row * stride;
+        samples[to..to + side].copy_from_slice(&block[from..from + side]);
+    }
+}
+
 /// Writes a block of `side` by `side` samples at column `x` of row `y`.
 #[inline(always)]
 pub(crate) fn write_block(plane: &mut Plane, x: usize, y: usize, side: usize, block: &[u8])
@@ -145,10 +163,9 @@ pub(crate) fn write_block(plane: &mut Plane, x: usize, y: usize, side: usize, bl
     ensures value { plane.new.shown ≡ with_block plane.old.shown x y side (λ column row. slice_index block.now (row * side + column)) }
     ensures sides { SameSides plane.old.shown plane.new.shown }
 {
-    for row in 0..side {
-        let start = row * side;
-        plane.row_mut(y + row)[x..x + side].copy_from_slice(&block[start..start + side]);
-    }
+    let width = plane.width();
+    let start = y * width + x;
+    write_rows(plane.samples_mut(), start, width, side, block);
 }
 
 /// Predicts a sub block of a macroblock from what stands round it by then, and adds its residual.

@@ -10,6 +10,8 @@ ghost use Rattle.reference_frames.specs.Restored.{restored};
 ghost use Rattle.reference_frames.specs.AddedBlocks.{IsAddedAt};
 
 use intra_predict::BlockSize;
+use std::simd::i16x8;
+use std::simd::prelude::*;
 use transforms::{dct_add, dct_add_first};
 
 /// The dequantised coefficients of the blocks of a macroblock: 16 of luma, 4 of U and 4 of V, each
@@ -17,16 +19,20 @@ use transforms::{dct_add, dct_add_first};
 pub type Blocks = [[i16; 16]; 24];
 
 /// Whether a block has no coefficient behind its first.
-#[inline]
+#[inline(always)]
 fn has_only_first(coefficients: &[i16; 16]) -> bool
     ensures { IsTrue result → All (λ c. c ≡ pos 0) (slice_range coefficients.now 1 16) }
 {
-    coefficients[1..].iter().all(|c| *c == 0)
+    let at = coefficients;
+    let zeros = i16x8::splat(0);
+    let low = i16x8::from_array([0, at[1], at[2], at[3], at[4], at[5], at[6], at[7]]);
+    let high = i16x8::from_array([at[8], at[9], at[10], at[11], at[12], at[13], at[14], at[15]]);
+    low.simd_eq(zeros).all() && high.simd_eq(zeros).all()
 }
 
 /// Adds the residual of a block to its 4 by 4 samples at the start of `samples`, in rows `stride`
 /// apart.
-#[inline]
+#[inline(always)]
 fn add_block(coefficients: &[i16; 16], samples: &mut [u8], stride: usize)
     requires wide { (4 ≤ stride) × (stride ≤ 16) }
     requires room { 3 * stride + 4 ≤ length samples.old }
@@ -40,7 +46,7 @@ fn add_block(coefficients: &[i16; 16], samples: &mut [u8], stride: usize)
 }
 
 /// Adds the residual of a block to its samples in a square, from this column and row on.
-#[inline]
+#[inline(always)]
 fn add_at(coefficients: &[i16; 16], samples: &mut [u8], size: BlockSize, column: usize, row: usize)
     requires square { length samples.old ≡ side_of size * side_of size }
     requires column { column + 4 ≤ side_of size }

@@ -6,3 +6,5 @@ pub mod Lines
 pub mod Numbers
 pub mod Texts
 pub mod Headers
+pub mod Written
+pub mod LowBytes

@@ -6,7 +6,7 @@ use Rattle.stream_files.specs.declared.packets.Packet.{Packet}
 use Rattle.stream_files.specs.declared.packets.TheConstants.{MAX_PACKETS}
 use Rattle.stream_files.specs.declared.ivf.Head.{Head}
 use Rattle.stream_files.specs.declared.ivf.Ivf.{Ivf}
-use Rattle.stream_files.specs.Ivf.{HasRecord}
+use Rattle.stream_files.specs.Ivf.{HasRecord, IsIvf}
 
 -- a list of numbers that are bytes
 abbrev pub IsBytes : List ℕ → Type 0
@@ -24,6 +24,14 @@ records_text packets = flat_map record_text packets
 abbrev pub fields_text : ℕ → ℕ → Head → ℕ → List ℕ
 fields_text version len head count =
     codes "DKIF" ++ little_bytes 2 version ++ little_bytes 2 len ++ codes "VP80" ++ little_bytes 2 head.width ++ little_bytes 2 head.height ++ little_bytes 4 head.rate ++ little_bytes 4 head.scale ++ little_bytes 4 count
+
+-- the header that a writer gives: version 0, length 32, the number of packets, and four unused bytes of 0
+abbrev pub header_text : Head → ℕ → List ℕ
+header_text head count = fields_text 0 32 head count ++ little_bytes 4 0
+
+-- the whole text that a writer gives of a head and packets
+abbrev pub written_text : Head → List Packet → List ℕ
+written_text head packets = header_text head (length packets) ++ records_text packets
 
 -- a packet has a record
 pub record PacketFits (packet : Packet) : Type 0 where
@@ -58,3 +66,11 @@ pub record IsIvfText (bytes : List ℕ) (file : Ivf) : Type 0 where
   pub over : ¬ HasRecord rest
   pub spare : file.spare ≡ length rest
   pub few : length file.packets ≤ MAX_PACKETS
+
+-- the file that has this head and these packets, and nothing behind them
+abbrev pub file_of : Head → List Packet → Ivf
+file_of head packets = record { head = head; packets = packets; spare = 0 }
+
+-- reading what a writer gave returns the same head, the same packets and no spare bytes
+abbrev pub WrittenIsRead : Type 0
+WrittenIsRead = (head : Head) (packets : List Packet) → FieldsFit 0 32 head (length packets) → PacketsFit packets → length packets ≤ MAX_PACKETS → IsIvf (written_text head packets) (file_of head packets)

@@ -1,7 +1,7 @@
 //! What holds of every IVF text. A law is a function that does nothing: its contract is the law.
 ghost use Rattle.std.specs.Prelude.{◌≡◌, ℕ, List, []};
 ghost use Rattle.stream_files.specs.Ivf.{IsIvf, IvfRefuses};
-ghost use Rattle.stream_files.specs.Texts.{IsBytes, IsIvfText};
+ghost use Rattle.stream_files.specs.Texts.{IsBytes, IsIvfText, WrittenIsRead};
 ghost use Rattle.stream_files.specs.declared.ivf.Ivf.{Ivf};
 ghost use Rattle.stream_files.specs.declared.ivf.IvfFault.{IvfFault};
 
@@ -39,4 +39,10 @@ pub fn ivf_is_its_text()
 /// What is written so is the text of the file: reading it gives the file, or want of memory.
 pub fn ivf_text_is_read()
     ensures { (bytes : List ℕ) (file : Ivf) → IsIvfText bytes file → IsIvf bytes file }
+{}
+
+/// What a writer gives of a head and packets is the text of a file with the same head, the same
+/// packets and no spare bytes: reading it gives that file, or want of memory.
+pub fn ivf_written_is_read()
+    ensures { WrittenIsRead }
 {}

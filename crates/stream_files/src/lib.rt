@@ -1,8 +1,9 @@
-//! The files that streams come from and go to: IVF read, Y4M written, and a reader's bytes up to a
-//! limit.
+//! The files that streams come from and go to: IVF read and written, Y4M written, and a reader's
+//! bytes up to a limit.
 #![tactic(auto)]
 
 mod ivf;
+mod ivf_writing;
 pub mod laws;
 mod packets;
 mod reading;
@@ -10,6 +11,7 @@ mod records;
 mod y4m;
 
 pub use ivf::{EMPTY, Head, Ivf, IvfFault, ivf_read};
+pub use ivf_writing::{ivf_packet, ivf_start};
 pub use packets::{Bytes, MAX_PACKETS, Packet, Packets};
 pub use reading::{ReadFault, read_all};
 pub use y4m::{WriteFault, y4m_frame, y4m_header};

@@ -146,3 +146,53 @@ fn a_writer_without_room_refuses(rt: HostRuntime) -> Result<(), Fail> {
     );
     Ok(())
 }
+
+/// A key packet of 16 by 16 samples with empty partitions.
+const KEY: [u8; 10] = [0x10, 0, 0, 0x9D, 1, 0x2A, 16, 0, 16, 0];
+
+/// The file of that packet alone, 30 frames a second.
+const KEY_FILE: [u8; 54] = [
+    b'D', b'K', b'I', b'F', 0, 0, 32, 0, b'V', b'P', b'8', b'0', 16, 0, 16, 0, 30, 0, 0, 0, 1, 0,
+    0, 0, 1, 0, 0, 0, 0, 0, 0, 0, //
+    10, 0, 0, 0, 0, 0, 0, 0, 0, 0, 0, 0, //
+    0x10, 0, 0, 0x9D, 1, 0x2A, 16, 0, 16, 0,
+];
+
+const KEY_HEAD: Head = Head {
+    width: 16,
+    height: 16,
+    rate: 30,
+    scale: 1,
+};
+
+#[test]
+fn writes_a_file_that_is_read(rt: HostRuntime) -> Result<(), Fail> {
+    let mut text = Vec::new(rt.alloc());
+    ivf_start(&mut text, KEY_HEAD, 1)?;
+    ivf_packet(&mut text, 0, &KEY)?;
+    assert_eq!(rt; text.as_slice(), KEY_FILE.as_slice());
+    let file = ivf_read(rt.alloc(), &text)?;
+    assert_eq!(rt;
+        (file.head, file.packets.len(), file.spare),
+        (KEY_HEAD, 1, 0)
+    );
+    let mut record = Vec::new(rt.alloc());
+    ivf_packet(&mut record, 4_294_967_297, b"ab".as_slice())?;
+    let want = [2, 0, 0, 0, 1, 0, 0, 0, 1, 0, 0, 0, b'a', b'b'];
+    assert_eq!(rt; record.as_slice(), want.as_slice());
+    Ok(())
+}
+
+#[test]
+fn a_file_without_room_is_refused(rt: HostRuntime) {
+    let mut room = [0; 31];
+    assert_eq!(rt;
+        ivf_start(&mut room.as_mut_slice(), KEY_HEAD, 1),
+        Err(WriteFault::Write)
+    );
+    let mut short = [0; 21];
+    assert_eq!(rt;
+        ivf_packet(&mut short.as_mut_slice(), 0, &KEY),
+        Err(WriteFault::Write)
+    );
+}

@@ -1,14 +1,18 @@
 -- What the parts of a run leave.
-use Rattle.std.specs.Prelude.{◌≡◌, ℕ, ◌<◌, List, length, Option, IfSome, codes}
+use Rattle.std.specs.Prelude.{◌≡◌, ◌≢◌, Bool, false, ℕ, ◌<◌, ◌==◌, List, [], ◌∷◌, ◌++◌, length, Option, IfSome, codes, if◌then◌else◌}
+use Rattle.std.specs.Fmt.{decimal}
 use Rattle.std.specs.Io.KnownBytes.{Keeps}
 use Rattle.vp8_tables.specs.Rfc.{rfc_entries}
+use Rattle.vp8_tables.specs.Tables.{TableEntries}
 use Rattle.stream_files.specs.Ivf.{IvfRefuses}
+use Rattle.stream_files.specs.Texts.{written_text}
+use Rattle.packet_edits.specs.Saved.{packets_of}
 use Rattle.frame_session.specs.Answers.{Means}
 use Rattle.frame_session.specs.Sessions.{Now}
 use Rattle.frame_session.specs.declared.serving.RunFault.{RunFault}
 use Rattle.frame_session.specs.declared.serving.RunFault.TheVariants as runs
 use Rattle.vp8serve.specs.declared.fault.Fault.{Fault}
-use Rattle.vp8serve.specs.declared.fault.Fault.TheVariants.{CannotRead, TooLong, Input, CannotWrite, NoMemory}
+use Rattle.vp8serve.specs.declared.fault.Fault.TheVariants.{CannotRead, TooLong, Tables, Input, CannotWrite, NoMemory}
 
 -- the most bytes that a file may have
 abbrev pub limit : ℕ
@@ -21,25 +25,35 @@ IsReadFault name left (TooLong path) = (path.now ≡ name) × IfSome left (λ by
 IsReadFault name left NoMemory = Unit {0}
 IsReadFault name left _ = ⊥
 
--- the requests of this text were answered over the file that these bytes are, behind whose last whole record this many bytes stand
-abbrev pub IsAnswered : (bytes requests : List ℕ) → (frames frames' replies replies' : Option (List ℕ)) → ℕ → Type 0
-IsAnswered bytes requests frames frames' replies replies' spare =
-    (end : Now) × Means rfc_entries bytes requests frames frames' replies replies' end × (spare ≡ end.spare)
+-- why the bytes of a text are no tables
+abbrev pub IsTableFault : List ℕ → Fault → Type 0
+IsTableFault bytes Tables = length bytes ≢ 3012
+IsTableFault bytes _ = ⊥
 
 -- the requests were answered so, and the replies are these; of the frames it is not known where they went
-abbrev pub IsReplied : (bytes requests : List ℕ) → (replies replies' : Option (List ℕ)) → ℕ → Type 0
-IsReplied bytes requests replies replies' spare =
-    (frames : Option (List ℕ)) × (frames' : Option (List ℕ)) × IsAnswered bytes requests frames frames' replies replies' spare
+abbrev pub IsReplied : (tables : TableEntries) → (bytes requests : List ℕ) → (replies replies' : Option (List ℕ)) → Now → Type 0
+IsReplied tables bytes requests replies replies' end =
+    (frames : Option (List ℕ)) × (frames' : Option (List ℕ)) × Means tables bytes requests frames frames' replies replies' end
+
+-- the file of the packets that stand at the end
+abbrev pub saved_text : Now → List ℕ
+saved_text end = written_text end.head (packets_of end.list)
+
+-- what is told of the bytes that stood behind the last whole record: nothing where there are none
+abbrev pub spare_text : ℕ → List ℕ
+spare_text spare = if spare == 0 then [] else codes "spare " ++ decimal spare ++ 10 ∷ []
 
 -- what the words named was answered: these bytes stand for a stream that is not named, and what the input has left for
--- requests that are not named
-pub record IsServed (unnamed stream requests : List ℕ) (left replies replies' : Option (List ℕ)) : Type 0 where
+-- requests that are not named; without a file of tables they are those of RFC 6386
+pub record IsServed (unnamed stream requests : List ℕ) (has_tables : Bool) (left replies replies' : Option (List ℕ)) : Type 0 where
+  pub tables : TableEntries
   pub bytes : List ℕ
   pub lines : List ℕ
-  pub spare : ℕ
-  pub replied : IsReplied bytes lines replies replies' spare
+  pub end : Now
+  pub replied : IsReplied tables bytes lines replies replies' end
   pub empty : stream ≡ codes "-" → bytes ≡ unnamed
   pub input : requests ≡ codes "-" → IfSome left (λ bytes. lines ≡ bytes)
+  pub rfc : has_tables ≡ false → tables ≡ rfc_entries
 
 -- why the requests were not answered over the file that these bytes are: but for a writer's refusal, nothing was written
 abbrev pub IsRunFault : List ℕ → (frames frames' replies replies' : Option (List ℕ)) → Fault → Type 0

@@ -1,13 +1,14 @@
 -- The statuses that the program ends with.
 use Rattle.std.specs.Prelude.{ℕ}
 use Rattle.vp8serve.specs.declared.fault.Fault.{Fault}
-use Rattle.vp8serve.specs.declared.fault.Fault.TheVariants.{CommandLine, CannotRead, TooLong, Input, CannotWrite, NoMemory}
+use Rattle.vp8serve.specs.declared.fault.Fault.TheVariants.{CommandLine, CannotRead, TooLong, Tables, Input, CannotWrite, NoMemory}
 
 -- a mistake on the command line is told by 2, every other fault by 1
 abbrev pub status_of : Fault → ℕ
 status_of CommandLine = 2
 status_of (CannotRead path) = 1
 status_of (TooLong path) = 1
+status_of Tables = 1
 status_of (Input fault) = 1
 status_of CannotWrite = 1
 status_of NoMemory = 1

@@ -20,10 +20,13 @@ pub enum Fault<'a> {
     /// A file has more bytes than are allowed.
     #[error("{0} is too long")]
     TooLong(&'a str),
+    /// The file of the tables has not as many bytes as they have entries.
+    #[error("tables are not 3012 bytes")]
+    Tables,
     /// The bytes of the stream are no IVF file, or there was no memory for its packets.
     #[error("input {word}", word = .0.word())]
     Input(IvfFault),
-    /// The file for the frames cannot be made, or a writer gave an error.
+    /// The file for the frames or for the packets cannot be made, or a writer gave an error.
     #[error("cannot write")]
     CannotWrite,
     /// There was no memory.

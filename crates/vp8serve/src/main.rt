@@ -3,6 +3,7 @@
 #![tactic(auto)]
 
 mod fault;
+mod help;
 mod program;
 mod sources;
 mod words;

@@ -1,14 +1,16 @@
 // The program over a reader and two writers.
-ghost use Rattle.std.specs.Prelude.{◌≡◌, ◌≢◌, ◌≤◌, IfOk, IfErr, OnOk, Err};
+ghost use Rattle.std.specs.Prelude.{◌≡◌, ◌≢◌, ◌≤◌, IfOk, IfErr, OnOk, Err, is_some};
+ghost use Rattle.std.specs.Io.KnownBytes.{Appends};
 ghost use Rattle.clap.specs.Values.{kind_of};
-ghost use Rattle.vp8serve.specs.Endings.{IsAnswered, IsRefused, IsReplied, IsRunFault, IsServed};
+ghost use Rattle.frame_session.specs.Answers.{Means};
+ghost use Rattle.vp8serve.specs.Endings.{IsRefused, IsReplied, IsRunFault, IsServed, saved_text, spare_text};
 ghost use Rattle.vp8serve.specs.Statuses.{status_of};
 
 use crate::fault::Fault;
-use crate::sources::{read_requests, read_stream};
+use crate::sources::{read_requests, read_stream, read_tables};
 use crate::words::{self, NO_FILE, Words};
 use clap::error::ErrorKind;
-use frame_session::run;
+use frame_session::{Session, run};
 use std::alloc::Global;
 use std::convert::AsStr;
 use std::fs::File;
@@ -17,11 +19,8 @@ use std::rt::Files;
 use stream_files::EMPTY;
 use vp8_tables::Tables;
 
-/// How many decoded states a session may keep.
-const CAPACITY: u16 = 32;
-
-/// How many bytes of frames are gathered before they are written.
-const FRAMES_AT_ONCE: usize = 65_536;
+/// How many bytes of frames or packets are gathered before they are written.
+const BYTES_AT_ONCE: usize = 65_536;
 
 /// Shows a fault to the user, and gives the status that it is told by. Where `errors` refuses the
 /// text, the status tells it alone.
@@ -48,78 +47,133 @@ fn help_or_fault<O: Write>(error: clap::Error, output: &mut O) -> Result<(), Fau
     }
 }
 
-/// Runs the requests over the stream, and sees that all is written. Gives how many bytes stood
-/// behind the last whole record of the stream.
+/// Runs the requests over the stream, and sees that all is written. Gives the session that stands
+/// behind them.
 pub fn run_to<F: Write, P: Write>(
     alloc: Global,
+    tables: Tables,
+    capacity: u16,
     stream: &[u8],
     requests: &[u8],
     frames: &mut F,
     replies: &mut P,
-) -> Result<u64, Fault<'static>>
-    ensures answered { IfOk result (IsAnswered stream.now requests.now (F.contents frames.old) (F.contents frames.new) (P.contents replies.old) (P.contents replies.new)) }
+) -> Result<Session, Fault<'static>>
+    requires { (1 ≤ capacity) × (capacity ≤ 4096) }
+    ensures answered { IfOk result (λ session. Means tables stream.now requests.now (F.contents frames.old) (F.contents frames.new) (P.contents replies.old) (P.contents replies.new) session.now) }
     ensures refused { IfErr result (IsRunFault stream.now (F.contents frames.old) (F.contents frames.new) (P.contents replies.old) (P.contents replies.new)) }
 {
-    let session = run(
-        alloc,
-        Tables::rfc(),
-        CAPACITY,
-        stream,
-        requests,
-        frames,
-        replies,
-    )?;
+    let session = run(alloc, tables, capacity, stream, requests, frames, replies)?;
     frames.flush().map_err(|_| Fault::CannotWrite)?;
     replies.flush().map_err(|_| Fault::CannotWrite)?;
-    Ok(session.spare())
+    Ok(session)
 }
 
 /// The same, with frames that go to the file at `path`, which is made now, or nowhere.
 fn run_to_path<R: Files + AllocGlobal, P: Write>(
     rt: &R,
+    tables: Tables,
+    capacity: u16,
     stream: &[u8],
     requests: &[u8],
     path: &str,
     replies: &mut P,
-) -> Result<u64, Fault<'static>>
-    ensures replied { IfOk result (IsReplied stream.now requests.now (P.contents replies.old) (P.contents replies.new)) }
+) -> Result<Session, Fault<'static>>
+    requires { (1 ≤ capacity) × (capacity ≤ 4096) }
+    ensures replied { IfOk result (λ session. IsReplied tables stream.now requests.now (P.contents replies.old) (P.contents replies.new) session.now) }
     ensures refused { IfErr result (IsRefused stream.now (P.contents replies.old) (P.contents replies.new)) }
     ensures fault { IfErr result (λ fault. status_of fault ≡ 1) }
 {
     let alloc = rt.alloc();
     if path == NO_FILE {
-        return run_to(alloc, stream, requests, &mut io::sink(), replies);
+        return run_to(
+            alloc,
+            tables,
+            capacity,
+            stream,
+            requests,
+            &mut io::sink(),
+            replies,
+        );
     }
     let file = File::create(rt, path).map_err(|_| Fault::CannotWrite)?;
-    let mut frames = BufWriter::with_capacity(alloc, FRAMES_AT_ONCE, file).map_err(
+    let mut frames = BufWriter::with_capacity(alloc, BYTES_AT_ONCE, file).map_err(
         |_| Fault::NoMemory,
     )?;
-    run_to(alloc, stream, requests, &mut frames, replies)
+    run_to(
+        alloc,
+        tables,
+        capacity,
+        stream,
+        requests,
+        &mut frames,
+        replies,
+    )
+}
+
+/// Writes the packets that stand behind the run, and sees that all is written.
+pub fn save_to<W: Write>(session: &Session, w: &mut W) -> Result<(), Fault<'static>>
+    ensures saved { OnOk result (Appends (W.contents w.old) (W.contents w.new) (saved_text session.now.now)) }
+    ensures fault { IfErr result (λ fault. fault ≡ Fault.CannotWrite) }
+{
+    session.save(w).map_err(|_| Fault::CannotWrite)?;
+    w.flush().map_err(|_| Fault::CannotWrite)
+}
+
+/// The same to the file at `path`, which is made now, where one is named.
+fn save_to_path<R: Files + AllocGlobal>(
+    rt: &R,
+    session: &Session,
+    path: Option<&str>,
+) -> Result<(), Fault<'static>>
+    ensures { IfErr result (λ fault. status_of fault ≡ 1) }
+{
+    let Some(path) = path else {
+        return Ok(());
+    };
+    let file = File::create(rt, path).map_err(|_| Fault::CannotWrite)?;
+    let mut saved = BufWriter::with_capacity(rt.alloc(), BYTES_AT_ONCE, file).map_err(
+        |_| Fault::NoMemory,
+    )?;
+    save_to(session, &mut saved)
+}
+
+/// Tells how many bytes stood behind the last whole record of the stream, where there are any.
+fn tell_spare<E: Write>(spare: u64, errors: &mut E) -> io::Result<()>
+    ensures { OnOk result (Appends (E.contents errors.old) (E.contents errors.new) (spare_text spare)) }
+{
+    if spare == 0 {
+        return Ok(());
+    }
+    writeln!(errors, "spare {spare}")
 }
 
 /// Does what the command line's words ask for.
 fn answer<'a, R: Files + AllocGlobal, I: Read, O: Write, E: Write>(
     rt: &R,
     words: Words<'a>,
+    capacity: u16,
     input: &mut I,
     output: &mut O,
     errors: &mut E,
 ) -> Result<(), Fault<'a>>
-    ensures served { OnOk result (IsServed EMPTY words.entry.stream.now words.entry.requests.now (I.remaining input.old) (O.contents output.old) (O.contents output.new)) }
+    requires { (1 ≤ capacity) × (capacity ≤ 4096) }
+    ensures served { OnOk result (IsServed EMPTY words.entry.stream.now words.entry.requests.now (is_some words.entry.tables) (I.remaining input.old) (O.contents output.old) (O.contents output.new)) }
     ensures fault { IfErr result (λ fault. status_of fault ≡ 1) }
 {
+    let tables = read_tables(rt, words.tables)?;
     let stream = read_stream(rt, words.stream)?;
     let requests = read_requests(rt, words.requests, input)?;
-    let spare = run_to_path(
+    let session = run_to_path(
         rt,
+        tables,
+        capacity,
         stream.as_slice(),
         requests.as_slice(),
         words.frames,
         output,
     )?;
-    if spare != 0 {
-        let _ = writeln!(errors, "spare {spare}");
-    }
+    save_to_path(rt, &session, words.saved)?;
+    let _ = tell_spare(session.spare(), errors);
     Ok(())
 }
 
@@ -132,7 +186,10 @@ fn answer_line<'a, R: Files + AllocGlobal, S: AsStr, I: Read, O: Write, E: Write
     errors: &mut E,
 ) -> Result<(), Fault<'a>> {
     match words::parse(rt.alloc(), words) {
-        Ok(words) => answer(rt, words, input, output, errors),
+        Ok(words) => match words.capacity() {
+            Some(capacity) => answer(rt, words, capacity, input, output, errors),
+            None => Err(Fault::CommandLine),
+        },
         Err(error) => help_or_fault(error, output),
     }
 }
@@ -141,9 +198,10 @@ fn answer_line<'a, R: Files + AllocGlobal, S: AsStr, I: Read, O: Write, E: Write
 /// that it ends with: 0 where every request was answered, be it by a refusal, and for help; 2 for a
 /// mistake on the command line; 1 for every other fault.
 ///
-/// Both files are read whole, up to 1,073,741,824 bytes each, before the file for the frames is
-/// made. Replies and help go to `output`; the text of a fault, and how many bytes stood behind the
-/// last whole record of the stream, where there are any, go to `errors`.
+/// All files are read whole, up to 1,073,741,824 bytes each, before the file for the frames is made;
+/// that for the packets is made once the last request was answered. Replies and help go to `output`;
+/// the text of a fault, and behind a run without a fault how many bytes stood behind the last whole
+/// record of the stream, where there are any, go to `errors`.
 pub fn serve<R: Files + AllocGlobal, S: AsStr, I: Read, O: Write, E: Write>(
     rt: &R,
     words: &[S],

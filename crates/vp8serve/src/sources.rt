@@ -1,7 +1,9 @@
 // What the program reads.
-ghost use Rattle.std.specs.Prelude.{◌≡◌, IfOk, IfErr, IfSome, codes, None};
+ghost use Rattle.std.specs.Prelude.{◌≡◌, IfOk, IfErr, IfSome, Ok, codes, None, false, is_some};
+ghost use Rattle.vp8_tables.specs.Rfc.{rfc_entries};
+ghost use Rattle.vp8_tables.specs.Tables.{entries_of};
 ghost use Rattle.vp8serve.specs.Statuses.{status_of};
-ghost use Rattle.vp8serve.specs.Endings.{IsReadFault};
+ghost use Rattle.vp8serve.specs.Endings.{IsReadFault, IsTableFault};
 
 use crate::fault::Fault;
 use crate::words::NO_FILE;
@@ -10,6 +12,7 @@ use std::fs::File;
 use std::io::Read;
 use std::rt::Files;
 use stream_files::{EMPTY, ReadFault, read_all};
+use vp8_tables::Tables;
 
 /// The most bytes that a file may have.
 const LIMIT: usize = 1_073_741_824;
@@ -38,6 +41,31 @@ fn read_file<'a, R: Files + AllocGlobal>(rt: &R, path: &'a str) -> Result<Vec<u8
     match File::open(rt, path) {
         Ok(mut file) => read_whole(rt.alloc(), &mut file, path),
         Err(_) => Err(Fault::CannotRead(path)),
+    }
+}
+
+/// The tables whose entries are the bytes of a text.
+fn tables_of(bytes: &[u8]) -> Result<Tables, Fault<'static>>
+    ensures read { IfOk result (λ tables. entries_of bytes.now ≡ Ok tables) }
+    ensures fault { IfErr result (IsTableFault bytes.now) }
+{
+    Tables::read(bytes).map_err(|_| Fault::Tables)
+}
+
+/// The tables of a file, or those of RFC 6386 where none is named.
+pub fn read_tables<'a, R: Files + AllocGlobal>(
+    rt: &R,
+    path: Option<&'a str>,
+) -> Result<Tables, Fault<'a>>
+    ensures rfc { is_some path.entry ≡ false → IfOk result (λ tables. tables ≡ rfc_entries) }
+    ensures status { IfErr result (λ fault. status_of fault ≡ 1) }
+{
+    match path {
+        Some(path) => {
+            let bytes = read_file(rt, path)?;
+            tables_of(bytes.as_slice())
+        }
+        None => Ok(Tables::rfc()),
     }
 }
 

@@ -4,6 +4,7 @@ use std::fs;
 use std::io::{self, BufWriter, ErrorKind, Read, Write};
 use std::test::Fail;
 use stream_files::{EMPTY, IvfFault};
+use vp8_tables::Tables;
 
 /// What a run of the program leaves.
 #[derive(Drop)]
@@ -53,9 +54,21 @@ const ONE: [u8; 54] = [
 ];
 
 const HELP: &str = "\
-Serves frames of a VP8 stream as YUV4MPEG2. Replies go to standard output.
+Serves frames of a VP8 stream (IVF) as YUV4MPEG2, while you edit its packets.
 
-Usage: vp8serve [IN] [REQUESTS] [OUT]
+Copy this line to see it work. It forges a grey key frame, repeats its picture
+in a second packet, saves both as IVF and writes both frames:
+
+  printf 'blank 0 64 48\\nhold 1\\nframe 0\\nframe 1\\n' | vp8serve - - out.y4m --save out.ivf
+
+It prints the replies `ok 1`, `ok 2`, `served 0` and `served 1`.
+`ffplay out.y4m` shows the frames, and `vp8serve out.ivf` reads the packets again.
+
+To watch frames as they are served, with the replies in a file:
+
+  vp8serve in.ivf requests /dev/fd/3 3>&1 >replies | ffplay -
+
+Usage: vp8serve [OPTIONS] [IN] [REQUESTS] [OUT]
 
 Arguments:
   [IN]        IVF file; `-` is one with no packets [default: -]
@@ -63,7 +76,39 @@ Arguments:
   [OUT]       File that the frames go to; `-` drops them [default: -]
 
 Options:
-  -h, --help  Print help
+      --cache <N>      How many decoded frames are kept, 1 to 4096 [default: 32]
+      --tables <FILE>  File of 3012 bytes to use in place of RFC 6386's long tables
+      --save <FILE>    IVF file that the packets go to after the last request
+  -h, --help           Print help
+
+Requests, a line each; the reply goes to standard output:
+  frame N               write frame N to OUT          served N
+  insert AT STAMP HEX   put in a packet               ok K (K packets stand)
+  replace AT HEX        give a packet other bytes     ok K
+  delete AT             take a packet out             ok K
+  move FROM TO          take one out, put it in at TO ok K
+  blank AT W H          put in a grey W x H key frame ok K
+  hold AT               put in a repeat of the frame  ok K
+  script TEXT           edit the frames, see below    ok K
+  count                                               packets K frames F
+  stats                                               decoded D (packets so far)
+Packets and frames are numbered from 0. STAMP is a packet's time stamp, HEX its
+bytes as hexadecimal digits, or `-` for none. Empty lines and lines that begin
+with # have no reply.
+A request that is refused changes nothing; the reply says why:
+  refused Line | Place | Full | Spent | Size | TooLarge | NoMemory
+  refused Syntax | Nodes | Reference | Number             (script)
+  refused NoSuchFrame | CropOutside | SizeDiffers         (frame)
+  refused packet J CAUSE    packet J cannot be decoded    (frame)
+
+Scripts: `-` for none, or nodes parted by `;`. Node 0 is the stream; the others
+are numbered from 1, and the last one is served. A and B are earlier nodes:
+  trim A FIRST COUNT            COUNT frames of A from FIRST on
+  splice A B                    A's frames, then B's
+  crop A X Y W H                W x H samples from column X, row Y (both even)
+  fade A FIRST COUNT FROM TO    mix with black: weight FROM/256 before FIRST,
+                                TO/256 from FIRST+COUNT on, a ramp between
+Example: script trim 0 0 50; fade 1 25 25 256 0
 ";
 
 #[test]
@@ -82,6 +127,7 @@ fn tells_each_fault(rt: HostRuntime) -> Result<(), Fail> {
         (Fault::CommandLine, 2, "vp8serve: command line\n"),
         (Fault::CannotRead("a b"), 1, "vp8serve: cannot read a b\n"),
         (Fault::TooLong("-"), 1, "vp8serve: - is too long\n"),
+        (Fault::Tables, 1, "vp8serve: tables are not 3012 bytes\n"),
         (
             Fault::Input(IvfFault::TooMany),
             1,
@@ -99,14 +145,30 @@ fn tells_each_fault(rt: HostRuntime) -> Result<(), Fail> {
     Ok(())
 }
 
-/// Of two faults the first in order is told: the command line, the stream, the requests, the file
-/// for the frames, the run.
+/// Of two faults the first in order is told: the command line, the tables, the stream, the requests,
+/// the file for the frames, the run, the file for the packets.
 #[test]
 fn finds_faults_in_order(rt: HostRuntime) -> Result<(), Fail> {
     fs::write(&rt, "order.ivf", "DKIF")?;
     let cases = [
         (["a", "b", "c", "d"].as_slice(), 2, "command line"),
         (&["--cache"], 2, "command line"),
+        (&["--cache", "0"], 2, "command line"),
+        (&["--cache", "4097"], 2, "command line"),
+        (&["--cache", "x", "--tables", "none"], 2, "command line"),
+        (&["--cache", "1", "--cache", "2"], 2, "command line"),
+        (&["--save"], 2, "command line"),
+        (
+            &["none.ivf", "--tables", "none.bin"],
+            1,
+            "cannot read none.bin",
+        ),
+        (&["--tables", "-"], 1, "cannot read -"),
+        (
+            &["none.ivf", "--tables", "order.ivf"],
+            1,
+            "tables are not 3012 bytes",
+        ),
         (
             &["none.ivf", "none.txt", "none/out"],
             1,
@@ -119,7 +181,7 @@ fn finds_faults_in_order(rt: HostRuntime) -> Result<(), Fail> {
         ),
         (&[".", "-"], 1, "cannot read ."),
         (&["order.ivf", "-", "none/out"], 1, "cannot write"),
-        (&["order.ivf"], 1, "input Header"),
+        (&["order.ivf", "--save", "none/out"], 1, "input Header"),
     ];
     for (named, status, text) in cases {
         let mut words = vec![in rt.alloc(); "vp8serve"]?;
@@ -164,8 +226,16 @@ fn tells_a_reader_and_writers_that_fail(rt: HostRuntime) -> Result<(), Fail> {
     }
     let mut frames = BufWriter::new(rt.alloc(), Broken {})?;
     let mut replies = Vec::new(rt.alloc());
-    let refused = run_to(rt.alloc(), &ONE, b"frame 0\n", &mut frames, &mut replies);
-    assert_eq!(rt; refused, Err(Fault::CannotWrite));
+    let refused = run_to(
+        rt.alloc(),
+        Tables::rfc(),
+        1,
+        &ONE,
+        b"frame 0\n",
+        &mut frames,
+        &mut replies,
+    );
+    assert_eq!(rt; refused.err(), Some(Fault::CannotWrite));
     Ok(())
 }
 
@@ -239,4 +309,56 @@ fn needs_no_words(rt: HostRuntime) {
     assert!(rt; run.output.as_slice() == b"refused NoSuchFrame\n".as_slice());
     assert_eq!(rt; run.errors.len(), 0);
     assert_eq!(rt; run.status, 0);
+}
+
+/// The packets behind the last request are saved: those of a file that is not edited are its own.
+#[test]
+fn saves_the_packets(rt: HostRuntime) -> Result<(), Fail> {
+    fs::write(&rt, "saving.ivf", &ONE)?;
+    let words = ["vp8serve", "saving.ivf", "-", "-", "--save", "saved.ivf"];
+    let run = run_program(&rt, &words, "frame 0\n");
+    assert!(rt; run.output.as_slice() == b"served 0\n".as_slice());
+    assert_eq!(rt; run.status, 0);
+    assert!(rt; fs::read(&rt, "saved.ivf")?.as_slice() == ONE.as_slice());
+    let run = run_program(&rt, &words, "delete 0\ndelete 0\n");
+    assert!(rt; run.output.as_slice() == b"ok 0\nrefused Place\n".as_slice());
+    let mut none = Vec::from_slice(rt.alloc(), &ONE[..32])?;
+    none[24] = 0;
+    assert!(rt; fs::read(&rt, "saved.ivf")?.as_slice() == none.as_slice());
+    for name in ["saving.ivf", "saved.ivf"] {
+        fs::remove_file(&rt, name)?;
+    }
+    Ok(())
+}
+
+/// A save that fails comes behind the replies, and then nothing is told of spare bytes.
+#[test]
+fn tells_a_save_that_fails(rt: HostRuntime) -> Result<(), Fail> {
+    fs::write(&rt, "unsaved.ivf", &ONE[..51])?;
+    let words = ["vp8serve", "unsaved.ivf", "--save", "none/saved.ivf"];
+    let run = run_program(&rt, &words, "count\n");
+    assert!(rt; run.output.as_slice() == b"packets 0 frames 0\n".as_slice());
+    assert!(rt; run.errors.as_slice() == b"vp8serve: cannot write\n".as_slice());
+    assert_eq!(rt; run.status, 1);
+    fs::remove_file(&rt, "unsaved.ivf")?;
+    Ok(())
+}
+
+/// Tables of a file are used, and each number of kept states that is allowed.
+#[test]
+fn takes_options(rt: HostRuntime) -> Result<(), Fail> {
+    let mut entries = Vec::new(rt.alloc());
+    for _ in 0..3012 {
+        entries.push(128)?;
+    }
+    fs::write(&rt, "tables.bin", entries.as_slice())?;
+    for count in ["1", "4096"] {
+        let words = ["vp8serve", "--tables", "tables.bin", "--cache", count];
+        let run = run_program(&rt, &words, "blank 0 16 16\nhold 1\nframe 1\n");
+        assert!(rt; run.output.as_slice() == b"ok 1\nok 2\nserved 1\n".as_slice());
+        assert_eq!(rt; run.errors.len(), 0);
+        assert_eq!(rt; run.status, 0);
+    }
+    fs::remove_file(&rt, "tables.bin")?;
+    Ok(())
 }

@@ -10,9 +10,13 @@ mod filters;
 #[cfg(test)]
 mod fixtures;
 #[cfg(test)]
+mod forged;
+#[cfg(test)]
 mod frames;
 #[cfg(test)]
 mod inter;
+#[cfg(test)]
+mod kept;
 #[cfg(test)]
 mod modes;
 #[cfg(test)]

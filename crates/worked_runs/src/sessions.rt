@@ -1,10 +1,21 @@
 use crate::fixtures::{INTER, KEY, WIDE_KEY, ivf_of};
 use frame_header::Cause;
 use frame_session::{Refusal, Session};
-use pixel_planes::Component;
+use pixel_planes::{Component, Picture};
 use std::test::Fail;
 use stream_files::ivf_read;
 use vp8_tables::Tables;
+
+/// Whether a picture is that of the key packet of 16 by 16 samples, by some of its rows.
+fn shows_key(picture: &Picture) -> bool {
+    if picture.width() != 16 || picture.height() != 16 {
+        return false;
+    }
+    picture.shown_row(Component::Luma, 3) == [0x80; 16].as_slice()
+        && picture.shown_row(Component::Luma, 4) == [0x81; 16].as_slice()
+        && picture.shown_row(Component::Cb, 7) == [0x80; 8].as_slice()
+        && picture.shown_row(Component::Cr, 0) == [0x80; 8].as_slice()
+}
 
 // The calls of a session by themselves, with ample memory: a body that always tells of want of it
 // fails here, as in each run.
@@ -20,17 +31,7 @@ fn a_session_gives_pictures(rt: HostRuntime) -> Result<(), Fail> {
     };
     assert_eq!(rt; session.frame(0).err(), Some(broken));
     let picture = session.frame(1)?;
-    assert_eq!(rt; (picture.width(), picture.height()), (16, 16));
-    assert_eq!(rt;
-        picture.shown_row(Component::Luma, 3),
-        [0x80; 16].as_slice()
-    );
-    assert_eq!(rt;
-        picture.shown_row(Component::Luma, 4),
-        [0x81; 16].as_slice()
-    );
-    assert_eq!(rt; picture.shown_row(Component::Cb, 7), [0x80; 8].as_slice());
-    assert_eq!(rt; picture.shown_row(Component::Cr, 0), [0x80; 8].as_slice());
+    assert!(rt; shows_key(&picture));
     let broken = Refusal::Packet {
         place: 2,
         cause: Cause::ShortPacket,

@@ -15,19 +15,19 @@ returns-in-Err g c =
     let f = g.F.Write.contents c.args.frames.now in
     let r = g.R.Write.contents c.args.replies.now in
     let r' = g.R.Write.contents c.write_refused.new.w in
-    let served : Appends r r' (refused_line c.in-Err.refusal) → Serves c.args.session.now (Frame c.args.n) f f r r' c.frame.new.self =
-    serves_refused c.args.session.now f f r r' c.args.n c.in-Err.refusal c.frame.new.self c.in-Err.ensures.gives c.in-Err.ensures.after in
+    let served : Appends r r' (refused_line c.in-Err.refusal) → Serves c.args.session.now.now (Frame c.args.n) f f r r' c.frame.new.self.now =
+    serves_refused c.args.session.now.now f f r r' c.args.n c.in-Err.refusal c.frame.new.self.now c.in-Err.ensures.gives c.in-Err.ensures.after in
     on_ok_weaker c.write_refused.result served c.write_refused.ensures
 
 pub returns-in_ok-write_frame-in-Ok : goal.returns-in_ok-write_frame-in-Ok
 returns-in_ok-write_frame-in-Ok g c =
-    let old = c.args.session.now in
+    let old = c.args.session.now.now in
     let f = g.F.Write.contents c.args.frames.now in
     let f' = g.F.Write.contents c.write_frame.new.frames in
     let r = g.R.Write.contents c.args.replies.now in
     let r' = g.R.Write.contents c.write_served.new.w in
     let P : Option Head → Type 0 = λ h. Appends f f' (opening h c.in-Ok.picture.width c.in-Ok.picture.height ++ frame_text c.in-Ok.picture) in
     let shown : P (head_due old) = subst P c.head_due-head_due.ensures c.in_ok-write_frame-in-Ok.ensures in
-    let served : Appends r r' (served_line c.args.n) → Serves old (Frame c.args.n) f f' r r' c.frame.new.self =
-    serves_frame old f f' r r' c.args.n c.in-Ok.picture c.frame.new.self c.in-Ok.ensures.gives c.in-Ok.ensures.after shown in
+    let served : Appends r r' (served_line c.args.n) → Serves old (Frame c.args.n) f f' r r' c.frame.new.self.now =
+    serves_frame old f f' r r' c.args.n c.in-Ok.picture c.frame.new.self.now c.in-Ok.ensures.gives c.in-Ok.ensures.after shown in
     on_ok_weaker c.write_served.result served c.write_served.ensures

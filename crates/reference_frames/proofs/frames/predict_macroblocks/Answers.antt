@@ -41,19 +41,19 @@ loop-mode-preserved c =
     let column = c.loop-mode.invariant.column c.loop-mode-test.true in
     let mode : MbMode = c.mode-item.result in
     let found : slice_get c.args.modes.now c.loop-mode.mode-index ≡ Some mode = slice_get-get_or c.args.modes.now c.loop-mode.mode-index mode c.loop-mode-test.true ∙ ap Some (sym c.mode-item.is) in
-    let state = c.read-residual.ensures.state in
-    let residual : option_copied c.as_ref.result ≡ residual_at c.args.header.now c.args.columns (state_of c.args.tokens.now) c.args.modes.now c.loop-mode.mode-index =
-    c.as_ref.ensures.value ∙ c.read-residual.ensures.residual
+    let state = c.read.ensures.state in
+    let residual : option_copied c.residual-residual.result ≡ residual_at c.args.header.now c.args.columns (state_of c.args.tokens.now) c.args.modes.now c.loop-mode.mode-index =
+    c.residual-residual.ensures ∙ c.read.ensures.residual
     ∙ residual_here c.args.header.now (state_of c.args.tokens.now) (state_of c.loop-mode.tokens) c.args.columns c.loop-mode.mx c.loop-mode.my c.loop-mode.mode-index c.args.modes.now mode found c.loop-mode.invariant.state c.loop-mode.invariant.place column in
-    let flag = c.read-residual.ensures.flag ∙ flag_here c.args.header.now (state_of c.args.tokens.now) (state_of c.loop-mode.tokens) c.args.columns c.loop-mode.mx c.loop-mode.my c.loop-mode.mode-index c.args.modes.now mode found c.loop-mode.invariant.state c.loop-mode.invariant.place column in
-    let flags' = c.in_ok-push.ensures.items ∙ flags_more (flag_at c.args.header.now c.args.columns (state_of c.args.tokens.now) c.args.modes.now) c.loop-mode.flags.items c.loop-mode.mode-index c.read-residual.new.self.has_tokens c.loop-mode.invariant.flags flag in
+    let flag = c.read.ensures.flag ∙ flag_here c.args.header.now (state_of c.args.tokens.now) (state_of c.loop-mode.tokens) c.args.columns c.loop-mode.mx c.loop-mode.my c.loop-mode.mode-index c.args.modes.now mode found c.loop-mode.invariant.state c.loop-mode.invariant.place column in
+    let flags' = c.in_ok-push.ensures.items ∙ flags_more (flag_at c.args.header.now c.args.columns (state_of c.args.tokens.now) c.args.modes.now) c.loop-mode.flags.items c.loop-mode.mode-index c.read.new.self.has_tokens c.loop-mode.invariant.flags flag in
     let here = rw residual at c.predict_macroblock.ensures.value in
     record {
       value = predicted_more c.args.sources.version (option_copied c.args.sources.references) (shown_of c.args.planes.now) (shown_of c.loop-mode.planes) (shown_of c.predict_macroblock.new.planes) c.args.columns c.loop-mode.mx c.loop-mode.my c.loop-mode.mode-index c.args.modes.now
           (residual_at c.args.header.now c.args.columns (state_of c.args.tokens.now) c.args.modes.now) mode found c.loop-mode.invariant.value here c.loop-mode.invariant.place column;
       flags = flags';
       count = rw (c.in_ok-push.ensures.items, length-append) (omega (arith, c.loop-mode.invariant.count));
-      state = state_more c.args.header.now (state_of c.args.tokens.now) (state_of c.loop-mode.tokens) (state_of c.read-residual.new.self) c.args.columns c.loop-mode.mx c.loop-mode.my c.loop-mode.mode-index c.args.modes.now mode found c.loop-mode.invariant.state c.read-residual.ensures.state c.loop-mode.invariant.place column;
+      state = state_more c.args.header.now (state_of c.args.tokens.now) (state_of c.loop-mode.tokens) (state_of c.read.new.self) c.args.columns c.loop-mode.mx c.loop-mode.my c.loop-mode.mode-index c.args.modes.now mode found c.loop-mode.invariant.state c.read.ensures.state c.loop-mode.invariant.place column;
       readers = (let same = ap (λ (t : TokenState). length t.readers) state ∙ length-set _ _ _ in omega (arith, same, c.loop-mode.invariant.readers));
       above = ap (λ (t : TokenState). length t.above) state ∙ length-set _ _ _ ∙ c.loop-mode.invariant.above;
       sides = search rules;

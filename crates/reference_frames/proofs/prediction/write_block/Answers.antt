@@ -1,25 +1,19 @@
-use Rattle.std.proofs.Common.{rules, refl, ◌≡◌, ◌+◌, ◌*◌, ◌≤◌, length, ap, ◌∙◌, add-one, List, ℕ, arith}
+use Rattle.std.proofs.Common.{◌≡◌, ℕ, ◌+◌, ◌*◌, List, length, ap, sym, ◌∙◌}
 use Rattle.std.specs.Prelude.{slice_index}
-use Rattle.std.specs.Simd.Lanes.{put_chunk}
-use Rattle.std.proofs.lemmas.List.FromFn.{length-map-range_with_len}
-use Rattle.intra_predict.proofs.Rows.{row_fits}
-use Rattle.pixel_planes.specs.Samples.{with_row}
-use Rattle.reference_frames.specs.Unfiltered.{with_block_rows, block_row}
-use Rattle.reference_frames.proofs.Blocks.{written_part, part_row}
+use Rattle.std.proofs.lemmas.Simd.{put_chunk_whole}
+use Rattle.pixel_planes.specs.Samples.{Samples}
+use Rattle.reference_frames.proofs.PutRows.{block_room, rows_put, rows_put-length}
 use Rattle.reference_frames.proofs.prediction.write_block.Goals as goal
 
-pub loop-row-init : goal.loop-row-init
-unfolding with_block_rows
-loop-row-init c = (refl, search rules)
+pub write_rows-requires-clause-room : goal.write_rows-requires-clause-room
+write_rows-requires-clause-room c =
+    rw c.width-width.ensures.value (block_room c.args.x c.args.y c.args.side c.args.plane.now.shown.width c.args.plane.now.shown.height _ c.requires.within.0 c.requires.within.1 c.samples_mut.ensures.len)
 
-pub loop-row-preserved : goal.loop-row-preserved
-unfolding with_block_rows
-loop-row-preserved c =
-    let sample : ℕ → ℕ → ℕ = λ (column row : ℕ). slice_index c.args.block.now (row * c.args.side + column) in
-    let span : List ℕ = block_row c.args.side sample c.loop-row.row in
-    let within : c.args.x + c.args.side ≤ length c.row_mut.result.now = omega arith in
-    let ends : c.loop-row.row * c.args.side + c.args.side ≤ c.args.side * c.args.side = row_fits c.args.side c.loop-row.row c.loop-row-test.true in
-    let inside : c.loop-row.row * c.args.side + c.args.side ≤ length c.args.block.now = omega (arith, c.requires.whole) in
-    let part_is : c.copy_from_slice.new.self ≡ span = c.copy_from_slice.ensures.after ∙ part_row c.args.block.now c.args.side c.loop-row.row inside in
-    let written = written_part c.row_mut.result.now c.copy_from_slice.new.self span c.args.x c.args.side part_is (length-map-range_with_len (λ column. sample column c.loop-row.row) 0 c.args.side) within ∙ ap (λ (row : List ℕ). put_chunk c.args.x row span) c.row_mut.ensures.value in
-    (rw (add-one, ← c.loop-row.invariant.0) (ap (λ (row : List ℕ). with_row c.loop-row.plane.shown (c.args.y + c.loop-row.row) row) written), search rules)
+pub returns-clause-value : goal.returns-clause-value
+returns-clause-value c =
+    let p : Samples = c.args.plane.now.shown in
+    let side : ℕ = c.args.side in
+    let sample : ℕ → ℕ → ℕ = λ (column row : ℕ). slice_index c.args.block.now (row * side + column) in
+    let written = rw (c.samples_mut.ensures.value, c.width-width.ensures.value) at c.write_rows.ensures in
+    let long : length p.samples ≡ length c.write_rows.new.samples = sym (ap (λ (s : List ℕ). length s) written ∙ rows_put-length p.samples (c.args.y * p.width + c.args.x) p.width side sample side) in
+    ap (λ (s : List ℕ). record p { samples = s }) (put_chunk_whole p.samples c.write_rows.new.samples long ∙ written) ∙ sym (rows_put p c.args.x c.args.y side sample side c.requires.within.0)

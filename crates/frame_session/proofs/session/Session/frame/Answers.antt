@@ -1,5 +1,6 @@
 use Rattle.std.proofs.Common.{◌≡◌, ℕ, true, Ok, slice_get, rules, subst, sym}
-use Rattle.frame_session.specs.Decoding.{outcomes}
+use Rattle.state_cache.specs.Decoding.{outcomes}
+use Rattle.frame_session.specs.Cached.{SessionValue}
 use Rattle.frame_session.specs.Gives.{GivesFrame}
 use Rattle.frame_session.specs.Sessions.{Now, fits, frame_of, picture_from, shown_count, stream_of}
 use Rattle.frame_session.proofs.Given.{frame_given}
@@ -8,14 +9,15 @@ use Rattle.frame_session.proofs.session.Session.frame.Goals as goal
 pub returns-clause-gives : goal.returns-clause-gives
 returns-clause-gives c =
     let s = c.self.inside in
-    let old : Now = record { tables = s.tables; head = s.head; list = s.list; script = s.script; spare = s.spare; size = s.size; decoded = s.decoded } in
+    let old : Now = record { tables = s.tables; head = s.head; list = s.list.list; script = s.script; spare = s.spare; size = s.size; decoded = s.cache.decoded } in
     let made = c.in-Ok.made in
-    let C : Now → Type 0 = λ now. c.shown.result ≡ shown_count now in
-    let D : Now → Type 0 = λ now. picture_from (slice_get (outcomes now.tables (stream_of now)) c.in-Some-shown.place) ≡ Ok c.in_ok-picture.picture in
-    let F : Now → Type 0 = λ now. fits now.size (record { width = made.width; height = made.height }) ≡ true in
-    let G : Now → Type 0 = λ now. GivesFrame (frame_of now c.args.n) (Ok made) in
-    let counted : C old = subst C (sym c.self.view_is) c.shown.ensures.value in
-    let decoded : D old = subst D (sym c.self.view_is) c.in_ok-picture.ensures.gives in
+    let C : SessionValue → Type 0 = λ v. c.shown.result ≡ shown_count v.now in
+    let D : SessionValue → Type 0 = λ v. picture_from (slice_get (outcomes v.now.tables (stream_of v.now)) c.in-Some-shown.place) ≡ Ok c.in_ok-picture.picture in
+    let F : SessionValue → Type 0 = λ v. fits v.now.size (record { width = made.width; height = made.height }) ≡ true in
+    let G : SessionValue → Type 0 = λ v. GivesFrame (frame_of v.now c.args.n) (Ok made) in
+    let whole : SessionValue = record { now = old; marks = s.list.marks; cache = s.cache } in
+    let counted : C whole = subst C (sym c.self.view_is) c.shown.ensures.value in
+    let decoded : D whole = subst D (sym c.self.view_is) c.in_ok-picture.ensures.gives in
     let fit : F c.args.self.now = search rules in
     subst G c.self.view_is
     (frame_given old c.args.n c.shown.result c.in-Some.source c.in-Some-shown.place c.in-Some.trace c.in_ok-picture.picture made counted c.in-Some.ensures.some c.in-Some-shown.ensures.place decoded c.in-Ok.ensures.shown (subst F (sym c.self.view_is) fit) c.width.ensures.whole)

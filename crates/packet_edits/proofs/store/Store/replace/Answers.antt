@@ -2,7 +2,8 @@ use Rattle.std.proofs.Common.{◌+◌, ◌<◌, ◌∙◌, ℕ, List, refl, ap, 
 use Rattle.frame_header.specs.Tags.{is_shown}
 use Rattle.packet_edits.specs.declared.entry.Entry.{Entry}
 use Rattle.packet_edits.specs.Edits.{Listing}
-use Rattle.packet_edits.proofs.Indexed.{indexed_set, replaced_is}
+use Rattle.packet_edits.proofs.Indexed.{replaced_is}
+use Rattle.packet_edits.proofs.Whole.{whole_set}
 use Rattle.packet_edits.proofs.store.Store.replace.Goals as goal
 
 abbrev the_listing : List Entry → ℕ → Listing
@@ -13,7 +14,8 @@ invariant_of-self c =
     let es = c.self.inside.entries.items in
     let told = c.is_shown.ensures ∙ ap is_shown c.as_slice.ensures in
     let e : Entry = record { id = c.self.inside.next_id; stamp = c.index_mut-entry.result.now.stamp; bytes = c.args.bytes } in
-    indexed_set es (slice_set es c.args.at e) c.self.inside.shown c.set.new.self c.args.at e c.self.invariant refl (c.set.ensures ∙ ap (slice_set c.self.inside.shown c.args.at) told)
+    whole_set es (slice_set es c.args.at e) c.self.inside.next_id c.self.inside.marks.items c.mark.new.marks.items c.self.inside.shown c.set.new.self c.self.invariant c.args.at c.index_mut-entry.result.now.stamp c.args.bytes refl
+    c.mark.ensures (c.set.ensures ∙ ap (slice_set c.self.inside.shown c.args.at) told)
 
 pub returns-clause-after : goal.returns-clause-after
 returns-clause-after c =

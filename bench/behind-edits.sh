@@ -1,0 +1,87 @@
+#!/bin/sh
+# Times frames behind edits, where decoded states are kept, beside vpxdec from the stream's start. README.md says more.
+set -eu
+here=$(cd "$(dirname "$0")" && pwd)
+program=$here/../crates/vp8serve/out/vp8serve
+clips=${XDG_CACHE_HOME:-$HOME/.cache}/wokureti
+clip=$clips/640x360-one-key.ivf
+for tool in vpxenc vpxdec ffmpeg; do
+    command -v "$tool" > /dev/null || { echo "$tool is not here: install vpx-tools and ffmpeg" >&2; exit 1; }
+done
+room=$(mktemp -d)
+trap 'rm -rf "$room"' EXIT
+
+# A clip with one key packet, made where that was not done before.
+if [ ! -f "$clip" ]; then
+    mkdir -p "$clips"
+    ffmpeg -v error -f lavfi \
+        -i "mandelbrot=size=640x360:rate=30:start_scale=1.5:end_scale=0.01:end_pts=400,noise=alls=6:allf=t,format=yuv420p" \
+        -frames:v 300 "$room/clip.y4m"
+    vpxenc --codec=vp8 --ivf --good --cpu-used=2 --target-bitrate=1000 --disable-kf -o "$room/clip.ivf" "$room/clip.y4m" \
+        > "$room/vpxenc.log" 2>&1 || { tail -n 5 "$room/vpxenc.log"; exit 1; }
+    mv "$room/clip.ivf" "$clip"
+fi
+"$here/../serve.sh" < /dev/null > /dev/null
+
+python3 - "$program" "$clip" "$room" <<'END'
+import random, struct, subprocess, sys, time
+program, clip, room = sys.argv[1:]
+LAST = 299
+
+text = open(clip, "rb").read()
+packets, place = [], 32
+while place + 12 <= len(text):
+    size = struct.unpack("<I", text[place : place + 4])[0]
+    packets.append(text[place + 12 : place + 12 + size])
+    place += 12 + size
+keys = [i for i, packet in enumerate(packets) if packet[0] & 1 == 0]
+assert len(packets) == LAST + 1, len(packets)
+
+def run(lines, cache, times=3):
+    """Seconds, the least of some runs, and the replies."""
+    with open(f"{room}/requests", "w") as file:
+        file.writelines(f"{line}\n" for line in lines)
+    best = float("inf")
+    for _ in range(times):
+        start = time.perf_counter()
+        replies = subprocess.run([program, clip, f"{room}/requests", "-", "--cache", str(cache)], check=True, capture_output=True, text=True).stdout.split("\n")
+        best = min(best, time.perf_counter() - start)
+    assert not any(reply.startswith("refused") for reply in replies), replies
+    return best, replies
+
+def vpxdec(frames):
+    best = float("inf")
+    for _ in range(5):
+        start = time.perf_counter()
+        subprocess.run(["vpxdec", "--threads=1", "--noblit", f"--limit={frames}", clip], check=True, capture_output=True)
+        best = min(best, time.perf_counter() - start)
+    return best
+
+def steps(replies):
+    told = [int(reply.split()[1]) for reply in replies if reply.startswith("decoded ")]
+    return told[-1] - told[0]
+
+def row(what, seconds, made, beside):
+    print(f"{what:52}{1000 * seconds:9.3f} ms  {made:6.1f} steps  vpxdec {1000 * beside:6.1f} ms  {beside / seconds:8.1f} times sooner")
+
+first = [f"frame {LAST}", "stats"]
+whole, _ = run(first, 400)
+beside = vpxdec(LAST + 1)
+print(f"640x360, {len(packets)} packets, key packets at {keys}; vpxdec from the start to frame {LAST}: {1000 * beside:.0f} ms; vp8serve from nothing: {1000 * whole:.0f} ms")
+
+def again(what, lines, times):
+    taken, replies = run(first + lines * times + ["stats"], 400)
+    row(what, (taken - whole) / times, steps(replies) / times, beside)
+
+again(f"frame {LAST} asked again", [f"frame {LAST}"], 20000)
+again("behind packet 150 replaced by its own bytes", [f"replace 150 {packets[150].hex()}", f"frame {LAST}"], 200)
+other, own = f"replace 150 {packets[149].hex()}", f"replace 150 {packets[150].hex()}"
+again("behind packet 150 replaced by another, and put back", [other, f"frame {LAST}", own, f"frame {LAST}"], 3)
+
+choose = random.Random(6386)
+order = [choose.randrange(LAST + 1) for _ in range(1000)]
+sample = [vpxdec(n + 1) for n in order[:20]]
+for cache in (32, 300):
+    taken, replies = run(["stats"] + [f"frame {n}" for n in order] + ["stats"], cache, 1)
+    row(f"one of 1,000 frames in random order, --cache {cache}", taken / 1000, steps(replies) / 1000, sum(sample) / len(sample))
+END

@@ -1,0 +1,156 @@
+-- What a session keeps stays sound, and what its frames cost.
+use Rattle.std.proofs.Common.{◌≡◌, ℕ, zero, suc, ◌<◌, ◌≤◌, ◌⊎◌, inl, inr, Bool, true, false, List, [], ◌∷◌, Option, Some, None, Result, Ok, Err, length, slice_get, option_map, refl, sym, ap, subst, ◌∙◌, arith}
+use Rattle.std.specs.Prelude.{option_and_then, IsSome}
+use Rattle.std.specs.Result.{result_unwrap_or}
+use Rattle.vp8_tables.specs.declared.tables.Tables.{Tables}
+use Rattle.packet_edits.specs.declared.entry.Entry.{Entry}
+use Rattle.packet_edits.specs.Edits.{Listing}
+use Rattle.packet_edits.specs.Laws.{HasOwnIds}
+use Rattle.packet_edits.specs.Marks.{StoreValue}
+use Rattle.packet_edits.specs.Shown.{shown_places}
+use Rattle.packet_forge.specs.Packets.{blank_of}
+use Rattle.pixel_planes.specs.Pictures.{PictureSamples}
+use Rattle.script_nodes.specs.declared.traces.Step.{Step}
+use Rattle.script_nodes.specs.Frames.{Origin, traced}
+use Rattle.script_nodes.specs.Scripts.{origin_of}
+use Rattle.state_cache.specs.declared.outcomes.Kept.{Kept}
+use Rattle.state_cache.specs.declared.outcomes.Broken.{Broken}
+use Rattle.state_cache.specs.declared.outcomes.ReachFault.TheVariants.{Refused, NoMemory}
+use Rattle.state_cache.specs.Costs.{Costs, IsIdOf}
+use Rattle.state_cache.specs.Decoding.{Outcome}
+use Rattle.state_cache.specs.EditLaws.{EditsKeepCoherence, EditsKeepIds, IsKeptWithout, IsMarked, NextIdIsNotKept, StandIn, behind_deletion, behind_insertion, behind_move, behind_replacement, id_at}
+use Rattle.state_cache.specs.Reaching.{CacheValue, ReachAnswers, view_of}
+use Rattle.state_cache.specs.Views.{Before, CoherentFrom, IsCoherent, Seen, entering, kept_in, known, leaving as leaving_packet, seens}
+use Rattle.frame_session.specs.declared.edit.Edit.{Edit}
+use Rattle.frame_session.specs.declared.edit.Edit.TheVariants.{Insert, Replace, Delete, Move, Blank, Hold}
+use Rattle.frame_session.specs.declared.refusal.Refusal.{Refusal}
+use Rattle.frame_session.specs.declared.refusal.Refusal.TheVariants as refusals
+use Rattle.frame_session.specs.Gives.{Gives, MayLackMemory}
+use Rattle.frame_session.specs.Edits.{after_edit, edited, held_at, stamp_before}
+use Rattle.frame_session.specs.Cached.{CacheWithout, FrameCosts, IsSound, SessionValue, leaving, left_behind, marks_after, marks_edited, place_of, store_of}
+use Rattle.frame_session.specs.Sessions.{Now, picture_from, shown_count, stream_of}
+
+-- no packet stands behind the last
+pub no_id : (es : List Entry) (at : ℕ) → length es ≤ at → None ≡ id_at es at
+no_id [] at h = refl
+no_id (e ∷ es) zero h = absurd (omega (arith, h))
+no_id (e ∷ es) (suc at) h = no_id es at (omega (arith, h))
+
+module _ (tables : Tables) where
+  -- nothing is kept
+  none_coherent : (b : Before) (ps : List Seen) → CoherentFrom tables b ps (kept_in [])
+  none_coherent b [] = tt
+  none_coherent b (p ∷ ps) = (tt, none_coherent (leaving_packet tables (entering b p) p.bytes (kept_in [] p.id)) ps)
+
+  pub begun_sound : (store : StoreValue) (cache : CacheValue) → cache.entries ≡ [] → IsSound tables store cache
+  begun_sound store cache none =
+      let few : 0 ≤ cache.capacity = omega arith in
+      record {
+        coherent = subst (λ (es : List (ℕ × Kept)). IsCoherent tables (seens store) (kept_in es)) (sym none) (none_coherent (known None) (seens store));
+        stand = λ id some. nothing_stands store.list id (subst (λ (es : List (ℕ × Kept)). IsSome (kept_in es id)) none some);
+        bounded = subst (λ (es : List (ℕ × Kept)). length es ≤ cache.capacity) (sym none) few;
+      }
+    where
+      nothing_stands : (list : Listing) (id : ℕ) → IsSome (kept_in [] id) → IsIdOf list id
+      nothing_stands list id some = cc
+
+  -- a place is reached, or not
+  stands_still : (list new : Listing) (before : CacheValue) (id : ℕ) → new ≡ list → StandIn list (view_of before) → IsSome (view_of before id) ⊎ IsIdOf list id → IsIdOf new id
+  stands_still list new before id same stand (inl was) = subst (λ (l : Listing). IsIdOf l id) (sym same) (stand id was)
+  stands_still list new before id same stand (inr is) = subst (λ (l : Listing). IsIdOf l id) (sym same) is
+
+  pub reached_sound : (store new : StoreValue) (before after : CacheValue) (place : ℕ) (reached : Bool) → new.list ≡ store.list → IsSound tables store before → IsCoherent tables (seens new) (view_of after) → Costs tables store before place reached new after → IsSound tables new after
+  reached_sound store new before after place reached same sound coherent costs = record {
+    coherent = coherent;
+    stand = λ id some. stands_still store.list new.list before id same sound.stand (costs.stand id some);
+    bounded = costs.bounded;
+  }
+
+  -- what reaching a place answers is what may be told of it
+  pub picture_given : (o : Option Outcome) (kept : Kept) → (want : Outcome) × (o ≡ Some want) × ReachAnswers want (Ok kept) → Gives (picture_from o) (Ok kept.picture)
+  picture_given o kept reached = ap picture_from (reached.1 ∙ ap Some reached.2)
+
+  pub break_given : (o : Option Outcome) (broken : Broken) → (want : Outcome) × (o ≡ Some want) × ReachAnswers want (Err (Refused broken)) → Gives {A = PictureSamples} (picture_from o) (Err (refusals.Packet broken.place broken.cause))
+  break_given o broken reached = ap picture_from (reached.1 ∙ ap Some reached.2)
+
+  pub nothing_given : (o : Option Outcome) → (want : Outcome) × (o ≡ Some want) × ReachAnswers want (Err NoMemory) → Gives {A = PictureSamples} (picture_from o) (Err refusals.NoMemory)
+  nothing_given o reached = subst (λ (p : Option Outcome). MayLackMemory (picture_from p)) (sym reached.1) (may_lack reached.0)
+    where
+      may_lack : (want : Outcome) → MayLackMemory (picture_from (Some want))
+      may_lack (Ok decoded) = tt
+      may_lack (Err broken) = tt
+
+  -- an edit
+  same_store : (made : StoreValue) (list : Listing) (marks : List Bool) → made.list ≡ list → made.marks ≡ marks → made ≡ record { list = list; marks = marks }
+  same_store made list marks a b =
+      subst (λ (m : List Bool). made ≡ record { list = list; marks = m }) b (subst (λ (l : Listing). made ≡ record { list = l; marks = made.marks }) a refl)
+
+  kept_without : (left : Option ℕ) (old new : CacheValue) → CacheWithout left old new → IsKeptWithout left (view_of old) (view_of new)
+  kept_without None old new h = λ q. ap (λ (c : CacheValue). view_of c q) h
+  kept_without (Some id) old new h = h.0
+
+  module _ (coherence : EditsKeepCoherence tables) (ids : EditsKeepIds) (next : NextIdIsNotKept) where
+    inserted_sound : (at stamp : ℕ) (bytes : List ℕ) (store : StoreValue) (old new : CacheValue) → IsMarked store → HasOwnIds store.list → IsSound tables store old → new ≡ old → IsSound tables (behind_insertion at stamp bytes store) new
+    inserted_sound at stamp bytes store old new marked own s same =
+        let none : view_of old store.list.next_id ≡ None = next store.list (view_of old) own s.stand in
+        subst (λ (c : CacheValue). IsSound tables (behind_insertion at stamp bytes store) c) (sym same) (record {
+          coherent = coherence.insertions store (view_of old) at stamp bytes marked none s.coherent;
+          stand = ids.insertions store.list (view_of old) at stamp bytes s.stand;
+          bounded = s.bounded;
+        })
+
+    edited_sound : (edit : Edit) (store : StoreValue) (old new : CacheValue) → IsMarked store → HasOwnIds store.list → IsSound tables store old → CacheWithout (leaving edit store.list) old new → length new.entries ≤ new.capacity
+        → IsSound tables (record { list = edited tables edit store.list; marks = marks_edited edit store.marks }) new
+    edited_sound (Insert at stamp bytes) store old new marked own s without few = inserted_sound at stamp bytes store old new marked own s without
+    edited_sound (Replace at bytes) store old new marked own s without few = record {
+      coherent = coherence.replacements store (view_of old) (view_of new) at bytes marked (next store.list (view_of old) own s.stand) (kept_without (id_at store.list.entries at) old new without) s.coherent;
+      stand = ids.replacements store.list (view_of old) (view_of new) at bytes (kept_without (id_at store.list.entries at) old new without) s.stand;
+      bounded = few;
+    }
+    edited_sound (Delete at) store old new marked own s without few = record {
+      coherent = coherence.deletions store (view_of old) (view_of new) at marked (kept_without (id_at store.list.entries at) old new without) s.coherent;
+      stand = ids.deletions store.list (view_of old) (view_of new) at (kept_without (id_at store.list.entries at) old new without) s.stand;
+      bounded = few;
+    }
+    edited_sound (Move from to) store old new marked own s without few = subst (λ (c : CacheValue). IsSound tables (behind_move from to store) c) (sym without) (record {
+      coherent = coherence.moves store (view_of old) from to marked s.coherent;
+      stand = ids.moves store.list (view_of old) from to s.stand;
+      bounded = s.bounded;
+    })
+    edited_sound (Blank at width height) store old new marked own s without few = inserted_sound at (stamp_before at store.list) (result_unwrap_or (blank_of tables width height) []) store old new marked own s without
+    edited_sound (Hold at) store old new marked own s without few = inserted_sound at (stamp_before at store.list) (result_unwrap_or (held_at tables store.list at) []) store old new marked own s without
+
+    pub answered_sound : (edit : Edit) (store made : StoreValue) (old new : CacheValue) (answer : Result ℕ Refusal) → IsMarked store → HasOwnIds store.list → made.list ≡ after_edit tables edit store.list answer → made.marks ≡ marks_after edit store.marks answer
+        → IsSound tables store old → CacheWithout (left_behind edit store.list answer) old new → (length old.entries ≤ old.capacity → length new.entries ≤ new.capacity) → IsSound tables made new
+    answered_sound edit store made old new (Ok count) marked own list marks s without few =
+        let is : made ≡ record { list = edited tables edit store.list; marks = marks_edited edit store.marks } = same_store made (edited tables edit store.list) (marks_edited edit store.marks) list marks in
+        subst (λ (m : StoreValue). IsSound tables m new) (sym is) (edited_sound edit store old new marked own s without (few s.bounded))
+    answered_sound edit store made old new (Err refusal) marked own list marks s without few =
+        let is : made ≡ store = same_store made store.list store.marks list marks in
+        subst (λ (m : StoreValue). IsSound tables m new) (sym is) (subst (λ (c : CacheValue). IsSound tables store c) (sym without) s)
+
+-- the place that a frame comes from
+pub place_found : (now : Now) (n count source place : ℕ) (steps : List Step) → count ≡ shown_count now → traced count now.script n ≡ Some (origin_of source steps) → Some place ≡ slice_get (shown_places (stream_of now)) source → place_of now n ≡ Some place
+place_found now n count source place steps same from at =
+    ap (λ (k : ℕ). option_and_then (λ (origin : Origin). slice_get (shown_places (stream_of now)) origin.frame) (traced k now.script n)) (sym same)
+    ∙ ap (λ (o : Option Origin). option_and_then (λ (origin : Origin). slice_get (shown_places (stream_of now)) origin.frame) o) from
+    ∙ sym at
+
+pub frame_costs : (old new : SessionValue) (n place : ℕ) (given reached : Bool) → place_of old.now n ≡ Some place → Costs old.now.tables (store_of old) old.cache place reached (store_of new) new.cache → (given ≡ true → reached ≡ true) → FrameCosts (place_of old.now n) old given new
+frame_costs old new n place given reached is costs given_reached = subst (λ (o : Option ℕ). FrameCosts o old given new) (sym is) (reached, costs, given_reached)
+
+-- no place, no cost
+pub nothing_traced : (old : SessionValue) (n count : ℕ) (given : Bool) → count ≡ shown_count old.now → traced count old.now.script n ≡ None → FrameCosts (place_of old.now n) old given old
+nothing_traced old n count given same none =
+    let is : place_of old.now n ≡ None =
+    ap (λ (k : ℕ). option_and_then (λ (origin : Origin). slice_get (shown_places (stream_of old.now)) origin.frame) (traced k old.now.script n)) (sym same)
+    ∙ ap (λ (o : Option Origin). option_and_then (λ (origin : Origin). slice_get (shown_places (stream_of old.now)) origin.frame) o) none in
+    subst (λ (o : Option ℕ). FrameCosts o old given old) (sym is) refl
+
+pub nothing_shown : (old : SessionValue) (n count source : ℕ) (steps : List Step) (given : Bool) → count ≡ shown_count old.now → traced count old.now.script n ≡ Some (origin_of source steps) → None ≡ slice_get (shown_places (stream_of old.now)) source → FrameCosts (place_of old.now n) old given old
+nothing_shown old n count source steps given same from at =
+    let is : place_of old.now n ≡ None =
+    ap (λ (k : ℕ). option_and_then (λ (origin : Origin). slice_get (shown_places (stream_of old.now)) origin.frame) (traced k old.now.script n)) (sym same)
+    ∙ ap (λ (o : Option Origin). option_and_then (λ (origin : Origin). slice_get (shown_places (stream_of old.now)) origin.frame) o) from
+    ∙ sym at in
+    subst (λ (o : Option ℕ). FrameCosts o old given old) (sym is) refl

@@ -1,0 +1,83 @@
+-- What a session keeps to answer by, beside what its answers depend on: the marks of its packets and its cache.
+use Rattle.std.specs.Prelude.{◌≡◌, ℕ, ◌≤◌, Bool, true, [], List, length, slice_get, Option, Some, None, Result, Ok, Err, option_and_then, is_ok}
+use Rattle.vp8_tables.specs.declared.tables.Tables.{Tables}
+use Rattle.stream_files.specs.declared.ivf.Ivf.{Ivf}
+use Rattle.packet_edits.specs.Edits.{Listing}
+use Rattle.packet_edits.specs.Marks.{StoreValue, marks_deleted, marks_inserted, marks_moved, marks_pushed, marks_replaced}
+use Rattle.packet_edits.specs.Shown.{shown_places}
+use Rattle.script_nodes.specs.Frames.{traced}
+use Rattle.state_cache.specs.Costs.{Costs}
+use Rattle.state_cache.specs.EditLaws.{IsWithout, StandIn, id_at}
+use Rattle.state_cache.specs.Reaching.{CacheValue, view_of}
+use Rattle.state_cache.specs.Views.{IsCoherent, seens}
+use Rattle.frame_session.specs.declared.edit.Edit.{Edit}
+use Rattle.frame_session.specs.declared.edit.Edit.TheVariants.{Insert, Replace, Delete, Move, Blank, Hold}
+use Rattle.frame_session.specs.declared.refusal.Refusal.{Refusal}
+use Rattle.frame_session.specs.Sessions.{Now, shown_count, start, stream_of}
+
+-- a session: what its answers depend on, a mark or none for each packet, and its cache
+pub record SessionValue : Type 0 where
+  pub now : Now
+  pub marks : List Bool
+  pub cache : CacheValue
+
+-- its packets with their marks
+abbrev pub store_of : SessionValue → StoreValue
+store_of session = record { list = session.now.list; marks = session.marks }
+
+-- a session as it begins: no packet is marked, and no outcome is kept
+abbrev pub begun : Tables → ℕ → Ivf → SessionValue
+begun tables capacity file = record {
+  now = start tables file;
+  marks = marks_pushed file.packets [];
+  cache = record { entries = []; capacity = capacity; decoded = 0 };
+}
+
+-- what is kept is coherent with the packets and their marks, is of packets that stand, and is no more than may be kept
+pub record IsSound (tables : Tables) (store : StoreValue) (cache : CacheValue) : Type 0 where
+  pub coherent : IsCoherent tables (seens store) (view_of cache)
+  pub stand : StandIn store.list (view_of cache)
+  pub bounded : length cache.entries ≤ cache.capacity
+
+-- the place of the packet that frame n comes from, if so many frames are served
+abbrev pub place_of : Now → ℕ → Option ℕ
+place_of now n = option_and_then (λ origin. slice_get (shown_places (stream_of now)) origin.frame) (traced (shown_count now) now.script n)
+
+-- a frame costs what reaching its place costs, which is reached where the frame is given; with no place it changes nothing
+abbrev pub FrameCosts : Option ℕ → SessionValue → Bool → SessionValue → Type 0
+FrameCosts None old given new = new ≡ old
+FrameCosts (Some place) old given new =
+    (reached : Bool) × Costs old.now.tables (store_of old) old.cache place reached (store_of new) new.cache × (given ≡ true → reached ≡ true)
+
+-- the marks behind an edit that is accepted
+abbrev pub marks_edited : Edit → List Bool → List Bool
+marks_edited (Insert at stamp bytes) marks = marks_inserted at marks
+marks_edited (Replace at bytes) marks = marks_replaced at marks
+marks_edited (Delete at) marks = marks_deleted at marks
+marks_edited (Move from to) marks = marks_moved from to marks
+marks_edited (Blank at width height) marks = marks_inserted at marks
+marks_edited (Hold at) marks = marks_inserted at marks
+
+-- what stands behind an edit that was answered so: what it makes, or what stood before where it is refused
+abbrev pub behind_answer : {A : Type 0} → A → A → Result ℕ Refusal → A
+behind_answer made before (Ok count) = made
+behind_answer made before (Err refusal) = before
+
+-- the marks behind an edit that was answered so
+abbrev pub marks_after : Edit → List Bool → Result ℕ Refusal → List Bool
+marks_after edit marks answer = behind_answer (marks_edited edit marks) marks answer
+
+-- the id of the packet that an edit takes out of the list, if it takes one
+abbrev pub leaving : Edit → Listing → Option ℕ
+leaving (Replace at bytes) list = id_at list.entries at
+leaving (Delete at) list = id_at list.entries at
+leaving edit list = None
+
+-- the id that left by an edit that was answered so
+abbrev pub left_behind : Edit → Listing → Result ℕ Refusal → Option ℕ
+left_behind edit list answer = behind_answer (leaving edit list) None answer
+
+-- where a packet left, nothing is kept for its id any more and all else is as it was; where none did, the cache is as it was
+abbrev pub CacheWithout : Option ℕ → CacheValue → CacheValue → Type 0
+CacheWithout None old new = new ≡ old
+CacheWithout (Some id) old new = IsWithout id (view_of old) (view_of new) × (new.capacity ≡ old.capacity) × (new.decoded ≡ old.decoded)

@@ -1,0 +1,110 @@
+// Edits that put in a forged packet.
+ghost use Rattle.std.specs.Prelude.{◌≡◌, Ok, IfOk, IfErr};
+ghost use Rattle.packet_forge.specs.Faults.{ForgeRefuses};
+ghost use Rattle.packet_forge.specs.Packets.{blank_of, is_side};
+ghost use Rattle.frame_session.specs.Edits.{after_edit, edit_of, held, stamp_before};
+ghost use Rattle.frame_session.specs.Cached.{marks_after};
+ghost use Rattle.frame_session.specs.Gives.{Gives};
+ghost use Rattle.frame_session.specs.declared.edit.Edit.TheVariants.{Blank, Hold};
+
+use crate::edit::insert;
+use crate::refusal::Refusal;
+use packet_edits::Store;
+use packet_forge::{ForgeFault, blank, hold};
+use std::alloc::Global;
+use stream_files::Bytes;
+use vp8_tables::Tables;
+
+/// The time stamp of the packet before place `at`, or 0 where none stands there.
+fn stamp_before(list: &Store, at: u64) -> u64
+    ensures { result ≡ stamp_before at list.now.list }
+{
+    if at == 0 {
+        return 0;
+    }
+    if list.len() as u64 <= at - 1 {
+        return 0;
+    }
+    list.stamp((at - 1) as usize)
+}
+
+/// Whether a frame can have a side.
+fn is_side(side: u64) -> bool
+    ensures { result ≡ is_side side }
+{
+    0 < side && side <= 16_383
+}
+
+/// A blank packet of a size of any numbers.
+fn forge_blank(
+    alloc: Global,
+    tables: &Tables,
+    width: u64,
+    height: u64,
+) -> Result<Vec<u8>, ForgeFault>
+    ensures bytes { IfOk result (λ packet. blank_of tables.now width height ≡ Ok packet.items) }
+    ensures refused { IfErr result (ForgeRefuses (blank_of tables.now width height)) }
+{
+    if !is_side(width) || !is_side(height) {
+        return Err(ForgeFault::Size);
+    }
+    blank(alloc, tables, width as u16, height as u16)
+}
+
+/// A packet that holds a picture of this size.
+fn forge_hold(
+    alloc: Global,
+    tables: &Tables,
+    size: Option<(u16, u16)>,
+) -> Result<Vec<u8>, ForgeFault>
+    ensures bytes { IfOk result (λ packet. held tables.now size ≡ Ok packet.items) }
+    ensures refused { IfErr result (ForgeRefuses (held tables.now size)) }
+{
+    match size {
+        Some((width, height)) => hold(alloc, tables, width, height),
+        None => Err(ForgeFault::Size),
+    }
+}
+
+/// Puts in a blank packet, which is forged once its insertion is not refused.
+pub(crate) fn insert_blank(
+    alloc: Global,
+    tables: &Tables,
+    list: &mut Store,
+    at: u64,
+    width: u64,
+    height: u64,
+) -> Result<u64, Refusal>
+    ensures gives { Gives (edit_of tables.now list.old.list (Blank at width height)) result }
+    ensures after { list.new.list ≡ after_edit tables.now (Blank at width height) list.old.list result }
+    ensures marks { list.new.marks ≡ marks_after (Blank at width height) list.old.marks result }
+{
+    if let Err(fault) = list.may_insert(at) {
+        return Err(Refusal::by(fault));
+    }
+    match forge_blank(alloc, tables, width, height) {
+        Ok(packet) => insert(list, at, stamp_before(list, at), Bytes::new(packet)),
+        Err(fault) => Err(Refusal::by_forging(fault)),
+    }
+}
+
+/// Puts in a packet that holds the picture before it, which is forged once its insertion is not
+/// refused.
+pub(crate) fn insert_hold(
+    alloc: Global,
+    tables: &Tables,
+    list: &mut Store,
+    at: u64,
+) -> Result<u64, Refusal>
+    ensures gives { Gives (edit_of tables.now list.old.list (Hold at)) result }
+    ensures after { list.new.list ≡ after_edit tables.now (Hold at) list.old.list result }
+    ensures marks { list.new.marks ≡ marks_after (Hold at) list.old.marks result }
+{
+    if let Err(fault) = list.may_insert(at) {
+        return Err(Refusal::by(fault));
+    }
+    match forge_hold(alloc, tables, list.size_at(at)) {
+        Ok(packet) => insert(list, at, stamp_before(list, at), Bytes::new(packet)),
+        Err(fault) => Err(Refusal::by_forging(fault)),
+    }
+}

@@ -1,0 +1,108 @@
+//! What a session keeps from one request to the next: packets with their marks, and a cache that is
+//! coherent with them.
+ghost use Rattle.std.specs.Prelude.{◌≡◌, ◌<◌, ◌≤◌, OnErr, is_ok, length, slice_get};
+ghost use Rattle.packet_edits.specs.Shown.{stream_of};
+ghost use Rattle.state_cache.specs.Costs.{Costs};
+ghost use Rattle.state_cache.specs.Decoding.{outcomes};
+ghost use Rattle.state_cache.specs.EditLaws.{id_at};
+ghost use Rattle.frame_session.specs.Cached.{CacheWithout, IsSound, leaving, left_behind, marks_after};
+ghost use Rattle.frame_session.specs.Edits.{EditGives, after_edit};
+ghost use Rattle.frame_session.specs.Gives.{Gives};
+ghost use Rattle.frame_session.specs.Sessions.{picture_from};
+
+use crate::edit::{Edit, make_edit};
+use crate::refusal::Refusal;
+use packet_edits::Store;
+use pixel_planes::Picture;
+use state_cache::laws::{edits_keep_coherence, edits_keep_ids, next_id_is_not_kept};
+use state_cache::{Cache, ReachFault};
+use std::alloc::Global;
+use vp8_tables::Tables;
+
+/// The picture at the place of a packet, where one stands.
+#[tactic(auto, using(crate::proofs::Sound::reached_sound, crate::proofs::Sound::picture_given, crate::proofs::Sound::break_given, crate::proofs::Sound::nothing_given))]
+pub(crate) fn picture_at(
+    tables: &Tables,
+    list: &mut Store,
+    cache: &mut Cache,
+    place: usize,
+) -> Result<Picture, Refusal>
+    requires place { place < length list.old.list.entries }
+    requires sound { IsSound tables.now list.old cache.old }
+    ensures gives { Gives (picture_from (slice_get (outcomes tables.now (stream_of list.old.list)) place)) result }
+    ensures list { list.new.list ≡ list.old.list }
+    ensures costs { Costs tables.now list.old cache.old place (is_ok result) list.new cache.new }
+    ensures rises { cache.old.decoded ≤ cache.new.decoded }
+    ensures sound { IsSound tables.now list.new cache.new }
+{
+    match cache.reach(tables, list, place) {
+        Ok(kept) => Ok(kept.picture),
+        Err(ReachFault::Refused(broken)) => Err(Refusal::Packet {
+            place: broken.place,
+            cause: broken.cause,
+        }),
+        Err(ReachFault::NoMemory) => Err(Refusal::NoMemory),
+    }
+}
+
+/// The id of the packet at place `at`, if one stands there.
+#[tactic(auto, using(crate::proofs::Sound::no_id))]
+fn id_at(list: &Store, at: u64) -> Option<u64>
+    ensures { result ≡ id_at list.now.list.entries at }
+{
+    if at < list.len() as u64 {
+        Some(list.id(at as usize))
+    } else {
+        None
+    }
+}
+
+/// The id of the packet that an edit takes out of the list, if it takes one.
+fn leaving(list: &Store, edit: &Edit) -> Option<u64>
+    ensures { result ≡ leaving edit.now list.now.list }
+{
+    match edit {
+        Edit::Replace { at, .. } => id_at(list, *at),
+        Edit::Delete { at } => id_at(list, *at),
+        _ => None,
+    }
+}
+
+/// Drops what is kept for the packet that left, where one did.
+fn drop_left(cache: &mut Cache, left: Option<u64>)
+    ensures without { CacheWithout left cache.old cache.new }
+    ensures bounded { length cache.old.entries ≤ cache.old.capacity → length cache.new.entries ≤ cache.new.capacity }
+    ensures steps { cache.new.decoded ≡ cache.old.decoded }
+{
+    if let Some(id) = left {
+        cache.edited(id);
+    }
+}
+
+/// Makes an edit, drops what is kept for a packet that leaves by it, and gives how many packets stand
+/// then. Where the edit is refused all is as it was.
+pub(crate) fn edit_kept(
+    alloc: Global,
+    tables: &Tables,
+    list: &mut Store,
+    cache: &mut Cache,
+    edit: Edit,
+) -> Result<u64, Refusal>
+    requires { IsSound tables.now list.old cache.old }
+    ensures gives { EditGives tables.now list.old.list edit result }
+    ensures after { list.new.list ≡ after_edit tables.now edit list.old.list result }
+    ensures marks { list.new.marks ≡ marks_after edit list.old.marks result }
+    ensures cache { CacheWithout (left_behind edit list.old.list result) cache.old cache.new }
+    ensures steps { cache.new.decoded ≡ cache.old.decoded }
+    ensures sound { IsSound tables.now list.new cache.new }
+    ensures refused { OnErr result ((list.new ≡ list.old) × (cache.new ≡ cache.old)) }
+{
+    edits_keep_coherence(tables);
+    edits_keep_ids();
+    next_id_is_not_kept();
+    let _standing = list.len();
+    let left = leaving(list, &edit);
+    let count = make_edit(alloc, tables, list, edit)?;
+    drop_left(cache, left);
+    Ok(count)
+}

@@ -1,0 +1,38 @@
+-- The records of packets, one after another.
+use Rattle.std.proofs.Common.{◌≡◌, ℕ, ◌+◌, ◌<◌, List, [], ◌∷◌, ◌++◌, Option, map, length, take, get_or, append-nil, sym, ap, ◌∙◌, subst}
+use Rattle.std.proofs.lemmas.List.{map_more, length-map}
+use Rattle.std.proofs.lemmas.Grind.{flat_map-append}
+use Rattle.std.specs.Io.KnownBytes.{Appends}
+use Rattle.std.proofs.KnownBytes.{Appends-trans}
+use Rattle.stream_files.specs.declared.ivf.Head.{Head}
+use Rattle.stream_files.specs.declared.packets.Packet.{Packet}
+use Rattle.stream_files.specs.Texts.{header_text, record_text, records_text, written_text}
+use Rattle.packet_edits.specs.declared.entry.Entry.{Entry}
+use Rattle.packet_edits.specs.Edits.{Listing}
+use Rattle.packet_edits.specs.Saved.{packet_of, packets_of}
+
+records_more : (es : List Entry) (i : ℕ) (d : Entry) → i < length es → records_text (map packet_of (take (i + 1) es)) ≡ records_text (map packet_of (take i es)) ++ record_text (packet_of (get_or es i d))
+records_more es i d within =
+    let done : List Packet = map packet_of (take i es) in
+    let last : Packet = packet_of (get_or es i d) in
+    ap records_text (map_more packet_of es i d within)
+    ∙ flat_map-append record_text done (last ∷ [])
+    ∙ ap (λ (text : List ℕ). records_text done ++ text) (append-nil (record_text last))
+
+-- one record more was written
+pub record_written : (es : List Entry) (i : ℕ) (d e : Entry) (bytes : List ℕ) (a b c : Option (List ℕ)) → i < length es → e ≡ get_or es i d → bytes ≡ e.bytes → Appends a b (records_text (map packet_of (take i es))) → Appends b c (record_text (record { stamp = e.stamp; bytes = bytes })) → Appends a c (records_text (map packet_of (take (i + 1) es)))
+record_written es i d e bytes a b c within is same before here =
+    let done : List ℕ = records_text (map packet_of (take i es)) in
+    let P : List ℕ → Type 0 = λ text. Appends a c text in
+    let last : record_text (record { stamp = e.stamp; bytes = bytes }) ≡ record_text (packet_of (get_or es i d)) =
+    ap (λ (bs : List ℕ). record_text (record { stamp = e.stamp; bytes = bs })) same ∙ ap (λ (x : Entry). record_text (packet_of x)) is in
+    subst P (ap (λ (text : List ℕ). done ++ text) last ∙ sym (records_more es i d within)) (Appends-trans a b c done (record_text (record { stamp = e.stamp; bytes = bytes })) before here)
+
+-- the header and the records are the whole text
+pub whole_written : (head : Head) (list : Listing) (es : List Entry) (count : ℕ) (a b c : Option (List ℕ)) → count ≡ length list.entries → es ≡ list.entries → Appends a b (header_text head count) → Appends b c (records_text (map packet_of es)) → Appends a c (written_text head (packets_of list))
+whole_written head list es count a b c counted are start records =
+    let P : List ℕ → Type 0 = λ text. Appends a c text in
+    let many : count ≡ length (packets_of list) = counted ∙ sym (length-map list.entries packet_of) in
+    let same : header_text head count ++ records_text (map packet_of es) ≡ written_text head (packets_of list) =
+    ap (λ (n : ℕ). header_text head n ++ records_text (map packet_of es)) many ∙ ap (λ (xs : List Entry). header_text head (length (packets_of list)) ++ records_text (map packet_of xs)) are in
+    subst P same (Appends-trans a b c (header_text head count) (records_text (map packet_of es)) start records)

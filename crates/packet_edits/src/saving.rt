@@ -1,0 +1,18 @@
+ghost use Rattle.std.specs.Prelude.{◌≡◌, OnOk, map};
+ghost use Rattle.std.specs.Io.KnownBytes.{Appends};
+ghost use Rattle.stream_files.specs.Texts.{records_text};
+ghost use Rattle.packet_edits.specs.Saved.{packet_of};
+
+use crate::entry::Entry;
+use std::io::Write;
+use stream_files::{WriteFault, ivf_packet};
+
+/// Writes the records of packets, one after another.
+pub(crate) fn write_records<W: Write>(w: &mut W, entries: &[Entry]) -> Result<(), WriteFault>
+    ensures { OnOk result (Appends (W.contents w.old) (W.contents w.new) (records_text (map packet_of entries.now))) }
+{
+    for entry in entries {
+        ivf_packet(w, entry.stamp, entry.bytes.as_slice())?;
+    }
+    Ok(())
+}

@@ -1,0 +1,14 @@
+pub mod Written
+pub mod Targets
+pub mod Readings
+pub mod HeaderFields
+pub mod ForgedHeaders
+pub mod BlankModes
+pub mod Frames
+pub mod BlankPlanes
+pub mod BlankStep
+pub mod HoldFields
+pub mod HoldHeaders
+pub mod HoldModes
+pub mod HoldPlanes
+pub mod HoldStep

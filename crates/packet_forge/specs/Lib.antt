@@ -1,0 +1,4 @@
+pub mod Pairs
+pub mod Packets
+pub mod Faults
+pub mod Laws

@@ -1,0 +1,31 @@
+ghost use Rattle.std.specs.Prelude.{◌≡◌};
+ghost use Rattle.packet_forge.specs.Faults.{forge_fault_word};
+
+use thiserror::Error;
+
+/// Why a packet is not forged, in the order in which it is checked.
+#[derive(Clone, Copy, Debug, PartialEq, Eq, Error)]
+pub enum ForgeFault {
+    /// A side of the picture is 0 or above 16,383.
+    #[error("no frame has this size")]
+    Size,
+    /// The first partition has more than 524,287 bytes, which is what a tag can tell.
+    #[error("the first partition is too large")]
+    TooLarge,
+    /// There was no memory for the packet.
+    #[error("no memory for the packet")]
+    NoMemory,
+}
+
+impl ForgeFault {
+    /// The fault's name.
+    pub const fn word(self) -> &'static str
+        ensures { result.now ≡ forge_fault_word self }
+    {
+        match self {
+            ForgeFault::Size => "Size",
+            ForgeFault::TooLarge => "TooLarge",
+            ForgeFault::NoMemory => "NoMemory",
+        }
+    }
+}

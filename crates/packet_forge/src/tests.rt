@@ -1,0 +1,112 @@
+use super::*;
+use pixel_planes::{Picture, Plane, same};
+use reference_frames::{State, step};
+use std::alloc::Global;
+use std::process::Abort;
+use std::test::Fail;
+use vp8_tables::Tables;
+
+/// Tables whose update probabilities are all 255, and whose other entries are 128.
+fn tables(rt: &impl Abort, alloc: Global) -> Result<Tables, Fail> {
+    let mut bytes = vec![in alloc; 128; 3012]?;
+    bytes.as_mut_slice()[1056..2112].fill(255);
+    Ok(Tables::read(&bytes).expect(rt, "3,012 bytes"))
+}
+
+// What an encoder of its own made of the pairs, written in Python after RFC 6386, section 7.3.
+const BLANK_16: [u8; 18] = [
+    0x10, 1, 0, 0x9D, 1, 0x2A, 16, 0, 16, 0, 0, 0, 0, 0, 3, 0x65, 0x40, 0,
+];
+
+const BLANK_40: [u8; 20] = [
+    0x50, 1, 0, 0x9D, 1, 0x2A, 40, 0, 24, 0, 0, 0, 0, 0, 3, 0x65, 0x71, 0x9E, 0x38, 0,
+];
+
+const HOLD_16: [u8; 15] = [0x91, 1, 0, 0, 0, 0, 0, 0, 6, 0xC6, 0xBD, 0x5C, 0xA8, 2, 0];
+
+const HOLD_40: [u8; 15] = [
+    0x91, 1, 0, 0, 0, 0, 0, 0, 6, 0xC6, 0xBD, 0x5C, 0xA8, 2, 0x20,
+];
+
+#[test]
+fn packets_have_their_bytes(rt: HostRuntime) -> Result<(), Fail> {
+    let alloc = rt.alloc();
+    let tables = tables(&rt, alloc)?;
+    assert_eq!(rt;
+        blank(alloc, &tables, 16, 16)?.as_slice(),
+        BLANK_16.as_slice()
+    );
+    assert_eq!(rt;
+        blank(alloc, &tables, 40, 24)?.as_slice(),
+        BLANK_40.as_slice()
+    );
+    assert_eq!(rt;
+        hold(alloc, &tables, 16, 16)?.as_slice(),
+        HOLD_16.as_slice()
+    );
+    assert_eq!(rt;
+        hold(alloc, &tables, 40, 24)?.as_slice(),
+        HOLD_40.as_slice()
+    );
+    Ok(())
+}
+
+#[test]
+fn sides_are_1_to_16383(rt: HostRuntime) {
+    let alloc = rt.alloc();
+    for (width, height) in [(0, 16), (16, 0), (16_384, 16), (16, 16_384)] {
+        let blank = blank(alloc, &Tables::flat(), width, height);
+        assert_eq!(rt; blank.err().map(|fault| fault.word()), Some("Size"));
+        let hold = hold(alloc, &Tables::flat(), width, height);
+        assert_eq!(rt; hold.err().map(|fault| fault.word()), Some("Size"));
+    }
+}
+
+/// A key packet of 16 by 16 samples that reads 0 at every bit: its luma is 129 below row 3.
+const KEY: [u8; 10] = [0x10, 0, 0, 0x9D, 1, 0x2A, 16, 0, 16, 0];
+
+/// Whether each of the first 16 samples of the first 16 rows is 128; past an edge its sample stands
+/// again.
+fn is_grey(plane: &Plane) -> bool {
+    (0..16).all(|y| (0..16).all(|x| plane.sample(x, y) == 128))
+}
+
+/// Whether a picture is 128 in that square of each plane.
+fn is_grey_picture(picture: &Picture) -> bool {
+    is_grey(picture.luma()) && is_grey(picture.cb()) && is_grey(picture.cr())
+}
+
+/// The state behind a packet from none, with tables whose entries are all 128, and its picture.
+fn decoded(rt: &impl Abort, alloc: Global, packet: &[u8]) -> (State, Picture) {
+    let decoded = step(alloc, &Tables::flat(), None, packet);
+    decoded.expect(rt, "a key packet")
+}
+
+/// The same from a state.
+fn decoded_after(rt: &impl Abort, alloc: Global, state: &State, packet: &[u8]) -> (State, Picture) {
+    let decoded = step(alloc, &Tables::flat(), Some(state), packet);
+    decoded.expect(rt, "a packet behind a state")
+}
+
+/// Forged packets of 16 by 16 samples, with those tables.
+fn packets(alloc: Global) -> Result<(Vec<u8>, Vec<u8>), Fail> {
+    let blank = blank(alloc, &Tables::flat(), 16, 16)?;
+    let hold = hold(alloc, &Tables::flat(), 16, 16)?;
+    Ok((blank, hold))
+}
+
+#[test]
+fn frames_are_grey_and_held(rt: HostRuntime) -> Result<(), Fail> {
+    let alloc = rt.alloc();
+    let (blank, hold) = packets(alloc)?;
+    let (first, picture) = decoded(&rt, alloc, blank.as_slice());
+    assert!(rt; is_grey_picture(&picture));
+    let (_, held) = decoded_after(&rt, alloc, &first, hold.as_slice());
+    assert!(rt; same(&picture, &held));
+    let (second, picture) = decoded(&rt, alloc, KEY.as_slice());
+    assert!(rt; !is_grey_picture(&picture));
+    let (third, held) = decoded_after(&rt, alloc, &second, hold.as_slice());
+    assert!(rt; same(&picture, &held));
+    assert!(rt; same(&picture, &third.references().last));
+    Ok(())
+}

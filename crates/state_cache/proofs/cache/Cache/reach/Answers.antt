@@ -1,0 +1,64 @@
+use Rattle.std.proofs.Common.{◌<◌, ◌≤◌, ◌∙◌, Err, length, refl, subst, sym, arith, rules}
+use Rattle.std.specs.Prelude.{is_ok}
+use Rattle.packet_edits.specs.Edits.{Listing}
+use Rattle.state_cache.specs.Costs.{most_steps}
+use Rattle.state_cache.specs.Reaching.{Reaches, view_of}
+use Rattle.state_cache.specs.Views.{seens}
+use Rattle.state_cache.proofs.Reached.{length_seens, reaches_answer, reaches_fault}
+use Rattle.state_cache.proofs.Settled.{first_unsettled}
+use Rattle.state_cache.proofs.Walked.{walk_begins, walk_ends, walk_more, walk_refused}
+use Rattle.state_cache.proofs.cache.Cache.reach.Goals as goal
+
+pub loop-next-init : goal.loop-next-init
+loop-next-init c =
+    let small : c.args.self.now.decoded ≤ most_steps = subst (λ n. n ≤ most_steps) c.decoded-count.ensures.value c.decoded-count.ensures.most in
+    record {
+      list = refl;
+      coherent = c.requires.coherent;
+      next = c.next_step-next.ensures;
+      so_far = walk_begins c.args.tables.now c.args.store.now c.args.self.now c.args.place c.next_step-next.result c.next_step-next.ensures small;
+    }
+
+pub loop-next-preserved : goal.loop-next-preserved
+loop-next-preserved c =
+    let inv = c.loop-next.invariant in
+    let low : c.loop-next.next ≤ c.args.place = search (rules, arith) in
+    record {
+      list = c.advance.ensures.list ∙ inv.list;
+      coherent = c.advance.ensures.coherent;
+      next = c.in-Ok.ensures.advances.first;
+      so_far = walk_more c.args.tables.now c.args.store.now c.loop-next.store c.args.self.now c.loop-next.self c.args.place c.loop-next.next inv.so_far low inv.list c.advance.new.store c.advance.new.self c.in-Ok.further c.in-Ok.ensures.advances
+          c.advance.ensures.counted c.advance.ensures.capacity c.advance.ensures.list;
+    }
+
+pub returns-in-Err-clause-reaches : goal.returns-in-Err-clause-reaches
+returns-in-Err-clause-reaches c =
+    let inv = c.loop-next.invariant in
+    let within : c.args.place < length c.loop-next.store.list.entries = subst (λ (l : Listing). c.args.place < length l.entries) (sym inv.list) c.requires.place in
+    let low : c.loop-next.next ≤ c.args.place = search (rules, arith) in
+    subst (λ (l : Listing). Reaches c.args.tables.now l c.args.place (Err c.in-Err.fault)) inv.list
+    (reaches_fault c.args.tables.now c.loop-next.store.list c.loop-next.store.marks (view_of c.loop-next.self) inv.coherent c.args.place c.loop-next.next c.in-Err.fault within low inv.next c.in-Err.ensures.told)
+
+pub returns-in-Err-clause-costs : goal.returns-in-Err-clause-costs
+returns-in-Err-clause-costs c =
+    let inv = c.loop-next.invariant in
+    let within : c.args.place < length c.loop-next.store.list.entries = subst (λ (l : Listing). c.args.place < length l.entries) (sym inv.list) c.requires.place in
+    let long = length_seens c.loop-next.store.list.entries c.loop-next.store.marks in
+    let low : c.loop-next.next ≤ c.args.place = search (rules, arith) in
+    walk_refused c.args.tables.now c.args.store.now c.loop-next.store c.args.self.now c.loop-next.self c.args.place c.loop-next.next inv.so_far low inv.list c.advance.new.store c.advance.new.self
+    (first_unsettled c.args.tables.now (seens c.loop-next.store) (view_of c.loop-next.self) c.args.place c.loop-next.next inv.next (omega (arith, within, long)))
+    c.advance.ensures.counted c.in-Err.ensures.refused.1 c.advance.ensures.capacity c.advance.ensures.bounded
+
+pub returns-clause-reaches : goal.returns-clause-reaches
+returns-clause-reaches c =
+    let inv = c.loop-next.invariant in
+    let within : c.args.place < length c.loop-next.store.list.entries = subst (λ (l : Listing). c.args.place < length l.entries) (sym inv.list) c.requires.place in
+    let up : c.args.place < c.loop-next.next = search (rules, arith) in
+    subst (λ (l : Listing). Reaches c.args.tables.now l c.args.place c.answer.result) inv.list
+    (reaches_answer c.args.tables.now c.loop-next.store.list c.loop-next.store.marks (view_of c.loop-next.self) inv.coherent c.args.place c.answer.result within (inv.next.arrived up) c.answer.ensures.kept)
+
+pub returns-clause-costs : goal.returns-clause-costs
+returns-clause-costs c =
+    let inv = c.loop-next.invariant in
+    let up : c.args.place < c.loop-next.next = search (rules, arith) in
+    walk_ends c.args.tables.now c.args.store.now c.loop-next.store c.args.self.now c.loop-next.self c.args.place c.loop-next.next inv.so_far inv.next up c.answer.ensures.bounded (is_ok c.answer.result)

@@ -1,0 +1,10 @@
+pub mod Decoding
+pub mod DecodingLaws
+pub mod Views
+pub mod Reaching
+pub mod Searches
+pub mod Costs
+pub mod EditLaws
+pub mod Walks
+pub mod KeptViews
+pub mod CostLaws

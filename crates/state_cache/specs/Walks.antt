@@ -1,0 +1,60 @@
+-- A walk of steps to a place: one turn, and where the walk goes on.
+use Rattle.std.specs.Prelude.{◌≡◌, ℕ, ◌+◌, ◌<◌, ◌≤◌, ◌&&◌, ◌⊎◌, Bool, true, false, cond, List, ◌∷◌, length, slice_get, Option, Some, is_none, IsSome}
+use Rattle.vp8_tables.specs.Tables.{TableEntries}
+use Rattle.packet_edits.specs.Marks.{StoreValue}
+use Rattle.state_cache.specs.declared.outcomes.Kept.{Kept}
+use Rattle.state_cache.specs.Costs.{AreUnsettled, HasRoom, IsIdOf, IsOneRun, IsSettled}
+use Rattle.state_cache.specs.Reaching.{CacheValue, IsNext, Met, passed_marks, view_of}
+use Rattle.state_cache.specs.Views.{Drops, Seen, View, is_cut, kept_at, seens, with_kept}
+
+-- where an outcome with the new one's state was kept, the states met
+abbrev pub MeetsSame : Bool → Option Kept → Kept → Type 0
+MeetsSame has_met before new = (old : Kept) → before ≡ Some old → old.state ≡ new.state → has_met ≡ true
+
+-- how many outcomes are kept once one is kept for an id
+abbrev pub entries_with : CacheValue → ℕ → ℕ
+entries_with cache id = length cache.entries + cond (is_none (view_of cache id)) 1 0
+
+-- one outcome was kept, and none dropped
+pub record IsPut (before : CacheValue) (id : ℕ) (outcome : Kept) (after : CacheValue) : Type 0 where
+  pub number : length after.entries ≡ entries_with before id
+  pub others : (q : ℕ) → view_of after q ≡ with_kept (view_of before) id outcome q
+
+-- a turn at a place: the outcome of its packet is kept, and its mark passed; the runs are joined where it was a cut by a
+-- mark and the states met
+pub record IsTurned (old : StoreValue) (before : CacheValue) (place : ℕ) (joined : Bool) (new : StoreValue) (after : CacheValue) : Type 0 where
+  pub packet : Seen
+  pub outcome : Kept
+  pub has_met : Bool
+  pub stands : slice_get (seens old) place ≡ Some packet
+  pub marks : new ≡ record old { marks = passed_marks (is_cut packet) has_met place old.marks }
+  pub joined_is : joined ≡ (is_cut packet && has_met)
+  pub met : Met has_met (view_of before packet.id) outcome
+  pub meets_same : MeetsSame has_met (view_of before packet.id) outcome
+  pub kept : view_of after packet.id ≡ Some outcome
+  pub drops : (q : ℕ) → Drops (view_of after q) (with_kept (view_of before) packet.id outcome q)
+  -- with room for it, nothing else is dropped
+  pub room : entries_with before packet.id ≤ before.capacity → IsPut before packet.id outcome after
+
+-- the place behind the last kept one of a run, from its place `first` up to `place`
+pub record IsBehindKept (packets : List Seen) (kept : View) (first place next : ℕ) : Type 0 where
+  pub last : ℕ
+  pub next_is : next ≡ last + 1
+  pub from : first ≤ last
+  pub within : last ≤ place
+  pub one_run : IsOneRun packets first last
+  pub is_kept : kept_at packets kept last ≡ true
+  pub greatest : (p : ℕ) → last < p → p ≤ place → IsOneRun packets first p → kept_at packets kept p ≡ false
+
+-- a step that is kept on the way to a place: the walk goes on behind it, and just one place fewer is not settled
+pub record Advances (tables : TableEntries) (old : StoreValue) (before : CacheValue) (place next : ℕ) (new : StoreValue) (after : CacheValue) (further : ℕ) : Type 0 where
+  pub first : IsNext (seens new) (view_of after) place further
+  pub behind : next < further
+  pub number : length before.entries ≤ length after.entries
+  pub stand : (id : ℕ) → IsSome (view_of after id) → IsSome (view_of before id) ⊎ IsIdOf old.list id
+  pub room : HasRoom old.list before next place → HasRoom new.list after further place
+  pub stays : HasRoom old.list before next place → (id : ℕ) → IsSome (view_of before id) → IsSome (view_of after id)
+  pub keeps : HasRoom old.list before next place → (p : ℕ) → next ≤ p → p ≤ place → (IsSettled tables (seens old) (view_of before) place p → ⊥)
+      → (kept_at (seens new) (view_of after) p ≡ true) ⊎ ((further ≤ p) × (IsSettled tables (seens new) (view_of after) place p → ⊥))
+  pub fewer : HasRoom old.list before next place → (places : List ℕ) → AreUnsettled tables (seens old) (view_of before) next place places
+      → (rest : List ℕ) × (places ≡ next ∷ rest) × AreUnsettled tables (seens new) (view_of after) further place rest

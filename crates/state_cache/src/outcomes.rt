@@ -1,0 +1,41 @@
+ghost use Rattle.std.specs.Prelude.{◌≡◌, IfOk};
+
+use frame_header::Cause;
+use pixel_planes::{NoMemory, Picture};
+use reference_frames::State;
+
+/// Where a stream is broken: at the packet at `place`, counted from 0, by its `cause`.
+#[derive(Clone, Copy, Debug, PartialEq, Eq)]
+pub struct Broken {
+    pub place: usize,
+    pub cause: Cause,
+}
+
+/// Why a place is not reached.
+#[derive(Clone, Copy, Debug, PartialEq, Eq)]
+pub enum ReachFault {
+    /// The stream is broken there.
+    Refused(Broken),
+    /// Memory was refused.
+    NoMemory,
+}
+
+/// The good outcome of a packet: the state behind it and its picture.
+#[derive(Debug, Drop)]
+pub struct Kept {
+    pub state: State,
+    pub picture: Picture,
+}
+
+impl Kept {
+    /// The same outcome once more, which shares its planes and takes no memory. `NoMemory` where one
+    /// of its parts is shared as often as can be counted.
+    pub fn again(&self) -> Result<Kept, NoMemory>
+        ensures { IfOk result (λ kept. kept ≡ self.now) }
+    {
+        Ok(Kept {
+            state: self.state.again()?,
+            picture: self.picture.again()?,
+        })
+    }
+}

@@ -1,0 +1,183 @@
+//! Forged packets and saving in a session.
+
+use crate::fixtures::{HIDDEN, INTER, KEY, ivf_of, run_over, run_packets, y4m_of};
+use frame_session::{Edit, Refusal, Session, run};
+use std::alloc::Global;
+use std::io::{self, ErrorKind, Write};
+use std::test::Fail;
+use stream_files::{EMPTY, WriteFault, ivf_read};
+use vp8_tables::Tables;
+
+const LINE: &[u8] = b"YUV4MPEG2 W16 H16 F30:1 Ip C420jpeg\n";
+
+/// The samples of the key packet's frame.
+const KEY_FRAME: &[(usize, u8)] = &[(64, 0x80), (192, 0x81), (128, 0x80)];
+
+const GREY: &[(usize, u8)] = &[(384, 0x80)];
+
+/// What stands behind a run over a file of these packets, saved.
+fn saved_by(alloc: Global, file: &[u8], requests: &[u8]) -> Result<Vec<u8>, Fail> {
+    let mut frames = Vec::new(alloc);
+    let mut replies = Vec::new(alloc);
+    let session = run(
+        alloc,
+        Tables::flat(),
+        8,
+        file,
+        requests,
+        &mut frames,
+        &mut replies,
+    )?;
+    let mut saved = Vec::new(alloc);
+    session.save(&mut saved)?;
+    Ok(saved)
+}
+
+/// A file of the one key packet.
+const ONE: [u8; 54] = [
+    b'D', b'K', b'I', b'F', 0, 0, 32, 0, b'V', b'P', b'8', b'0', 16, 0, 16, 0, 30, 0, 0, 0, 1, 0,
+    0, 0, 1, 0, 0, 0, 0, 0, 0, 0, //
+    10, 0, 0, 0, 0, 0, 0, 0, 0, 0, 0, 0, //
+    0x10, 0, 0, 0x9D, 0x01, 0x2A, 16, 0, 16, 0,
+];
+
+#[test]
+fn a_session_saves_its_file(rt: HostRuntime) -> Result<(), Fail> {
+    let saved = saved_by(rt.alloc(), &ONE, b"frame 0\n")?;
+    assert_eq!(rt; saved.as_slice(), ONE.as_slice());
+    let saved = saved_by(rt.alloc(), &EMPTY, b"")?;
+    assert_eq!(rt; saved.as_slice(), EMPTY.as_slice());
+    Ok(())
+}
+
+#[test]
+fn a_hold_shows_the_last_frame(rt: HostRuntime) -> Result<(), Fail> {
+    let ran = run_packets(rt.alloc(), &[KEY], b"hold 1\nframe 1\n")?;
+    assert_eq!(rt; ran.replies.as_slice(), b"ok 2\nserved 1\n".as_slice());
+    let want = y4m_of(rt.alloc(), LINE, &[KEY_FRAME])?;
+    assert_eq!(rt; ran.frames.as_slice(), want.as_slice());
+    Ok(())
+}
+
+#[test]
+fn a_blank_frame_is_grey(rt: HostRuntime) -> Result<(), Fail> {
+    let requests = b"blank 1 16 16\nframe 1\nblank 3 0 0\nblank 0 0 16\ncount\n";
+    let ran = run_packets(rt.alloc(), &[KEY], requests)?;
+    assert_eq!(rt;
+        ran.replies.as_slice(),
+        b"ok 2\nserved 1\nrefused Place\nrefused Size\npackets 2 frames 2\n".as_slice()
+    );
+    let want = y4m_of(rt.alloc(), LINE, &[GREY])?;
+    assert_eq!(rt; ran.frames.as_slice(), want.as_slice());
+    Ok(())
+}
+
+#[test]
+fn a_stream_from_nothing(rt: HostRuntime) -> Result<(), Fail> {
+    let requests = b"blank 0 16 16\nhold 1\ncount\nframe 1\nstats\ndelete 5\nframe 9\nhold 0\n";
+    let ran = run_over(rt.alloc(), &EMPTY, requests);
+    assert_eq!(rt;
+        ran.replies.as_slice(),
+        b"ok 1\nok 2\npackets 2 frames 2\nserved 1\ndecoded 2\nrefused Place\nrefused NoSuchFrame\nrefused Size\n".as_slice()
+    );
+    let want = y4m_of(rt.alloc(), LINE, &[GREY])?;
+    assert_eq!(rt; ran.frames.as_slice(), want.as_slice());
+    Ok(())
+}
+
+// A side above 16,383, or above what 16 bits hold, is no size; the size behind a key tag may be none.
+#[test]
+fn sizes_that_are_refused(rt: HostRuntime) -> Result<(), Fail> {
+    let requests =
+        b"blank 0 16384 16\nblank 0 16 65552\nblank 0 16 18446744073709551615\nhold 0\nhold 1\nhold 2\nhold 3\nblank 4 0 0\n";
+    let no_size: &[u8] = &[0x10, 0, 0];
+    let ran = run_packets(rt.alloc(), &[INTER, KEY, no_size], requests)?;
+    assert_eq!(rt;
+        ran.replies.as_slice(),
+        b"refused Size\nrefused Size\nrefused Size\nrefused Size\nrefused Size\nok 4\nok 5\nrefused Size\n".as_slice()
+    );
+    Ok(())
+}
+
+// The packet before a forged one gives its stamp, and none before it 0.
+#[test]
+fn forged_packets_have_stamps(rt: HostRuntime) -> Result<(), Fail> {
+    let alloc = rt.alloc();
+    let requests = b"insert 1 77 110000\nhold 2\nblank 0 16 16\n";
+    let file = ivf_of(alloc, &[KEY])?;
+    let saved = saved_by(alloc, file.as_slice(), requests)?;
+    let read = ivf_read(alloc, saved.as_slice())?;
+    let stamps = [0, 0, 77, 77];
+    assert_eq!(rt; (read.packets.len(), read.spare), (4, 0));
+    for (packet, stamp) in read.packets.as_slice().iter().zip(stamps) {
+        assert_eq!(rt; packet.stamp, stamp);
+    }
+    Ok(())
+}
+
+#[test]
+fn a_saved_stream_serves_the_same(rt: HostRuntime) -> Result<(), Fail> {
+    let alloc = rt.alloc();
+    let edits = b"hold 1\nblank 3 16 16\nhold 4\n";
+    let requests = b"count\nframe 0\nframe 1\nframe 2\nframe 3\nframe 4\n";
+    let file = ivf_of(alloc, &[KEY, HIDDEN, INTER])?;
+    let mut both = Vec::from_slice(alloc, edits.as_slice())?;
+    both.extend_from_slice(requests)?;
+    let edited = run_over(alloc, file.as_slice(), both.as_slice());
+    let saved = saved_by(alloc, file.as_slice(), edits)?;
+    let again = run_over(alloc, saved.as_slice(), requests);
+    assert_eq!(rt; again.spare, Ok(0));
+    assert_eq!(rt; again.frames.as_slice(), edited.frames.as_slice());
+    let want = y4m_of(alloc, LINE, &[KEY_FRAME, KEY_FRAME, GREY, GREY, GREY])?;
+    assert_eq!(rt; again.frames.as_slice(), want.as_slice());
+    assert_eq!(rt;
+        again.replies.as_slice(),
+        b"packets 6 frames 5\nserved 0\nserved 1\nserved 2\nserved 3\nserved 4\n".as_slice()
+    );
+    Ok(())
+}
+
+/// A writer that gives errors alone.
+#[derive(Drop)]
+struct Broken {}
+
+impl Write for Broken {
+    fn write(&mut self, _buf: &[u8]) -> io::Result<usize> {
+        Err(ErrorKind::Other.into())
+    }
+
+    fn flush(&mut self) -> io::Result<()> {
+        Err(ErrorKind::Other.into())
+    }
+}
+
+// The calls by themselves, with ample memory: a body that always tells of want of it fails here.
+#[test]
+fn a_session_forges_and_saves(rt: HostRuntime) -> Result<(), Fail> {
+    let alloc = rt.alloc();
+    let file = ivf_read(alloc, &EMPTY)?;
+    if file.packets.len() != 0 {
+        return Ok(assert!(rt; false, "no packet is read"));
+    }
+    let mut session = Session::new(alloc, Tables::flat(), 1, file)?;
+    let blank = Edit::Blank {
+        at: 0,
+        width: 16,
+        height: 32,
+    };
+    assert_eq!(rt; session.edit(blank), Ok(1));
+    assert_eq!(rt; session.edit(Edit::Hold { at: 1 }), Ok(2));
+    assert_eq!(rt; session.edit(Edit::Hold { at: 3 }), Err(Refusal::Place));
+    assert_eq!(rt; session.edit(Edit::Hold { at: 0 }), Err(Refusal::Size));
+    assert_eq!(rt; session.save(&mut Broken {}), Err(WriteFault::Write));
+    assert_eq!(rt; session.count(), (2, 2));
+    let picture = session.frame(1)?;
+    assert_eq!(rt; (picture.width(), picture.height()), (16, 32));
+    Ok(())
+}
+
+#[test]
+fn names_of_refusals(rt: HostRuntime) {
+    assert_eq!(rt; Refusal::Size.word(), "Size");
+    assert_eq!(rt; Refusal::TooLarge.word(), "TooLarge");
+}
