@@ -7,7 +7,7 @@ use Rattle.std.proofs.lemmas.Int.{int_wrap_fits}
 use Rattle.transforms.specs.Residuals.{held, IsAdded}
 use Rattle.transforms.specs.Transforms.{inverse_dct, dct_pass, dct_column, by_sine, by_cosine, eighth}
 use Rattle.reference_frames.specs.AddedBlocks.{IsAddedAt}
-use Rattle.reference_frames.proofs.Squares.{index_in, index_before, index_above, index_within, part_old, part_new, part_before, part_kept, whole_put, start_within}
+use Rattle.reference_frames.proofs.Squares.{index_in, index_before, index_above, index_within, start_within, part_old, part_new, part_before, part_kept, whole_put}
 
 -- a list of zeros
 all_zero : (n : ℕ) (xs : List ℤ) → length xs ≡ n → ((k : ℕ) (d : ℤ) → k < length xs → get_or xs k d ≡ pos 0) → xs ≡ replicate n (pos 0)
@@ -48,41 +48,40 @@ none_added coefficients stride samples none fit = record {
   others = λ column row in_row out. refl;
 }
 
--- ---- a block in a square
+-- ---- a block in rows of samples
 
--- a block that was added to what begins with it was added to it in its square
-pub added_at : (residual : ℕ → ℕ → ℤ) (side column row : ℕ) (old part rest : List ℕ) → length old ≡ side * side → column + 4 ≤ side → row + 4 ≤ side →
-    IsAdded residual side (take (length old - (side * row + column)) (drop (side * row + column) old)) part → rest ≡ drop (length old - (side * row + column)) (drop (side * row + column) old) → IsAddedAt residual side column row old (take (side * row + column) old ++ (part ++ rest))
-added_at residual side column row old part rest square across down is behind =
-    let start : ℕ = side * row + column in
-    let room : start ≤ length old = omega (arith, square, start_within side column row (omega arith) (omega arith)) in
+-- a block that was added to what begins with it was added to it among the samples
+pub added_at : (residual : ℕ → ℕ → ℤ) (across column row : ℕ) (old part rest : List ℕ) → column + 4 ≤ across → (row + 4) * across ≤ length old →
+    IsAdded residual across (take (length old - (across * row + column)) (drop (across * row + column) old)) part → rest ≡ drop (length old - (across * row + column)) (drop (across * row + column) old) → IsAddedAt residual across column row old (take (across * row + column) old ++ (part ++ rest))
+added_at residual across column row old part rest wide high is behind =
+    let start : ℕ = across * row + column in
+    let room : start ≤ length old = start_within across 4 column row (length old) (omega arith) wide high in
     record {
       whole = whole_put old part rest start room is.whole behind;
       each = λ i j inside.
-          let place : j * side + i ≡ start + ((j - row) * side + (i - column)) = index_in side i j column row inside.0 inside.2 in
+          let place : j * across + i ≡ start + ((j - row) * across + (i - column)) = index_in across i j column row inside.0 inside.2 in
           let to_i : i < column + 4 = inside.1 in
           let to_j : j < row + 4 = inside.3 in
-          let within : start + ((j - row) * side + (i - column)) < length old = omega (arith, square, place, index_within side i j (omega arith) (omega arith)) in
-          rw place (part_new old part rest start ((j - row) * side + (i - column)) is.whole within ∙ is.each (i - column) (j - row) (omega arith) (omega arith) ∙ ap (λ n. held (pos n +ℤ residual (i - column) (j - row))) (part_old old start ((j - row) * side + (i - column)) within));
-      others = λ i j a b out.
-          let within : j * side + i < length old = omega (arith, square, index_within side i j a b) in
+          let within : start + ((j - row) * across + (i - column)) < length old = omega (arith, high, place, index_within across i j (row + 4) (omega arith) to_j) in
+          rw place (part_new old part rest start ((j - row) * across + (i - column)) is.whole within ∙ is.each (i - column) (j - row) (omega arith) (omega arith) ∙ ap (λ n. held (pos n +ℤ residual (i - column) (j - row))) (part_old old start ((j - row) * across + (i - column)) within));
+      others = λ i j a out.
           elim (cases_lt j row) [
-            | inl higher ↦ part_before old (part ++ rest) start (j * side + i) room (index_above side i j column row a higher)
+            | inl higher ↦ part_before old (part ++ rest) start (j * across + i) room (index_above across i j column row a higher)
             | inr below ↦ elim (cases_lt i column) [
               | inr right ↦
-                  let place : j * side + i ≡ start + ((j - row) * side + (i - column)) = index_in side i j column row right below in
+                  let place : j * across + i ≡ start + ((j - row) * across + (i - column)) = index_in across i j column row right below in
                   let away : (4 ≤ i - column) ⊎ (4 ≤ j - row) = elim (cases_lt i (column + 4)) [
-                    | inr behind ↦ inl (omega arith)
+                    | inr beside ↦ inl (omega arith)
                     | inl near ↦ elim (cases_lt j (row + 4)) [ inl here ↦ absurd (out (right, near, below, here)) | inr lower ↦ inr (omega arith) ]
                   ] in
-                  part_kept old part rest start ((j - row) * side + (i - column)) (j * side + i) is.whole place within (is.others (i - column) (j - row) (omega arith) away)
+                  part_kept old part rest start ((j - row) * across + (i - column)) (j * across + i) room is.whole behind place (is.others (i - column) (j - row) (omega arith) away)
               | inl left ↦ elim (cases_lt row j) [
                 | inl lower ↦
-                    let place : j * side + i ≡ start + ((j - row - 1) * side + (side + i - column)) = index_before side i j column row (omega arith) lower in
-                    part_kept old part rest start ((j - row - 1) * side + (side + i - column)) (j * side + i) is.whole place within (is.others (side + i - column) (j - row - 1) (omega arith) (inl (omega arith)))
+                    let place : j * across + i ≡ start + ((j - row - 1) * across + (across + i - column)) = index_before across i j column row (omega arith) lower in
+                    part_kept old part rest start ((j - row - 1) * across + (across + i - column)) (j * across + i) room is.whole behind place (is.others (across + i - column) (j - row - 1) (omega arith) (inl (omega arith)))
                 | inr same ↦
                     let first : j ≡ row = omega arith in
-                    part_before old (part ++ rest) start (j * side + i) room (rw first (omega arith))
+                    part_before old (part ++ rest) start (j * across + i) room (rw first (omega arith))
               ]
             ]
           ];

@@ -63,7 +63,7 @@ whole_read p side size mx my n m edge mode residual first upper beside block abo
     let between : IsBlock size (restored size first residual (whole_block_sample p (size * mx) (size * my) size mode)) block = rw (above_is, left_is, upper_is, beside_is, edge_is, wide, high, sized) at is in
     rw sized (written_block p (size * mx) (size * my) size block (restored size first residual (whole_block_sample p (size * mx) (size * my) size mode)) between)
 
-side_small : (size : BlockSize) → side_of size ≤ 16
+pub side_small : (size : BlockSize) → side_of size ≤ 16
 side_small Sixteen = omega arith
 side_small Eight = omega arith
 

@@ -83,7 +83,7 @@ span_given p x y i side sample row whole fits below from to =
     ∙ get_or-map-range_with_len (λ column. sample column row) 0 side (i - x) (i - x) 0 (omega arith) (omega arith)
 
 -- a sample of the rows that were written
-rows_in : (w h : ℕ) (p : Samples) (x y side : ℕ) (sample : ℕ → ℕ → ℕ) (n i j : ℕ) → IsPlane w h p → x + side ≤ w → y + n ≤ h → x ≤ i → i < x + side → y ≤ j → j < y + n → sample_at (with_block_rows p x y side sample n) i j ≡ sample (i - x) (j - y)
+pub rows_in : (w h : ℕ) (p : Samples) (x y side : ℕ) (sample : ℕ → ℕ → ℕ) (n i j : ℕ) → IsPlane w h p → x + side ≤ w → y + n ≤ h → x ≤ i → i < x + side → y ≤ j → j < y + n → sample_at (with_block_rows p x y side sample n) i j ≡ sample (i - x) (j - y)
 unfolding with_block_rows
 rows_in w h p x y side sample zero i j shape wide high a b c d = absurd (omega arith)
 rows_in w h p x y side sample (suc n) i j shape wide high a b c d =
@@ -101,7 +101,7 @@ rows_in w h p x y side sample (suc n) i j shape wide high a b c d =
     ]
 
 -- a sample outside the rows that were written
-rows_out : (w h : ℕ) (p : Samples) (x y side : ℕ) (sample : ℕ → ℕ → ℕ) (n i j : ℕ) → IsPlane w h p → x + side ≤ w → y + n ≤ h → i < w → (x ≤ i → i < x + side → y ≤ j → j < y + n → ⊥) → sample_at (with_block_rows p x y side sample n) i j ≡ sample_at p i j
+pub rows_out : (w h : ℕ) (p : Samples) (x y side : ℕ) (sample : ℕ → ℕ → ℕ) (n i j : ℕ) → IsPlane w h p → x + side ≤ w → y + n ≤ h → i < w → (x ≤ i → i < x + side → y ≤ j → j < y + n → ⊥) → sample_at (with_block_rows p x y side sample n) i j ≡ sample_at p i j
 unfolding with_block_rows
 rows_out w h p x y side sample zero i j shape wide high within out = refl
 rows_out w h p x y side sample (suc n) i j shape wide high within out =
@@ -122,7 +122,7 @@ pub record IsDone (of_row : ℕ → ℕ) (w h n m : ℕ) (p : Samples) : Type 0 
   pub at : (i j : ℕ) → i < n → j < m → i < w → j < h → sample_at p i j ≡ of_row j
 
 -- a place is in a square, or it is not
-in_or_out : (x y side i j : ℕ) → IsInSquare x y side i j ⊎ (x ≤ i → i < x + side → y ≤ j → j < y + side → ⊥)
+pub in_or_out : (x y side i j : ℕ) → IsInSquare x y side i j ⊎ (x ≤ i → i < x + side → y ≤ j → j < y + side → ⊥)
 in_or_out x y side i j =
     elim (cases_lt i x) [
       | inl before ↦ inr (λ a b c d. omega arith)

@@ -10,3 +10,4 @@ pub mod Flat
 pub mod FlatFrames
 pub mod Behind
 pub mod PutRows
+pub mod PlacedInPlanes

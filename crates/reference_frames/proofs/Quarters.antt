@@ -1,6 +1,6 @@
 -- The samples of a macroblock that is predicted from a reference, block by block.
 use Rattle.std.specs.Prelude.{slice_index_or}
-use Rattle.std.proofs.Common.{◌≡◌, inl, inr, ℕ, false, ◌+◌, ◌*◌, ◌/◌, ◌%◌, ◌<◌, ◌≤◌, List, ℤ, pos, ◌*ℤ◌, refl, ap, ◌∙◌, arith}
+use Rattle.std.proofs.Common.{◌≡◌, inl, inr, ℕ, true, false, ◌+◌, ◌*◌, ◌/◌, ◌%◌, ◌<◌, ◌≤◌, List, ℤ, pos, ◌*ℤ◌, refl, ap, ◌∙◌, arith}
 use Rattle.std.proofs.lemmas.Bool.{cases_lt}
 use Rattle.inter_predict.specs.InterSample.{inter_sample}
 use Rattle.inter_predict.specs.declared.kinds.Kind.{Kind}
@@ -53,6 +53,13 @@ in_quarter kind p mx my vectors q i j vector a b c d inside =
         | inr lower ↦ by_block kind p mx my vectors (first_block q + 5) i j vector d (omega arith)
       ]
     ]
+
+-- a macroblock that is not split goes by its last block's vector, and a split one by each block's
+pub in_macroblock : (kind : Kind) (p : Samples) (mx my : ℕ) (mode : VectorMode) (vectors : List MotionVector) (i j : ℕ) (vector : ℤ × ℤ) → is_split mode ≡ false → IsOfBlock vectors 15 vector → inter_sample kind p (pos (16 * mx + i)) (pos (16 * my + j)) vector.0 vector.1 ≡ luma_sample kind p mx my (block_vector mode vectors) i j
+in_macroblock kind p mx my mode vectors i j vector is of = rw (is, of.0, of.1) refl
+
+pub of_split : (kind : Kind) (p : Samples) (mx my : ℕ) (mode : VectorMode) (vectors : List MotionVector) (i j : ℕ) → is_split mode ≡ true → luma_sample kind p mx my (λ k. slice_index_or vectors k zero_vector) i j ≡ luma_sample kind p mx my (block_vector mode vectors) i j
+of_split kind p mx my mode vectors i j is = rw is refl
 
 -- a chroma sample goes by the vector of its group
 by_group : (version : ℕ) (p : Samples) (mx my : ℕ) (vector_of : ℕ → MotionVector) (group i j : ℕ) (kind : Kind) (vector : ℤ × ℤ) → kind ≡ kind_of version → vector.0 ≡ (group_vector version vector_of group).0 → vector.1 ≡ (group_vector version vector_of group).1 → chroma_group i j ≡ group →

@@ -1,8 +1,10 @@
--- Places in a square, and in what begins with one of them.
+-- Places in rows of samples, and in what begins with one of them.
 use Rattle.std.specs.Prelude.{slice_index}
-use Rattle.std.proofs.Common.{◌≡◌, ℕ, ◌+◌, ◌-◌, ◌*◌, ◌<◌, ◌≤◌, List, ◌++◌, length, get_or, take, drop, ap, ◌∙◌, arith}
+use Rattle.std.proofs.Common.{◌≡◌, ℕ, ◌+◌, ◌-◌, ◌*◌, ◌<◌, ◌≤◌, inl, inr, List, ◌++◌, length, get_or, take, drop, refl, ap, sym, ◌∙◌, arith}
+use Rattle.std.proofs.Math.ListN.{get_or-eq_default}
+use Rattle.std.proofs.Math.Nat.{mul-le-mul_right}
+use Rattle.std.proofs.lemmas.Bool.{cases_lt}
 use Rattle.std.proofs.lemmas.List.{length-take-le, length-drop, length-append, get_or-take, get_or-drop, get_or_append_left, get_or-append_right}
-use Rattle.intra_predict.proofs.Rows.{row_fits}
 
 index_from : (side i d column row : ℕ) → column ≤ i → (row + d) * side + i ≡ side * row + column + (d * side + (i - column))
 index_from side i d column row a = omega arith
@@ -29,9 +31,32 @@ index_above side i j column row a b =
     let e : row ≡ j + 1 + (row - j - 1) = omega arith in
     rw e (above_start side i j (row - j - 1) column a)
 
--- each index of a square is within it
-pub index_within : (side i j : ℕ) → i < side → j < side → j * side + i < side * side
-index_within side i j a b = let fits : j * side + side ≤ side * side = row_fits side j b in omega (arith, fits)
+-- each place of the first rows is within them
+pub index_within : (across i j rows : ℕ) → i < across → j < rows → j * across + i < rows * across
+index_within across i j rows a b = let fits : (j + 1) * across ≤ rows * across = mul-le-mul_right across (omega (arith, b)) in omega (arith, fits, a)
+
+-- fewer rows have room where more have it
+pub rows_room : (few many across count : ℕ) → few ≤ many → many * across ≤ count → few * across ≤ count
+rows_room few many across count fewer room = let fits : few * across ≤ many * across = mul-le-mul_right across fewer in omega (arith, fits, room)
+
+-- a square has its first sample, and what its last row needs
+pub start_within : (across side column row count : ℕ) → 0 < side → column + side ≤ across → (row + side) * across ≤ count → across * row + column ≤ count
+start_within across side column row count some wide room =
+    let inside = index_within across column row (row + side) (omega (arith, some, wide)) (omega (arith, some)) in
+    omega (arith, inside, room)
+
+pub last_row_within : (across side column row count : ℕ) → 0 < side → column + side ≤ across → (row + side) * across ≤ count → across * row + column + ((side - 1) * across + side) ≤ count
+last_row_within across side column row count some wide room =
+    let last : row + side ≡ row + (side - 1) + 1 = omega (arith, some) in
+    let rows = rw last at room in
+    omega (arith, rows, wide)
+
+-- the place of a sample, by its column and row in a square
+pub from_place : (across x y i j : ℕ) → x ≤ i → y ≤ j → (y + (j - y)) * across + (x + (i - x)) ≡ j * across + i
+from_place across x y i j a b =
+    let right : x + (i - x) ≡ i = omega (arith, a) in
+    let down : y + (j - y) ≡ j = omega (arith, b) in
+    rw (right, down) refl
 
 -- what stands behind the start of a part stands in the part
 pub part_old : (old : List ℕ) (start k : ℕ) → start + k < length old → slice_index (take (length old - start) (drop start old)) k ≡ slice_index old (start + k)
@@ -50,12 +75,6 @@ part_before old tail start k inside before =
     let front : length (take start old) ≡ start = length-take-le start old inside in
     get_or_append_left (take start old) tail 0 k (omega (arith, front)) ∙ get_or-take start old k 0 before
 
--- a sample behind the start of a block that is as it was in the part is as it was in the square
-pub part_kept : (old part rest : List ℕ) (start k n : ℕ) → length part ≡ length (take (length old - start) (drop start old)) → n ≡ start + k → n < length old → slice_index part k ≡ slice_index (take (length old - start) (drop start old)) k → slice_index (take start old ++ (part ++ rest)) n ≡ slice_index old n
-part_kept old part rest start k n whole place within same =
-    let inside : start + k < length old = omega (arith, place) in
-    rw place (part_new old part rest start k whole inside ∙ same ∙ part_old old start k inside)
-
 pub whole_put : (old part rest : List ℕ) (start : ℕ) → start ≤ length old → length part ≡ length (take (length old - start) (drop start old)) → rest ≡ drop (length old - start) (drop start old) → length (take start old ++ (part ++ rest)) ≡ length old
 whole_put old part rest start room whole behind =
     let front : length (take start old) ≡ start = length-take-le start old room in
@@ -63,5 +82,13 @@ whole_put old part rest start room whole behind =
     let none : length rest ≡ 0 = ap (λ (r : List ℕ). length r) behind ∙ length-drop (length old - start) (drop start old) ∙ omega (arith, length-drop start old) in
     omega (arith, length-append (take start old) (part ++ rest), length-append part rest, front, whole, long, none)
 
-pub start_within : (side column row : ℕ) → column < side → row < side → side * row + column < side * side
-start_within side column row across down = let less = index_within side column row across down in omega (arith, less)
+-- a sample behind the start of a block that is as it was in the part is as it was in the whole
+pub part_kept : (old part rest : List ℕ) (start k n : ℕ) → start ≤ length old → length part ≡ length (take (length old - start) (drop start old)) → rest ≡ drop (length old - start) (drop start old) → n ≡ start + k → slice_index part k ≡ slice_index (take (length old - start) (drop start old)) k → slice_index (take start old ++ (part ++ rest)) n ≡ slice_index old n
+part_kept old part rest start k n room whole behind place same =
+    let long : length (take start old ++ (part ++ rest)) ≡ length old = whole_put old part rest start room whole behind in
+    elim (cases_lt n (length old)) [
+      | inl within ↦
+          let inside : start + k < length old = omega (arith, place, within) in
+          rw place (part_new old part rest start k whole inside ∙ same ∙ part_old old start k inside)
+      | inr out ↦ get_or-eq_default (take start old ++ (part ++ rest)) 0 (omega (arith, long, out)) ∙ sym (get_or-eq_default old 0 out)
+    ]

@@ -6,8 +6,8 @@ use Rattle.transforms.specs.Residuals.{held}
 abbrev pub IsInBlock : ℕ → ℕ → ℕ → ℕ → Type 0
 IsInBlock column row i j = (column ≤ i) × (i < column + 4) × (row ≤ j) × (j < row + 4)
 
--- a residual was added to the samples of such a block in a square of this side, and every other sample is as it was
-pub record IsAddedAt (residual : ℕ → ℕ → ℤ) (side column row : ℕ) (old new : List ℕ) : Type 0 where
+-- a residual was added to the samples of such a block in rows of `across` samples, and every other sample is as it was
+pub record IsAddedAt (residual : ℕ → ℕ → ℤ) (across column row : ℕ) (old new : List ℕ) : Type 0 where
   pub whole : length new ≡ length old
-  pub each : (i j : ℕ) → IsInBlock column row i j → slice_index new (j * side + i) ≡ held (pos (slice_index old (j * side + i)) +ℤ residual (i - column) (j - row))
-  pub others : (i j : ℕ) → i < side → j < side → (IsInBlock column row i j → ⊥) → slice_index new (j * side + i) ≡ slice_index old (j * side + i)
+  pub each : (i j : ℕ) → IsInBlock column row i j → slice_index new (j * across + i) ≡ held (pos (slice_index old (j * across + i)) +ℤ residual (i - column) (j - row))
+  pub others : (i j : ℕ) → i < across → (IsInBlock column row i j → ⊥) → slice_index new (j * across + i) ≡ slice_index old (j * across + i)

@@ -3,16 +3,14 @@
 ghost use Rattle.std.specs.Prelude.{◌≡◌, ◌+◌, ◌*◌, ◌/◌, ◌%◌, ◌<◌, ◌≤◌, IsTrue, length, slice_index_or, pos, ◌+ℤ◌, ◌*ℤ◌};
 ghost use Rattle.std.specs.Option.{option_copied};
 ghost use Rattle.inter_predict.specs.InterSample.{inter_sample};
-ghost use Rattle.intra_predict.specs.Blocks.{IsBlock};
 ghost use Rattle.mode_parser.specs.Vectors.{IsWithin, zero_vector};
 ghost use Rattle.pixel_planes.specs.PlaneSamples.{shown_of};
 ghost use Rattle.reference_frames.specs.InterPrediction.{kind_of, is_split, block_vector, luma_sample, chroma_sample, group_vector};
-ghost use Rattle.reference_frames.specs.PlacedBlocks.{IsPlaced};
+ghost use Rattle.reference_frames.specs.PlacedBlocks.{IsPlaced, from_corner};
 ghost use Rattle.reference_frames.specs.Restored.{restored};
 ghost use Rattle.reference_frames.specs.Unfiltered.{HoldsMacroblock, HoldsSquare, SameShape, SameSides, inter_macroblock, with_block};
 
-use crate::prediction::write_block;
-use crate::residuals::{Blocks, add_to_whole};
+use crate::residuals::{Blocks, add_to_square};
 use inter_predict::{Kind, block_in};
 use intra_predict::BlockSize;
 use mode_parser::{Vector, VectorMode, chroma_vector};
@@ -40,31 +38,26 @@ pub(crate) fn is_split(mode: VectorMode) -> bool
     }
 }
 
-/// Predicts a square of the samples of a block that stands at column `x` of row `y` of a plane and has
-/// `across` samples each way: the one of this side that begins in this column and row of the block.
-/// The vector is in eighths of a sample.
+/// Predicts the square of this side that begins in column `column` of row `row` of a plane, in the
+/// plane's samples, of which `across` stand in a row. The vector is in eighths of a sample.
 #[inline]
 fn predict_square(
     from: &Plane,
-    x: usize,
-    y: usize,
     vector: (i32, i32),
     kind: Kind,
     side: usize,
-    column: usize,
-    row: usize,
     samples: &mut [u8],
     across: usize,
+    column: usize,
+    row: usize,
 )
-    requires place { (x ≤ 16384) × (y ≤ 16384) }
     requires side { (0 < side) × (side ≤ 16) }
-    requires across { across ≤ 16 }
+    requires small { (across ≤ 16384) × (row + side ≤ 16384) }
     requires column { column + side ≤ across }
-    requires row { row + side ≤ across }
-    requires square { length samples.old ≡ across * across }
-    ensures { IsPlaced (λ i j. inter_sample kind from.now.shown (pos (x + i)) (pos (y + j)) vector.0 vector.1) across side column row samples.old samples.new }
+    requires room { (row + side) * across ≤ length samples.old }
+    ensures { IsPlaced (λ i j. inter_sample kind from.now.shown (pos i) (pos j) vector.0 vector.1) across side column row samples.old samples.new }
 {
-    let (left, top) = ((x + column) as i32, (y + row) as i32);
+    let (left, top) = (column as i32, row as i32);
     let samples = &mut samples[across * row + column..];
     block_in(from, left, top, vector, kind, side, side, samples, across);
 }
@@ -99,42 +92,32 @@ fn predict_quarter(
     vectors: &[Vector; 16],
     quarter: usize,
     samples: &mut [u8],
+    across: usize,
 )
-    requires place { (16 * mx ≤ 16384) × (16 * my ≤ 16384) }
     requires quarter { quarter < 4 }
-    requires square { length samples.old ≡ 256 }
-    ensures { IsPlaced (luma_sample kind from.now.shown mx my (λ n. slice_index_or vectors.now n zero_vector)) 16 8 (8 * (quarter % 2)) (8 * (quarter / 2)) samples.old samples.new }
+    requires small { (across ≤ 16384) × (16 * my + 16 ≤ 16384) }
+    requires column { 16 * mx + 16 ≤ across }
+    requires room { (16 * my + 16) * across ≤ length samples.old }
+    ensures { IsPlaced (from_corner (16 * mx) (16 * my) (luma_sample kind from.now.shown mx my (λ n. slice_index_or vectors.now n zero_vector))) across 8 (16 * mx + 8 * (quarter % 2)) (16 * my + 8 * (quarter / 2)) samples.old samples.new }
 {
-    let (x, y) = (16 * mx, 16 * my);
-    let (column, row) = (8 * (quarter % 2), 8 * (quarter / 2));
+    let (x, y) = (16 * mx + 8 * (quarter % 2), 16 * my + 8 * (quarter / 2));
     let n = 8 * (quarter / 2) + 2 * (quarter % 2);
     let first = eighths(vectors, n);
     let second = eighths(vectors, n + 1);
     let third = eighths(vectors, n + 4);
     let fourth = eighths(vectors, n + 5);
     if are_same(first, second) && are_same(first, third) && are_same(first, fourth) {
-        predict_square(from, x, y, first, kind, 8, column, row, samples, 16);
+        predict_square(from, first, kind, 8, samples, across, x, y);
         return;
     }
-    predict_square(from, x, y, first, kind, 4, column, row, samples, 16);
-    predict_square(from, x, y, second, kind, 4, column + 4, row, samples, 16);
-    predict_square(from, x, y, third, kind, 4, column, row + 4, samples, 16);
-    predict_square(
-        from,
-        x,
-        y,
-        fourth,
-        kind,
-        4,
-        column + 4,
-        row + 4,
-        samples,
-        16,
-    );
+    predict_square(from, first, kind, 4, samples, across, x, y);
+    predict_square(from, second, kind, 4, samples, across, x + 4, y);
+    predict_square(from, third, kind, 4, samples, across, x, y + 4);
+    predict_square(from, fourth, kind, 4, samples, across, x + 4, y + 4);
 }
 
-/// Predicts the luma of the macroblock in column `mx` of row `my`: as one block, or where it is split
-/// by its quarters.
+/// Predicts the luma of the macroblock in column `mx` of row `my`, in a plane's samples, of which
+/// `across` stand in a row: as one block, or where it is split by its quarters.
 fn luma_samples(
     from: &Plane,
     mx: usize,
@@ -143,30 +126,22 @@ fn luma_samples(
     mode: VectorMode,
     vectors: &[Vector; 16],
     samples: &mut [u8],
+    across: usize,
 )
-    requires place { (16 * mx ≤ 16384) × (16 * my ≤ 16384) }
-    requires square { length samples.old ≡ 256 }
-    ensures { IsBlock 16 (luma_sample kind from.now.shown mx my (block_vector mode vectors.now)) samples.new }
+    requires small { (across ≤ 16384) × (16 * my + 16 ≤ 16384) }
+    requires column { 16 * mx + 16 ≤ across }
+    requires room { (16 * my + 16) * across ≤ length samples.old }
+    ensures { IsPlaced (from_corner (16 * mx) (16 * my) (luma_sample kind from.now.shown mx my (block_vector mode vectors.now))) across 16 (16 * mx) (16 * my) samples.old samples.new }
 {
     if is_split(mode) {
-        predict_quarter(from, mx, my, kind, vectors, 0, samples);
-        predict_quarter(from, mx, my, kind, vectors, 1, samples);
-        predict_quarter(from, mx, my, kind, vectors, 2, samples);
-        predict_quarter(from, mx, my, kind, vectors, 3, samples);
+        predict_quarter(from, mx, my, kind, vectors, 0, samples, across);
+        predict_quarter(from, mx, my, kind, vectors, 1, samples, across);
+        predict_quarter(from, mx, my, kind, vectors, 2, samples, across);
+        predict_quarter(from, mx, my, kind, vectors, 3, samples, across);
         return;
     }
-    predict_square(
-        from,
-        16 * mx,
-        16 * my,
-        eighths(vectors, 15),
-        kind,
-        16,
-        0,
-        0,
-        samples,
-        16,
-    );
+    let vector = eighths(vectors, 15);
+    predict_square(from, vector, kind, 16, samples, across, 16 * mx, 16 * my);
 }
 
 /// The vector of luma block `n` of a macroblock (RFC 6386, section 16.3).
@@ -211,8 +186,8 @@ fn group_vector(mode: VectorMode, vectors: &[Vector; 16], group: usize, version:
     (chroma_vector(x, version), chroma_vector(y, version))
 }
 
-/// Predicts a chroma plane's samples of the macroblock in column `mx` of row `my`: as one block, or
-/// where it is split by four.
+/// Predicts the macroblock in column `mx` of row `my` in a chroma plane's samples, of which `across`
+/// stand in a row: as one block, or where it is split by four.
 fn chroma_samples(
     from: &Plane,
     mx: usize,
@@ -221,10 +196,12 @@ fn chroma_samples(
     mode: VectorMode,
     vectors: &[Vector; 16],
     samples: &mut [u8],
+    across: usize,
 )
-    requires place { (8 * mx ≤ 16384) × (8 * my ≤ 16384) }
-    requires square { length samples.old ≡ 64 }
-    ensures { IsBlock 8 (chroma_sample version from.now.shown mx my (block_vector mode vectors.now)) samples.new }
+    requires small { (across ≤ 16384) × (8 * my + 8 ≤ 16384) }
+    requires column { 8 * mx + 8 ≤ across }
+    requires room { (8 * my + 8) * across ≤ length samples.old }
+    ensures { IsPlaced (from_corner (8 * mx) (8 * my) (chroma_sample version from.now.shown mx my (block_vector mode vectors.now))) across 8 (8 * mx) (8 * my) samples.old samples.new }
 {
     let kind = kind_of(version);
     let (x, y) = (8 * mx, 8 * my);
@@ -233,13 +210,13 @@ fn chroma_samples(
         let second = group_vector(mode, vectors, 1, version);
         let third = group_vector(mode, vectors, 2, version);
         let fourth = group_vector(mode, vectors, 3, version);
-        predict_square(from, x, y, first, kind, 4, 0, 0, samples, 8);
-        predict_square(from, x, y, second, kind, 4, 4, 0, samples, 8);
-        predict_square(from, x, y, third, kind, 4, 0, 4, samples, 8);
-        predict_square(from, x, y, fourth, kind, 4, 4, 4, samples, 8);
+        predict_square(from, first, kind, 4, samples, across, x, y);
+        predict_square(from, second, kind, 4, samples, across, x + 4, y);
+        predict_square(from, third, kind, 4, samples, across, x, y + 4);
+        predict_square(from, fourth, kind, 4, samples, across, x + 4, y + 4);
         return;
     }
-    predict_square(from, x, y, first, kind, 8, 0, 0, samples, 8);
+    predict_square(from, first, kind, 8, samples, across, x, y);
 }
 
 /// Predicts the luma of a macroblock from a reference's, and adds its residual.
@@ -257,10 +234,12 @@ fn predict_luma(
     ensures value { plane.new.shown ≡ with_block plane.old.shown (16 * mx) (16 * my) 16 (restored 16 0 (option_copied residual.entry) (luma_sample (kind_of version) from.now.shown mx my (block_vector mode vectors.now))) }
     ensures sides { SameSides plane.old.shown plane.new.shown }
 {
-    let mut samples = [0; 256];
-    luma_samples(from, mx, my, kind_of(version), mode, vectors, &mut samples);
-    add_to_whole(residual, 0, BlockSize::Sixteen, &mut samples);
-    write_block(plane, 16 * mx, 16 * my, 16, &samples);
+    let width = plane.width();
+    let samples = plane.samples_mut();
+    let kind = kind_of(version);
+    luma_samples(from, mx, my, kind, mode, vectors, samples, width);
+    let size = BlockSize::Sixteen;
+    add_to_square(residual, 0, size, samples, width, 16 * mx, 16 * my);
 }
 
 /// Predicts a macroblock's samples of a chroma plane from a reference's, and adds its residual, whose
@@ -281,10 +260,11 @@ fn predict_chroma(
     ensures value { plane.new.shown ≡ with_block plane.old.shown (8 * mx) (8 * my) 8 (restored 8 first (option_copied residual.entry) (chroma_sample version from.now.shown mx my (block_vector mode vectors.now))) }
     ensures sides { SameSides plane.old.shown plane.new.shown }
 {
-    let mut samples = [0; 64];
-    chroma_samples(from, mx, my, version, mode, vectors, &mut samples);
-    add_to_whole(residual, first, BlockSize::Eight, &mut samples);
-    write_block(plane, 8 * mx, 8 * my, 8, &samples);
+    let width = plane.width();
+    let samples = plane.samples_mut();
+    chroma_samples(from, mx, my, version, mode, vectors, samples, width);
+    let size = BlockSize::Eight;
+    add_to_square(residual, first, size, samples, width, 8 * mx, 8 * my);
 }
 
 /// Predicts the macroblock in column `mx` of row `my` of a frame of this version from a picture, by

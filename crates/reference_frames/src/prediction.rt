@@ -156,7 +156,7 @@ fn write_rows(samples: &mut [u8], start: usize, stride: usize, side: usize, bloc
 
 /// Writes a block of `side` by `side` samples at column `x` of row `y`.
 #[inline(always)]
-pub(crate) fn write_block(plane: &mut Plane, x: usize, y: usize, side: usize, block: &[u8])
+fn write_block(plane: &mut Plane, x: usize, y: usize, side: usize, block: &[u8])
     requires within { HoldsSquare plane.old.shown x y side }
     requires small { side ≤ 16 }
     requires whole { length block.now ≡ side * side }

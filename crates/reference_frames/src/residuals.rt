@@ -8,6 +8,7 @@ ghost use Rattle.transforms.specs.Residuals.{IsAdded};
 ghost use Rattle.transforms.specs.Transforms.{inverse_dct};
 ghost use Rattle.reference_frames.specs.Restored.{restored};
 ghost use Rattle.reference_frames.specs.AddedBlocks.{IsAddedAt};
+ghost use Rattle.reference_frames.specs.PlacedBlocks.{IsPlaced, from_corner, square_from};
 
 use intra_predict::BlockSize;
 use std::simd::i16x8;
@@ -34,7 +35,7 @@ fn has_only_first(coefficients: &[i16; 16]) -> bool
 /// apart.
 #[inline(always)]
 fn add_block(coefficients: &[i16; 16], samples: &mut [u8], stride: usize)
-    requires wide { (4 ≤ stride) × (stride ≤ 16) }
+    requires wide { (4 ≤ stride) × (stride ≤ 16384) }
     requires room { 3 * stride + 4 ≤ length samples.old }
     ensures { IsAdded (inverse_dct coefficients.now) stride samples.old samples.new }
 {
@@ -45,49 +46,80 @@ fn add_block(coefficients: &[i16; 16], samples: &mut [u8], stride: usize)
     }
 }
 
-/// Adds the residual of a block to its samples in a square, from this column and row on.
+/// Adds the residual of a block to its samples in rows of `across` samples, from this column and
+/// row on.
 #[inline(always)]
-fn add_at(coefficients: &[i16; 16], samples: &mut [u8], size: BlockSize, column: usize, row: usize)
-    requires square { length samples.old ≡ side_of size * side_of size }
-    requires column { column + 4 ≤ side_of size }
-    requires row { row + 4 ≤ side_of size }
-    ensures { IsAddedAt (inverse_dct coefficients.now) (side_of size) column row samples.old samples.new }
+fn add_at(coefficients: &[i16; 16], samples: &mut [u8], across: usize, column: usize, row: usize)
+    requires small { (across ≤ 16384) × (row + 4 ≤ 16384) }
+    requires column { column + 4 ≤ across }
+    requires room { (row + 4) * across ≤ length samples.old }
+    ensures { IsAddedAt (inverse_dct coefficients.now) across column row samples.old samples.new }
 {
-    let side = size.side();
-    add_block(coefficients, &mut samples[side * row + column..], side);
+    add_block(coefficients, &mut samples[across * row + column..], across);
 }
 
 /// Adds the residual of a macroblock to one of its squares, whose blocks are numbered from `first`
-/// on.
+/// on, and which begins in column `x` of row `y` of rows of `across` samples.
 #[inline]
-fn add_blocks(blocks: &Blocks, first: usize, size: BlockSize, samples: &mut [u8])
+fn add_blocks(
+    blocks: &Blocks,
+    first: usize,
+    size: BlockSize,
+    samples: &mut [u8],
+    across: usize,
+    x: usize,
+    y: usize,
+)
     requires first { first + side_of size / 4 * (side_of size / 4) ≤ 24 }
-    requires square { length samples.old ≡ side_of size * side_of size }
-    ensures { IsBlock (side_of size) (restored (side_of size) first (Some blocks.now) (λ column row. slice_index samples.old (row * side_of size + column))) samples.new }
+    requires small { (across ≤ 16384) × (y + side_of size ≤ 16384) }
+    requires column { x + side_of size ≤ across }
+    requires room { (y + side_of size) * across ≤ length samples.old }
+    ensures { IsPlaced (from_corner x y (restored (side_of size) first (Some blocks.now) (square_from samples.old across x y))) across (side_of size) x y samples.old samples.new }
 {
-    let across = size.side() / 4;
-    for k in 0..across * across {
+    let blocks_across = size.side() / 4;
+    for k in 0..blocks_across * blocks_across {
         add_at(
             &blocks[first + k],
             samples,
-            size,
-            4 * (k % across),
-            4 * (k / across),
+            across,
+            x + 4 * (k % blocks_across),
+            y + 4 * (k / blocks_across),
         );
     }
 }
 
 /// Adds the residual of a macroblock, if it has one, to one of its squares, whose blocks are numbered
-/// from `first` on.
+/// from `first` on, and which begins in column `x` of row `y` of rows of `across` samples.
+#[inline]
+pub fn add_to_square(
+    residual: Option<&Blocks>,
+    first: usize,
+    size: BlockSize,
+    samples: &mut [u8],
+    across: usize,
+    x: usize,
+    y: usize,
+)
+    requires first { first + side_of size / 4 * (side_of size / 4) ≤ 24 }
+    requires small { (across ≤ 16384) × (y + side_of size ≤ 16384) }
+    requires column { x + side_of size ≤ across }
+    requires room { (y + side_of size) * across ≤ length samples.old }
+    ensures { IsPlaced (from_corner x y (restored (side_of size) first (option_copied residual.entry) (square_from samples.old across x y))) across (side_of size) x y samples.old samples.new }
+{
+    if let Some(blocks) = residual {
+        add_blocks(blocks, first, size, samples, across, x, y);
+    }
+}
+
+/// Adds the residual of a macroblock, if it has one, to the samples of one of its squares, whose
+/// blocks are numbered from `first` on.
 #[inline]
 pub fn add_to_whole(residual: Option<&Blocks>, first: usize, size: BlockSize, samples: &mut [u8])
     requires first { first + side_of size / 4 * (side_of size / 4) ≤ 24 }
     requires square { length samples.old ≡ side_of size * side_of size }
     ensures { IsBlock (side_of size) (restored (side_of size) first (option_copied residual.entry) (λ column row. slice_index samples.old (row * side_of size + column))) samples.new }
 {
-    if let Some(blocks) = residual {
-        add_blocks(blocks, first, size, samples);
-    }
+    add_to_square(residual, first, size, samples, size.side(), 0, 0);
 }
 
 /// Adds the residual of a macroblock, if it has one, to its sub block of this number.
