@@ -30,7 +30,7 @@ build() {
         exit 1
     fi
     mkdir -p "$out"
-    echo "serve.sh: building vp8serve for $cpu. Every crate is proved first, which takes about ten minutes where" >&2
+    echo "serve.sh: building vp8serve for $cpu. Every crate is proved first, which takes ten to thirty minutes where" >&2
     echo "serve.sh: that was not done before, and needs no network. What rt tells goes to $out/build.log" >&2
     rm -f "$out/built"
     # Without requests the program that was built runs, and does nothing.
