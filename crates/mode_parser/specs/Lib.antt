@@ -3,6 +3,7 @@ pub mod Vectors
 pub mod Records
 pub mod NearVectors
 pub mod Neighbours
+pub mod Candidates
 pub mod VectorReading
 pub mod InterRecords
 pub mod ChromaVectors
