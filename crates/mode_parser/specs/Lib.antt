@@ -9,5 +9,6 @@ pub mod InterRecords
 pub mod ChromaVectors
 pub mod Segments
 pub mod FrameModes
+pub mod Appending
 pub mod KeyShape
 pub mod Worked
