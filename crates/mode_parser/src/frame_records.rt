@@ -1,86 +1,20 @@
 //! The records of a frame, in raster order.
 
-ghost use Rattle.std.specs.Prelude.{◌≡◌, ◌<◌, ◌≤◌, ◌+◌, ◌*◌, ℕ, length, IfOk, OnOk};
+ghost use Rattle.std.specs.Prelude.{◌≡◌, ◌<◌, ◌≤◌, ◌*◌, length, IfOk, OnOk};
 ghost use Rattle.std.specs.Option.{option_copied};
-ghost use Rattle.mode_parser.specs.FrameModes.{record_above, record_left, record_above_left, place_of, prediction_at, first_modes};
+ghost use Rattle.mode_parser.specs.FrameModes.{place_of, prediction_at, first_modes};
 ghost use Rattle.mode_parser.specs.Appending.{appended, one_more};
 
-use crate::inter_modes::read_inter_mode;
+use crate::inter_modes::push_inter_mode;
 use crate::key_modes::read_key_mode;
 use crate::nearby::MbPlace;
+use crate::places::{next_place, record_above, record_left};
 use crate::records::MbMode;
 use crate::segments::read_segment;
 use bool_coder::{Decoder, NoMemory};
 use frame_header::Header;
 use std::alloc::Global;
 use vp8_tables::Tables;
-
-/// The record above the place behind these; `None` outside the frame.
-#[inline]
-fn record_above(records: &[MbMode], columns: usize) -> Option<&MbMode>
-    ensures { option_copied result ≡ record_above records.now columns (length records.now) }
-{
-    let number = records.len();
-    if number < columns {
-        None
-    } else {
-        records.get(number - columns)
-    }
-}
-
-/// The record to the left of `place`, which is the place behind these; `None` outside the frame.
-#[inline]
-fn record_left(records: &[MbMode], place: MbPlace) -> Option<&MbMode>
-    requires { place ≡ place_of place.columns place.rows (length records.now) }
-    ensures { option_copied result ≡ record_left records.now place.columns (length records.now) }
-{
-    if place.column == 0 {
-        None
-    } else {
-        records.get(records.len() - 1)
-    }
-}
-
-/// The record above and to the left of `place`, which is the place behind these; `None` outside the
-/// frame.
-#[inline]
-fn record_above_left(records: &[MbMode], place: MbPlace) -> Option<&MbMode>
-    requires { place ≡ place_of place.columns place.rows (length records.now) }
-    ensures { option_copied result ≡ record_above_left records.now place.columns (length records.now) }
-{
-    let number = records.len();
-    if number < place.columns || place.column == 0 {
-        None
-    } else {
-        records.get(number - place.columns - 1)
-    }
-}
-
-/// The place behind one in raster order.
-#[inline]
-fn next_place(place: MbPlace) -> MbPlace
-    requires across { place.column < place.columns }
-    requires wide { place.columns ≤ 1024 }
-    requires down { place.row < 1024 }
-    ensures { (number : ℕ) → place ≡ place_of place.columns place.rows number → result ≡ place_of place.columns place.rows (number + 1) }
-{
-    let column = place.column + 1;
-    if column < place.columns {
-        MbPlace {
-            column,
-            row: place.row,
-            columns: place.columns,
-            rows: place.rows,
-        }
-    } else {
-        MbPlace {
-            column: 0,
-            row: place.row + 1,
-            columns: place.columns,
-            rows: place.rows,
-        }
-    }
-}
 
 /// Reads the record at `place`, which is the place behind these, but for its segment, which stands
 /// before the rest, and puts it behind them.
@@ -98,16 +32,12 @@ fn push_prediction(
     requires down { (place.row < place.rows) × (place.rows ≤ 1024) }
     ensures { OnOk result (appended segment records.old.items (prediction_at tables.now header.now place.columns place.rows (length records.old.items) records.old.items) reader.old ≡ (records.new.items, reader.new)) }
 {
+    if !header.is_key {
+        return push_inter_mode(reader, header, segment, place, records);
+    }
     let above = record_above(records, place.columns);
     let left = record_left(records, place);
-    if header.is_key {
-        let mut mode = read_key_mode(reader, tables, header.skip_probability, above, left);
-        mode.segment = segment;
-        records.push(mode)?;
-        return Ok(());
-    }
-    let above_left = record_above_left(records, place);
-    let mut mode = read_inter_mode(reader, header, place, above, left, above_left);
+    let mut mode = read_key_mode(reader, tables, header.skip_probability, above, left);
     mode.segment = segment;
     records.push(mode)?;
     Ok(())

@@ -1,20 +1,23 @@
 //! The record of a macroblock in an inter frame (RFC 6386, sections 16 and 19.3).
 
-ghost use Rattle.std.specs.Prelude.{◌≡◌, ◌<◌, ◌≤◌};
+ghost use Rattle.std.specs.Prelude.{◌≡◌, ◌<◌, ◌≤◌, length, OnOk};
 ghost use Rattle.std.specs.Option.{option_copied};
 ghost use Rattle.mode_parser.specs.Vectors.{IsWithin};
-ghost use Rattle.mode_parser.specs.InterRecords.{inter_y_mode, first_inter_sub_modes, which_reference, vector_mode, split_vectors, intra_mode, referenced_mode, inter_mode};
+ghost use Rattle.mode_parser.specs.InterRecords.{inter_y_mode, first_inter_sub_modes, which_reference, vector_mode, split_vectors, intra_mode};
+ghost use Rattle.mode_parser.specs.FrameModes.{place_of};
+ghost use Rattle.mode_parser.specs.Appending.{appended, referenced_mode_at, inter_mode_at};
 ghost use Rattle.mode_parser.specs.Candidates.{AreLight, counts_of, moved_record};
 ghost use Rattle.mode_parser.specs.declared.records.VectorMode.TheVariants.{Split};
 
 use crate::key_modes::{read_skip, read_uv_mode};
 use crate::key_sub_modes::read_sub_mode;
 use crate::nearby::{Candidates, MbPlace, candidates_of};
+use crate::places::{record_above, record_above_left, record_left};
 use crate::records::{MbMode, VectorMode, YMode};
 use crate::split_vectors::read_split_vectors;
 use crate::vector_reading::read_vector;
 use crate::vectors::Vector;
-use bool_coder::Decoder;
+use bool_coder::{Decoder, NoMemory};
 use frame_header::{Header, Probabilities, Reference, ReferenceProbabilities};
 use intra_predict::{SubMode, WholeMode};
 use vp8_tables::{INTER_SUB_PROBABILITIES, VECTOR_MODE_PROBABILITIES};
@@ -122,11 +125,18 @@ fn read_split_mode(
     }
 }
 
-/// The record of a macroblock without a reference.
+/// Reads the record of a macroblock without a reference, and puts it behind these. It is a call of
+/// its own for the same reason as `read_split_mode`.
 #[inline(never)]
 #[tactic(auto, unfolding(crate::specs::InterRecords::intra_mode, crate::specs::InterRecords::inter_sub_modes))]
-fn read_intra_mode(reader: &mut Decoder, is_skipped: bool, probabilities: &Probabilities) -> MbMode
-    ensures { intra_mode is_skipped probabilities.now reader.old ≡ (result, reader.new) }
+fn push_intra_mode(
+    reader: &mut Decoder,
+    is_skipped: bool,
+    probabilities: &Probabilities,
+    segment: u8,
+    records: &mut Vec<MbMode>,
+) -> Result<(), NoMemory>
+    ensures { OnOk result (appended segment records.old.items (intra_mode is_skipped probabilities.now) reader.old ≡ (records.new.items, reader.new)) }
 {
     let y_mode = read_y_mode(reader, &probabilities.y_modes);
     let sub_modes = match y_mode {
@@ -134,33 +144,38 @@ fn read_intra_mode(reader: &mut Decoder, is_skipped: bool, probabilities: &Proba
         YMode::B => read_sub_modes(reader),
     };
     let uv_mode = read_uv_mode(reader, &probabilities.uv_modes);
-    MbMode {
-        segment: 0,
+    records.push(MbMode {
+        segment,
         is_skipped,
         y_mode,
         sub_modes,
         uv_mode,
         vectors: [Vector::ZERO; 16],
-    }
+    })?;
+    Ok(())
 }
 
-/// The record of a macroblock with a reference, at `place`, below and to the right of these.
+/// Reads the record of a macroblock with a reference, at `place`, which is the place behind these,
+/// and puts it behind them.
 #[inline]
 #[tactic(auto, unfolding(crate::specs::InterRecords::referenced_mode, crate::specs::InterRecords::vectors_by))]
-fn read_referenced_mode(
+fn push_referenced_mode(
     reader: &mut Decoder,
     is_skipped: bool,
     header: &Header,
+    segment: u8,
     place: MbPlace,
-    above: Option<&MbMode>,
-    left: Option<&MbMode>,
-    above_left: Option<&MbMode>,
-) -> MbMode
+    records: &mut Vec<MbMode>,
+) -> Result<(), NoMemory>
+    requires at { place ≡ place_of place.columns place.rows (length records.old.items) }
     requires across { (place.column < place.columns) × (place.columns ≤ 1024) }
     requires down { (place.row < place.rows) × (place.rows ≤ 1024) }
-    ensures { referenced_mode is_skipped header.now place (option_copied above.entry) (option_copied left.entry) (option_copied above_left.entry) reader.old ≡ (result, reader.new) }
+    ensures { OnOk result (appended segment records.old.items (referenced_mode_at is_skipped header.now place records.old.items) reader.old ≡ (records.new.items, reader.new)) }
 {
     let context = &header.context;
+    let above = record_above(records, place.columns);
+    let left = record_left(records, place);
+    let above_left = record_above_left(records, place);
     let reference = read_reference(reader, header.reference_probabilities);
     let found = candidates_of(above, left, above_left, reference, context.sign_biases);
     let probabilities = &context.probabilities.vectors;
@@ -172,7 +187,7 @@ fn read_referenced_mode(
         VectorMode::New => found.best(place).plus(read_vector(reader, probabilities)),
         VectorMode::Split => {
             let best = found.best(place);
-            return read_split_mode(
+            let mut split = read_split_mode(
                 reader,
                 is_skipped,
                 reference,
@@ -181,38 +196,48 @@ fn read_referenced_mode(
                 above,
                 left,
             );
+            split.segment = segment;
+            records.push(split)?;
+            return Ok(());
         }
     };
-    MbMode {
-        segment: 0,
+    records.push(MbMode {
+        segment,
         is_skipped,
         y_mode: YMode::Inter(reference, mode),
         sub_modes: [SubMode::Dc; 16],
         uv_mode: WholeMode::Dc,
         vectors: [vector; 16],
-    }
+    })?;
+    Ok(())
 }
 
-/// The record of a macroblock at `place`, below and to the right of these, in an inter frame, in
-/// segment 0. It is a call of its own for the same reason as `read_split_mode`.
-#[inline(never)]
+/// Reads the record of a macroblock in an inter frame, at `place`, which is the place behind these,
+/// and puts it behind them. Most records are made right where they are put: one that is handed on
+/// is copied each time.
+#[inline]
 #[tactic(auto, unfolding(crate::specs::InterRecords::inter_mode))]
-pub(crate) fn read_inter_mode(
+pub(crate) fn push_inter_mode(
     reader: &mut Decoder,
     header: &Header,
+    segment: u8,
     place: MbPlace,
-    above: Option<&MbMode>,
-    left: Option<&MbMode>,
-    above_left: Option<&MbMode>,
-) -> MbMode
+    records: &mut Vec<MbMode>,
+) -> Result<(), NoMemory>
+    requires at { place ≡ place_of place.columns place.rows (length records.old.items) }
     requires across { (place.column < place.columns) × (place.columns ≤ 1024) }
     requires down { (place.row < place.rows) × (place.rows ≤ 1024) }
-    ensures { inter_mode header.now place (option_copied above.entry) (option_copied left.entry) (option_copied above_left.entry) reader.old ≡ (result, reader.new) }
+    ensures { OnOk result (appended segment records.old.items (inter_mode_at header.now place records.old.items) reader.old ≡ (records.new.items, reader.new)) }
 {
     let is_skipped = read_skip(reader, header.skip_probability);
     if reader.bit(header.reference_probabilities.inter) {
-        read_referenced_mode(reader, is_skipped, header, place, above, left, above_left)
-    } else {
-        read_intra_mode(reader, is_skipped, &header.context.probabilities)
+        return push_referenced_mode(reader, is_skipped, header, segment, place, records);
     }
+    push_intra_mode(
+        reader,
+        is_skipped,
+        &header.context.probabilities,
+        segment,
+        records,
+    )
 }

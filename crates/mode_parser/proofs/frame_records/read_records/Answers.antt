@@ -1,6 +1,6 @@
 use Rattle.std.proofs.Common.{ap, arith, refl, length}
 use Rattle.mode_parser.proofs.Steps.{first_modes-none, first_modes-more, one_more-length}
-use Rattle.mode_parser.proofs.Places.{place-start}
+use Rattle.mode_parser.proofs.PlaceLemmas.{place-start}
 use Rattle.mode_parser.proofs.frame_records.read_records.Goals as goal
 
 pub loop-number-init : goal.loop-number-init

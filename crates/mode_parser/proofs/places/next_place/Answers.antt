@@ -1,6 +1,6 @@
 use Rattle.std.proofs.Common.{ap}
-use Rattle.mode_parser.proofs.Places.{place-on, place-down}
-use Rattle.mode_parser.proofs.frame_records.next_place.Goals as goal
+use Rattle.mode_parser.proofs.PlaceLemmas.{place-on, place-down}
+use Rattle.mode_parser.proofs.places.next_place.Goals as goal
 
 pub returns-then-column-place : goal.returns-then-column-place
 returns-then-column-place c = λ number is. place-on _ _ _ _ number (ap (λ p. p.column) is) (ap (λ p. p.row) is) c.if-column-place.true
