@@ -37,7 +37,9 @@ fn push_prediction(
     }
     let above = record_above(records, place.columns);
     let left = record_left(records, place);
-    let mut mode = read_key_mode(reader, tables, header.skip_probability, above, left);
+    let mut local = reader.copied();
+    let mut mode = read_key_mode(&mut local, tables, header.skip_probability, above, left);
+    *reader = local;
     mode.segment = segment;
     records.push(mode)?;
     Ok(())

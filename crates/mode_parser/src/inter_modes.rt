@@ -186,16 +186,17 @@ fn push_referenced_mode(
         VectorMode::Near => found.near(place),
         VectorMode::New => found.best(place).plus(read_vector(reader, probabilities)),
         VectorMode::Split => {
-            let best = found.best(place);
+            let mut local = reader.copied();
             let mut split = read_split_mode(
-                reader,
+                &mut local,
                 is_skipped,
                 reference,
-                best,
+                found.best(place),
                 probabilities,
                 above,
                 left,
             );
+            *reader = local;
             split.segment = segment;
             records.push(split)?;
             return Ok(());
@@ -214,7 +215,7 @@ fn push_referenced_mode(
 
 /// Reads the record of a macroblock in an inter frame, at `place`, which is the place behind these,
 /// and puts it behind them. Most records are made right where they are put: one that is handed on
-/// is copied each time.
+/// is copied each time. Calls get copies of the reader, so that it stays in registers here.
 #[inline]
 #[tactic(auto, unfolding(crate::specs::InterRecords::inter_mode))]
 pub(crate) fn push_inter_mode(
@@ -233,11 +234,9 @@ pub(crate) fn push_inter_mode(
     if reader.bit(header.reference_probabilities.inter) {
         return push_referenced_mode(reader, is_skipped, header, segment, place, records);
     }
-    push_intra_mode(
-        reader,
-        is_skipped,
-        &header.context.probabilities,
-        segment,
-        records,
-    )
+    let mut local = reader.copied();
+    let probabilities = &header.context.probabilities;
+    push_intra_mode(&mut local, is_skipped, probabilities, segment, records)?;
+    *reader = local;
+    Ok(())
 }
