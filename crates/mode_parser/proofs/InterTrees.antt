@@ -1,5 +1,5 @@
 -- Modes and vectors of inter frames by the leaf to which a walk leads
-use Rattle.std.proofs.Common.{◌≡◌, ℕ, ◌<◌, ◌≤◌, true, false, List, [], length, take, slice_index_or, refl, ◌∙◌, arith}
+use Rattle.std.proofs.Common.{◌≡◌, ℕ, ◌<◌, ◌≤◌, Bool, true, false, List, [], ◌∷◌, ◌++◌, length, take, slice_index_or, refl, ◌∙◌, arith}
 use Rattle.std.specs.Prelude.{Option, nat_eq}
 use Rattle.std.proofs.lemmas.Bool.Decides.{nat_tests}
 use Rattle.std.proofs.lemmas.List.{get_or-take, get_or_default}
@@ -7,12 +7,20 @@ use Rattle.bool_coder.specs.Reader.{Reader}
 use Rattle.bool_coder.specs.Trees.{leaf_below, leaf}
 use Rattle.vp8_tables.specs.declared.modes.TheConstants.{INTER_Y_TREE, VECTOR_MODE_TREE, SPLIT_TREE, SPLIT_PROBABILITIES, SPLIT_STARTS, PART_VECTOR_TREE, PART_VECTOR_PROBABILITIES}
 use Rattle.mode_parser.specs.declared.records.MbMode.{MbMode}
-use Rattle.mode_parser.specs.declared.records.YMode.TheVariants.{B}
+use Rattle.intra_predict.specs.declared.modes.WholeMode.TheVariants.{Dc}
+use Rattle.frame_header.specs.declared.references.Reference.{Reference}
+use Rattle.frame_header.specs.declared.header.Header.{Header}
+use Rattle.mode_parser.specs.declared.nearby.MbPlace.{MbPlace}
+use Rattle.mode_parser.specs.declared.nearby.Near.{Near}
+use Rattle.mode_parser.specs.declared.records.VectorMode.{VectorMode}
+use Rattle.mode_parser.specs.declared.records.YMode.TheVariants.{B, Inter}
+use Rattle.mode_parser.specs.NearVectors.{near_of}
+use Rattle.mode_parser.specs.Appending.{appended}
 use Rattle.mode_parser.specs.declared.records.VectorMode.TheVariants.{Split}
 use Rattle.mode_parser.specs.Vectors.{MotionVector, zero_vector, sum_of}
 use Rattle.mode_parser.specs.VectorReading.{new_vector}
-use Rattle.mode_parser.specs.Records.{y_modes}
-use Rattle.mode_parser.specs.InterRecords.{inter_y_mode, vector_modes, counted_probabilities, vector_mode, vector_above, vector_left, part_row, part_vector, block_vector, split_starts}
+use Rattle.mode_parser.specs.Records.{y_modes, no_sub_modes}
+use Rattle.mode_parser.specs.InterRecords.{inter_y_mode, vector_modes, counted_probabilities, vector_mode, vector_above, vector_left, part_row, part_vector, block_vector, split_starts, which_reference, vectors_by, referenced_mode}
 
 pub inter_y_mode-leaf : (probabilities : List ℕ) (number : ℕ) (r s : Reader) → leaf_below 8 INTER_Y_TREE probabilities 0 r ≡ (number, s) → inter_y_mode probabilities r ≡ (slice_index_or y_modes number B, s)
 unfolding inter_y_mode leaf
@@ -54,3 +62,8 @@ block_vector-first start probabilities best above left vectors n beside over her
 pub vector_mode-leaf : (counts nodes : List ℕ) (number : ℕ) (r s : Reader) → nodes ≡ counted_probabilities counts → leaf_below 8 VECTOR_MODE_TREE nodes 0 r ≡ (number, s) → vector_mode counts r ≡ (slice_index_or vector_modes number Split, s)
 unfolding vector_mode leaf
 vector_mode-leaf counts nodes number r s are told = let there = rw are at told in rw there refl
+
+-- a record with a reference behind those before it, by the parts from which the code makes it
+pub referenced_mode-appended : (is_skipped : Bool) (header : Header) (segment : ℕ) (place : MbPlace) (above left above_left : Option MbMode) (before : List MbMode) (from : Reference) (near : Near) (mode : VectorMode) (vectors : List MotionVector) (r s t u : Reader) → which_reference header.reference_probabilities r ≡ (from, s) → near ≡ near_of above left above_left from header.context.sign_biases place → vector_mode near.counts s ≡ (mode, t) → vectors_by mode near header.context.probabilities.vectors above left t ≡ (vectors, u) → appended segment before (referenced_mode is_skipped header place above left above_left) r ≡ (before ++ record { segment = segment; is_skipped = is_skipped; y_mode = Inter from mode; sub_modes = no_sub_modes; uv_mode = Dc; vectors = vectors } ∷ [], u)
+unfolding referenced_mode
+referenced_mode-appended is_skipped header segment place above left above_left before from near mode vectors r s t u is_from is_near is_mode are_vectors = rw (is_from, ← is_near, is_mode, are_vectors) refl

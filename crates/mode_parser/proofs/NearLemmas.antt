@@ -7,7 +7,6 @@ use Rattle.frame_header.specs.declared.references.Reference.{Reference}
 use Rattle.frame_header.specs.declared.context.SignBiases.{SignBiases}
 use Rattle.mode_parser.specs.declared.records.MbMode.{MbMode}
 use Rattle.mode_parser.specs.declared.nearby.MbPlace.{MbPlace}
-use Rattle.mode_parser.specs.declared.nearby.Near.{Near}
 use Rattle.mode_parser.specs.declared.neighbours.Weighted.{Weighted}
 use Rattle.mode_parser.specs.declared.neighbours.Neighbours.{Neighbours}
 use Rattle.mode_parser.specs.Neighbours.{listed_in, listing_in}
@@ -23,18 +22,18 @@ unfolding near_of
 near-is above left above_left reference biases place neighbours first second up beside corner listing is_first is_second is_up is_beside is_corner =
     rw (← listing, is_first, is_second, is_up, is_beside, is_corner) refl
 
-pub near-less : (above left above_left : Option MbMode) (reference : Reference) (biases : SignBiases) (place : MbPlace) (neighbours : Neighbours) (first second : Weighted) (up beside corner : ℕ) (result : Near) → first.weight < second.weight →
+pub near-less : (above left above_left : Option MbMode) (reference : Reference) (biases : SignBiases) (place : MbPlace) (neighbours : Neighbours) (first second : Weighted) (up beside corner : ℕ) → first.weight < second.weight →
     listing_in neighbours ≡ listing_of above left above_left reference biases → first ≡ first_in (listed_in neighbours.listed) → second ≡ listed_at (listed_in neighbours.listed) 1 → up ≡ splits above → beside ≡ splits left → corner ≡ splits above_left →
-    result ≡ near_in place neighbours.zeros second first (2 * (up + beside) + corner) → result ≡ near_of above left above_left reference biases place
-near-less above left above_left reference biases place neighbours first second up beside corner result order listing is_first is_second is_up is_beside is_corner is =
+    near_in place neighbours.zeros second first (2 * (up + beside) + corner) ≡ near_of above left above_left reference biases place
+near-less above left above_left reference biases place neighbours first second up beside corner order listing is_first is_second is_up is_beside is_corner =
     let test : nat_lt first.weight second.weight ≡ true = grind (arith, nat_tests) in
     let told = near-is above left above_left reference biases place neighbours first second up beside corner listing is_first is_second is_up is_beside is_corner in
-    is ∙ sym (rw test at told)
+    sym (rw test at told)
 
-pub near-more : (above left above_left : Option MbMode) (reference : Reference) (biases : SignBiases) (place : MbPlace) (neighbours : Neighbours) (first second : Weighted) (up beside corner : ℕ) (result : Near) → second.weight ≤ first.weight →
+pub near-more : (above left above_left : Option MbMode) (reference : Reference) (biases : SignBiases) (place : MbPlace) (neighbours : Neighbours) (first second : Weighted) (up beside corner : ℕ) → second.weight ≤ first.weight →
     listing_in neighbours ≡ listing_of above left above_left reference biases → first ≡ first_in (listed_in neighbours.listed) → second ≡ listed_at (listed_in neighbours.listed) 1 → up ≡ splits above → beside ≡ splits left → corner ≡ splits above_left →
-    result ≡ near_in place neighbours.zeros first second (2 * (up + beside) + corner) → result ≡ near_of above left above_left reference biases place
-near-more above left above_left reference biases place neighbours first second up beside corner result order listing is_first is_second is_up is_beside is_corner is =
+    near_in place neighbours.zeros first second (2 * (up + beside) + corner) ≡ near_of above left above_left reference biases place
+near-more above left above_left reference biases place neighbours first second up beside corner order listing is_first is_second is_up is_beside is_corner =
     let test : nat_lt first.weight second.weight ≡ false = grind (arith, nat_tests) in
     let told = near-is above left above_left reference biases place neighbours first second up beside corner listing is_first is_second is_up is_beside is_corner in
-    is ∙ sym (rw test at told)
+    sym (rw test at told)

@@ -1,5 +1,5 @@
 -- One sub block more, and one macroblock more
-use Rattle.std.proofs.Common.{◌≡◌, ℕ, zero, suc, ◌+◌, ◌<◌, ◌≤◌, true, List, [], ◌∷◌, ◌++◌, length, take, refl, add-one, arith}
+use Rattle.std.proofs.Common.{◌≡◌, ℕ, zero, suc, ◌+◌, ◌<◌, ◌≤◌, true, List, [], ◌∷◌, ◌++◌, length, take, refl, ap, add-one, length-append, arith}
 use Rattle.std.specs.Prelude.{Option, slice_index, nat_le}
 use Rattle.std.proofs.lemmas.Bool.{and_parts, leb-true}
 use Rattle.std.proofs.Math.ListN.{set}
@@ -13,7 +13,8 @@ use Rattle.mode_parser.specs.Vectors.{MotionVector}
 use Rattle.mode_parser.specs.SubModes.{mode_above, mode_left, sub_mode, key_sub_mode, first_sub_modes}
 use Rattle.mode_parser.specs.InterRecords.{first_inter_sub_modes, block_vector, first_vectors, are_starts}
 use Rattle.frame_header.specs.declared.header.Header.{Header}
-use Rattle.mode_parser.specs.FrameModes.{mode_at, first_modes}
+use Rattle.mode_parser.specs.FrameModes.{first_modes}
+use Rattle.mode_parser.specs.Appending.{one_more}
 
 pub first_sub_modes-none : (tables : TableEntries) (above left : Option MbMode) (start : Reader) → first_sub_modes 0 tables above left start ≡ ([], start)
 unfolding first_sub_modes
@@ -32,13 +33,17 @@ pub first_modes-none : (tables : TableEntries) (header : Header) (columns rows :
 unfolding first_modes
 first_modes-none tables header columns rows map start = refl
 
-first_modes-suc : (place : ℕ) (tables : TableEntries) (header : Header) (columns rows : ℕ) (map : Option (List ℕ)) (before : List MbMode) (mode : MbMode) (start r s : Reader) → first_modes place tables header columns rows map start ≡ (before, r) → mode_at tables header columns rows map place before r ≡ (mode, s) → first_modes (suc place) tables header columns rows map start ≡ (before ++ mode ∷ [], s)
+first_modes-suc : (place : ℕ) (tables : TableEntries) (header : Header) (columns rows : ℕ) (map : Option (List ℕ)) (before after : List MbMode) (start r s : Reader) → length before ≡ place → first_modes place tables header columns rows map start ≡ (before, r) → one_more tables header columns rows map before r ≡ (after, s) → first_modes (suc place) tables header columns rows map start ≡ (after, s)
 unfolding first_modes
-first_modes-suc place tables header columns rows map before mode start r s done told = rw (done, told) refl
+first_modes-suc place tables header columns rows map before after start r s count done told = rw (done, ← count) told
 
-pub first_modes-more : (place : ℕ) (tables : TableEntries) (header : Header) (columns rows : ℕ) (map : Option (List ℕ)) (before : List MbMode) (mode : MbMode) (start r s : Reader) → length before ≡ place → first_modes place tables header columns rows map start ≡ (before, r) → mode_at tables header columns rows map (length before) before r ≡ (mode, s) → first_modes (place + 1) tables header columns rows map start ≡ (before ++ mode ∷ [], s)
-first_modes-more place tables header columns rows map before mode start r s count done told =
-    rw add-one (first_modes-suc place tables header columns rows map before mode start r s done (rw (← count) told))
+pub first_modes-more : (place : ℕ) (tables : TableEntries) (header : Header) (columns rows : ℕ) (map : Option (List ℕ)) (before after : List MbMode) (start r s : Reader) → length before ≡ place → first_modes place tables header columns rows map start ≡ (before, r) → one_more tables header columns rows map before r ≡ (after, s) → first_modes (place + 1) tables header columns rows map start ≡ (after, s)
+first_modes-more place tables header columns rows map before after start r s count done told =
+    rw add-one (first_modes-suc place tables header columns rows map before after start r s count done told)
+
+-- one macroblock more has a record more
+pub one_more-length : (tables : TableEntries) (header : Header) (columns rows : ℕ) (map : Option (List ℕ)) (before after : List MbMode) (r s : Reader) → one_more tables header columns rows map before r ≡ (after, s) → length after ≡ length before + 1
+one_more-length tables header columns rows map before after r s told = rw (← ap (λ p. p.0) told, length-append) refl
 
 pub first_inter_sub_modes-none : (start : Reader) → first_inter_sub_modes 0 start ≡ ([], start)
 unfolding first_inter_sub_modes

@@ -3,10 +3,12 @@ pub mod Vectors
 pub mod Records
 pub mod NearVectors
 pub mod Neighbours
+pub mod Candidates
 pub mod VectorReading
 pub mod InterRecords
 pub mod ChromaVectors
 pub mod Segments
 pub mod FrameModes
+pub mod Appending
 pub mod KeyShape
 pub mod Worked

@@ -1,12 +1,14 @@
 //! The records of a frame, in raster order.
 
-ghost use Rattle.std.specs.Prelude.{◌≡◌, ◌<◌, ◌≤◌, ◌*◌, length, IfOk};
+ghost use Rattle.std.specs.Prelude.{◌≡◌, ◌<◌, ◌≤◌, ◌*◌, length, IfOk, OnOk};
 ghost use Rattle.std.specs.Option.{option_copied};
-ghost use Rattle.mode_parser.specs.FrameModes.{record_above, record_left, record_above_left, place_of, prediction_at, mode_at, first_modes};
+ghost use Rattle.mode_parser.specs.FrameModes.{place_of, prediction_at, first_modes};
+ghost use Rattle.mode_parser.specs.Appending.{appended, one_more};
 
-use crate::inter_modes::read_inter_mode;
+use crate::inter_modes::push_inter_mode;
 use crate::key_modes::read_key_mode;
 use crate::nearby::MbPlace;
+use crate::places::{next_place, record_above, record_left};
 use crate::records::MbMode;
 use crate::segments::read_segment;
 use bool_coder::{Decoder, NoMemory};
@@ -14,107 +16,53 @@ use frame_header::Header;
 use std::alloc::Global;
 use vp8_tables::Tables;
 
-/// The record above `place` in a frame of so many columns; `None` outside it.
+/// Reads the record at `place`, which is the place behind these, but for its segment, which stands
+/// before the rest, and puts it behind them.
 #[inline]
-fn record_above(records: &[MbMode], columns: usize, place: usize) -> Option<&MbMode>
-    ensures { option_copied result ≡ record_above records.now columns place }
-{
-    if place < columns {
-        None
-    } else {
-        records.get(place - columns)
-    }
-}
-
-/// The record to the left of `place` in a frame of so many columns; `None` outside it.
-#[inline]
-fn record_left(records: &[MbMode], columns: usize, place: usize) -> Option<&MbMode>
-    requires { 1 ≤ columns }
-    ensures { option_copied result ≡ record_left records.now columns place }
-{
-    if place % columns == 0 {
-        None
-    } else {
-        records.get(place - 1)
-    }
-}
-
-/// The record above and to the left of `place` in a frame of so many columns; `None` outside it.
-#[inline]
-fn record_above_left(records: &[MbMode], columns: usize, place: usize) -> Option<&MbMode>
-    requires { 1 ≤ columns }
-    ensures { option_copied result ≡ record_above_left records.now columns place }
-{
-    if place < columns || place % columns == 0 {
-        None
-    } else {
-        records.get(place - columns - 1)
-    }
-}
-
-/// The place of the macroblock of a number in raster order.
-#[inline]
-fn place_of(columns: usize, rows: usize, place: usize) -> MbPlace
-    requires { 1 ≤ columns }
-    ensures { result ≡ place_of columns rows place }
-{
-    MbPlace {
-        column: place % columns,
-        row: place / columns,
-        columns,
-        rows,
-    }
-}
-
-/// The record at the place behind these, but for its segment, which stands before the rest.
-#[inline]
-fn read_prediction(
+fn push_prediction(
     reader: &mut Decoder,
     tables: &Tables,
     header: &Header,
-    columns: usize,
-    rows: usize,
-    records: &[MbMode],
-) -> MbMode
-    requires some { 1 ≤ columns }
-    requires wide { columns ≤ 1024 }
-    requires high { rows ≤ 1024 }
-    requires inside { length records.now < columns * rows }
-    ensures { prediction_at tables.now header.now columns rows (length records.now) records.now reader.old ≡ (result, reader.new) }
+    segment: u8,
+    place: MbPlace,
+    records: &mut Vec<MbMode>,
+) -> Result<(), NoMemory>
+    requires at { place ≡ place_of place.columns place.rows (length records.old.items) }
+    requires across { (place.column < place.columns) × (place.columns ≤ 1024) }
+    requires down { (place.row < place.rows) × (place.rows ≤ 1024) }
+    ensures { OnOk result (appended segment records.old.items (prediction_at tables.now header.now place.columns place.rows (length records.old.items) records.old.items) reader.old ≡ (records.new.items, reader.new)) }
 {
-    let place = records.len();
-    let above = record_above(records, columns, place);
-    let left = record_left(records, columns, place);
-    if header.is_key {
-        return read_key_mode(reader, tables, header.skip_probability, above, left);
+    if !header.is_key {
+        return push_inter_mode(reader, header, segment, place, records);
     }
-    let above_left = record_above_left(records, columns, place);
-    let place = place_of(columns, rows, place);
-    read_inter_mode(reader, header, place, above, left, above_left)
+    let above = record_above(records, place.columns);
+    let left = record_left(records, place);
+    let mut local = reader.copied();
+    let mut mode = read_key_mode(&mut local, tables, header.skip_probability, above, left);
+    *reader = local;
+    mode.segment = segment;
+    records.push(mode)?;
+    Ok(())
 }
 
-/// The record at the place behind these.
+/// Reads the record at `place`, which is the place behind these, and puts it behind them.
 #[inline]
 #[tactic(auto, unfolding(crate::specs::FrameModes::mode_at))]
-fn read_mode(
+fn push_mode(
     reader: &mut Decoder,
     tables: &Tables,
     header: &Header,
-    columns: usize,
-    rows: usize,
     map: Option<&[u8]>,
-    records: &[MbMode],
-) -> MbMode
-    requires some { 1 ≤ columns }
-    requires wide { columns ≤ 1024 }
-    requires high { rows ≤ 1024 }
-    requires inside { length records.now < columns * rows }
-    ensures { mode_at tables.now header.now columns rows (option_copied map.entry) (length records.now) records.now reader.old ≡ (result, reader.new) }
+    place: MbPlace,
+    records: &mut Vec<MbMode>,
+) -> Result<(), NoMemory>
+    requires at { place ≡ place_of place.columns place.rows (length records.old.items) }
+    requires across { (place.column < place.columns) × (place.columns ≤ 1024) }
+    requires down { (place.row < place.rows) × (place.rows ≤ 1024) }
+    ensures { OnOk result (one_more tables.now header.now place.columns place.rows (option_copied map.entry) records.old.items reader.old ≡ (records.new.items, reader.new)) }
 {
     let segment = read_segment(reader, header, map, records.len());
-    let mut mode = read_prediction(reader, tables, header, columns, rows, records);
-    mode.segment = segment;
-    mode
+    push_prediction(reader, tables, header, segment, place, records)
 }
 
 /// The records of a frame of 1 to 1,024 macroblocks each way, which stand behind its header, and
@@ -136,9 +84,16 @@ pub(crate) fn read_records(
     // A copy of its own keeps the reader in registers.
     let mut reader = header.reader.copied();
     let mut records = Vec::with_capacity(alloc, columns * rows)?;
-    for _place in 0..columns * rows {
-        let record = read_mode(&mut reader, tables, header, columns, rows, map, &records);
-        records.push(record)?;
+    // The place is counted on, since a division for each macroblock takes longer than its modes.
+    let mut place = MbPlace {
+        column: 0,
+        row: 0,
+        columns,
+        rows,
+    };
+    for _number in 0..columns * rows {
+        push_mode(&mut reader, tables, header, map, place, &mut records)?;
+        place = next_place(place);
     }
     Ok(records)
 }

@@ -1,18 +1,23 @@
 //! The record of a macroblock in an inter frame (RFC 6386, sections 16 and 19.3).
 
-ghost use Rattle.std.specs.Prelude.{◌≡◌, ◌<◌, ◌≤◌, All};
+ghost use Rattle.std.specs.Prelude.{◌≡◌, ◌<◌, ◌≤◌, length, OnOk};
 ghost use Rattle.std.specs.Option.{option_copied};
 ghost use Rattle.mode_parser.specs.Vectors.{IsWithin};
-ghost use Rattle.mode_parser.specs.InterRecords.{inter_y_mode, first_inter_sub_modes, which_reference, counted_probabilities, vector_mode, vectors_by, intra_mode, referenced_mode, inter_mode};
+ghost use Rattle.mode_parser.specs.InterRecords.{inter_y_mode, first_inter_sub_modes, which_reference, vector_mode, split_vectors, intra_mode};
+ghost use Rattle.mode_parser.specs.FrameModes.{place_of};
+ghost use Rattle.mode_parser.specs.Appending.{appended, referenced_mode_at, inter_mode_at};
+ghost use Rattle.mode_parser.specs.Candidates.{AreLight, counts_of, moved_record};
+ghost use Rattle.mode_parser.specs.declared.records.VectorMode.TheVariants.{Split};
 
 use crate::key_modes::{read_skip, read_uv_mode};
 use crate::key_sub_modes::read_sub_mode;
-use crate::nearby::{MbPlace, Near, near_vectors};
+use crate::nearby::{Candidates, MbPlace, candidates_of};
+use crate::places::{record_above, record_above_left, record_left};
 use crate::records::{MbMode, VectorMode, YMode};
 use crate::split_vectors::read_split_vectors;
 use crate::vector_reading::read_vector;
 use crate::vectors::Vector;
-use bool_coder::Decoder;
+use bool_coder::{Decoder, NoMemory};
 use frame_header::{Header, Probabilities, Reference, ReferenceProbabilities};
 use intra_predict::{SubMode, WholeMode};
 use vp8_tables::{INTER_SUB_PROBABILITIES, VECTOR_MODE_PROBABILITIES};
@@ -69,73 +74,69 @@ fn read_reference(reader: &mut Decoder, probabilities: ReferenceProbabilities) -
     }
 }
 
-/// The probabilities of the tree of vector modes: each stands in the row of what is counted for it.
+/// The vector mode of a macroblock with these candidates: the leaf of its tree, of which each
+/// probability stands in the row of what is counted for it.
 #[inline]
-fn counted_probabilities(counts: &[u8; 4]) -> [u8; 4]
-    requires { All (λ count. count ≤ 5) counts.now }
-    ensures { result ≡ counted_probabilities counts.now }
+fn read_vector_mode(reader: &mut Decoder, found: &Candidates) -> VectorMode
+    requires { AreLight found.now }
+    ensures { vector_mode (counts_of found.now) reader.old ≡ (result, reader.new) }
 {
-    [
-        VECTOR_MODE_PROBABILITIES[counts[0] as usize][0],
-        VECTOR_MODE_PROBABILITIES[counts[1] as usize][1],
-        VECTOR_MODE_PROBABILITIES[counts[2] as usize][2],
-        VECTOR_MODE_PROBABILITIES[counts[3] as usize][3],
-    ]
-}
-
-/// The vector mode of a macroblock whose near vectors have these counts: the leaf of its tree.
-#[inline]
-fn read_vector_mode(reader: &mut Decoder, counts: &[u8; 4]) -> VectorMode
-    requires { All (λ count. count ≤ 5) counts.now }
-    ensures { vector_mode counts.now reader.old ≡ (result, reader.new) }
-{
-    let nodes = counted_probabilities(counts);
-    if !reader.bit(nodes[0]) {
+    if !reader.bit(VECTOR_MODE_PROBABILITIES[found.zeros as usize][0]) {
         return VectorMode::Zero;
     }
-    if !reader.bit(nodes[1]) {
+    if !reader.bit(VECTOR_MODE_PROBABILITIES[found.nearest.weight as usize][1]) {
         return VectorMode::Nearest;
     }
-    if !reader.bit(nodes[2]) {
+    if !reader.bit(VECTOR_MODE_PROBABILITIES[found.near.weight as usize][2]) {
         return VectorMode::Near;
     }
-    if reader.bit(nodes[3]) {
+    if reader.bit(VECTOR_MODE_PROBABILITIES[found.split as usize][3]) {
         VectorMode::Split
     } else {
         VectorMode::New
     }
 }
 
-/// The vectors of all blocks of a macroblock below and to the right of these. It is a call of its
-/// own, so that each way writes the list in memory, and no list is held in registers one by one.
+/// The record of a split macroblock below and to the right of these. It is a call of its own, so
+/// that the vectors of other macroblocks need not stand in memory one by one.
 #[inline(never)]
-#[tactic(auto, unfolding(crate::specs::InterRecords::vectors_by))]
-fn read_vectors(
+fn read_split_mode(
     reader: &mut Decoder,
-    mode: VectorMode,
-    near: &Near,
+    is_skipped: bool,
+    reference: Reference,
+    best: Vector,
     probabilities: &[[u8; 19]; 2],
     above: Option<&MbMode>,
     left: Option<&MbMode>,
-) -> [Vector; 16]
-    requires across { IsWithin 65536 near.now.best.x }
-    requires down { IsWithin 65536 near.now.best.y }
-    ensures { vectors_by mode near.now probabilities.now (option_copied above.entry) (option_copied left.entry) reader.old ≡ (result, reader.new) }
+) -> MbMode
+    requires across { IsWithin 65536 best.x }
+    requires down { IsWithin 65536 best.y }
+    ensures value { split_vectors probabilities.now best (option_copied above.entry) (option_copied left.entry) reader.old ≡ (result.vectors, reader.new) }
+    ensures rest { result ≡ moved_record is_skipped reference Split result.vectors }
 {
-    match mode {
-        VectorMode::Zero => [Vector::ZERO; 16],
-        VectorMode::Nearest => [near.nearest; 16],
-        VectorMode::Near => [near.near; 16],
-        VectorMode::New => [near.best.plus(read_vector(reader, probabilities)); 16],
-        VectorMode::Split => read_split_vectors(reader, probabilities, near.best, above, left),
+    let vectors = read_split_vectors(reader, probabilities, best, above, left);
+    MbMode {
+        segment: 0,
+        is_skipped,
+        y_mode: YMode::Inter(reference, VectorMode::Split),
+        sub_modes: [SubMode::Dc; 16],
+        uv_mode: WholeMode::Dc,
+        vectors,
     }
 }
 
-/// The record of a macroblock without a reference.
-#[inline]
+/// Reads the record of a macroblock without a reference, and puts it behind these. It is a call of
+/// its own for the same reason as `read_split_mode`.
+#[inline(never)]
 #[tactic(auto, unfolding(crate::specs::InterRecords::intra_mode, crate::specs::InterRecords::inter_sub_modes))]
-fn read_intra_mode(reader: &mut Decoder, is_skipped: bool, probabilities: &Probabilities) -> MbMode
-    ensures { intra_mode is_skipped probabilities.now reader.old ≡ (result, reader.new) }
+fn push_intra_mode(
+    reader: &mut Decoder,
+    is_skipped: bool,
+    probabilities: &Probabilities,
+    segment: u8,
+    records: &mut Vec<MbMode>,
+) -> Result<(), NoMemory>
+    ensures { OnOk result (appended segment records.old.items (intra_mode is_skipped probabilities.now) reader.old ≡ (records.new.items, reader.new)) }
 {
     let y_mode = read_y_mode(reader, &probabilities.y_modes);
     let sub_modes = match y_mode {
@@ -143,69 +144,99 @@ fn read_intra_mode(reader: &mut Decoder, is_skipped: bool, probabilities: &Proba
         YMode::B => read_sub_modes(reader),
     };
     let uv_mode = read_uv_mode(reader, &probabilities.uv_modes);
-    MbMode {
-        segment: 0,
+    records.push(MbMode {
+        segment,
         is_skipped,
         y_mode,
         sub_modes,
         uv_mode,
         vectors: [Vector::ZERO; 16],
-    }
+    })?;
+    Ok(())
 }
 
-/// The record of a macroblock with a reference, at `place`, below and to the right of these.
+/// Reads the record of a macroblock with a reference, at `place`, which is the place behind these,
+/// and puts it behind them.
 #[inline]
-#[tactic(auto, unfolding(crate::specs::InterRecords::referenced_mode))]
-fn read_referenced_mode(
+#[tactic(auto, unfolding(crate::specs::InterRecords::referenced_mode, crate::specs::InterRecords::vectors_by))]
+fn push_referenced_mode(
     reader: &mut Decoder,
     is_skipped: bool,
     header: &Header,
+    segment: u8,
     place: MbPlace,
-    above: Option<&MbMode>,
-    left: Option<&MbMode>,
-    above_left: Option<&MbMode>,
-) -> MbMode
+    records: &mut Vec<MbMode>,
+) -> Result<(), NoMemory>
+    requires at { place ≡ place_of place.columns place.rows (length records.old.items) }
     requires across { (place.column < place.columns) × (place.columns ≤ 1024) }
     requires down { (place.row < place.rows) × (place.rows ≤ 1024) }
-    ensures { referenced_mode is_skipped header.now place (option_copied above.entry) (option_copied left.entry) (option_copied above_left.entry) reader.old ≡ (result, reader.new) }
+    ensures { OnOk result (appended segment records.old.items (referenced_mode_at is_skipped header.now place records.old.items) reader.old ≡ (records.new.items, reader.new)) }
 {
     let context = &header.context;
+    let above = record_above(records, place.columns);
+    let left = record_left(records, place);
+    let above_left = record_above_left(records, place);
     let reference = read_reference(reader, header.reference_probabilities);
-    let biases = context.sign_biases;
-    let near = near_vectors(above, left, above_left, reference, biases, place);
-    let mode = read_vector_mode(reader, &near.counts);
+    let found = candidates_of(above, left, above_left, reference, context.sign_biases);
     let probabilities = &context.probabilities.vectors;
-    let vectors = read_vectors(reader, mode, &near, probabilities, above, left);
-    MbMode {
-        segment: 0,
+    let mode = read_vector_mode(reader, &found);
+    let vector = match mode {
+        VectorMode::Zero => Vector::ZERO,
+        VectorMode::Nearest => found.nearest(place),
+        VectorMode::Near => found.near(place),
+        VectorMode::New => found.best(place).plus(read_vector(reader, probabilities)),
+        VectorMode::Split => {
+            let mut local = reader.copied();
+            let mut split = read_split_mode(
+                &mut local,
+                is_skipped,
+                reference,
+                found.best(place),
+                probabilities,
+                above,
+                left,
+            );
+            *reader = local;
+            split.segment = segment;
+            records.push(split)?;
+            return Ok(());
+        }
+    };
+    records.push(MbMode {
+        segment,
         is_skipped,
         y_mode: YMode::Inter(reference, mode),
         sub_modes: [SubMode::Dc; 16],
         uv_mode: WholeMode::Dc,
-        vectors,
-    }
+        vectors: [vector; 16],
+    })?;
+    Ok(())
 }
 
-/// The record of a macroblock at `place`, below and to the right of these, in an inter frame, in
-/// segment 0. It is a call of its own for the same reason as `read_vectors`.
-#[inline(never)]
+/// Reads the record of a macroblock in an inter frame, at `place`, which is the place behind these,
+/// and puts it behind them. Most records are made right where they are put: one that is handed on
+/// is copied each time. Calls get copies of the reader, so that it stays in registers here.
+#[inline]
 #[tactic(auto, unfolding(crate::specs::InterRecords::inter_mode))]
-pub(crate) fn read_inter_mode(
+pub(crate) fn push_inter_mode(
     reader: &mut Decoder,
     header: &Header,
+    segment: u8,
     place: MbPlace,
-    above: Option<&MbMode>,
-    left: Option<&MbMode>,
-    above_left: Option<&MbMode>,
-) -> MbMode
+    records: &mut Vec<MbMode>,
+) -> Result<(), NoMemory>
+    requires at { place ≡ place_of place.columns place.rows (length records.old.items) }
     requires across { (place.column < place.columns) × (place.columns ≤ 1024) }
     requires down { (place.row < place.rows) × (place.rows ≤ 1024) }
-    ensures { inter_mode header.now place (option_copied above.entry) (option_copied left.entry) (option_copied above_left.entry) reader.old ≡ (result, reader.new) }
+    ensures { OnOk result (appended segment records.old.items (inter_mode_at header.now place records.old.items) reader.old ≡ (records.new.items, reader.new)) }
 {
     let is_skipped = read_skip(reader, header.skip_probability);
     if reader.bit(header.reference_probabilities.inter) {
-        read_referenced_mode(reader, is_skipped, header, place, above, left, above_left)
-    } else {
-        read_intra_mode(reader, is_skipped, &header.context.probabilities)
+        return push_referenced_mode(reader, is_skipped, header, segment, place, records);
     }
+    let mut local = reader.copied();
+    let probabilities = &header.context.probabilities;
+    push_intra_mode(&mut local, is_skipped, probabilities, segment, records)?;
+    *reader = local;
+    Ok(())
 }

@@ -13,6 +13,7 @@ mod key_sub_modes;
 pub mod laws;
 mod nearby;
 mod neighbours;
+mod places;
 mod records;
 mod segments;
 mod split_vectors;

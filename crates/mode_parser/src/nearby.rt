@@ -4,6 +4,7 @@ ghost use Rattle.std.specs.Prelude.{◌≡◌, ◌<◌, ◌≤◌, All};
 ghost use Rattle.std.specs.Option.{option_copied};
 ghost use Rattle.mode_parser.specs.Vectors.{IsWithin};
 ghost use Rattle.mode_parser.specs.NearVectors.{held, clamped, best_in, near_in, near_of};
+ghost use Rattle.mode_parser.specs.Candidates.{near_by, AreLight};
 
 use crate::neighbours::{Weighted, first_in, neighbours_of, second_in, splits};
 use crate::records::MbMode;
@@ -80,22 +81,82 @@ fn best_in(zeros: u32, nearest: &Weighted) -> Vector
     }
 }
 
-/// The near vectors where zero vectors weigh `zeros` and split macroblocks `split`.
+/// The vectors from which a macroblock has its own, with their weights, not held in the frame. Most
+/// macroblocks want one of them at most, so that each is held where it is used.
+#[derive(Clone, Copy)]
+pub(crate) struct Candidates {
+    pub(crate) zeros: u32,
+    pub(crate) nearest: Weighted,
+    pub(crate) near: Weighted,
+    pub(crate) split: u32,
+}
+
+impl Candidates {
+    /// The best vector for a macroblock at `place`.
+    #[inline(always)]
+    pub(crate) fn best(&self, place: MbPlace) -> Vector
+        requires across { (place.column < place.columns) × (place.columns ≤ 1024) }
+        requires down { (place.row < place.rows) × (place.rows ≤ 1024) }
+        ensures value { result ≡ (near_by place self.now).best }
+        ensures x { IsWithin 65536 result.x }
+        ensures y { IsWithin 65536 result.y }
+    {
+        clamped(place, best_in(self.zeros, &self.nearest))
+    }
+
+    /// The nearest vector for a macroblock at `place`.
+    #[inline(always)]
+    pub(crate) fn nearest(&self, place: MbPlace) -> Vector
+        requires across { (place.column < place.columns) × (place.columns ≤ 1024) }
+        requires down { (place.row < place.rows) × (place.rows ≤ 1024) }
+        ensures { result ≡ (near_by place self.now).nearest }
+    {
+        clamped(place, self.nearest.vector)
+    }
+
+    /// The near vector for a macroblock at `place`.
+    #[inline(always)]
+    pub(crate) fn near(&self, place: MbPlace) -> Vector
+        requires across { (place.column < place.columns) × (place.columns ≤ 1024) }
+        requires down { (place.row < place.rows) × (place.rows ≤ 1024) }
+        ensures { result ≡ (near_by place self.now).near }
+    {
+        clamped(place, self.near.vector)
+    }
+}
+
+/// The candidates of a macroblock whose neighbours are `above`, `left` and `above_left` and which is
+/// predicted from `reference` (RFC 6386, section 16.3). A neighbour outside the frame is `None`.
 #[inline(always)]
-fn near_in(place: MbPlace, zeros: u32, nearest: &Weighted, near: &Weighted, split: u8) -> Near
-    requires few { zeros ≤ 5 }
-    requires light { (nearest.now.weight ≤ 5) × (near.now.weight ≤ 5) }
-    requires across { (place.column < place.columns) × (place.columns ≤ 1024) }
-    requires down { (place.row < place.rows) × (place.rows ≤ 1024) }
-    ensures value { result ≡ near_in place zeros nearest.now near.now split }
-    ensures across { IsWithin 65536 result.best.x }
-    ensures down { IsWithin 65536 result.best.y }
+pub(crate) fn candidates_of(
+    above: Option<&MbMode>,
+    left: Option<&MbMode>,
+    above_left: Option<&MbMode>,
+    reference: Reference,
+    biases: SignBiases,
+) -> Candidates
+    ensures value { (place : MbPlace) → near_by place result ≡ near_of (option_copied above.entry) (option_copied left.entry) (option_copied above_left.entry) reference biases place }
+    ensures light { AreLight result }
 {
-    Near {
-        counts: [zeros as u8, nearest.weight as u8, near.weight as u8, split],
-        best: clamped(place, best_in(zeros, nearest)),
-        nearest: clamped(place, nearest.vector),
-        near: clamped(place, near.vector),
+    let neighbours = neighbours_of(above, left, above_left, reference, biases);
+    let first = first_in(&neighbours.listed);
+    let second = second_in(&neighbours.listed);
+    let split = 2 * (splits(above) + splits(left)) + splits(above_left);
+    let zeros = neighbours.zeros;
+    if first.weight < second.weight {
+        Candidates {
+            zeros,
+            nearest: second,
+            near: first,
+            split,
+        }
+    } else {
+        Candidates {
+            zeros,
+            nearest: first,
+            near: second,
+            split,
+        }
     }
 }
 
@@ -117,13 +178,16 @@ pub fn near_vectors(
     ensures across { IsWithin 65536 result.best.x }
     ensures down { IsWithin 65536 result.best.y }
 {
-    let neighbours = neighbours_of(above, left, above_left, reference, biases);
-    let first = first_in(&neighbours.listed);
-    let second = second_in(&neighbours.listed);
-    let split = 2 * (splits(above) + splits(left)) + splits(above_left);
-    if first.weight < second.weight {
-        near_in(place, neighbours.zeros, &second, &first, split)
-    } else {
-        near_in(place, neighbours.zeros, &first, &second, split)
+    let found = candidates_of(above, left, above_left, reference, biases);
+    Near {
+        counts: [
+            found.zeros as u8,
+            found.nearest.weight as u8,
+            found.near.weight as u8,
+            found.split as u8,
+        ],
+        best: found.best(place),
+        nearest: found.nearest(place),
+        near: found.near(place),
     }
 }

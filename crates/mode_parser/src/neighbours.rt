@@ -214,7 +214,7 @@ pub(crate) fn second_in(listed: &Listed) -> Weighted
 
 /// 1 for a macroblock that is split, else 0.
 #[inline(always)]
-pub(crate) fn splits(macroblock: Option<&MbMode>) -> u8
+pub(crate) fn splits(macroblock: Option<&MbMode>) -> u32
     ensures value { result ≡ splits (option_copied macroblock.entry) }
     ensures small { result ≤ 1 }
 {

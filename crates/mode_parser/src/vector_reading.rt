@@ -93,7 +93,9 @@ pub(crate) fn read_vector(reader: &mut Decoder, probabilities: &[[u8; 19]; 2]) -
     ensures across { IsWithin 1023 result.x }
     ensures down { IsWithin 1023 result.y }
 {
-    let down = read_component(reader, &probabilities[0]);
-    let right = read_component(reader, &probabilities[1]);
+    let mut local = reader.copied();
+    let down = read_component(&mut local, &probabilities[0]);
+    let right = read_component(&mut local, &probabilities[1]);
+    *reader = local;
     Vector::new(right, down)
 }

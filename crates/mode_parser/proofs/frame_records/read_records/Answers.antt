@@ -1,17 +1,23 @@
-use Rattle.std.proofs.Common.{length, ap, arith, length-append}
-use Rattle.mode_parser.proofs.Steps.{first_modes-none, first_modes-more}
+use Rattle.std.proofs.Common.{ap, arith, refl, length}
+use Rattle.mode_parser.proofs.Steps.{first_modes-none, first_modes-more, one_more-length}
+use Rattle.mode_parser.proofs.PlaceLemmas.{place-start}
 use Rattle.mode_parser.proofs.frame_records.read_records.Goals as goal
 
-pub loop-place-init : goal.loop-place-init
-loop-place-init c = record {
+pub loop-number-init : goal.loop-number-init
+loop-number-init c = record {
   same = rw (c.in_ok-records.ensures.items, c.copied-reader.ensures) (first_modes-none _ _ _ _ _ _);
   count = ap length c.in_ok-records.ensures.items;
+  at = place-start _ _ c.requires.some;
 }
 
-pub loop-place-preserved : goal.loop-place-preserved
-loop-place-preserved c =
-    let told = rw c.deref.ensures.value at c.read_mode-record.ensures in
+pub loop-number-preserved : goal.loop-number-preserved
+loop-number-preserved c =
+    let at = c.loop-number.invariant.at in
+    let more = rw at at c.in_ok-push_mode.ensures in
+    let behind = rw at at c.next_place-place.ensures in
+    let longer = one_more-length c.args.tables.now c.args.header.now _ _ _ _ _ _ _ more in
     record {
-      same = rw c.in_ok-push.ensures.items (first_modes-more _ _ _ _ _ _ _ _ _ _ _ c.loop-place.invariant.count c.loop-place.invariant.same told);
-      count = rw (c.in_ok-push.ensures.items, length-append) (omega (arith, c.loop-place.invariant.count));
+      same = first_modes-more _ _ _ _ _ _ _ _ _ _ _ c.loop-number.invariant.count c.loop-number.invariant.same more;
+      count = omega (arith, longer, c.loop-number.invariant.count);
+      at = behind _ refl;
     }

@@ -1,0 +1,32 @@
+-- How the code puts a record behind those before it.
+use Rattle.std.specs.Prelude.{ℕ, Bool, Option, List, [], ◌∷◌, ◌++◌, length}
+use Rattle.bool_coder.specs.Reading.{Reading, ◌>>=◌, give}
+use Rattle.vp8_tables.specs.Tables.{TableEntries}
+use Rattle.frame_header.specs.declared.header.Header.{Header}
+use Rattle.mode_parser.specs.declared.records.MbMode.{MbMode}
+use Rattle.mode_parser.specs.declared.nearby.MbPlace.{MbPlace}
+use Rattle.mode_parser.specs.InterRecords.{referenced_mode, inter_mode}
+use Rattle.mode_parser.specs.FrameModes.{record_above, record_left, record_above_left, mode_at}
+
+-- records with one more behind them, which is read, but for its segment
+abbrev pub appended : ℕ → List MbMode → Reading MbMode → Reading (List MbMode)
+appended segment before rest = do
+  mode ← rest
+  give (before ++ record mode { segment = segment } ∷ [])
+
+-- the first records of a frame with the next one behind them
+abbrev pub one_more : TableEntries → Header → ℕ → ℕ → Option (List ℕ) → List MbMode → Reading (List MbMode)
+one_more tables header columns rows map before = do
+  mode ← mode_at tables header columns rows map (length before) before
+  give (before ++ mode ∷ [])
+
+-- the record of a macroblock with a reference, and of one of an inter frame, at the place behind these
+abbrev pub referenced_mode_at : Bool → Header → MbPlace → List MbMode → Reading MbMode
+referenced_mode_at is_skipped header place before =
+    let here = length before in
+    referenced_mode is_skipped header place (record_above before place.columns here) (record_left before place.columns here) (record_above_left before place.columns here)
+
+abbrev pub inter_mode_at : Header → MbPlace → List MbMode → Reading MbMode
+inter_mode_at header place before =
+    let here = length before in
+    inter_mode header place (record_above before place.columns here) (record_left before place.columns here) (record_above_left before place.columns here)

@@ -1,0 +1,75 @@
+//! The places of macroblocks in raster order, and the records beside one.
+
+ghost use Rattle.std.specs.Prelude.{◌≡◌, ◌<◌, ◌≤◌, ◌+◌, ℕ, length};
+ghost use Rattle.std.specs.Option.{option_copied};
+ghost use Rattle.mode_parser.specs.FrameModes.{record_above, record_left, record_above_left, place_of};
+
+use crate::nearby::MbPlace;
+use crate::records::MbMode;
+
+/// The record above the place behind these; `None` outside the frame.
+#[inline]
+pub(crate) fn record_above(records: &[MbMode], columns: usize) -> Option<&MbMode>
+    ensures { option_copied result ≡ record_above records.now columns (length records.now) }
+{
+    let number = records.len();
+    if number < columns {
+        None
+    } else {
+        records.get(number - columns)
+    }
+}
+
+/// The record to the left of `place`, which is the place behind these; `None` outside the frame.
+#[inline]
+pub(crate) fn record_left(records: &[MbMode], place: MbPlace) -> Option<&MbMode>
+    requires { place ≡ place_of place.columns place.rows (length records.now) }
+    ensures { option_copied result ≡ record_left records.now place.columns (length records.now) }
+{
+    if place.column == 0 {
+        None
+    } else {
+        records.get(records.len() - 1)
+    }
+}
+
+/// The record above and to the left of `place`, which is the place behind these; `None` outside the
+/// frame.
+#[inline]
+pub(crate) fn record_above_left(records: &[MbMode], place: MbPlace) -> Option<&MbMode>
+    requires { place ≡ place_of place.columns place.rows (length records.now) }
+    ensures { option_copied result ≡ record_above_left records.now place.columns (length records.now) }
+{
+    let number = records.len();
+    if number < place.columns || place.column == 0 {
+        None
+    } else {
+        records.get(number - place.columns - 1)
+    }
+}
+
+/// The place behind one in raster order.
+#[inline]
+pub(crate) fn next_place(place: MbPlace) -> MbPlace
+    requires across { place.column < place.columns }
+    requires wide { place.columns ≤ 1024 }
+    requires down { place.row < 1024 }
+    ensures { (number : ℕ) → place ≡ place_of place.columns place.rows number → result ≡ place_of place.columns place.rows (number + 1) }
+{
+    let column = place.column + 1;
+    if column < place.columns {
+        MbPlace {
+            column,
+            row: place.row,
+            columns: place.columns,
+            rows: place.rows,
+        }
+    } else {
+        MbPlace {
+            column: 0,
+            row: place.row + 1,
+            columns: place.columns,
+            rows: place.rows,
+        }
+    }
+}
