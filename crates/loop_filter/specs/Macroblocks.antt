@@ -2,13 +2,15 @@
 use Rattle.std.specs.Prelude.{◌≡◌, ℕ, ◌+◌, ◌*◌, ◌≤◌, length, List, Option}
 use Rattle.loop_filter.specs.Blocks.{Shape, filtered_by}
 use Rattle.loop_filter.specs.Frames.{block_at, strength_at, row_filtered, rows_filtered}
+use Rattle.loop_filter.specs.Strengths.{AreLimits}
 use Rattle.loop_filter.specs.declared.frames.Macroblocks.{Macroblocks}
 use Rattle.loop_filter.specs.declared.strengths.Strength.{Strength}
 
--- each macroblock has a record and a flag, and there are at most 1,024 each way
+-- each macroblock has a record and a flag, and there are at most 1,024 each way; the limits are those of the frame
 pub record IsFrame (all : Macroblocks) : Type 0 where
   pub records : length all.records.now ≡ all.columns * all.rows
   pub flags : length all.flags.now ≡ all.columns * all.rows
+  pub limits : AreLimits all.header.now.filter.sharpness all.header.now.is_key all.limits.now
   pub small : (all.columns ≤ 1024) × (all.rows ≤ 1024)
 
 -- so many samples are a plane with a block of this side for each macroblock

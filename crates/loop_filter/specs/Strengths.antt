@@ -1,5 +1,5 @@
 -- The limits by which the edges of a macroblock are filtered (RFC 6386, section 15.4).
-use Rattle.std.specs.Prelude.{ℕ, ◌+◌, ◌-◌, ◌*◌, ◌/◌, ◌==◌, nat_lt, min, max, Bool, if◌then◌else◌}
+use Rattle.std.specs.Prelude.{◌≡◌, ℕ, ◌≤◌, List, Some, slice_get, ◌+◌, ◌-◌, ◌*◌, ◌/◌, ◌==◌, nat_lt, min, max, Bool, if◌then◌else◌}
 use Rattle.loop_filter.specs.declared.edge_limits.Limits.{Limits}
 
 -- the level, halved or quartered by the sharpness and then at most 9 less it; at least 1
@@ -22,3 +22,9 @@ limits_of level sharpness is_key = record {
   macroblock_edge = (level + 2) * 2 + interior_limit level sharpness;
   inner_edge = level * 2 + interior_limit level sharpness;
 }
+
+-- each level up to 63 has its limits at its place in a table
+pub record AreLimits (sharpness : ℕ) (is_key : Bool) (table : List Limits) : Type 0 where
+  pub value : (level : ℕ) → level ≤ 63 → slice_get table level ≡ Some (limits_of level sharpness is_key)
+  pub macroblock_edge : (level : ℕ) → level ≤ 63 → (limits_of level sharpness is_key).macroblock_edge ≤ 193
+  pub inner_edge : (level : ℕ) → level ≤ 63 → (limits_of level sharpness is_key).inner_edge ≤ 189

@@ -4,16 +4,19 @@ ghost use Rattle.std.specs.Prelude.{◌≡◌, ◌*◌, ◌<◌, ◌≤◌, leng
 ghost use Rattle.pixel_planes.specs.PlaneSamples.{shown_of};
 ghost use Rattle.loop_filter.specs.Blocks.{HasSmallLimits, luma, chroma};
 ghost use Rattle.loop_filter.specs.Frames.{HaveBlocks, KeepSides, block_at, columns_in, rows_in, filtered_planes};
+ghost use Rattle.loop_filter.specs.Strengths.{AreLimits};
 ghost use Rattle.loop_filter.specs.Macroblocks.{IsFrame, IsPlane, strengths, macroblock_filtered, row_of_all, rows_of_all};
 
 use crate::blocks::{Block, filter_block};
 use crate::chroma_blocks::filter_blocks;
-use crate::strengths::{Strength, strength_for};
+use crate::edge_limits::Limits;
+use crate::strengths::{Strength, limits_of_levels, strength_for};
 use frame_header::Header;
 use mode_parser::{MbMode, Modes};
 use pixel_planes::Planes;
 
-/// The macroblocks of a frame, in raster order, and how many there are each way.
+/// The macroblocks of a frame, in raster order, how many there are each way, and the limits of each
+/// level.
 #[derive(Clone, Copy)]
 struct Macroblocks<'a> {
     header: &'a Header<'a>,
@@ -21,6 +24,7 @@ struct Macroblocks<'a> {
     flags: &'a [bool],
     columns: usize,
     rows: usize,
+    limits: &'a [Limits; 64],
 }
 
 /// How the macroblock at a place is filtered.
@@ -29,10 +33,16 @@ struct Macroblocks<'a> {
 fn strength_at(all: Macroblocks, place: usize) -> Option<Strength>
     requires record { place < length all.records.now }
     requires flag { place < length all.flags.now }
+    requires limits { AreLimits all.header.now.filter.sharpness all.header.now.is_key all.limits.now }
     ensures value { result ≡ strengths all.entry place }
     ensures small { IfSome result HasSmallLimits }
 {
-    strength_for(all.header, &all.records[place], all.flags[place])
+    strength_for(
+        all.header,
+        all.limits,
+        &all.records[place],
+        all.flags[place],
+    )
 }
 
 /// Where the block of the macroblock in column `mx` of row `my` stands in a plane of so many columns.
@@ -152,12 +162,14 @@ pub fn frame(header: &Header, modes: &Modes, flags: &[bool], planes: &mut Planes
     if header.filter.level == 0 {
         return;
     }
+    let limits = limits_of_levels(header.filter.sharpness, header.is_key);
     let all = Macroblocks {
         header,
         records: modes.records(),
         flags,
         columns: planes.luma.width() / 16,
         rows: planes.luma.height() / 16,
+        limits: &limits,
     };
     filter_luma(all, planes.luma.samples_mut());
     if !header.filter.is_simple {

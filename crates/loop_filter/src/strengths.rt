@@ -1,6 +1,6 @@
 ghost use Rattle.std.specs.Prelude.{◌≡◌, ◌≤◌, IfSome};
 ghost use Rattle.loop_filter.specs.Blocks.{HasSmallLimits};
-ghost use Rattle.loop_filter.specs.Strengths.{interior_limit, variance_threshold, limits_of};
+ghost use Rattle.loop_filter.specs.Strengths.{AreLimits, interior_limit, variance_threshold, limits_of};
 ghost use Rattle.loop_filter.specs.Frames.{is_parted, strength_of};
 
 use crate::edge_limits::Limits;
@@ -75,6 +75,17 @@ pub fn limits(level: u8, sharpness: u8, is_key: bool) -> Limits
     }
 }
 
+/// The limits of each level in a frame of this sharpness.
+pub(crate) fn limits_of_levels(sharpness: u8, is_key: bool) -> [Limits; 64]
+    ensures { AreLimits sharpness is_key result }
+{
+    let mut all = [limits(0, sharpness, is_key); 64];
+    for level in 0..64_u8 {
+        all[usize::from(level)] = limits(level, sharpness, is_key);
+    }
+    all
+}
+
 /// Whether a macroblock is parted into blocks with modes or vectors of their own.
 fn is_parted(mode: YMode) -> bool
     ensures { result ≡ is_parted mode }
@@ -87,10 +98,17 @@ fn is_parted(mode: YMode) -> bool
     }
 }
 
-/// How a macroblock is filtered, where one of its blocks has a token or none has. `None` where it is
-/// left as it is.
+/// How a macroblock is filtered, where one of its blocks has a token or none has, by the limits of
+/// each level. `None` where it is left as it is.
+#[inline]
 #[tactic(auto, unfolding(crate::specs::Frames::strength_of))]
-pub(crate) fn strength_for(header: &Header, mode: &MbMode, has_tokens: bool) -> Option<Strength>
+pub(crate) fn strength_for(
+    header: &Header,
+    limits: &[Limits; 64],
+    mode: &MbMode,
+    has_tokens: bool,
+) -> Option<Strength>
+    requires limits { AreLimits header.now.filter.sharpness header.now.is_key limits.now }
     ensures value { result ≡ strength_of header.now mode.now has_tokens }
     ensures small { IfSome result HasSmallLimits }
 {
@@ -99,7 +117,7 @@ pub(crate) fn strength_for(header: &Header, mode: &MbMode, has_tokens: bool) -> 
         return None;
     }
     Some(Strength {
-        limits: limits(level, header.filter.sharpness, header.is_key),
+        limits: limits[usize::from(level)],
         has_inner_edges: is_parted(mode.y_mode) || has_tokens,
     })
 }
