@@ -26,9 +26,10 @@ fn has_only_first(coefficients: &[i16; 16]) -> bool
 {
     let at = coefficients;
     let zeros = i16x8::splat(0);
-    let low = i16x8::from_array([0, at[1], at[2], at[3], at[4], at[5], at[6], at[7]]);
-    let high = i16x8::from_array([at[8], at[9], at[10], at[11], at[12], at[13], at[14], at[15]]);
-    low.simd_eq(zeros).all() && high.simd_eq(zeros).all()
+    // Eight from the second on: the ninth stands in both, so that each is one load.
+    let next = i16x8::from_array([at[1], at[2], at[3], at[4], at[5], at[6], at[7], at[8]]);
+    let last = i16x8::from_array([at[8], at[9], at[10], at[11], at[12], at[13], at[14], at[15]]);
+    next.simd_eq(zeros).all() && last.simd_eq(zeros).all()
 }
 
 /// Adds the residual of a block to its 4 by 4 samples at the start of `samples`, in rows `stride`
@@ -60,7 +61,7 @@ fn add_at(coefficients: &[i16; 16], samples: &mut [u8], across: usize, column: u
 
 /// Adds the residual of a macroblock to one of its squares, whose blocks are numbered from `first`
 /// on, and which begins in column `x` of row `y` of rows of `across` samples.
-#[inline]
+#[inline(never)]
 fn add_blocks(
     blocks: &Blocks,
     first: usize,
@@ -90,7 +91,7 @@ fn add_blocks(
 
 /// Adds the residual of a macroblock, if it has one, to one of its squares, whose blocks are numbered
 /// from `first` on, and which begins in column `x` of row `y` of rows of `across` samples.
-#[inline]
+#[inline(always)]
 pub fn add_to_square(
     residual: Option<&Blocks>,
     first: usize,

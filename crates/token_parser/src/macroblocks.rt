@@ -119,6 +119,7 @@ fn read_block<'a>(
 /// `tokens.above` and `tokens.left` are the flags of the macroblocks above and to the left, and
 /// become its own. Each coefficient that is not 0 is written over what stood there, and nothing else
 /// is: the caller hands in lists of zeros.
+#[inline(never)]
 pub fn read_macroblock(
     decoder: &mut Decoder,
     probabilities: &[u8; 1056],

@@ -95,7 +95,7 @@ fn eighth(x: i16) -> i16
 ///
 /// The coefficients stand row by row. The block is 4 by 4 samples: it begins with the first of
 /// `samples`, and its rows are `stride` samples apart.
-#[inline]
+#[inline(never)]
 pub fn dct_add(coefficients: &[i16; 16], samples: &mut [u8], stride: usize)
     requires stride { 4 ≤ stride }
     requires room { 3 * stride + 4 ≤ length samples.old }
