@@ -8,7 +8,7 @@ use std::simd::Simd;
 /// Copies `height` rows of `N` samples, the first from `start` on and each further one `stride`
 /// places behind the last, into the strip of `out` from column `first` on.
 #[inline]
-fn copy<const N: usize>(
+pub fn copy<const N: usize>(
     samples: &[u8],
     start: usize,
     stride: usize,

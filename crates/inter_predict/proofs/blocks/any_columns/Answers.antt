@@ -1,6 +1,6 @@
 use Rattle.std.proofs.Common.{rules}
 use Rattle.inter_predict.proofs.Predicted.{block_is}
-use Rattle.inter_predict.proofs.blocks.block_in.Goals as goal
+use Rattle.inter_predict.proofs.blocks.any_columns.Goals as goal
 
 pub returns-in-Some : goal.returns-in-Some
 returns-in-Some c =
