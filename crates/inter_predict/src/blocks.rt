@@ -84,9 +84,7 @@ pub fn block_in(
 }
 
 /// Does what `block_in` does for a block of `N` columns. `M` is 21 times `N`.
-///
-/// Where the vector leads to whole samples, these are copied, and nothing beside them is read.
-#[inline(never)]
+#[inline]
 fn columns<const N: usize, const M: usize>(
     plane: &Plane,
     x: i32,
@@ -103,19 +101,64 @@ fn columns<const N: usize, const M: usize>(
     requires room { (height - 1) * stride + N ≤ length out.old }
     ensures { IsBlockIn (predicted kind plane.now.shown x y vector.0 vector.1) N height stride out.old out.new }
 {
-    let right = fraction(vector.0);
-    let below = fraction(vector.1);
+    if fraction(vector.0) == 0 && fraction(vector.1) == 0 {
+        copied::<N>(plane, x, y, vector, kind, height, out, stride);
+    } else {
+        filtered::<N, M>(plane, x, y, vector, kind, height, out, stride);
+    }
+}
+
+/// Does what `columns` does where the vector leads to whole samples: nothing beside them is read.
+#[inline(never)]
+fn copied<const N: usize>(
+    plane: &Plane,
+    x: i32,
+    y: i32,
+    vector: (i32, i32),
+    kind: Kind,
+    height: usize,
+    out: &mut [u8],
+    stride: usize,
+)
+    requires whole { (fraction_of vector.0 ≡ 0) × (fraction_of vector.1 ≡ 0) }
+    requires lanes { (0 < N) × (N ≤ 16) }
+    requires high { (0 < height) × (height ≤ 16) }
+    requires stride { (N ≤ stride) × (stride ≤ 65536) }
+    requires room { (height - 1) * stride + N ≤ length out.old }
+    ensures { IsBlockIn (predicted kind plane.now.shown x y vector.0 vector.1) N height stride out.old out.new }
+{
     let left = first_tap(x, vector.0);
     let top = first_tap(y, vector.1);
-    if right == 0 && below == 0 {
-        if let Some(whole) = plane.window(left + 2, top + 2, N, height) {
-            copy::<N>(whole.samples, 0, whole.stride, height, out, 0, stride);
-            return;
-        }
+    if let Some(window) = plane.window(left + 2, top + 2, N, height) {
+        copy::<N>(window.samples, 0, window.stride, height, out, 0, stride);
+    } else {
+        any_columns(plane, x, y, vector, kind, N, height, out, stride);
     }
+}
+
+/// Does what `columns` does, by the filters.
+#[inline(never)]
+fn filtered<const N: usize, const M: usize>(
+    plane: &Plane,
+    x: i32,
+    y: i32,
+    vector: (i32, i32),
+    kind: Kind,
+    height: usize,
+    out: &mut [u8],
+    stride: usize,
+)
+    requires lanes { (0 < N) × (N ≤ 16) × (M ≡ 21 * N) }
+    requires high { (0 < height) × (height ≤ 16) }
+    requires stride { (N ≤ stride) × (stride ≤ 65536) }
+    requires room { (height - 1) * stride + N ≤ length out.old }
+    ensures { IsBlockIn (predicted kind plane.now.shown x y vector.0 vector.1) N height stride out.old out.new }
+{
+    let left = first_tap(x, vector.0);
+    let top = first_tap(y, vector.1);
     if let Some(window) = plane.window(left, top, N + 5, height + 5) {
-        let across = Taps::of(kind, right);
-        let down = Taps::of(kind, below);
+        let across = Taps::of(kind, fraction(vector.0));
+        let down = Taps::of(kind, fraction(vector.1));
         let (samples, apart) = (window.samples, window.stride);
         strip::<N, M>(samples, apart, across, down, 0, height, out, stride);
     } else {
@@ -143,8 +186,8 @@ fn any_columns(
     requires room { (height - 1) * stride + width ≤ length out.old }
     ensures { IsBlockIn (predicted kind plane.now.shown x y vector.0 vector.1) width height stride out.old out.new }
 {
-    let across = Taps::of(kind, fraction(vector.0));
-    let down = Taps::of(kind, fraction(vector.1));
+    let (right, below) = (fraction(vector.0), fraction(vector.1));
+    let (across, down) = (Taps::of(kind, right), Taps::of(kind, below));
     let left = first_tap(x, vector.0);
     let top = first_tap(y, vector.1);
     if let Some(window) = plane.window(left, top, width + 5, height + 5) {

@@ -36,7 +36,7 @@ pub fn copy<const N: usize>(
 ///
 /// `samples` are those that the taps stand at: they begin two columns and two rows before the block,
 /// and their rows are `stride` samples apart. `M` is 21 times `N`.
-#[inline]
+#[inline(always)]
 pub fn strip<const N: usize, const M: usize>(
     samples: &[u8],
     stride: usize,

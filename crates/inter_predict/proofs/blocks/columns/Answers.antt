@@ -1,25 +1,12 @@
-use Rattle.std.proofs.Common.{zero-add, ap, ℕ, ◌≡◌, ◌+◌, ◌-◌, ◌*◌, ◌≤◌, length, arith, rules}
-use Rattle.inter_predict.proofs.Predicted.{block_is, copied_is}
-use Rattle.inter_predict.specs.Kernels.{tapped_twice}
-use Rattle.inter_predict.proofs.Twice.{same_strip}
+use Rattle.std.proofs.Common.{SFits, w32, ◌∙◌, ap, sym, rules}
+use Rattle.std.proofs.lemmas.Int.{to_z-of_z}
+use Rattle.inter_predict.specs.InterSample.{fraction}
 use Rattle.inter_predict.proofs.blocks.columns.Goals as goal
 
-pub returns-in-Some : goal.returns-in-Some
-returns-in-Some g c =
-    copied_is c.args.kind c.args.plane.now.shown c.args.x c.args.y c.args.vector.0 c.args.vector.1 c.first_tap-left.result c.first_tap-top.result c.fraction-right.result c.fraction-below.result c.in-Some.whole.samples.now c.in-Some.whole.stride g.row.N c.args.height c.args.stride c.args.out.now c.copy.new.out
-    c.fraction-right.ensures.value c.fraction-below.ensures.value c.if-right-eq0.true c.if-below-eq0.true c.ranges.x c.ranges.y (search rules) (search rules) c.first_tap-left.ensures.value c.first_tap-top.ensures.value c.first_tap-left.ensures.near c.first_tap-top.ensures.near c.in-Some.ensures.samples (λ k. (c.type_inv.out k).fits) c.copy.ensures
-
-pub strip-requires-clause-room : goal.strip-requires-clause-room
-strip-requires-clause-room g c =
-    let rows : c.args.height + 5 - 1 ≡ c.args.height + 4 = omega arith in
-    let room = rw rows at c.in-Some-window.ensures.samples.room in
-    let enough : (c.args.height + 4) * c.in-Some-window.window.stride + (0 + g.row.N + 5) ≤ length c.in-Some-window.window.samples.now = omega (arith, room) in
-    enough
-
-pub returns-in-Some-window : goal.returns-in-Some-window
-returns-in-Some-window g c =
-    let samples = c.in-Some-window.window.samples.now in
-    let sample : ℕ → ℕ → ℕ = λ (column row : ℕ). tapped_twice c.of-across.result c.of-down.result samples c.in-Some-window.window.stride column row in
-    let strip = same_strip _ sample 0 g.row.N c.args.height c.args.stride c.args.out.now c.strip.new.out c.strip.ensures (λ column row inside below. ap (λ k. sample k row) (zero-add column)) in
-    block_is c.args.kind c.args.plane.now.shown c.args.x c.args.y c.args.vector.0 c.args.vector.1 c.first_tap-left.result c.first_tap-top.result c.fraction-right.result c.fraction-below.result c.of-across.result c.of-down.result c.in-Some-window.window.samples.now c.in-Some-window.window.stride g.row.N c.args.height c.args.stride c.args.out.now c.strip.new.out
-    c.of-across.ensures.value c.of-down.ensures.value c.fraction-right.ensures.value c.fraction-below.ensures.value c.ranges.x c.ranges.y (search rules) (search rules) c.first_tap-left.ensures.value c.first_tap-top.ensures.value c.first_tap-left.ensures.near c.first_tap-top.ensures.near c.in-Some-window.ensures.samples strip
+pub copied-requires-clause-whole : goal.copied-requires-clause-whole
+copied-requires-clause-whole g c =
+    let right_fits : SFits w32 c.args.vector.0 = search rules in
+    let below_fits : SFits w32 c.args.vector.1 = search rules in (
+      sym (ap fraction (to_z-of_z w32 _ right_fits)) ∙ sym c.fraction.ensures.value ∙ c.if-fraction-eq0.true,
+      sym (ap fraction (to_z-of_z w32 _ below_fits)) ∙ sym c.fraction-then-fraction-eq0.ensures.value ∙ c.if-fraction-eq0-2.true,
+    )
