@@ -30,7 +30,7 @@ keeps_one_value SixTap eighths value place less byte = six_between eighths less 
 keeps_one_value Bilinear eighths value place less byte = two_between eighths less (λ k. value) place ∙ two_level value eighths less byte
 
 -- no eighths behind a place lies the sample there
-at_place : (kind : Kind) (line : ℤ → ℕ) (place : ℤ) → line place < 256 → between kind 0 line place ≡ line place
+pub at_place : (kind : Kind) (line : ℤ → ℕ) (place : ℤ) → line place < 256 → between kind 0 line place ≡ line place
 at_place SixTap line place byte =
     let there : (place -ℤ pos 2) +ℤ pos 2 ≡ place = omega (arith, ints) in
     six_between 0 (omega arith) line place ∙ tapped_whole (six_taps 0) (λ k. line ((place -ℤ pos 2) +ℤ pos k)) (six_small 0 (omega arith)) refl (let P : ℤ → Type 0 = λ (z : ℤ). line z < 256 in subst P (sym there) byte) ∙ ap line there
@@ -52,7 +52,7 @@ held_byte : (z : ℤ) → held z < 256
 held_byte (pos n) = omega arith
 held_byte (negsuc n) = omega arith
 
-between_byte : (kind : Kind) (eighths : ℕ) (line : ℤ → ℕ) (place : ℤ) → between kind eighths line place < 256
+pub between_byte : (kind : Kind) (eighths : ℕ) (line : ℤ → ℕ) (place : ℤ) → between kind eighths line place < 256
 unfolding between filtered
 between_byte SixTap eighths line place = held_byte _
 between_byte Bilinear eighths line place = held_byte _

@@ -10,6 +10,7 @@ use Rattle.inter_predict.specs.declared.taps.Taps.{Taps}
 use Rattle.inter_predict.specs.InterSample.{whole_part, fraction, between, across, inter_sample, predicted}
 use Rattle.inter_predict.specs.Blocks.{IsBlockIn}
 use Rattle.inter_predict.specs.Kernels.{IsStrip, IsNear, tapped, tapped_twice}
+use Rattle.inter_predict.proofs.FilterLaws.{at_place, between_byte}
 use Rattle.inter_predict.proofs.Twice.{tapped_same}
 
 -- the taps make the sample that lies a fraction of eighths behind a place
@@ -76,3 +77,50 @@ block_is kind p x y right below left top eighths_right eighths_below across_taps
     let at_top : IsWindow p left top (width + 5) (height + 5) samples stride = subst (λ (z : ℤ). IsWindow p left z (width + 5) (height + 5) samples stride) (near_fits top top_near) at_left in
     block_of_strip (tapped_twice across_taps down_taps samples stride) (predicted kind p x y right below) width height out_stride old new strip
     (λ column row inside within. predicted_is kind p x y right below left top across_taps down_taps samples stride width height column row across_is down_is left_there top_there at_top inside within)
+
+-- no eighths behind whole samples lies the sample there
+whole_sample : (kind : Kind) (p : Samples) (x y right below : ℤ) → fraction right ≡ 0 → fraction below ≡ 0 → reference_sample p (x +ℤ whole_part right) (y +ℤ whole_part below) < 256
+    → inter_sample kind p x y right below ≡ reference_sample p (x +ℤ whole_part right) (y +ℤ whole_part below)
+unfolding inter_sample
+whole_sample kind p x y right below no_right no_below byte =
+    let down : between kind (fraction below) (across kind p x right) (y +ℤ whole_part below) ≡ across kind p x right (y +ℤ whole_part below) = rw no_below (at_place kind (across kind p x right) (y +ℤ whole_part below) (between_byte kind _ _ _)) in
+    let line : across kind p x right (y +ℤ whole_part below) ≡ reference_sample p (x +ℤ whole_part right) (y +ℤ whole_part below) = rw no_right (at_place kind (λ column. reference_sample p column (y +ℤ whole_part below)) (x +ℤ whole_part right) byte) in
+    down ∙ line
+
+-- where a whole sample stands
+whole_place : (x whole left : ℤ) (column : ℕ) → left ≡ (x +ℤ whole) -ℤ pos 2 → (left +ℤ pos 2) +ℤ pos column ≡ (x +ℤ pos column) +ℤ whole
+whole_place x whole left column same = omega (arith, ints)
+
+-- a sample of a window that begins at the whole samples
+whole_is : (kind : Kind) (p : Samples) (x y right below left top : ℤ) (samples : List ℕ) (stride width height column row : ℕ)
+    → fraction right ≡ 0 → fraction below ≡ 0 → left ≡ (x +ℤ whole_part right) -ℤ pos 2 → top ≡ (y +ℤ whole_part below) -ℤ pos 2 → IsWindow p (left +ℤ pos 2) (top +ℤ pos 2) width height samples stride → slice_index samples (row * stride + column) < 256 → column < width → row < height
+    → slice_index samples (row * stride + column) ≡ predicted kind p x y right below column row
+whole_is kind p x y right below left top samples stride width height column row no_right no_below left_is top_is window byte inside within =
+    let there : slice_index samples (row * stride + column) ≡ reference_sample p ((x +ℤ pos column) +ℤ whole_part right) ((y +ℤ pos row) +ℤ whole_part below) =
+    window.each column row inside within ∙ ap (λ (z : ℤ). reference_sample p z ((top +ℤ pos 2) +ℤ pos row)) (whole_place x (whole_part right) left column left_is) ∙ ap (reference_sample p ((x +ℤ pos column) +ℤ whole_part right)) (whole_place y (whole_part below) top row top_is) in
+    let byte' : reference_sample p ((x +ℤ pos column) +ℤ whole_part right) ((y +ℤ pos row) +ℤ whole_part below) < 256 = let P : ℕ → Type 0 = λ (k : ℕ). k < 256 in subst P there byte in
+    there ∙ sym (whole_sample kind p (x +ℤ pos column) (y +ℤ pos row) right below no_right no_below byte')
+
+-- two places further on in 64 bits
+two_further : (place : ℤ) → IsNear place → to_z w64 (of_z w64 (to_z w64 (of_z w64 place) +ℤ pos 2)) ≡ place +ℤ pos 2
+two_further place near = omega (arith, ints)
+
+-- a block that is copied from a window at the whole samples
+pub copied_is : (kind : Kind) (p : Samples) (x y right below left top : ℤ) (eighths_right eighths_below : ℕ) (samples : List ℕ) (stride width height out_stride : ℕ) (old new : List ℕ)
+    → eighths_right ≡ fraction (to_z w32 (of_z w32 right)) → eighths_below ≡ fraction (to_z w32 (of_z w32 below)) → eighths_right ≡ 0 → eighths_below ≡ 0
+    → FitsSigned w32 x → FitsSigned w32 y → FitsSigned w32 right → FitsSigned w32 below → left ≡ (to_z w32 (of_z w32 x) +ℤ whole_part (to_z w32 (of_z w32 right))) -ℤ pos 2 → top ≡ (to_z w32 (of_z w32 y) +ℤ whole_part (to_z w32 (of_z w32 below))) -ℤ pos 2 → IsNear left → IsNear top
+    → IsWindow p (to_z w64 (of_z w64 (to_z w64 (of_z w64 left) +ℤ pos 2))) (to_z w64 (of_z w64 (to_z w64 (of_z w64 top) +ℤ pos 2))) width height samples stride → ((k : ℕ) → slice_index new k < 256)
+    → IsStrip (λ column row. slice_index samples (0 + row * stride + column)) 0 width height out_stride old new → IsBlockIn (predicted kind p x y right below) width height out_stride old new
+copied_is kind p x y right below left top eighths_right eighths_below samples stride width height out_stride old new right_is below_is no_right no_below x_fits y_fits right_fits below_fits left_is top_is left_near top_near window bytes strip =
+    let right_same = to_z-of_z w32 right right_fits in
+    let below_same = to_z-of_z w32 below below_fits in
+    let whole_right : fraction right ≡ 0 = sym (ap fraction right_same) ∙ sym right_is ∙ no_right in
+    let whole_below : fraction below ≡ 0 = sym (ap fraction below_same) ∙ sym below_is ∙ no_below in
+    let left_there : left ≡ (x +ℤ whole_part right) -ℤ pos 2 = left_is ∙ ap (λ (z : ℤ). (z +ℤ whole_part (to_z w32 (of_z w32 right))) -ℤ pos 2) (to_z-of_z w32 x x_fits) ∙ ap (λ (z : ℤ). (x +ℤ whole_part z) -ℤ pos 2) right_same in
+    let top_there : top ≡ (y +ℤ whole_part below) -ℤ pos 2 = top_is ∙ ap (λ (z : ℤ). (z +ℤ whole_part (to_z w32 (of_z w32 below))) -ℤ pos 2) (to_z-of_z w32 y y_fits) ∙ ap (λ (z : ℤ). (y +ℤ whole_part z) -ℤ pos 2) below_same in
+    let at_whole : IsWindow p (left +ℤ pos 2) (top +ℤ pos 2) width height samples stride = rw (two_further left left_near, two_further top top_near) at window in
+    block_of_strip (λ column row. slice_index samples (0 + row * stride + column)) (predicted kind p x y right below) width height out_stride old new strip
+    (λ column row inside within.
+    let place : 0 + row * stride + column ≡ row * stride + column = omega arith in
+    let byte : slice_index samples (row * stride + column) < 256 = let P : ℕ → Type 0 = λ (k : ℕ). k < 256 in subst P (strip.each column row inside within ∙ ap (slice_index samples) place) (bytes (row * out_stride + (0 + column))) in
+    ap (slice_index samples) place ∙ whole_is kind p x y right below left top samples stride width height column row whole_right whole_below left_there top_there at_whole byte inside within)

@@ -5,6 +5,7 @@ ghost use Rattle.inter_predict.specs.Kernels.{IsNear};
 
 use crate::gathering::{GATHERED_STRIDE, gather};
 use crate::kinds::Kind;
+use crate::strips::{copy, strip};
 use crate::taps::Taps;
 use crate::windows::predict;
 use pixel_planes::Plane;
@@ -56,6 +57,7 @@ pub fn block(
 /// Does what `block` does, into rows `stride` samples apart: at least the width, and at most 65,536.
 ///
 /// The block begins with the first sample of `out`; samples beside it and below it stay as they are.
+#[inline]
 pub fn block_in(
     plane: &Plane,
     x: i32,
@@ -73,8 +75,119 @@ pub fn block_in(
     requires room { (height - 1) * stride + width ≤ length out.old }
     ensures { IsBlockIn (predicted kind plane.now.shown x y vector.0 vector.1) width height stride out.old out.new }
 {
-    let across = Taps::of(kind, fraction(vector.0));
-    let down = Taps::of(kind, fraction(vector.1));
+    match width {
+        16 => columns::<16, 336>(plane, x, y, vector, kind, height, out, stride),
+        8 => columns::<8, 168>(plane, x, y, vector, kind, height, out, stride),
+        4 => columns::<4, 84>(plane, x, y, vector, kind, height, out, stride),
+        _ => any_columns(plane, x, y, vector, kind, width, height, out, stride),
+    }
+}
+
+/// Does what `block_in` does for a block of `N` columns. `M` is 21 times `N`.
+#[inline]
+fn columns<const N: usize, const M: usize>(
+    plane: &Plane,
+    x: i32,
+    y: i32,
+    vector: (i32, i32),
+    kind: Kind,
+    height: usize,
+    out: &mut [u8],
+    stride: usize,
+)
+    requires lanes { (0 < N) × (N ≤ 16) × (M ≡ 21 * N) }
+    requires high { (0 < height) × (height ≤ 16) }
+    requires stride { (N ≤ stride) × (stride ≤ 65536) }
+    requires room { (height - 1) * stride + N ≤ length out.old }
+    ensures { IsBlockIn (predicted kind plane.now.shown x y vector.0 vector.1) N height stride out.old out.new }
+{
+    if fraction(vector.0) == 0 && fraction(vector.1) == 0 {
+        copied::<N>(plane, x, y, vector, kind, height, out, stride);
+    } else {
+        filtered::<N, M>(plane, x, y, vector, kind, height, out, stride);
+    }
+}
+
+/// Does what `columns` does where the vector leads to whole samples: nothing beside them is read.
+#[inline(never)]
+fn copied<const N: usize>(
+    plane: &Plane,
+    x: i32,
+    y: i32,
+    vector: (i32, i32),
+    kind: Kind,
+    height: usize,
+    out: &mut [u8],
+    stride: usize,
+)
+    requires whole { (fraction_of vector.0 ≡ 0) × (fraction_of vector.1 ≡ 0) }
+    requires lanes { (0 < N) × (N ≤ 16) }
+    requires high { (0 < height) × (height ≤ 16) }
+    requires stride { (N ≤ stride) × (stride ≤ 65536) }
+    requires room { (height - 1) * stride + N ≤ length out.old }
+    ensures { IsBlockIn (predicted kind plane.now.shown x y vector.0 vector.1) N height stride out.old out.new }
+{
+    let left = first_tap(x, vector.0);
+    let top = first_tap(y, vector.1);
+    if let Some(window) = plane.window(left + 2, top + 2, N, height) {
+        copy::<N>(window.samples, 0, window.stride, height, out, 0, stride);
+    } else {
+        any_columns(plane, x, y, vector, kind, N, height, out, stride);
+    }
+}
+
+/// Does what `columns` does, by the filters.
+#[inline(never)]
+fn filtered<const N: usize, const M: usize>(
+    plane: &Plane,
+    x: i32,
+    y: i32,
+    vector: (i32, i32),
+    kind: Kind,
+    height: usize,
+    out: &mut [u8],
+    stride: usize,
+)
+    requires lanes { (0 < N) × (N ≤ 16) × (M ≡ 21 * N) }
+    requires high { (0 < height) × (height ≤ 16) }
+    requires stride { (N ≤ stride) × (stride ≤ 65536) }
+    requires room { (height - 1) * stride + N ≤ length out.old }
+    ensures { IsBlockIn (predicted kind plane.now.shown x y vector.0 vector.1) N height stride out.old out.new }
+{
+    let left = first_tap(x, vector.0);
+    let top = first_tap(y, vector.1);
+    if let Some(window) = plane.window(left, top, N + 5, height + 5) {
+        let across = Taps::of(kind, fraction(vector.0));
+        let down = Taps::of(kind, fraction(vector.1));
+        let (samples, apart) = (window.samples, window.stride);
+        strip::<N, M>(samples, apart, across, down, 0, height, out, stride);
+    } else {
+        any_columns(plane, x, y, vector, kind, N, height, out, stride);
+    }
+}
+
+/// Does what `block_in` does, for any width and also where the plane's border has no such window.
+#[cold]
+#[inline(never)]
+fn any_columns(
+    plane: &Plane,
+    x: i32,
+    y: i32,
+    vector: (i32, i32),
+    kind: Kind,
+    width: usize,
+    height: usize,
+    out: &mut [u8],
+    stride: usize,
+)
+    requires wide { (0 < width) × (width ≤ 16) }
+    requires high { (0 < height) × (height ≤ 16) }
+    requires stride { (width ≤ stride) × (stride ≤ 65536) }
+    requires room { (height - 1) * stride + width ≤ length out.old }
+    ensures { IsBlockIn (predicted kind plane.now.shown x y vector.0 vector.1) width height stride out.old out.new }
+{
+    let (right, below) = (fraction(vector.0), fraction(vector.1));
+    let (across, down) = (Taps::of(kind, right), Taps::of(kind, below));
     let left = first_tap(x, vector.0);
     let top = first_tap(y, vector.1);
     if let Some(window) = plane.window(left, top, width + 5, height + 5) {

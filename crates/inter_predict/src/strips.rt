@@ -8,7 +8,7 @@ use std::simd::Simd;
 /// Copies `height` rows of `N` samples, the first from `start` on and each further one `stride`
 /// places behind the last, into the strip of `out` from column `first` on.
 #[inline]
-fn copy<const N: usize>(
+pub fn copy<const N: usize>(
     samples: &[u8],
     start: usize,
     stride: usize,
@@ -36,7 +36,7 @@ fn copy<const N: usize>(
 ///
 /// `samples` are those that the taps stand at: they begin two columns and two rows before the block,
 /// and their rows are `stride` samples apart. `M` is 21 times `N`.
-#[inline]
+#[inline(always)]
 pub fn strip<const N: usize, const M: usize>(
     samples: &[u8],
     stride: usize,

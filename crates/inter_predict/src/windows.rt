@@ -90,18 +90,11 @@ pub fn predict(
     requires down { IsTaps down }
     ensures { IsStrip (tapped_twice across down samples.now stride) 0 width height out_stride out.old out.new }
 {
-    match width {
-        16 => strip::<16, 336>(samples, stride, across, down, 0, height, out, out_stride),
-        8 => strip::<8, 168>(samples, stride, across, down, 0, height, out, out_stride),
-        4 => strip::<4, 84>(samples, stride, across, down, 0, height, out, out_stride),
-        _ => {
-            in_fours(
-                samples, stride, across, down, width, height, out, out_stride,
-            );
-            let first = width / 4 * 4;
-            in_ones(
-                samples, stride, across, down, first, width, height, out, out_stride,
-            );
-        }
-    }
+    in_fours(
+        samples, stride, across, down, width, height, out, out_stride,
+    );
+    let first = width / 4 * 4;
+    in_ones(
+        samples, stride, across, down, first, width, height, out, out_stride,
+    );
 }

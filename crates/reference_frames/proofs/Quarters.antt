@@ -1,9 +1,10 @@
 -- The samples of a macroblock that is predicted from a reference, block by block.
 use Rattle.std.specs.Prelude.{slice_index_or}
-use Rattle.std.proofs.Common.{◌≡◌, inl, inr, ℕ, true, false, ◌+◌, ◌*◌, ◌/◌, ◌%◌, ◌<◌, ◌≤◌, List, ℤ, pos, ◌*ℤ◌, refl, ap, ◌∙◌, arith}
+use Rattle.std.proofs.Common.{◌≡◌, inl, inr, ℕ, true, false, ◌+◌, ◌*◌, ◌/◌, ◌%◌, ◌<◌, ◌≤◌, List, ℤ, pos, ◌+ℤ◌, ◌*ℤ◌, refl, ap, ◌∙◌, arith}
 use Rattle.std.proofs.lemmas.Bool.{cases_lt}
 use Rattle.inter_predict.specs.InterSample.{inter_sample}
 use Rattle.inter_predict.specs.declared.kinds.Kind.{Kind}
+use Rattle.mode_parser.specs.ChromaVectors.{chroma_component}
 use Rattle.mode_parser.specs.Vectors.{MotionVector, zero_vector}
 use Rattle.mode_parser.specs.declared.records.VectorMode.{VectorMode}
 use Rattle.pixel_planes.specs.Samples.{Samples}
@@ -81,3 +82,9 @@ pub in_whole : (version : ℕ) (p : Samples) (mx my : ℕ) (mode : VectorMode) (
 in_whole version p mx my mode vectors i j kind vector is kind_is right below =
     let one = one_vector version mode vectors (chroma_group i j) is in
     by_group version p mx my (block_vector mode vectors) (chroma_group i j) i j kind vector kind_is (right ∙ ap (λ (v : ℤ × ℤ). v.0) one) (below ∙ ap (λ (v : ℤ × ℤ). v.1) one) refl
+
+-- four times the vector of a macroblock that is not split is the sum of a group
+pub four_times : (version : ℕ) (mode : VectorMode) (vectors : List MotionVector) → is_split mode ≡ false → (chroma_component (let x = (block_vector mode vectors 15).x in x +ℤ x +ℤ x +ℤ x) version ≡ (group_vector version (block_vector mode vectors) 0).0)
+    × (chroma_component (let y = (block_vector mode vectors 15).y in y +ℤ y +ℤ y +ℤ y) version ≡ (group_vector version (block_vector mode vectors) 0).1)
+unfolding group_vector
+four_times version mode vectors is = rw is (refl, refl)

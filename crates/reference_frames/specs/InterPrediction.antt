@@ -1,5 +1,5 @@
 -- The samples of a macroblock that is predicted from a reference (RFC 6386, sections 16.3 and 18).
-use Rattle.std.specs.Prelude.{ℕ, Bool, true, false, ◌+◌, ◌*◌, ◌/◌, ◌%◌, ◌==◌, if◌then◌else◌, List, slice_index_or, ℤ, pos, ◌+ℤ◌, ◌*ℤ◌}
+use Rattle.std.specs.Prelude.{◌≡◌, ℕ, Bool, true, false, ◌+◌, ◌*◌, ◌/◌, ◌%◌, ◌==◌, if◌then◌else◌, List, slice_index_or, ℤ, pos, ◌+ℤ◌, ◌*ℤ◌}
 use Rattle.inter_predict.specs.InterSample.{inter_sample}
 use Rattle.inter_predict.specs.declared.kinds.Kind.{Kind}
 use Rattle.inter_predict.specs.declared.kinds.Kind.TheVariants.{SixTap, Bilinear}
@@ -55,3 +55,9 @@ abbrev pub chroma_sample : ℕ → Samples → ℕ → ℕ → (ℕ → MotionVe
 chroma_sample version p mx my vector_of column row =
     let vector = group_vector version vector_of (chroma_group column row) in
     inter_sample (kind_of version) p (pos (8 * mx + column)) (pos (8 * my + row)) vector.0 vector.1
+
+-- the vector that each group of a macroblock has which is not split
+abbrev pub IsWholeVector : ℕ → VectorMode → List MotionVector → ℤ × ℤ → Type 0
+IsWholeVector version mode vectors vector =
+    let of_group = group_vector version (block_vector mode vectors) 0 in
+    is_split mode ≡ false → (vector.0 ≡ of_group.0) × (vector.1 ≡ of_group.1)

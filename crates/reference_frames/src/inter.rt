@@ -5,7 +5,7 @@ ghost use Rattle.std.specs.Option.{option_copied};
 ghost use Rattle.inter_predict.specs.InterSample.{inter_sample};
 ghost use Rattle.mode_parser.specs.Vectors.{IsWithin, zero_vector};
 ghost use Rattle.pixel_planes.specs.PlaneSamples.{shown_of};
-ghost use Rattle.reference_frames.specs.InterPrediction.{kind_of, is_split, block_vector, luma_sample, chroma_sample, group_vector};
+ghost use Rattle.reference_frames.specs.InterPrediction.{kind_of, is_split, block_vector, luma_sample, chroma_sample, group_vector, IsWholeVector};
 ghost use Rattle.reference_frames.specs.PlacedBlocks.{IsPlaced, from_corner};
 ghost use Rattle.reference_frames.specs.Restored.{restored};
 ghost use Rattle.reference_frames.specs.Unfiltered.{HoldsMacroblock, HoldsSquare, SameShape, SameSides, inter_macroblock, with_block};
@@ -186,8 +186,20 @@ fn group_vector(mode: VectorMode, vectors: &[Vector; 16], group: usize, version:
     (chroma_vector(x, version), chroma_vector(y, version))
 }
 
+/// The vector that all chroma of a macroblock goes by which is not split: its four groups have the
+/// same.
+#[inline]
+fn whole_vector(mode: VectorMode, vectors: &[Vector; 16], version: u8) -> (i32, i32)
+    ensures { IsWholeVector version mode vectors.now result }
+{
+    let vector = block_vector(mode, vectors, 15);
+    let (x, y) = (vector.x(), vector.y());
+    let (x, y) = (sum_of(x, x, x, x), sum_of(y, y, y, y));
+    (chroma_vector(x, version), chroma_vector(y, version))
+}
+
 /// Predicts the macroblock in column `mx` of row `my` in a chroma plane's samples, of which `across`
-/// stand in a row: as one block, or where it is split by four.
+/// stand in a row: as one block by the vector `whole`, or where it is split by four.
 fn chroma_samples(
     from: &Plane,
     mx: usize,
@@ -195,9 +207,11 @@ fn chroma_samples(
     version: u8,
     mode: VectorMode,
     vectors: &[Vector; 16],
+    whole: (i32, i32),
     samples: &mut [u8],
     across: usize,
 )
+    requires whole { IsWholeVector version mode vectors.now whole }
     requires small { (across ≤ 16384) × (8 * my + 8 ≤ 16384) }
     requires column { 8 * mx + 8 ≤ across }
     requires room { (8 * my + 8) * across ≤ length samples.old }
@@ -205,8 +219,8 @@ fn chroma_samples(
 {
     let kind = kind_of(version);
     let (x, y) = (8 * mx, 8 * my);
-    let first = group_vector(mode, vectors, 0, version);
     if is_split(mode) {
+        let first = group_vector(mode, vectors, 0, version);
         let second = group_vector(mode, vectors, 1, version);
         let third = group_vector(mode, vectors, 2, version);
         let fourth = group_vector(mode, vectors, 3, version);
@@ -216,7 +230,7 @@ fn chroma_samples(
         predict_square(from, fourth, kind, 4, samples, across, x + 4, y + 4);
         return;
     }
-    predict_square(from, first, kind, 8, samples, across, x, y);
+    predict_square(from, whole, kind, 8, samples, across, x, y);
 }
 
 /// Predicts the luma of a macroblock from a reference's, and adds its residual.
@@ -243,7 +257,7 @@ fn predict_luma(
 }
 
 /// Predicts a macroblock's samples of a chroma plane from a reference's, and adds its residual, whose
-/// blocks are numbered from `first` on.
+/// blocks are numbered from `first` on. Where it is not split, it goes by the vector `whole`.
 fn predict_chroma(
     plane: &mut Plane,
     from: &Plane,
@@ -252,9 +266,11 @@ fn predict_chroma(
     version: u8,
     mode: VectorMode,
     vectors: &[Vector; 16],
+    whole: (i32, i32),
     residual: Option<&Blocks>,
     first: usize,
 )
+    requires whole { IsWholeVector version mode vectors.now whole }
     requires first { first + 4 ≤ 24 }
     requires within { HoldsSquare plane.old.shown (8 * mx) (8 * my) 8 }
     ensures value { plane.new.shown ≡ with_block plane.old.shown (8 * mx) (8 * my) 8 (restored 8 first (option_copied residual.entry) (chroma_sample version from.now.shown mx my (block_vector mode vectors.now))) }
@@ -262,7 +278,7 @@ fn predict_chroma(
 {
     let width = plane.width();
     let samples = plane.samples_mut();
-    chroma_samples(from, mx, my, version, mode, vectors, samples, width);
+    chroma_samples(from, mx, my, version, mode, vectors, whole, samples, width);
     let size = BlockSize::Eight;
     add_to_square(residual, first, size, samples, width, 8 * mx, 8 * my);
 }
@@ -294,6 +310,7 @@ pub(crate) fn predict_inter(
         vectors,
         residual,
     );
+    let whole = whole_vector(mode, vectors, version);
     let cb = from.cb();
     predict_chroma(
         &mut planes.cb,
@@ -303,6 +320,7 @@ pub(crate) fn predict_inter(
         version,
         mode,
         vectors,
+        whole,
         residual,
         16,
     );
@@ -315,6 +333,7 @@ pub(crate) fn predict_inter(
         version,
         mode,
         vectors,
+        whole,
         residual,
         20,
     );

@@ -3,8 +3,8 @@ use Rattle.inter_predict.specs.Kernels.{tapped_twice}
 use Rattle.inter_predict.proofs.StripRows.{joined}
 use Rattle.inter_predict.proofs.windows.predict.Goals as goal
 
-pub returns-in_default : goal.returns-in_default
-returns-in_default c =
+pub returns : goal.returns
+returns c =
     let width = c.args.width in
     let first = width / 4 * 4 in
     let sample : ℕ → ℕ → ℕ = λ (column row : ℕ). tapped_twice c.args.across c.args.down c.args.samples.now c.args.stride column row in

@@ -23,4 +23,4 @@ pub returns : goal.returns
 returns c =
     let p : Samples = c.args.from.now.shown in
     placed_from (chroma_sample c.args.version p c.args.mx c.args.my (block_vector c.args.mode c.args.vectors.now)) _ c.args.across 8 (8 * c.args.mx) (8 * c.args.my) 0 0 _ _ _ _ (omega arith) (omega arith)
-    (λ i j inside. in_whole c.args.version p c.args.mx c.args.my c.args.mode c.args.vectors.now i j c.kind_of-kind.result c.group_vector-first.result (sym c.if-is_split.ensures) c.kind_of-kind.ensures c.group_vector-first.ensures.x c.group_vector-first.ensures.y) c.predict_square-2.ensures
+    (λ i j inside. in_whole c.args.version p c.args.mx c.args.my c.args.mode c.args.vectors.now i j c.kind_of-kind.result c.args.whole (sym c.if-is_split.ensures) c.kind_of-kind.ensures (c.requires.whole (sym c.if-is_split.ensures)).0 (c.requires.whole (sym c.if-is_split.ensures)).1) c.predict_square-2.ensures
