@@ -84,7 +84,7 @@ pub(crate) fn read_records(
     // A copy of its own keeps the reader in registers.
     let mut reader = header.reader.copied();
     let mut records = Vec::with_capacity(alloc, columns * rows)?;
-    // The place is counted on, since a division for each macroblock takes longer than its modes.
+    // The place is counted on: a division for each macroblock is slow.
     let mut place = MbPlace {
         column: 0,
         row: 0,
