@@ -21,13 +21,13 @@ block_times: pixel_planes inter_predict
 END
 # A plane takes memory, which an exported function has none of: what `block` makes of a window is
 # timed here, and `block` itself in a program.
-sed -i 's/^mod taps;/pub mod taps;/; s/^mod windows;/pub mod windows;/' "$room/crates/inter_predict/src/lib.rt"
+sed -i 's/^mod strips;/pub mod strips;/; s/^mod taps;/pub mod taps;/' "$room/crates/inter_predict/src/lib.rt"
 cat > "$room/crates/inter_times/src/lib.rt" <<'END'
 #![tactic(auto)]
 
 use inter_predict::Kind;
+use inter_predict::strips::strip;
 use inter_predict::taps::Taps;
-use inter_predict::windows::predict;
 
 #[unsafe(no_mangle)]
 pub extern "C" fn proved_predict(
@@ -46,14 +46,13 @@ pub extern "C" fn proved_predict(
         0 => Kind::SixTap,
         _ => Kind::Bilinear,
     };
-    let side = match side {
-        16 => 16,
-        8 => 8,
-        _ => 4,
-    };
     let across = Taps::of(kind, (right % 8) as usize);
     let down = Taps::of(kind, (below % 8) as usize);
-    predict(samples, stride, across, down, side, side, out, side);
+    match side {
+        16 => strip::<16, 336>(samples, stride, across, down, 0, 16, out, 16),
+        8 => strip::<8, 168>(samples, stride, across, down, 0, 8, out, 8),
+        _ => strip::<4, 84>(samples, stride, across, down, 0, 4, out, 4),
+    }
 }
 END
 cp "$here/inter.rt.txt" "$room/crates/block_times/src/main.rt"

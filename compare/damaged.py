@@ -209,13 +209,13 @@ def compare(room, width, height, packets, told):
                 told["not shown by vpxdec"] += 1
             elif served[n] == wanted[place - start]:
                 told["as vpxdec"] += 1
+            elif is_unpredicted_chroma(packets[place], width, height, served[n], wanted[place - start]):
+                told["chroma of version 3 unpredicted by vpxdec"] += 1
             else:
                 if others is None:
                     others = frames_by_place(room, packets[start:end], "ffmpeg")
                 if others.get(place - start) == served[n]:
                     told["as ffmpeg and not as vpxdec"] += 1
-                elif is_unpredicted_chroma(packets[place], width, height, served[n], wanted[place - start]):
-                    told["chroma of version 3 unpredicted by vpxdec"] += 1
                 else:
                     faults.append(n)
     return faults
