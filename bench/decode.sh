@@ -52,11 +52,11 @@ def user_time(words):
 for name, frames in [("640x360", 300), ("1280x720", 120), ("1920x1080", 60)]:
     clip, requests = f"{clips}/{name}.ivf", f"{room}/{name}"
     with open(requests, "w") as file:
-        file.write(f"frame {frames - 1}\n")
-    served = subprocess.run([f"{room}/{levels[-1]}", clip, requests, "/dev/null"], check=True, capture_output=True, text=True)
-    assert served.stdout == f"served {frames - 1}\n", served.stdout
+        file.writelines(f"frame {n}\n" for n in range(frames))
+    served = subprocess.run([f"{room}/{levels[-1]}", clip, requests, "-"], check=True, capture_output=True, text=True)
+    assert served.stdout == "".join(f"served {n}\n" for n in range(frames)), served.stdout
     ffmpeg = ["ffmpeg", "-v", "error", "-threads", "1"]
-    ways = {level: [f"{room}/{level}", clip, requests, "/dev/null"] for level in levels} | {
+    ways = {level: [f"{room}/{level}", clip, requests, "-"] for level in levels} | {
         "vpxdec": ["vpxdec", "--threads=1", "--noblit", clip],
         "ffmpeg": [*ffmpeg, "-i", clip, "-f", "null", "-"],
         "ffmpeg without SIMD": [*ffmpeg, "-cpuflags", "0", "-i", clip, "-f", "null", "-"],
@@ -73,5 +73,5 @@ END
 
 command -v perf > /dev/null || exit 0
 echo "$own, 1920x1080, percent of the time by function"
-perf record -q -F 10000 -o "$room/perf" "$room/$own" "$clips/1920x1080.ivf" "$room/1920x1080" /dev/null > /dev/null 2>&1
+perf record -q -F 10000 -o "$room/perf" "$room/$own" "$clips/1920x1080.ivf" "$room/1920x1080" - > /dev/null 2>&1
 perf report -i "$room/perf" --stdio --percent-limit 1 2> /dev/null | grep -E '^ +[0-9]' || true
