@@ -9,6 +9,9 @@ vpxdec as a stream of its own, and every frame that it shows must be the one tha
 Behind the end of a partition all bits are 0. vpxdec stops there, and ffmpeg reads on in the next partition; so both get
 the packets with zeros behind each partition, which changes no frame of ours, and the script sees that it does not.
 
+All bits of a partition that begins with FF are 1. vpxdec loses the top of its window there and reads others. A frame that
+differs from vpxdec's, with such a partition in its packet or in one before it from the key packet on, is told by that name.
+
 In version 3 vpxdec leaves chroma unpredicted where its vector points far out of the frame. A frame of that version that
 differs from vpxdec's in chroma alone is told by that name.
 """
@@ -91,8 +94,8 @@ def partition_count(reader, is_key):
     return 1 << reader.number(2)
 
 
-def padded(packet):
-    """A sound packet with zeros behind each of its partitions."""
+def partitions_of(packet):
+    """A sound packet's parts: what stands before its first partition, the first partition and the token partitions."""
     tag = struct.unpack("<I", packet[:3] + b"\0")[0]
     start = 3 if tag & 1 else 10
     end = start + (tag >> 5)
@@ -104,10 +107,23 @@ def padded(packet):
         size = struct.unpack("<I", packet[at : at + 3] + b"\0")[0]
         texts.append(packet[place : place + size])
         place += size
-    texts = [text + bytes(PADDING) for text in texts + [packet[place:]]]
+    return packet[:start], first, texts + [packet[place:]]
+
+
+def padded(packet):
+    """A sound packet with zeros behind each of its partitions."""
+    head, first, texts = partitions_of(packet)
+    texts = [text + bytes(PADDING) for text in texts]
     first += bytes(PADDING)
     sizes = b"".join(struct.pack("<I", len(text))[:3] for text in texts[:-1])
-    return struct.pack("<I", tag & 31 | len(first) << 5)[:3] + packet[3:start] + first + sizes + b"".join(texts)
+    tag = struct.unpack("<I", head[:3] + b"\0")[0]
+    return struct.pack("<I", tag & 31 | len(first) << 5)[:3] + head[3:] + first + sizes + b"".join(texts)
+
+
+def begins_with_ff(packet):
+    """Whether one of the partitions of a sound packet begins with the byte FF."""
+    _, first, texts = partitions_of(packet)
+    return any(text[:1] == b"\xff" for text in [first, *texts])
 
 
 def is_shown(packet):
@@ -211,6 +227,8 @@ def compare(room, width, height, packets, told):
                 told["as vpxdec"] += 1
             elif is_unpredicted_chroma(packets[place], width, height, served[n], wanted[place - start]):
                 told["chroma of version 3 unpredicted by vpxdec"] += 1
+            elif any(map(begins_with_ff, packets[start : place + 1])):
+                told["behind a partition that begins with FF"] += 1
             else:
                 if others is None:
                     others = frames_by_place(room, packets[start:end], "ffmpeg")

@@ -75,7 +75,7 @@ fn shows(store: &Store, places: &[usize]) -> bool {
 }
 
 #[test]
-fn each_edit(rt: HostRuntime) -> Result<(), Fail> {
+fn insertions(rt: HostRuntime) -> Result<(), Fail> {
     let alloc = rt.alloc();
     let mut store = Store::starting(alloc, 0);
     assert!(rt; holds(&store, &[]) && shows(&store, &[]));
@@ -83,79 +83,67 @@ fn each_edit(rt: HostRuntime) -> Result<(), Fail> {
     assert_eq!(rt; store.push_all(packets), Ok(()));
     assert!(rt; holds(&store, &[(0, 10, b"a"), (1, 20, HIDDEN), (2, 30, SHOWN)]));
     assert!(rt; shows(&store, &[0, 2]));
+    let first = (0, 10, b"a".as_slice());
+    let inserted = (3, 15, SHOWN);
     assert_eq!(rt;
         store.insert(1, 15, Bytes::from_slice(alloc, SHOWN)?),
         Ok(())
     );
-    assert!(rt;
-        holds(
-            &store,
-            &[
-                (0, 10, b"a"),
-                (3, 15, SHOWN),
-                (1, 20, HIDDEN),
-                (2, 30, SHOWN)
-            ]
-        )
-    );
+    assert!(rt; holds(&store, &[first, inserted, (1, 20, HIDDEN), (2, 30, SHOWN)]));
     assert!(rt; shows(&store, &[0, 1, 3]));
-    assert_eq!(rt; store.move_to(0, 2), Ok(()));
-    assert!(rt;
-        holds(
-            &store,
-            &[
-                (3, 15, SHOWN),
-                (1, 20, HIDDEN),
-                (0, 10, b"a"),
-                (2, 30, SHOWN)
-            ]
-        )
-    );
-    assert!(rt; shows(&store, &[0, 2, 3]));
-    assert_eq!(rt; store.move_to(3, 0), Ok(()));
-    assert!(rt;
-        holds(
-            &store,
-            &[
-                (2, 30, SHOWN),
-                (3, 15, SHOWN),
-                (1, 20, HIDDEN),
-                (0, 10, b"a")
-            ]
-        )
-    );
-    assert!(rt; shows(&store, &[0, 1, 3]));
-    assert_eq!(rt; store.move_to(2, 1), Ok(()));
-    assert!(rt;
-        holds(
-            &store,
-            &[
-                (2, 30, SHOWN),
-                (1, 20, HIDDEN),
-                (3, 15, SHOWN),
-                (0, 10, b"a")
-            ]
-        )
-    );
-    assert!(rt; shows(&store, &[0, 2, 3]));
+    Ok(())
+}
+
+/// Each move in turn, with the packets and the shown places behind it.
+#[test]
+fn moves(rt: HostRuntime) -> Result<(), Fail> {
+    let alloc = rt.alloc();
+    let mut store = Store::starting(alloc, 0);
+    let rows = &[
+        (10, b"a".as_slice()),
+        (15, SHOWN),
+        (20, HIDDEN),
+        (30, SHOWN),
+    ];
+    assert_eq!(rt; store.push_all(packets_of(alloc, rows)?), Ok(()));
+    let a = (0, 10, b"a".as_slice());
+    let b = (1, 15, SHOWN);
+    let c = (2, 20, HIDDEN);
+    let d = (3, 30, SHOWN);
+    let cases = [
+        (0, 2, [b, c, a, d], [0, 2, 3]),
+        (3, 0, [d, b, c, a], [0, 1, 3]),
+        (2, 1, [d, c, b, a], [0, 2, 3]),
+    ];
+    for (from, to, packets, shown) in cases {
+        assert_eq!(rt; store.move_to(from, to), Ok(()), "{from} {to}");
+        assert!(rt; holds(&store, &packets), "{from} {to}");
+        assert!(rt; shows(&store, &shown), "{from} {to}");
+    }
+    Ok(())
+}
+
+#[test]
+fn replacements_and_deletions(rt: HostRuntime) -> Result<(), Fail> {
+    let alloc = rt.alloc();
+    let mut store = Store::starting(alloc, 0);
+    let rows = &[
+        (30, SHOWN),
+        (20, HIDDEN),
+        (15, SHOWN),
+        (10, b"a".as_slice()),
+    ];
+    assert_eq!(rt; store.push_all(packets_of(alloc, rows)?), Ok(()));
+    let last = (3, 10, b"a".as_slice());
+    let hidden = (4, 15, HIDDEN);
     assert_eq!(rt; store.replace(2, Bytes::from_slice(alloc, HIDDEN)?), Ok(()));
-    assert!(rt;
-        holds(
-            &store,
-            &[
-                (2, 30, SHOWN),
-                (1, 20, HIDDEN),
-                (4, 15, HIDDEN),
-                (0, 10, b"a")
-            ]
-        )
-    );
+    assert!(rt; holds(&store, &[(0, 30, SHOWN), (1, 20, HIDDEN), hidden, last]));
     assert!(rt; shows(&store, &[0, 3]));
     assert_eq!(rt; store.delete(0), Ok(()));
-    assert!(rt; holds(&store, &[(1, 20, HIDDEN), (4, 15, HIDDEN), (0, 10, b"a")]));
+    assert!(rt; holds(&store, &[(1, 20, HIDDEN), hidden, last]));
     assert!(rt; shows(&store, &[2]));
     assert_eq!(rt; store.replace(0, Bytes::from_slice(alloc, b"")?), Ok(()));
-    assert!(rt; holds(&store, &[(5, 20, b""), (4, 15, HIDDEN), (0, 10, b"a")]));
+    assert!(rt; holds(&store, &[(5, 20, b""), hidden, last]));
     assert!(rt; shows(&store, &[0, 2]));
     Ok(())
 }

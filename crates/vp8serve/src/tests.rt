@@ -1,5 +1,6 @@
 use crate::fault::Fault;
 use crate::program::{run_to, serve, tell};
+use std::alloc::Global;
 use std::fs;
 use std::io::{self, BufWriter, ErrorKind, Read, Write};
 use std::test::Fail;
@@ -51,6 +52,18 @@ const ONE: [u8; 54] = [
     0, 0, 1, 0, 0, 0, 0, 0, 0, 0, //
     10, 0, 0, 0, 0, 0, 0, 0, 0, 0, 0, 0, //
     0x10, 0, 0, 0x9D, 0x01, 0x2A, 16, 0, 16, 0,
+];
+
+/// Tables that are 128 throughout, as a file has them.
+const FLAT: [u8; 3012] = [128; 3012];
+
+/// A file of one 16x16 key frame whose residual the probabilities of tokens decide.
+const CODED: [u8; 62] = [
+    b'D', b'K', b'I', b'F', 0, 0, 32, 0, b'V', b'P', b'8', b'0', 16, 0, 16, 0, 30, 0, 0, 0, 1, 0,
+    0, 0, 1, 0, 0, 0, 0, 0, 0, 0, //
+    18, 0, 0, 0, 0, 0, 0, 0, 0, 0, 0, 0, //
+    0x10, 0, 0, 0x9D, 0x01, 0x2A, 16, 0, 16, 0, //
+    0xA7, 0x31, 0xC4, 0x5E, 0x92, 0x0B, 0xD8, 0x6F,
 ];
 
 const HELP: &str = "\
@@ -344,21 +357,51 @@ fn tells_a_save_that_fails(rt: HostRuntime) -> Result<(), Fail> {
     Ok(())
 }
 
-/// Tables of a file are used, and each number of kept states that is allowed.
+/// The least and the greatest number of kept states.
 #[test]
-fn takes_options(rt: HostRuntime) -> Result<(), Fail> {
-    let mut entries = Vec::new(rt.alloc());
-    for _ in 0..3012 {
-        entries.push(128)?;
-    }
-    fs::write(&rt, "tables.bin", entries.as_slice())?;
+fn takes_numbers_of_kept_states(rt: HostRuntime) {
     for count in ["1", "4096"] {
-        let words = ["vp8serve", "--tables", "tables.bin", "--cache", count];
+        let words = ["vp8serve", "--cache", count];
         let run = run_program(&rt, &words, "blank 0 16 16\nhold 1\nframe 1\n");
         assert!(rt; run.output.as_slice() == b"ok 1\nok 2\nserved 1\n".as_slice());
         assert_eq!(rt; run.errors.len(), 0);
         assert_eq!(rt; run.status, 0);
     }
-    fs::remove_file(&rt, "tables.bin")?;
+}
+
+/// What is written for the frame of `CODED` by these tables.
+fn coded_frame(alloc: Global, tables: Tables) -> Result<Vec<u8>, Fault<'static>> {
+    let mut frames = Vec::new(alloc);
+    let mut replies = Vec::new(alloc);
+    run_to(
+        alloc,
+        tables,
+        1,
+        &CODED,
+        b"frame 0\n",
+        &mut frames,
+        &mut replies,
+    )?;
+    Ok(frames)
+}
+
+/// Tables of a file are used: its frame is the one by these tables, which is not the RFC's.
+#[test]
+fn uses_the_tables_of_a_file(rt: HostRuntime) -> Result<(), Fail> {
+    fs::write(&rt, "coded.ivf", &CODED)?;
+    fs::write(&rt, "flat.bin", &FLAT)?;
+    let flat = coded_frame(rt.alloc(), Tables::flat());
+    let rfc = coded_frame(rt.alloc(), Tables::rfc());
+    assert!(rt; flat.is_ok() && rfc.is_ok() && flat != rfc);
+    let words = ["vp8serve", "coded.ivf", "-", "coded.y4m", "--tables", "flat.bin"];
+    for (words, frame) in [(&words[..4], rfc), (&words, flat)] {
+        let run = run_program(&rt, words, "frame 0\n");
+        assert!(rt; run.output.as_slice() == b"served 0\n".as_slice());
+        assert_eq!(rt; run.status, 0);
+        assert!(rt; fs::read(&rt, "coded.y4m").ok() == frame.ok());
+    }
+    for name in ["coded.ivf", "flat.bin", "coded.y4m"] {
+        fs::remove_file(&rt, name)?;
+    }
     Ok(())
 }

@@ -1,4 +1,4 @@
-use Rattle.std.proofs.Common.{◌≡◌, true, false, sym, ap, ◌∙◌}
+use Rattle.std.proofs.Common.{◌≡◌, sym, ap, ◌∙◌}
 use Rattle.frame_header.specs.Tags.{has_key_tag, key_size_of}
 use Rattle.packet_edits.proofs.Keys.{key_found, passed_over}
 use Rattle.packet_edits.proofs.key_sizes.last_key_size.Goals as goal
