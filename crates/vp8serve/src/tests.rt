@@ -54,9 +54,6 @@ const ONE: [u8; 54] = [
     0x10, 0, 0, 0x9D, 0x01, 0x2A, 16, 0, 16, 0,
 ];
 
-/// Tables that are 128 throughout, as a file has them.
-const FLAT: [u8; 3012] = [128; 3012];
-
 /// A file of one 16x16 key frame whose residual the probabilities of tokens decide.
 const CODED: [u8; 62] = [
     b'D', b'K', b'I', b'F', 0, 0, 32, 0, b'V', b'P', b'8', b'0', 16, 0, 16, 0, 30, 0, 0, 0, 1, 0,
@@ -369,8 +366,9 @@ fn takes_numbers_of_kept_states(rt: HostRuntime) {
     }
 }
 
-/// What is written for the frame of `CODED` by these tables.
-fn coded_frame(alloc: Global, tables: Tables) -> Result<Vec<u8>, Fault<'static>> {
+/// What is written for the frame of `CODED` by tables that have one entry throughout.
+fn coded_frame(alloc: Global, entry: u8) -> Result<Vec<u8>, Fault<'static>> {
+    let tables = Tables::read(&[entry; 3012]).map_err(|_| Fault::Tables)?;
     let mut frames = Vec::new(alloc);
     let mut replies = Vec::new(alloc);
     run_to(
@@ -385,22 +383,22 @@ fn coded_frame(alloc: Global, tables: Tables) -> Result<Vec<u8>, Fault<'static>>
     Ok(frames)
 }
 
-/// Tables of a file are used: its frame is the one by these tables, which is not the RFC's.
+/// Tables of a file are used: two files give the frames by their tables, which differ.
 #[test]
 fn uses_the_tables_of_a_file(rt: HostRuntime) -> Result<(), Fail> {
     fs::write(&rt, "coded.ivf", &CODED)?;
-    fs::write(&rt, "flat.bin", &FLAT)?;
-    let flat = coded_frame(rt.alloc(), Tables::flat());
-    let rfc = coded_frame(rt.alloc(), Tables::rfc());
-    assert!(rt; flat.is_ok() && rfc.is_ok() && flat != rfc);
-    let words = ["vp8serve", "coded.ivf", "-", "coded.y4m", "--tables", "flat.bin"];
-    for (words, frame) in [(&words[..4], rfc), (&words, flat)] {
-        let run = run_program(&rt, words, "frame 0\n");
+    let low = coded_frame(rt.alloc(), 128);
+    let high = coded_frame(rt.alloc(), 201);
+    assert!(rt; low.is_ok() && high.is_ok() && low != high);
+    for (entry, frame) in [(128, low), (201, high)] {
+        fs::write(&rt, "entries.bin", &[entry; 3012])?;
+        let words = ["vp8serve", "coded.ivf", "-", "coded.y4m", "--tables", "entries.bin"];
+        let run = run_program(&rt, &words, "frame 0\n");
         assert!(rt; run.output.as_slice() == b"served 0\n".as_slice());
         assert_eq!(rt; run.status, 0);
         assert!(rt; fs::read(&rt, "coded.y4m").ok() == frame.ok());
     }
-    for name in ["coded.ivf", "flat.bin", "coded.y4m"] {
+    for name in ["coded.ivf", "entries.bin", "coded.y4m"] {
         fs::remove_file(&rt, name)?;
     }
     Ok(())
