@@ -392,7 +392,14 @@ fn uses_the_tables_of_a_file(rt: HostRuntime) -> Result<(), Fail> {
     assert!(rt; low.is_ok() && high.is_ok() && low != high);
     for (entry, frame) in [(128, low), (201, high)] {
         fs::write(&rt, "entries.bin", &[entry; 3012])?;
-        let words = ["vp8serve", "coded.ivf", "-", "coded.y4m", "--tables", "entries.bin"];
+        let words = [
+            "vp8serve",
+            "coded.ivf",
+            "-",
+            "coded.y4m",
+            "--tables",
+            "entries.bin",
+        ];
         let run = run_program(&rt, &words, "frame 0\n");
         assert!(rt; run.output.as_slice() == b"served 0\n".as_slice());
         assert_eq!(rt; run.status, 0);
