@@ -21,34 +21,33 @@ fn read_sign(reader: &mut Decoder, size: u16) -> i16
 /// The coefficients of a block that stand behind the place `first`, and the place behind its last
 /// token. Others stay as they are.
 #[inline]
-pub(crate) fn read_tokens<'a>(
-    decoder: Decoder<'a>,
+pub(crate) fn read_tokens(
+    reader: &mut Decoder,
     probs: &[u8; 1056],
     kind: usize,
     first: usize,
     flags: usize,
     coefficients: &mut [i16; 16],
-) -> (Decoder<'a>, usize)
+) -> usize
     requires kind { kind < 4 }
     requires first { first ≤ 16 }
     requires context { flags < 3 }
-    ensures value { tokens_from (16 - first) probs.now kind first flags false coefficients.old decoder.entry ≡ ((coefficients.new, result.1), result.0) }
-    ensures least { first ≤ result.1 }
-    ensures most { result.1 ≤ 16 }
+    ensures value { tokens_from (16 - first) probs.now kind first flags false coefficients.old reader.old ≡ ((coefficients.new, result), reader.new) }
+    ensures least { first ≤ result }
+    ensures most { result ≤ 16 }
 {
-    let mut reader = decoder;
     let mut place = first;
     let mut context = flags;
     'tokens: while place < 16 {
         let nodes = nodes_at(probs, kind, place, context);
         if !reader.bit(nodes[0]) {
-            return (reader, place);
+            return place;
         }
         'zeros: loop {
             let nodes = nodes_at(probs, kind, place, context);
             if reader.bit(nodes[1]) {
-                let size = read_size(&mut reader, nodes);
-                coefficients[ZIGZAG[place]] = read_sign(&mut reader, size);
+                let size = read_size(reader, nodes);
+                coefficients[ZIGZAG[place]] = read_sign(reader, size);
                 context = if size > 1 { 2 } else { 1 };
                 place += 1;
                 break 'zeros;
@@ -56,9 +55,9 @@ pub(crate) fn read_tokens<'a>(
             context = 0;
             place += 1;
             if place == 16 {
-                return (reader, 16);
+                return 16;
             }
         }
     }
-    (reader, 16)
+    16
 }

@@ -94,23 +94,17 @@ fn place_of(has_y2: bool, k: usize) -> BlockPlace
 /// One block.
 #[inline]
 #[tactic(auto, unfolding(crate::specs::Blocks::block))]
-fn read_block<'a>(
-    decoder: Decoder<'a>,
-    probs: &[u8; 1056],
-    at: BlockPlace,
-    tokens: &mut Tokens,
-) -> Decoder<'a>
+fn read_block(reader: &mut Decoder, probs: &[u8; 1056], at: BlockPlace, tokens: &mut Tokens)
     requires { IsInside at }
-    ensures { block probs.now at tokens.old decoder.entry ≡ (tokens.new, result) }
+    ensures { block probs.now at tokens.old reader.old ≡ (tokens.new, reader.new) }
 {
     let flags = tokens.left[at.left] as usize + tokens.above[at.above] as usize;
     let coefficients = &mut tokens.coefficients[at.index];
-    let (reader, end) = read_tokens(decoder, probs, at.kind, at.first, flags, coefficients);
+    let end = read_tokens(reader, probs, at.kind, at.first, flags, coefficients);
     let has_token = end > at.first;
     tokens.above[at.above] = has_token;
     tokens.left[at.left] = has_token;
     tokens.ends[at.index] = end as u8;
-    reader
 }
 
 /// Reads the tokens of a macroblock: of Y2 where it has one, of 16 blocks of luma, 4 of U and 4 of V
@@ -131,7 +125,7 @@ pub fn read_macroblock(
     let mut reader = decoder.copied();
     for k in 0..25usize {
         if k > 0 || has_y2 {
-            reader = read_block(reader, probabilities, place_of(has_y2, k), tokens);
+            read_block(&mut reader, probabilities, place_of(has_y2, k), tokens);
         }
     }
     *decoder = reader;

@@ -15,7 +15,7 @@ loop-k-preserved c = elim c.if-k-gt0.branch [
         | then-k-gt0-via-then-k-gt0 w' ↦ grind (arith, nat_tests, w'.if-k-gt0.true)
         | then-k-gt0-via-else-k-gt0+then-has_y2 w' ↦ grind (arith, nat_tests, w'.if-has_y2.true)
       ] in
-      rw (w.tokens-is, w.reader-is) (first_blocks-more _ _ _ _ _ _ _ _ _ c.loop-k.invariant is_read (rw w.place_of.ensures.value at w.read_block-reader.ensures))
+      rw (w.tokens-is, w.reader-is) (first_blocks-more _ _ _ _ _ _ _ _ _ c.loop-k.invariant is_read (rw w.place_of.ensures.value at w.read_block.ensures))
   | else-k-gt0+else-has_y2 w ↦
       let is_left_out : (nat_lt 0 c.loop-k.k || c.args.has_y2) ≡ false = grind (arith, nat_tests, w.if-k-gt0.false, w.if-has_y2.false) in
       rw (w.tokens-is, w.reader-is) (first_blocks-same _ _ _ _ _ _ _ c.loop-k.invariant is_left_out)

@@ -1,5 +1,4 @@
-use Rattle.std.proofs.Common.{◌≡◌, ℕ, ◌∙◌, refl, map, arith}
-use Rattle.std.specs.List.{list_any, range_with_len}
+use Rattle.std.proofs.Common.{◌≡◌, ◌∙◌, refl, arith}
 use Rattle.token_parser.specs.Blocks.{has_token, has_tokens}
 use Rattle.token_parser.proofs.AnyToken.{found_before, found_here}
 use Rattle.token_parser.proofs.tokens.Tokens.has_tokens.Goals.{then-found, else-found}
