@@ -61,11 +61,12 @@ impl Tokens {
     pub fn has_tokens(&self, has_y2: bool) -> bool
         ensures { result ≡ has_tokens has_y2 self.now }
     {
-        let mut found = false;
         for k in 0..25usize {
-            found = found || usize::from(self.ends[k]) > first_place(has_y2, k);
+            if usize::from(self.ends[k]) > first_place(has_y2, k) {
+                return true;
+            }
         }
-        found
+        false
     }
 }
 
