@@ -7,6 +7,7 @@ pub mod LowNumbers
 pub mod EncoderSteps
 pub mod CodeFits
 pub mod Windows
+pub mod SixBytes
 pub mod Shifts
 pub mod Leaves
 pub mod Level

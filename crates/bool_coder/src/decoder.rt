@@ -57,13 +57,13 @@ impl<'a> Decoder<'a> {
         ensures { read prob self.old ≡ (result, self.new) }
     {
         self.window.ready(self.range);
-        let split = 1 + (((self.range - 1) * prob as u32) >> 8);
-        let bit = self.window.value >> self.window.left >= split as u64;
+        let split = 1 + (((self.range - 1) as u64 * prob as u64) >> 8);
+        let bit = self.window.value >> self.window.left >= split;
         let range = if bit {
-            self.window.value -= (split as u64) << self.window.left;
-            self.range - split
+            self.window.value -= split << self.window.left;
+            self.range - split as u32
         } else {
-            split
+            split as u32
         };
         let count = shift_of(range);
         self.window.left -= count;

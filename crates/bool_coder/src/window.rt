@@ -1,6 +1,6 @@
 //! The 64-bit window through which a decoder reads its bytes.
 
-ghost use Rattle.std.specs.Prelude.{◌≡◌, ◌+◌, ◌-◌, ◌*◌, ◌<◌, ◌≤◌, ◌^◌, ℕ, [], ◌∷◌};
+ghost use Rattle.std.specs.Prelude.{◌≡◌, ◌+◌, ◌-◌, ◌*◌, ◌<◌, ◌≤◌, ◌^◌, ℕ, [], ◌∷◌, ◌++◌};
 ghost use Rattle.bool_coder.specs.Reader.{text_start, level};
 ghost use Rattle.bool_coder.specs.Window.{reader_of};
 
@@ -99,7 +99,7 @@ impl<'a> Window<'a> {
         }
     }
 
-    /// Takes in bytes as long as the window has room for them.
+    /// Takes in bytes as long as the window has room for them, six at once where it can.
     fn pull(&mut self)
         requires small { self.old.value < 2 ^ (self.old.left + 8) }
         requires room { self.old.left ≤ 56 }
@@ -108,6 +108,11 @@ impl<'a> Window<'a> {
         ensures room { self.new.left ≤ 56 }
         ensures full { self.new.left ≤ 48 → self.new.bytes.now ≡ [] }
     {
+        if let [a, b, c, d, e, f, rest @ ..] = self.bytes
+            && self.left <= 8
+        {
+            self.take_six([*a, *b, *c, *d, *e, *f], rest);
+        }
         while self.left <= 48 {
             match self.bytes {
                 [] => return,
@@ -128,5 +133,22 @@ impl<'a> Window<'a> {
         self.bytes = rest;
         self.value = 256 * self.value + first as u64;
         self.left += 8;
+    }
+
+    /// Takes in the first six bytes, behind which `rest` stands.
+    fn take_six(&mut self, first: [u8; 6], rest: &'a [u8])
+        requires next { self.old.bytes.now ≡ first ++ rest.now }
+        requires small { self.old.value < 2 ^ (self.old.left + 8) }
+        requires room { self.old.left ≤ 8 }
+        ensures same { (range : ℕ) → reader_of self.new.value self.new.left self.new.bytes.now range ≡ reader_of self.old.value self.old.left self.old.bytes.now range }
+        ensures small { self.new.value < 2 ^ (self.new.left + 8) }
+        ensures left { self.new.left ≡ self.old.left + 48 }
+    {
+        let [a, b, c, d, e, f] = first;
+        let high = 256 * (256 * self.value + a as u64) + b as u64;
+        let middle = 256 * (256 * high + c as u64) + d as u64;
+        self.value = 256 * (256 * middle + e as u64) + f as u64;
+        self.bytes = rest;
+        self.left += 48;
     }
 }

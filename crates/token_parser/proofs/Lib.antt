@@ -3,6 +3,7 @@ pub mod Leaves
 pub mod ExtraBits
 pub mod SizeWalks
 pub mod Steps
+pub mod BlockPlaces
 pub mod Zigzag
 pub mod BlockSteps
 pub mod TokenLaws

@@ -1,5 +1,5 @@
 -- One token more of a block
-use Rattle.std.proofs.Common.{◌≡◌, ℕ, suc, ◌+◌, ◌-◌, ◌<◌, ◌≤◌, Bool, true, false, List, refl, sym, ◌∙◌, arith}
+use Rattle.std.proofs.Common.{◌≡◌, ℕ, suc, ◌+◌, ◌-◌, ◌<◌, Bool, true, false, List, refl, sym, ◌∙◌, arith}
 use Rattle.std.specs.Prelude.{ℤ, slice_index, slice_set, ◌==◌, ◌&&◌, not, min}
 use Rattle.std.proofs.lemmas.Bool.{and_parts}
 use Rattle.bool_coder.specs.Reader.{Reader, read}
@@ -99,7 +99,7 @@ some-step probs nodes kind place context coefficients size value r s t u bit are
     let tests = and_parts _ _ (middle-test at_place s) in
     rw one_more (stored _ _ _ _ _ _ _ token_there.0 _ _ _ token_there.1 _ _ (some-token 21 _ _ _ _ there is ∙ leaf_below-more 6 15 token_tree is_size at_place 4 s middle) (not-true _ tests.0) (not-true _ tests.1) sized_there signed)
 
-pub none-step : (probs : List ℕ) (kind place context : ℕ) (after_zero : Bool) (coefficients : List ℤ) (r : Reader) → 16 ≤ place → tokens_from (16 - place) probs kind place context after_zero coefficients r ≡ ((coefficients, place), r)
+-- behind the last of the 16 nothing is read
+pub last-step : (probs : List ℕ) (kind place context : ℕ) (after_zero : Bool) (coefficients : List ℤ) (r : Reader) → place ≡ 16 → tokens_from (16 - place) probs kind place context after_zero coefficients r ≡ ((coefficients, 16), r)
 unfolding tokens_from
-none-step probs kind place context after_zero coefficients r past =
-    let none : 16 - place ≡ 0 = omega arith in rw none refl
+last-step probs kind place context after_zero coefficients r all = rw all refl

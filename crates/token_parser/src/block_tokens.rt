@@ -1,6 +1,6 @@
 //! The tokens of one block.
 
-ghost use Rattle.std.specs.Prelude.{◌≡◌, ◌-◌, ◌<◌, ◌≤◌, false};
+ghost use Rattle.std.specs.Prelude.{◌≡◌, ◌-◌, ◌<◌, ◌≤◌, false, true};
 ghost use Rattle.token_parser.specs.Tokens.{signed_size, tokens_from};
 
 use crate::places::{ZIGZAG, nodes_at};
@@ -18,47 +18,72 @@ fn read_sign(reader: &mut Decoder, size: u16) -> i16
     if reader.flag() { -value } else { value }
 }
 
-/// The coefficients of a block that stand behind the place `first`, and the place behind its last
-/// token. Others stay as they are.
+/// The coefficients of a block behind the place `first`, where its end is known not to stand, and the
+/// place behind its last token. Others stay as they are.
 #[inline]
-pub(crate) fn read_tokens<'a>(
-    decoder: Decoder<'a>,
+fn read_more_tokens(
+    reader: &mut Decoder,
     probs: &[u8; 1056],
     kind: usize,
     first: usize,
     flags: usize,
     coefficients: &mut [i16; 16],
-) -> (Decoder<'a>, usize)
+) -> usize
     requires kind { kind < 4 }
-    requires first { first ≤ 16 }
+    requires first { first < 16 }
     requires context { flags < 3 }
-    ensures value { tokens_from (16 - first) probs.now kind first flags false coefficients.old decoder.entry ≡ ((coefficients.new, result.1), result.0) }
-    ensures least { first ≤ result.1 }
-    ensures most { result.1 ≤ 16 }
+    ensures value { tokens_from (16 - first) probs.now kind first flags true coefficients.old reader.old ≡ ((coefficients.new, result), reader.new) }
+    ensures least { first ≤ result }
+    ensures most { result ≤ 16 }
 {
-    let mut reader = decoder;
     let mut place = first;
     let mut context = flags;
-    'tokens: while place < 16 {
-        let nodes = nodes_at(probs, kind, place, context);
-        if !reader.bit(nodes[0]) {
-            return (reader, place);
-        }
-        'zeros: loop {
-            let nodes = nodes_at(probs, kind, place, context);
-            if reader.bit(nodes[1]) {
-                let size = read_size(&mut reader, nodes);
-                coefficients[ZIGZAG[place]] = read_sign(&mut reader, size);
-                context = if size > 1 { 2 } else { 1 };
-                place += 1;
-                break 'zeros;
-            }
-            context = 0;
+    let mut nodes = nodes_at(probs, kind, place, context);
+    'tokens: loop {
+        if reader.bit(nodes[1]) {
+            let size = read_size(reader, nodes);
+            coefficients[ZIGZAG[place]] = read_sign(reader, size);
             place += 1;
             if place == 16 {
-                return (reader, 16);
+                return 16;
             }
+            context = if size > 1 { 2 } else { 1 };
+            nodes = nodes_at(probs, kind, place, context);
+            if !reader.bit(nodes[0]) {
+                return place;
+            }
+        } else {
+            place += 1;
+            if place == 16 {
+                return 16;
+            }
+            context = 0;
+            nodes = nodes_at(probs, kind, place, context);
         }
     }
-    (reader, 16)
+}
+
+/// The coefficients of a block that stand behind the place `first`, and the place behind its last
+/// token. Others stay as they are.
+#[inline]
+pub(crate) fn read_tokens(
+    reader: &mut Decoder,
+    probs: &[u8; 1056],
+    kind: usize,
+    first: usize,
+    flags: usize,
+    coefficients: &mut [i16; 16],
+) -> usize
+    requires kind { kind < 4 }
+    requires first { first < 16 }
+    requires context { flags < 3 }
+    ensures value { tokens_from (16 - first) probs.now kind first flags false coefficients.old reader.old ≡ ((coefficients.new, result), reader.new) }
+    ensures least { first ≤ result }
+    ensures most { result ≤ 16 }
+{
+    if reader.bit(nodes_at(probs, kind, first, flags)[0]) {
+        read_more_tokens(reader, probs, kind, first, flags, coefficients)
+    } else {
+        first
+    }
 }

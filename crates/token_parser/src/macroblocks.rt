@@ -8,6 +8,32 @@ use crate::block_tokens::read_tokens;
 use crate::tokens::Tokens;
 use bool_coder::Decoder;
 
+/// The numbers of the blocks in the order of their tokens: Y2, 16 of luma, 4 of U, 4 of V (RFC 6386,
+/// section 13).
+const INDICES: [u8; 25] = [
+    24, 0, 1, 2, 3, 4, 5, 6, 7, 8, 9, 10, 11, 12, 13, 14, 15, 16, 17, 18, 19, 20, 21, 22, 23,
+];
+
+/// The numbers of the flags above these blocks.
+const ABOVE: [u8; 25] = [
+    8, 0, 1, 2, 3, 0, 1, 2, 3, 0, 1, 2, 3, 0, 1, 2, 3, 4, 5, 4, 5, 6, 7, 6, 7,
+];
+
+/// The numbers of the flags to their left.
+const LEFT: [u8; 25] = [
+    8, 0, 0, 0, 0, 1, 1, 1, 1, 2, 2, 2, 2, 3, 3, 3, 3, 4, 4, 5, 5, 6, 6, 7, 7,
+];
+
+/// The kinds of these blocks: luma has kind 3 where the macroblock has no Y2, and 0 behind it.
+const KINDS: [[u8; 25]; 2] = [
+    [
+        1, 3, 3, 3, 3, 3, 3, 3, 3, 3, 3, 3, 3, 3, 3, 3, 3, 2, 2, 2, 2, 2, 2, 2, 2,
+    ],
+    [
+        1, 0, 0, 0, 0, 0, 0, 0, 0, 0, 0, 0, 0, 0, 0, 0, 0, 2, 2, 2, 2, 2, 2, 2, 2,
+    ],
+];
+
 impl Tokens {
     /// No block has a token or a coefficient: what a frame starts with.
     pub fn new() -> Tokens
@@ -35,11 +61,12 @@ impl Tokens {
     pub fn has_tokens(&self, has_y2: bool) -> bool
         ensures { result ≡ has_tokens has_y2 self.now }
     {
-        let mut found = false;
         for k in 0..25usize {
-            found = found || usize::from(self.ends[k]) > first_place(has_y2, k);
+            if usize::from(self.ends[k]) > first_place(has_y2, k) {
+                return true;
+            }
         }
-        found
+        false
     }
 }
 
@@ -58,59 +85,30 @@ fn place_of(has_y2: bool, k: usize) -> BlockPlace
     ensures value { result ≡ place_of has_y2 k }
     ensures inside { IsInside result }
 {
-    if k == 0 {
-        return BlockPlace {
-            kind: 1,
-            first: 0,
-            index: 24,
-            above: 8,
-            left: 8,
-        };
-    }
-    if k < 17 {
-        let n = k - 1;
-        return BlockPlace {
-            kind: if has_y2 { 0 } else { 3 },
-            first: has_y2 as usize,
-            index: n,
-            above: n % 4,
-            left: n / 4,
-        };
-    }
-    let (blocks, flags, n) = if k < 21 {
-        (16, 4, k - 17)
-    } else {
-        (20, 6, k - 21)
-    };
+    let kind = KINDS[has_y2 as usize][k] as usize;
     BlockPlace {
-        kind: 2,
-        first: 0,
-        index: blocks + n,
-        above: flags + n % 2,
-        left: flags + n / 2,
+        kind,
+        first: (kind == 0) as usize,
+        index: INDICES[k] as usize,
+        above: ABOVE[k] as usize,
+        left: LEFT[k] as usize,
     }
 }
 
 /// One block.
 #[inline]
 #[tactic(auto, unfolding(crate::specs::Blocks::block))]
-fn read_block<'a>(
-    decoder: Decoder<'a>,
-    probs: &[u8; 1056],
-    at: BlockPlace,
-    tokens: &mut Tokens,
-) -> Decoder<'a>
+fn read_block(reader: &mut Decoder, probs: &[u8; 1056], at: BlockPlace, tokens: &mut Tokens)
     requires { IsInside at }
-    ensures { block probs.now at tokens.old decoder.entry ≡ (tokens.new, result) }
+    ensures { block probs.now at tokens.old reader.old ≡ (tokens.new, reader.new) }
 {
     let flags = tokens.left[at.left] as usize + tokens.above[at.above] as usize;
     let coefficients = &mut tokens.coefficients[at.index];
-    let (reader, end) = read_tokens(decoder, probs, at.kind, at.first, flags, coefficients);
+    let end = read_tokens(reader, probs, at.kind, at.first, flags, coefficients);
     let has_token = end > at.first;
     tokens.above[at.above] = has_token;
     tokens.left[at.left] = has_token;
     tokens.ends[at.index] = end as u8;
-    reader
 }
 
 /// Reads the tokens of a macroblock: of Y2 where it has one, of 16 blocks of luma, 4 of U and 4 of V
@@ -129,10 +127,8 @@ pub fn read_macroblock(
     ensures { macroblock probabilities.now has_y2 tokens.old decoder.old ≡ (tokens.new, decoder.new) }
 {
     let mut reader = decoder.copied();
-    for k in 0..25usize {
-        if k > 0 || has_y2 {
-            reader = read_block(reader, probabilities, place_of(has_y2, k), tokens);
-        }
+    for k in usize::from(!has_y2)..25 {
+        read_block(&mut reader, probabilities, place_of(has_y2, k), tokens);
     }
     *decoder = reader;
 }

@@ -3,8 +3,14 @@
 ghost use Rattle.std.specs.Prelude.{◌≡◌, ◌<◌, length};
 ghost use Rattle.token_parser.specs.Tokens.{nodes_at};
 
-/// The band of each place (RFC 6386, section 13.3).
+/// The band of each place (RFC 6386, section 13.3), which the contracts cite.
 const BANDS: [usize; 16] = [0, 1, 2, 3, 6, 4, 5, 6, 6, 6, 6, 6, 6, 6, 6, 7];
+
+/// Where the probabilities of each place's band stand behind the first of its kind: a band has 3
+/// contexts by 11 nodes.
+const BAND_STARTS: [usize; 16] = [
+    0, 33, 66, 99, 198, 132, 165, 198, 198, 198, 198, 198, 198, 198, 198, 231,
+];
 
 /// Where the coefficient of each place stands in raster order (RFC 6386, section 13).
 pub(crate) const ZIGZAG: [usize; 16] = [0, 1, 4, 8, 5, 2, 3, 6, 9, 12, 13, 10, 7, 11, 14, 15];
@@ -18,6 +24,6 @@ pub(crate) fn nodes_at(probs: &[u8; 1056], kind: usize, place: usize, context: u
     ensures value { result.now ≡ nodes_at probs.now kind place context }
     ensures count { length result.now ≡ 11 }
 {
-    let start = ((kind * 8 + BANDS[place]) * 3 + context) * 11;
+    let start = kind * 264 + BAND_STARTS[place] + context * 11;
     &probs[start..start + 11]
 }
