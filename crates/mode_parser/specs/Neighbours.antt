@@ -1,34 +1,35 @@
 -- How the code holds what neighbours have.
-use Rattle.std.specs.Prelude.{◌≡◌, ℕ, ◌+◌, List, [], ◌∷◌}
+use Rattle.std.specs.Prelude.{◌≡◌, ◌<◌, ℕ, zero, suc, ◌+◌, List, [], ◌∷◌, length, slice_index, slice_index_or}
+use Rattle.mode_parser.specs.Vectors.{MotionVector, zero_vector}
 use Rattle.mode_parser.specs.declared.neighbours.Weighted.{Weighted}
-use Rattle.mode_parser.specs.declared.neighbours.Listed.{Listed}
-use Rattle.mode_parser.specs.declared.neighbours.Listed.TheVariants.{Nothing, One, Two, Three}
 use Rattle.mode_parser.specs.declared.neighbours.Neighbours.{Neighbours}
-use Rattle.mode_parser.specs.NearVectors.{Listing}
+use Rattle.mode_parser.specs.NearVectors.{Listing, unlisted}
 
--- the vectors that are listed, the newest first
-abbrev pub listed_in : Listed → List Weighted
-listed_in Nothing = []
-listed_in (One first) = first ∷ []
-listed_in (Two first second) = second ∷ first ∷ []
-listed_in (Three first second third) = third ∷ second ∷ first ∷ []
+-- the first n vectors behind the zero vector, the newest first
+abbrev pub listed_to : List MotionVector → List ℕ → ℕ → List Weighted
+listed_to vectors weights zero = []
+listed_to vectors weights (suc n) = record { vector = slice_index_or vectors (suc n) zero_vector; weight = slice_index weights (suc n) } ∷ listed_to vectors weights n
+
+abbrev pub listing_to : List MotionVector → List ℕ → ℕ → Listing
+listing_to vectors weights n = record { zeros = slice_index weights 0; listed = listed_to vectors weights n }
 
 abbrev pub listing_in : Neighbours → Listing
-listing_in neighbours = record { zeros = neighbours.zeros; listed = listed_in neighbours.listed }
+listing_in found = listing_to found.vectors found.weights found.newest
 
 -- the weights of all neighbours together
-abbrev pub listed_weight : Listed → ℕ
-listed_weight Nothing = 0
-listed_weight (One first) = first.weight
-listed_weight (Two first second) = first.weight + second.weight
-listed_weight (Three first second third) = first.weight + second.weight + third.weight
+abbrev pub listed_weight : List Weighted → ℕ
+listed_weight [] = 0
+listed_weight (newest ∷ older) = newest.weight + listed_weight older
 
-abbrev pub weight_in : Neighbours → ℕ
-weight_in neighbours = neighbours.zeros + listed_weight neighbours.listed
+abbrev pub weight_in : Listing → ℕ
+weight_in listing = listing.zeros + listed_weight listing.listed
 
 -- a third vector that is listed weighs so much
-abbrev pub ThirdWeighs : ℕ → Listed → Type 0
-ThirdWeighs weight Nothing = Unit {0}
-ThirdWeighs weight (One first) = Unit {0}
-ThirdWeighs weight (Two first second) = Unit {0}
-ThirdWeighs weight (Three first second third) = third.weight ≡ weight
+abbrev pub ThirdWeighs : ℕ → List Weighted → Type 0
+ThirdWeighs weight listed = length listed ≡ 3 → (slice_index_or listed 0 unlisted).weight ≡ weight
+
+-- the first vector is zero, and those behind the newest are zero and weigh nothing
+pub record AreListed (vectors : List MotionVector) (weights : List ℕ) (newest : ℕ) : Type 0 where
+  pub none : slice_index_or vectors 0 zero_vector ≡ zero_vector
+  pub no_vector : (n : ℕ) → newest < n → slice_index_or vectors n zero_vector ≡ zero_vector
+  pub no_weight : (n : ℕ) → newest < n → slice_index weights n ≡ 0

@@ -1,4 +1,3 @@
-use crate::tests::SUB_BITS;
 use crate::{MbMode, Vector, VectorMode, YMode, chroma_vector, read_modes};
 use bool_coder::Encoder;
 use frame_header::{Reference, read_header};
@@ -24,8 +23,10 @@ fn write_pairs(encoder: &mut Encoder, pairs: &[Pair]) -> Result<(), AllocError> 
 }
 
 fn write_byte(encoder: &mut Encoder, byte: u8) -> Result<(), AllocError> {
-    for place in [7, 6, 5, 4, 3, 2, 1, 0u32] {
-        encoder.bit((byte >> place) % 2 == 1, 128)?;
+    let mut rest = byte;
+    for _place in 0..8 {
+        encoder.bit(rest >= 128, 128)?;
+        rest = rest.wrapping_mul(2);
     }
     Ok(())
 }
@@ -435,31 +436,67 @@ fn ranks_by_weight(rt: HostRuntime) -> Result<(), Fail> {
     Ok(())
 }
 
-/// The pairs of a sub mode in an inter frame.
-fn sub_pairs(alloc: Global, mode: usize) -> Result<Vec<Pair>, AllocError> {
-    let probabilities = [120, 90, 79, 133, 87, 85, 80, 111, 151];
-    let (bits, nodes) = SUB_BITS[mode % 10];
-    let mut pairs = Vec::new(alloc);
-    for (bit, node) in bits.iter().zip(nodes) {
-        pairs.push((*bit % 2, probabilities[(*node % 16 % 9) as usize]))?;
-    }
-    Ok(pairs)
-}
+// The sub modes of an inter frame.
+const SUB_DC: &[Pair] = &[(0, 120)];
+
+const SUB_TM: &[Pair] = &[(1, 120), (0, 90)];
+
+const SUB_VE: &[Pair] = &[(1, 120), (1, 90), (0, 79)];
+
+const SUB_HE: &[Pair] = &[(1, 120), (1, 90), (1, 79), (0, 133), (0, 87)];
+
+const SUB_LD: &[Pair] = &[(1, 120), (1, 90), (1, 79), (1, 133), (0, 80)];
+
+const SUB_RD: &[Pair] = &[(1, 120), (1, 90), (1, 79), (0, 133), (1, 87), (0, 85)];
+
+const SUB_VR: &[Pair] = &[(1, 120), (1, 90), (1, 79), (0, 133), (1, 87), (1, 85)];
+
+const SUB_VL: &[Pair] = &[(1, 120), (1, 90), (1, 79), (1, 133), (1, 80), (0, 111)];
+
+const SUB_HD: &[Pair] = &[
+    (1, 120),
+    (1, 90),
+    (1, 79),
+    (1, 133),
+    (1, 80),
+    (1, 111),
+    (0, 151),
+];
+
+const SUB_HU: &[Pair] = &[
+    (1, 120),
+    (1, 90),
+    (1, 79),
+    (1, 133),
+    (1, 80),
+    (1, 111),
+    (1, 151),
+];
 
 /// Each luma and chroma mode of a macroblock without a reference, one of them with each sub mode.
 #[test]
 fn reads_modes_without_a_reference(rt: HostRuntime) -> Result<(), Fail> {
-    let mut subs = Vec::new(rt.alloc());
-    for mode in [0, 1, 2, 3, 4, 5, 6, 7, 8, 9, 9, 8, 7, 6, 5, 4usize] {
-        let pairs = sub_pairs(rt.alloc(), mode)?;
-        subs.extend_from_slice(pairs.as_slice())?;
-    }
-    let macroblocks: [&[Pair]; 12] = [
+    let macroblocks: [&[Pair]; 27] = [
         INTRA,
         &[(1, 112), (0, 86), (0, 140), (1, 162), (1, 101), (0, 204)],
         INTRA,
         &[(1, 112), (1, 86), (1, 37)],
-        subs.as_slice(),
+        SUB_DC,
+        SUB_TM,
+        SUB_VE,
+        SUB_HE,
+        SUB_LD,
+        SUB_RD,
+        SUB_VR,
+        SUB_VL,
+        SUB_HD,
+        SUB_HU,
+        SUB_HU,
+        SUB_HD,
+        SUB_VL,
+        SUB_VR,
+        SUB_RD,
+        SUB_LD,
         &[(0, 162)],
         INTRA,
         &[(0, 112), (1, 162), (0, 101)],

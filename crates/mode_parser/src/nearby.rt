@@ -6,7 +6,7 @@ ghost use Rattle.mode_parser.specs.Vectors.{IsWithin};
 ghost use Rattle.mode_parser.specs.NearVectors.{held, clamped, best_in, near_in, near_of};
 ghost use Rattle.mode_parser.specs.Candidates.{near_by, AreLight};
 
-use crate::neighbours::{Weighted, first_in, neighbours_of, second_in, splits};
+use crate::neighbours::{Weighted, neighbours_of};
 use crate::records::MbMode;
 use crate::vectors::Vector;
 use frame_header::{Reference, SignBiases};
@@ -139,10 +139,10 @@ pub(crate) fn candidates_of(
     ensures light { AreLight result }
 {
     let neighbours = neighbours_of(above, left, above_left, reference, biases);
-    let first = first_in(&neighbours.listed);
-    let second = second_in(&neighbours.listed);
-    let split = 2 * (splits(above) + splits(left)) + splits(above_left);
-    let zeros = neighbours.zeros;
+    let first = neighbours.first();
+    let second = neighbours.second();
+    let zeros = neighbours.weights[0];
+    let split = neighbours.split;
     if first.weight < second.weight {
         Candidates {
             zeros,

@@ -39,7 +39,7 @@ const CHROMA_BITS: [&[(bool, u8)]; 4] = [
 ];
 
 /// The bits of each sub mode, in the order of `SUB`, and the node of each bit (section 11.2).
-pub(crate) const SUB_BITS: [(&[u8], &[u8]); 10] = [
+const SUB_BITS: [(&[u8], &[u8]); 10] = [
     (b"0", b"0"),
     (b"10", b"01"),
     (b"110", b"012"),
@@ -220,13 +220,19 @@ fn packet_of(alloc: Global, tables: &Tables, skips: bool) -> Result<Vec<u8>, All
     Ok(packet)
 }
 
+/// The sub mode of block `n` by rows of digits, which are empty where there is none.
+fn sub_mode_of(rows: &[&[u8]; 4], n: usize) -> SubMode {
+    let place = n % 4 * 4 + 2;
+    match rows[n / 4 % 4].get(place) {
+        Some(digit) => SUB[number(*digit) % 10],
+        None => SubMode::Dc,
+    }
+}
+
 fn record_of(macroblock: &Written, skips: bool) -> MbMode {
     let mut sub_modes = [SubMode::Dc; 16];
-    let rows = sub_modes.chunks_mut(4).zip(macroblock.subs);
-    for (modes, row) in rows {
-        for (mode, sub) in modes.iter_mut().zip(row.chunks(4)) {
-            *mode = SUB[number(sub.get(2).copied().unwrap_or(0)) % 10];
-        }
+    for n in 0..16usize {
+        sub_modes[n] = sub_mode_of(&macroblock.subs, n);
     }
     MbMode {
         segment: 0,
