@@ -5,6 +5,7 @@ use Rattle.vp8_tables.specs.Tables.{TableEntries}
 use Rattle.frame_header.specs.declared.header.Header.{Header}
 use Rattle.mode_parser.specs.declared.records.MbMode.{MbMode}
 use Rattle.mode_parser.specs.declared.nearby.MbPlace.{MbPlace}
+use Rattle.mode_parser.specs.Records.{key_mode}
 use Rattle.mode_parser.specs.InterRecords.{referenced_mode, inter_mode}
 use Rattle.mode_parser.specs.FrameModes.{record_above, record_left, record_above_left, mode_at}
 
@@ -19,6 +20,12 @@ abbrev pub one_more : TableEntries → Header → ℕ → ℕ → Option (List �
 one_more tables header columns rows map before = do
   mode ← mode_at tables header columns rows map (length before) before
   give (before ++ mode ∷ [])
+
+-- the record of a macroblock of a key frame at the place behind these
+abbrev pub key_mode_at : TableEntries → Option ℕ → MbPlace → List MbMode → Reading MbMode
+key_mode_at tables skip_probability place before =
+    let here = length before in
+    key_mode tables skip_probability (record_above before place.columns here) (record_left before place.columns here)
 
 -- the record of a macroblock with a reference, and of one of an inter frame, at the place behind these
 abbrev pub referenced_mode_at : Bool → Header → MbPlace → List MbMode → Reading MbMode

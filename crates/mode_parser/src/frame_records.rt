@@ -3,7 +3,7 @@
 ghost use Rattle.std.specs.Prelude.{◌≡◌, ◌<◌, ◌≤◌, ◌*◌, length, IfOk, OnOk};
 ghost use Rattle.std.specs.Option.{option_copied};
 ghost use Rattle.mode_parser.specs.FrameModes.{place_of, prediction_at, first_modes};
-ghost use Rattle.mode_parser.specs.Appending.{appended, one_more};
+ghost use Rattle.mode_parser.specs.Appending.{appended, key_mode_at, one_more};
 
 use crate::inter_modes::push_inter_mode;
 use crate::key_modes::read_key_mode;
@@ -15,6 +15,28 @@ use bool_coder::{Decoder, NoMemory};
 use frame_header::Header;
 use std::alloc::Global;
 use vp8_tables::Tables;
+
+/// Reads the record of a macroblock in a key frame, at `place`, which is the place behind these, and
+/// puts it behind them. It is a call of its own, so that no room for it is cleared in other frames.
+#[inline(never)]
+fn push_key_mode(
+    reader: &mut Decoder,
+    tables: &Tables,
+    skip_probability: Option<u8>,
+    segment: u8,
+    place: MbPlace,
+    records: &mut Vec<MbMode>,
+) -> Result<(), NoMemory>
+    requires { place ≡ place_of place.columns place.rows (length records.old.items) }
+    ensures { OnOk result (appended segment records.old.items (key_mode_at tables.now skip_probability place records.old.items) reader.old ≡ (records.new.items, reader.new)) }
+{
+    let above = record_above(records, place.columns);
+    let left = record_left(records, place);
+    let mut mode = read_key_mode(reader, tables, skip_probability, above, left);
+    mode.segment = segment;
+    records.push(mode)?;
+    Ok(())
+}
 
 /// Reads the record at `place`, which is the place behind these, but for its segment, which stands
 /// before the rest, and puts it behind them.
@@ -35,13 +57,17 @@ fn push_prediction(
     if !header.is_key {
         return push_inter_mode(reader, header, segment, place, records);
     }
-    let above = record_above(records, place.columns);
-    let left = record_left(records, place);
     let mut local = reader.copied();
-    let mut mode = read_key_mode(&mut local, tables, header.skip_probability, above, left);
+    let skip_probability = header.skip_probability;
+    push_key_mode(
+        &mut local,
+        tables,
+        skip_probability,
+        segment,
+        place,
+        records,
+    )?;
     *reader = local;
-    mode.segment = segment;
-    records.push(mode)?;
     Ok(())
 }
 

@@ -46,7 +46,7 @@ fn is_biased(biases: SignBiases, reference: Reference) -> bool
 fn toward(biases: SignBiases, reference: Reference, other: Reference, vector: Vector) -> Vector
     ensures { result ≡ toward biases reference other vector }
 {
-    if is_biased(biases, other) == is_biased(biases, reference) {
+    if other == reference || is_biased(biases, other) == is_biased(biases, reference) {
         vector
     } else {
         vector.opposite()
