@@ -3,7 +3,7 @@
 ghost use Rattle.std.specs.Prelude.{◌≡◌, ◌<◌, length};
 ghost use Rattle.token_parser.specs.Tokens.{nodes_at};
 
-/// The band of each place (RFC 6386, section 13.3).
+/// The band of each place (RFC 6386, section 13.3), which the contracts cite.
 const BANDS: [usize; 16] = [0, 1, 2, 3, 6, 4, 5, 6, 6, 6, 6, 6, 6, 6, 6, 7];
 
 /// Where the probabilities of each place's band stand behind the first of its kind: a band has 3
