@@ -61,12 +61,11 @@ impl Tokens {
     pub fn has_tokens(&self, has_y2: bool) -> bool
         ensures { result ≡ has_tokens has_y2 self.now }
     {
+        let mut found = false;
         for k in 0..25usize {
-            if usize::from(self.ends[k]) > first_place(has_y2, k) {
-                return true;
-            }
+            found = found || usize::from(self.ends[k]) > first_place(has_y2, k);
         }
-        false
+        found
     }
 }
 

@@ -1,25 +1,20 @@
-use Rattle.std.proofs.Common.{◌≡◌, true, false, sym, refl, arith}
-use Rattle.std.proofs.lemmas.Bool.Decides.{nat_tests}
+use Rattle.std.proofs.Common.{◌≡◌, ◌∙◌, refl, arith}
 use Rattle.token_parser.specs.Blocks.{has_token, has_tokens}
-use Rattle.token_parser.proofs.AnyToken.{any_found, none_more}
+use Rattle.token_parser.proofs.AnyToken.{found_before, found_here}
+use Rattle.token_parser.proofs.tokens.Tokens.has_tokens.Goals.{then-found, else-found}
 use Rattle.token_parser.proofs.tokens.Tokens.has_tokens.Goals as goal
 
 pub loop-k-init : goal.loop-k-init
 loop-k-init c = refl
 
-pub returns-then-from-first_place : goal.returns-then-from-first_place
-unfolding has_tokens
-returns-then-from-first_place c =
-    let here : has_token c.args.has_y2 c.args.self.now c.loop-k.k ≡ true = grind (arith, nat_tests, rw (c.first_place.ensures, c.from.ensures) at c.if-from-first_place.true) in
-    sym (any_found (has_token c.args.has_y2 c.args.self.now) c.loop-k.k 25 c.loop-k-test.true here)
-
 pub loop-k-preserved : goal.loop-k-preserved
-loop-k-preserved c =
-    let here : has_token c.args.has_y2 c.args.self.now c.loop-k.k ≡ false = grind (arith, nat_tests, rw (c.first_place.ensures, c.from.ensures) at c.if-from-first_place.false) in
-    none_more (has_token c.args.has_y2 c.args.self.now) c.loop-k.k c.loop-k.invariant here
+loop-k-preserved c = elim c.if-found.branch [
+  | then-found w ↦ w.found-is ∙ found_before (has_token c.args.has_y2 c.args.self.now) c.loop-k.k c.loop-k.found c.loop-k.invariant w.if-found.true
+  | else-found w ↦ found_here (has_token c.args.has_y2 c.args.self.now) c.loop-k.k c.loop-k.found _ c.loop-k.invariant w.if-found.false (w.found-is ∙ rw (w.first_place.ensures, w.from.ensures) refl)
+]
 
 pub returns : goal.returns
 unfolding has_tokens
 returns c =
     let all : c.loop-k.k ≡ 25 = omega arith in
-    sym (rw all at c.loop-k.invariant)
+    rw all at c.loop-k.invariant
