@@ -65,7 +65,7 @@ def row(what, seconds, made, beside):
     print(f"{what:52}{1000 * seconds:9.3f} ms  {made:6.1f} steps  vpxdec {1000 * beside:6.1f} ms  {beside / seconds:8.1f} times sooner")
 
 first = [f"frame {LAST}", "stats"]
-whole, _ = run(first, 400)
+whole, _ = run(first, 400, 9)
 beside = vpxdec(LAST + 1)
 print(f"640x360, {len(packets)} packets, key packets at {keys}; vpxdec from the start to frame {LAST}: {1000 * beside:.0f} ms; vp8serve from nothing: {1000 * whole:.0f} ms")
 
@@ -73,7 +73,7 @@ def again(what, lines, times):
     taken, replies = run(first + lines * times + ["stats"], 400)
     row(what, (taken - whole) / times, steps(replies) / times, beside)
 
-again(f"frame {LAST} asked again", [f"frame {LAST}"], 20000)
+again(f"frame {LAST} asked again", [f"frame {LAST}"], 200000)
 again("behind packet 150 replaced by its own bytes", [f"replace 150 {packets[150].hex()}", f"frame {LAST}"], 200)
 other, own = f"replace 150 {packets[149].hex()}", f"replace 150 {packets[150].hex()}"
 again("behind packet 150 replaced by another, and put back", [other, f"frame {LAST}", own, f"frame {LAST}"], 3)

@@ -39,10 +39,9 @@ for level in $levels; do
     cp "$crate/out/vp8serve" "$room/$level"
 done
 
-python3 - "$room" "$clips" $levels <<'END'
-import resource, subprocess, sys
-room, clips, *levels = sys.argv[1:]
-RUNS = 5
+python3 - "$room" "$clips" "${TURNS:-5}" $levels <<'END'
+import resource, statistics, subprocess, sys
+room, clips, turns, *levels = sys.argv[1:]
 
 def user_time(words):
     before = resource.getrusage(resource.RUSAGE_CHILDREN).ru_utime
@@ -56,22 +55,28 @@ for name, frames in [("640x360", 300), ("1280x720", 120), ("1920x1080", 60)]:
     served = subprocess.run([f"{room}/{levels[-1]}", clip, requests, "-"], check=True, capture_output=True, text=True)
     assert served.stdout == "".join(f"served {n}\n" for n in range(frames)), served.stdout
     ffmpeg = ["ffmpeg", "-v", "error", "-threads", "1"]
-    ways = {level: [f"{room}/{level}", clip, requests, "-"] for level in levels} | {
+    ours = {
+        level + kept: [f"{room}/{level}", clip, requests, "-", *kept.split()] for level in levels for kept in ["", " --cache 1"]
+    }
+    ways = ours | {
         "vpxdec": ["vpxdec", "--threads=1", "--noblit", clip],
         "ffmpeg": [*ffmpeg, "-i", clip, "-f", "null", "-"],
         "ffmpeg without SIMD": [*ffmpeg, "-cpuflags", "0", "-i", clip, "-f", "null", "-"],
     }
-    best = dict.fromkeys(ways, float("inf"))
-    for _ in range(RUNS):
+    times = {way: [] for way in ways}
+    for _ in range(int(turns)):
         for way, words in ways.items():
-            best[way] = min(best[way], user_time(words))
-    print(f"{name}, {frames} frames")
-    for way, time in best.items():
-        ratios = "  ".join(f"{level} {best[level] / time:5.2f}" for level in levels) + " of it"
-        print(f"  {way:20}{1000 * time:6.0f} ms user {frames / time:6.0f} frames a second  {ratios}")
+            times[way].append(user_time(words))
+    print(f"{name}, {frames} frames: best user times, their ratios, and the medians of all turns and of the ratios of each")
+    for way, taken in times.items():
+        median = statistics.median(taken)
+        print(f"  {way:22}{1000 * min(taken):6.0f} ms ({1000 * median:.0f}) {frames / min(taken):6.0f} frames a second")
+        for own in ours if way not in ours else []:
+            ratio = statistics.median(mine / other for mine, other in zip(times[own], taken))
+            print(f"    {own:22}{min(times[own]) / min(taken):5.2f} ({ratio:.2f}) of it")
 END
 
 command -v perf > /dev/null || exit 0
 echo "$own, 1920x1080, percent of the time by function"
-perf record -q -F 10000 -o "$room/perf" "$room/$own" "$clips/1920x1080.ivf" "$room/1920x1080" - > /dev/null 2>&1
+perf record -q -e cpu-clock -F 10000 -o "$room/perf" "$room/$own" "$clips/1920x1080.ivf" "$room/1920x1080" - > /dev/null 2>&1
 perf report -i "$room/perf" --stdio --percent-limit 1 2> /dev/null | grep -E '^ +[0-9]' || true
