@@ -15,19 +15,19 @@ import struct, sys
 room, frames = sys.argv[1], int(sys.argv[2])
 packet = bytes.fromhex("10 00 00 9D 01 2A 80 07 38 04")
 with open(f"{room}/in.ivf", "wb") as file:
-    file.write(struct.pack("<4sHH4sHHIIII", b"DKIF", 0, 32, b"VP80", 1920, 1080, 30, 1, 1, 0))
-    file.write(struct.pack("<IQ", len(packet), 0) + packet)
+    file.write(struct.pack("<4sHH4sHHIIII", b"DKIF", 0, 32, b"VP80", 1920, 1080, 30, 1, frames, 0))
+    file.writelines(struct.pack("<IQ", len(packet), n) + packet for n in range(frames))
 with open(f"{room}/requests", "w") as file:
-    file.write("frame 0\n" * frames)
+    file.writelines(f"frame {n}\n" for n in range(frames))
 END
 
-"$program" "$room/in.ivf" "$room/requests" /dev/null > "$room/replies"
-if [ "$(sort -u "$room/replies")" != 'served 0' ]; then
-    echo "the frame was not served:" "$(sort -u "$room/replies")"
+"$program" "$room/in.ivf" "$room/requests" /dev/null --cache 1 > "$room/replies"
+if [ "$(grep -c '^served' "$room/replies")" != "$frames" ]; then
+    echo "not every frame was served:" "$(grep -v '^served' "$room/replies" | sort -u)"
     exit 1
 fi
 
-python3 - "$frames" "$program" "$room/in.ivf" "$room/requests" /dev/null <<'END'
+python3 - "$frames" "$program" "$room/in.ivf" "$room/requests" /dev/null --cache 1 <<'END'
 import subprocess, sys, time
 def best_of_five(words):
     times = []
