@@ -1,5 +1,5 @@
-use crate::fixtures::{KEY, ivf_of, run_over};
 use frame_session::{RunFault, run};
+use run_fixtures::{KEY, ivf_of, run_over};
 use std::io;
 use std::io::{Error, ErrorKind, Write};
 use std::test::Fail;

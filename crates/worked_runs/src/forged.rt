@@ -1,7 +1,7 @@
 //! Forged packets and saving in a session.
 
-use crate::fixtures::{HIDDEN, INTER, KEY, ivf_of, run_over, run_packets, y4m_of};
 use frame_session::{Edit, Refusal, Session, run};
+use run_fixtures::{HIDDEN, INTER, KEY, ivf_of, run_over, run_packets, y4m_of};
 use std::alloc::Global;
 use std::io::{self, ErrorKind, Write};
 use std::test::Fail;

@@ -1,6 +1,5 @@
-use crate::fixtures::{INTER, KEY, run_packets};
-use crate::packets::{packet_of, write_bits};
 use bool_coder::Encoder;
+use run_fixtures::{INTER, KEY, packet_of, run_packets, write_bits};
 use std::alloc::Global;
 use std::process::Abort;
 use std::test::Fail;

@@ -1,7 +1,7 @@
 //! Scripts in a session.
 
-use crate::fixtures::{INTER, KEY, ivf_of, run_packets, y4m_of};
 use frame_session::{Refusal, Session};
+use run_fixtures::{INTER, KEY, ivf_of, run_packets, y4m_of};
 use std::test::Fail;
 use stream_files::ivf_read;
 use vp8_tables::Tables;

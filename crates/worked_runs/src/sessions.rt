@@ -1,7 +1,7 @@
-use crate::fixtures::{INTER, KEY, WIDE_KEY, ivf_of};
 use frame_header::Cause;
 use frame_session::{Refusal, Session};
 use pixel_planes::{Component, Picture};
+use run_fixtures::{INTER, KEY, WIDE_KEY, ivf_of};
 use std::test::Fail;
 use stream_files::ivf_read;
 use vp8_tables::Tables;

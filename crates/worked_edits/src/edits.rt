@@ -1,6 +1,6 @@
-use crate::fixtures::{HIDDEN, INTER, KEY, WIDE_KEY, ivf_of, run_over, run_packets};
 use frame_header::Cause;
 use frame_session::{Edit, Refusal, Session};
+use run_fixtures::{HIDDEN, INTER, KEY, WIDE_KEY, ivf_of, run_over, run_packets};
 use std::test::Fail;
 use stream_files::{Bytes, EMPTY, ivf_read};
 use vp8_tables::Tables;

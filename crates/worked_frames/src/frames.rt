@@ -1,4 +1,4 @@
-use crate::fixtures::{HIDDEN, INTER, KEY, WIDE_KEY, run_over, run_packets, y4m_of};
+use run_fixtures::{HIDDEN, INTER, KEY, WIDE_KEY, run_over, run_packets, y4m_of};
 use std::test::Fail;
 
 /// The line of a stream of 16 by 16 samples at 30 frames a second.
@@ -114,5 +114,35 @@ fn sizes_that_differ(rt: HostRuntime) -> Result<(), Fail> {
     )?;
     let replies = b"refused packet 0 NoKeyFrame\nserved 1\nrefused SizeDiffers\n";
     assert_eq!(rt; turned.replies.as_slice(), replies.as_slice());
+    Ok(())
+}
+
+// A picture of more than 1024 by 1024 samples is served like a small one: its first four rows are 128, the others 129
+// (vpxdec shows the same).
+#[test]
+fn a_large_picture(rt: HostRuntime) -> Result<(), Fail> {
+    let mut packet = [0; 10];
+    packet.copy_from_slice(KEY);
+    packet[6] = 0x10;
+    packet[7] = 4;
+    packet[8] = 0x10;
+    packet[9] = 4;
+    let ran = run_packets(rt.alloc(), &[&packet], b"frame 0\n")?;
+    let frame: &[(usize, u8)] = &[(4160, 0x80), (1_077_440, 0x81), (540_800, 0x80)];
+    let line = b"YUV4MPEG2 W1040 H1040 F30:1 Ip C420jpeg\n";
+    let want = y4m_of(rt.alloc(), line, &[frame])?;
+    assert!(rt; ran.frames.as_slice() == want.as_slice());
+    assert_eq!(rt; ran.replies.as_slice(), b"served 0\n".as_slice());
+    Ok(())
+}
+
+// The widest picture: a blank one, of 128 throughout.
+#[test]
+fn the_widest_picture(rt: HostRuntime) -> Result<(), Fail> {
+    let ran = run_packets(rt.alloc(), &[], b"blank 0 16383 16\nframe 0\n")?;
+    let line = b"YUV4MPEG2 W16383 H16 F30:1 Ip C420jpeg\n";
+    let want = y4m_of(rt.alloc(), line, &[&[(393_200, 0x80)]])?;
+    assert!(rt; ran.frames.as_slice() == want.as_slice());
+    assert_eq!(rt; ran.replies.as_slice(), b"ok 1\nserved 0\n".as_slice());
     Ok(())
 }

@@ -1,8 +1,8 @@
 //! What a session decodes anew behind edits, and what it keeps.
 
-use crate::fixtures::{HIDDEN, INTER, KEY, ivf_of, run_packets, run_with, y4m_of};
 use frame_session::{Edit, Session};
 use pixel_planes::same;
+use run_fixtures::{HIDDEN, INTER, KEY, ivf_of, run_packets, run_with, y4m_of};
 use std::alloc::Global;
 use std::test::Fail;
 use stream_files::{Bytes, ivf_read};

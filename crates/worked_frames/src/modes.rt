@@ -1,7 +1,6 @@
 //! Key frames of each prediction mode.
 
-use crate::fixtures::{run_packets, y4m_of};
-use crate::packets::{B, Macroblock, key_packet};
+use run_fixtures::{B, Macroblock, key_packet, run_packets, y4m_of};
 use std::alloc::{AllocError, Global};
 use std::test::Fail;
 

@@ -1,0 +1,8 @@
+//! Worked request lists for edits and cached states. Each is run whole and compared with the bytes that it must
+//! give.
+#![tactic(auto)]
+
+#[cfg(test)]
+mod edits;
+#[cfg(test)]
+mod kept;
