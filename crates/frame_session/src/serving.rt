@@ -1,9 +1,9 @@
-ghost use Rattle.std.specs.Prelude.{◌≡◌, ℕ, ◌≤◌, ◌++◌, IfOk, OnOk, IfErr, OnErr, Result};
-ghost use Rattle.std.specs.Io.KnownBytes.{Appends};
+ghost use Rattle.std.specs.Prelude.{◌≡◌, ◌⊎◌, ℕ, ◌≤◌, ◌++◌, IfOk, OnOk, IfErr, OnErr, Result};
+ghost use Rattle.std.specs.Io.KnownBytes.{Appends, Keeps};
 ghost use Rattle.stream_files.specs.Y4m.{frame_text};
 ghost use Rattle.frame_session.specs.declared.refusal.Refusal.{Refusal};
 ghost use Rattle.frame_session.specs.Edits.{EditGives};
-ghost use Rattle.frame_session.specs.Replies.{count_line, edit_line};
+ghost use Rattle.frame_session.specs.Replies.{count_line, edit_line, served_line};
 ghost use Rattle.frame_session.specs.Sessions.{behind_edit, frame_count, packet_count};
 ghost use Rattle.frame_session.specs.Answers.{Leaves, Means, RunRefuses, RunStops, Runs, Serves, Stops, WritesFrameFirst, opening, requests_of};
 
@@ -80,6 +80,23 @@ fn write_frame<F: Write>(
     y4m_frame(frames, picture)
 }
 
+/// Writes frame `n`, and then its reply: where a writer refuses, the reply is not begun before the frame
+/// is written whole.
+fn write_answer<F: Write, R: Write>(
+    frames: &mut F,
+    replies: &mut R,
+    head_due: Option<Head>,
+    picture: &Picture,
+    n: u64,
+) -> Result<(), WriteFault>
+    ensures frame { OnOk result (Appends (F.contents frames.old) (F.contents frames.new) (opening head_due picture.now.width picture.now.height ++ frame_text picture.now)) }
+    ensures reply { OnOk result (Appends (R.contents replies.old) (R.contents replies.new) (served_line n)) }
+    ensures frame_first { Keeps (R.contents replies.old) (R.contents replies.new) ⊎ Appends (F.contents frames.old) (F.contents frames.new) (opening head_due picture.now.width picture.now.height ++ frame_text picture.now) }
+{
+    write_frame(frames, head_due, picture)?;
+    write_served(replies, n)
+}
+
 /// Serves frame `n`, or says why it is refused.
 fn serve_frame<F: Write, R: Write>(
     session: &mut Session,
@@ -93,10 +110,7 @@ fn serve_frame<F: Write, R: Write>(
 {
     let head_due = session.head_due();
     match session.frame(n) {
-        Ok(picture) => {
-            write_frame(frames, head_due, &picture)?;
-            write_served(replies, n)
-        }
+        Ok(picture) => write_answer(frames, replies, head_due, &picture, n),
         Err(refusal) => write_refused(replies, refusal),
     }
 }
