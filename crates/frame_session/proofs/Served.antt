@@ -1,11 +1,13 @@
 -- What the functions that answer lines give is the meaning of the lines.
-use Rattle.std.proofs.Common.{◌≡◌, ℕ, List, [], ◌∷◌, ◌++◌, map, Option, Some, Result, Ok, Err, refl, sym, ap, ◌∙◌, subst, append_assoc, append-nil}
+use Rattle.std.proofs.Common.{◌≡◌, ◌⊎◌, inl, inr, ℕ, List, [], ◌∷◌, ◌++◌, map, Option, None, Some, Result, Ok, Err, refl, sym, ap, ◌∙◌, subst, append_assoc, append-nil}
 use Rattle.std.specs.List.{flat_map}
-use Rattle.std.specs.Io.KnownBytes.{Appends}
+use Rattle.std.specs.Io.KnownBytes.{Appends, Keeps}
+use Rattle.std.specs.Prelude.{OnOk}
 use Rattle.std.proofs.KnownBytes.{Appends-nil, Appends-trans}
 use Rattle.pixel_planes.specs.Pictures.{PictureSamples}
 use Rattle.script_nodes.specs.Shown.{Shown}
 use Rattle.stream_files.specs.Y4m.{frame_text}
+use Rattle.stream_files.specs.declared.ivf.Head.{Head}
 use Rattle.frame_session.specs.declared.lines.Line.{Line}
 use Rattle.frame_session.specs.declared.lines.Line.TheVariants.{Silent, Unknown, Frame, Insert, Replace, Delete, Move, Blank, Hold, Script, Count, Stats}
 use Rattle.frame_session.specs.declared.edit.Edit.TheVariants as edits
@@ -16,7 +18,7 @@ use Rattle.frame_session.specs.Gives.{Gives, GivesFrame}
 use Rattle.frame_session.specs.Edits.{EditGives, edit_of}
 use Rattle.frame_session.specs.Replies.{refused_line, edit_line, count_line, served_line, stats_line}
 use Rattle.frame_session.specs.Sessions.{IsAfterFrame, Now, behind_edit, behind_script, frame_count, frame_of, head_due, packet_count, script_answer, size_given}
-use Rattle.frame_session.specs.Answers.{Answer, Answers, Run, Runs, Serves, answer_to_frame, frames_of, opening, replies_of, told}
+use Rattle.frame_session.specs.Answers.{Answer, Answers, Run, Runs, Serves, WritesFrameFirst, answer_to_frame, frames_of, opening, replies_of, told}
 use Rattle.frame_session.proofs.Texts.{text_same}
 
 module _ (old : Now) (f f' r r' : Option (List ℕ)) where
@@ -104,6 +106,18 @@ module _ (old : Now) (f f' r r' : Option (List ℕ)) where
 
   pub serves_stats : Appends r r' (stats_line old.decoded) → Serves old Stats f f r r' old
   serves_stats said = record { answer = told (stats_line old.decoded); means = (refl, refl); shown = Appends-nil f; said = said }
+
+-- a frame and its reply, written with the head that is due
+module _ (old : Now) (f f' r r' : Option (List ℕ)) (n : ℕ) (picture : PictureSamples) (new : Now) (head : Option Head) where
+  pub frame_and_reply : {E : Type 0} (w : Result (Unit {0}) E) → head ≡ head_due old → GivesFrame (frame_of old n) (Ok picture) → IsAfterFrame old (size_given (Ok picture)) new → OnOk w (Appends f f' (opening head picture.width picture.height ++ frame_text picture)) → OnOk w (Appends r r' (served_line n)) → OnOk w (Serves old (Frame n) f f' r r' new)
+  frame_and_reply (Ok _) is gives after shown said =
+      serves_frame old f f' r r' n picture new gives after (subst (λ (h : Option Head). Appends f f' (opening h picture.width picture.height ++ frame_text picture)) is shown) said
+  frame_and_reply (Err _) is gives after shown said = tt
+
+  pub frame_or_no_reply : head ≡ head_due old → GivesFrame (frame_of old n) (Ok picture) → IsAfterFrame old (size_given (Ok picture)) new → Keeps r r' ⊎ Appends f f' (opening head picture.width picture.height ++ frame_text picture) → WritesFrameFirst old (Frame n) f f' r r' new
+  frame_or_no_reply is gives after (inl kept) = inl kept
+  frame_or_no_reply is gives after (inr shown) =
+      inr (serves_frame old f f' None None n picture new gives after (subst (λ (h : Option Head). Appends f f' (opening h picture.width picture.height ++ frame_text picture)) is shown) tt)
 
 -- one line more
 run_more : (old mid new : Now) (lines : List Line) (answers : List Answer) (line : Line) (answer : Answer) → Run old lines answers mid → Answers mid line answer new → Run old (lines ++ line ∷ []) (answers ++ answer ∷ []) new

@@ -128,29 +128,3 @@ module _ (tables : Tables) where
     answered_sound edit store made old new (Err refusal) marked own list marks s without few =
         let is : made ≡ store = same_store made store.list store.marks list marks in
         subst (λ (m : StoreValue). IsSound tables m new) (sym is) (subst (λ (c : CacheValue). IsSound tables store c) (sym without) s)
-
--- the place that a frame comes from
-pub place_found : (now : Now) (n count source place : ℕ) (steps : List Step) → count ≡ shown_count now → traced count now.script n ≡ Some (origin_of source steps) → Some place ≡ slice_get (shown_places (stream_of now)) source → place_of now n ≡ Some place
-place_found now n count source place steps same from at =
-    ap (λ (k : ℕ). option_and_then (λ (origin : Origin). slice_get (shown_places (stream_of now)) origin.frame) (traced k now.script n)) (sym same)
-    ∙ ap (λ (o : Option Origin). option_and_then (λ (origin : Origin). slice_get (shown_places (stream_of now)) origin.frame) o) from
-    ∙ sym at
-
-pub frame_costs : (old new : SessionValue) (n place : ℕ) (given reached : Bool) → place_of old.now n ≡ Some place → Costs old.now.tables (store_of old) old.cache place reached (store_of new) new.cache → (given ≡ true → reached ≡ true) → FrameCosts (place_of old.now n) old given new
-frame_costs old new n place given reached is costs given_reached = subst (λ (o : Option ℕ). FrameCosts o old given new) (sym is) (reached, costs, given_reached)
-
--- no place, no cost
-pub nothing_traced : (old : SessionValue) (n count : ℕ) (given : Bool) → count ≡ shown_count old.now → traced count old.now.script n ≡ None → FrameCosts (place_of old.now n) old given old
-nothing_traced old n count given same none =
-    let is : place_of old.now n ≡ None =
-    ap (λ (k : ℕ). option_and_then (λ (origin : Origin). slice_get (shown_places (stream_of old.now)) origin.frame) (traced k old.now.script n)) (sym same)
-    ∙ ap (λ (o : Option Origin). option_and_then (λ (origin : Origin). slice_get (shown_places (stream_of old.now)) origin.frame) o) none in
-    subst (λ (o : Option ℕ). FrameCosts o old given old) (sym is) refl
-
-pub nothing_shown : (old : SessionValue) (n count source : ℕ) (steps : List Step) (given : Bool) → count ≡ shown_count old.now → traced count old.now.script n ≡ Some (origin_of source steps) → None ≡ slice_get (shown_places (stream_of old.now)) source → FrameCosts (place_of old.now n) old given old
-nothing_shown old n count source steps given same from at =
-    let is : place_of old.now n ≡ None =
-    ap (λ (k : ℕ). option_and_then (λ (origin : Origin). slice_get (shown_places (stream_of old.now)) origin.frame) (traced k old.now.script n)) (sym same)
-    ∙ ap (λ (o : Option Origin). option_and_then (λ (origin : Origin). slice_get (shown_places (stream_of old.now)) origin.frame) o) from
-    ∙ sym at in
-    subst (λ (o : Option ℕ). FrameCosts o old given old) (sym is) refl

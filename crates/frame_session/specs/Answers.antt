@@ -1,5 +1,5 @@
 -- The meaning of a request list: which replies and frames may answer its lines, and what stands behind them.
-use Rattle.std.specs.Prelude.{◌≡◌, ℕ, List, [], ◌∷◌, ◌++◌, map, Option, Some, None, Result, Ok, Err}
+use Rattle.std.specs.Prelude.{◌≡◌, ◌⊎◌, ℕ, List, [], ◌∷◌, ◌++◌, map, Option, Some, None, Result, Ok, Err}
 use Rattle.std.specs.List.{flat_map}
 use Rattle.std.specs.Io.KnownBytes.{Appends, Keeps}
 use Rattle.std.specs.Str.Lines.{lines}
@@ -104,6 +104,24 @@ pub record Runs (old : Now) (lines : List Line) (frames frames' replies replies'
   pub shown : Appends frames frames' (frames_of answers)
   pub said : Appends replies replies' (replies_of answers)
 
+-- between two moments a line was answered, at least as far as its frames: no byte of the reply was written, or all that the line writes of frames
+-- was (the replies are left open: `None`)
+abbrev pub WritesFrameFirst : (old : Now) → (line : Line) → (frames frames' replies replies' : Option (List ℕ)) → (new : Now) → Type 0
+WritesFrameFirst old line frames frames' replies replies' new = Keeps replies replies' ⊎ Serves old line frames frames' None None new
+
+-- between two moments these lines were answered up to an error of a writer: the lines before one in whole, and that one at least as far as its frames
+pub record Stops (old : Now) (lines : List Line) (frames frames' replies replies' : Option (List ℕ)) : Type 0 where
+  pub done : List Line
+  pub line : Line
+  pub rest : List Line
+  pub whole : done ++ line ∷ rest ≡ lines
+  pub mid : Now
+  pub frames_mid : Option (List ℕ)
+  pub replies_mid : Option (List ℕ)
+  pub ran : Runs old done frames frames_mid replies replies_mid mid
+  pub new : Now
+  pub frame_first : WritesFrameFirst mid line frames_mid frames' replies_mid replies' new
+
 -- the requests of this text were answered over the file that these bytes are
 pub record Means (tables : Tables) (bytes requests : List ℕ) (frames frames' replies replies' : Option (List ℕ)) (end : Now) : Type 0 where
   pub file : Ivf
@@ -121,3 +139,10 @@ abbrev pub Leaves : RunFault → Option (List ℕ) → Option (List ℕ) → Typ
 Leaves (faults.Ivf fault) old new = Keeps old new
 Leaves faults.Write old new = Unit {0}
 Leaves faults.NoMemory old new = Keeps old new
+
+-- a run that a writer's error ends stops in its request list: no reply is begun before its frame is written whole
+abbrev pub RunStops : Tables → (bytes requests : List ℕ) → (frames frames' replies replies' : Option (List ℕ)) → RunFault → Type 0
+RunStops tables bytes requests frames frames' replies replies' (faults.Ivf fault) = Unit {0}
+RunStops tables bytes requests frames frames' replies replies' faults.Write =
+    (file : Ivf) × IsIvf bytes file × Stops (start tables file) (requests_of requests) frames frames' replies replies'
+RunStops tables bytes requests frames frames' replies replies' faults.NoMemory = Unit {0}

@@ -1,10 +1,11 @@
 -- What a session keeps to answer by, beside what its answers depend on: the marks of its packets and its cache.
-use Rattle.std.specs.Prelude.{◌≡◌, ℕ, ◌≤◌, Bool, true, [], List, length, slice_get, Option, Some, None, Result, Ok, Err, option_and_then, is_ok}
+use Rattle.std.specs.Prelude.{◌≡◌, ℕ, ◌≤◌, Bool, true, false, [], List, length, slice_get, Option, Some, None, Result, Ok, Err, option_and_then, is_ok}
 use Rattle.vp8_tables.specs.declared.tables.Tables.{Tables}
 use Rattle.stream_files.specs.declared.ivf.Ivf.{Ivf}
 use Rattle.packet_edits.specs.Edits.{Listing}
 use Rattle.packet_edits.specs.Marks.{StoreValue, marks_deleted, marks_inserted, marks_moved, marks_pushed, marks_replaced}
 use Rattle.packet_edits.specs.Shown.{shown_places}
+use Rattle.pixel_planes.specs.Pictures.{PictureSamples}
 use Rattle.script_nodes.specs.Frames.{traced}
 use Rattle.state_cache.specs.Costs.{Costs}
 use Rattle.state_cache.specs.EditLaws.{IsWithout, StandIn, id_at}
@@ -13,6 +14,7 @@ use Rattle.state_cache.specs.Views.{IsCoherent, seens}
 use Rattle.frame_session.specs.declared.edit.Edit.{Edit}
 use Rattle.frame_session.specs.declared.edit.Edit.TheVariants.{Insert, Replace, Delete, Move, Blank, Hold}
 use Rattle.frame_session.specs.declared.refusal.Refusal.{Refusal}
+use Rattle.frame_session.specs.declared.refusal.Refusal.TheVariants as refusals
 use Rattle.frame_session.specs.Sessions.{Now, shown_count, start, stream_of}
 
 -- a session: what its answers depend on, a mark or none for each packet, and its cache
@@ -43,11 +45,18 @@ pub record IsSound (tables : Tables) (store : StoreValue) (cache : CacheValue) :
 abbrev pub place_of : Now → ℕ → Option ℕ
 place_of now n = option_and_then (λ origin. slice_get (shown_places (stream_of now)) origin.frame) (traced (shown_count now) now.script n)
 
--- a frame costs what reaching its place costs, which is reached where the frame is given; with no place it changes nothing
-abbrev pub FrameCosts : Option ℕ → SessionValue → Bool → SessionValue → Type 0
-FrameCosts None old given new = new ≡ old
-FrameCosts (Some place) old given new =
-    (reached : Bool) × Costs old.now.tables (store_of old) old.cache place reached (store_of new) new.cache × (given ≡ true → reached ≡ true)
+-- whether an answer to a frame follows from its packet's picture: the frame, and the two refusals that only the picture decides
+abbrev pub needs_picture : Result PictureSamples Refusal → Bool
+needs_picture (Ok picture) = true
+needs_picture (Err refusals.CropOutside) = true
+needs_picture (Err refusals.SizeDiffers) = true
+needs_picture (Err refusal) = false
+
+-- a frame costs what reaching its packet costs; if the answer follows from the packet's picture, the packet was reached. With no packet nothing changes
+abbrev pub FrameCosts : Option ℕ → SessionValue → Result PictureSamples Refusal → SessionValue → Type 0
+FrameCosts None old answer new = new ≡ old
+FrameCosts (Some index) old answer new =
+    (reached : Bool) × Costs old.now.tables (store_of old) old.cache index reached (store_of new) new.cache × (needs_picture answer ≡ true → reached ≡ true)
 
 -- the marks behind an edit that is accepted
 abbrev pub marks_edited : Edit → List Bool → List Bool

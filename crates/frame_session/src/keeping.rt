@@ -5,7 +5,7 @@ ghost use Rattle.packet_edits.specs.Shown.{stream_of};
 ghost use Rattle.state_cache.specs.Costs.{Costs};
 ghost use Rattle.state_cache.specs.Decoding.{outcomes};
 ghost use Rattle.state_cache.specs.EditLaws.{id_at};
-ghost use Rattle.frame_session.specs.Cached.{CacheWithout, IsSound, leaving, left_behind, marks_after};
+ghost use Rattle.frame_session.specs.Cached.{CacheWithout, IsSound, leaving, left_behind, marks_after, needs_picture};
 ghost use Rattle.frame_session.specs.Edits.{EditGives, after_edit};
 ghost use Rattle.frame_session.specs.Gives.{Gives};
 ghost use Rattle.frame_session.specs.Sessions.{picture_from};
@@ -32,6 +32,7 @@ pub(crate) fn picture_at(
     ensures gives { Gives (picture_from (slice_get (outcomes tables.now (stream_of list.old.list)) place)) result }
     ensures list { list.new.list ≡ list.old.list }
     ensures costs { Costs tables.now list.old cache.old place (is_ok result) list.new cache.new }
+    ensures reached { needs_picture result ≡ is_ok result }
     ensures rises { cache.old.decoded ≤ cache.new.decoded }
     ensures sound { IsSound tables.now list.new cache.new }
 {
@@ -72,6 +73,7 @@ fn leaving(list: &Store, edit: &Edit) -> Option<u64>
 fn drop_left(cache: &mut Cache, left: Option<u64>)
     ensures without { CacheWithout left cache.old cache.new }
     ensures bounded { length cache.old.entries ≤ cache.old.capacity → length cache.new.entries ≤ cache.new.capacity }
+    ensures capacity { cache.new.capacity ≡ cache.old.capacity }
     ensures steps { cache.new.decoded ≡ cache.old.decoded }
 {
     if let Some(id) = left {
@@ -93,6 +95,7 @@ pub(crate) fn edit_kept(
     ensures after { list.new.list ≡ after_edit tables.now edit list.old.list result }
     ensures marks { list.new.marks ≡ marks_after edit list.old.marks result }
     ensures cache { CacheWithout (left_behind edit list.old.list result) cache.old cache.new }
+    ensures capacity { cache.new.capacity ≡ cache.old.capacity }
     ensures steps { cache.new.decoded ≡ cache.old.decoded }
     ensures sound { IsSound tables.now list.new cache.new }
     ensures refused { OnErr result ((list.new ≡ list.old) × (cache.new ≡ cache.old)) }

@@ -1,11 +1,11 @@
-ghost use Rattle.std.specs.Prelude.{◌≡◌, ℕ, ◌≤◌, ◌++◌, IfOk, OnOk, IfErr, Result};
-ghost use Rattle.std.specs.Io.KnownBytes.{Appends};
+ghost use Rattle.std.specs.Prelude.{◌≡◌, ◌⊎◌, ℕ, ◌≤◌, ◌++◌, IfOk, OnOk, IfErr, OnErr, Result};
+ghost use Rattle.std.specs.Io.KnownBytes.{Appends, Keeps};
 ghost use Rattle.stream_files.specs.Y4m.{frame_text};
 ghost use Rattle.frame_session.specs.declared.refusal.Refusal.{Refusal};
 ghost use Rattle.frame_session.specs.Edits.{EditGives};
-ghost use Rattle.frame_session.specs.Replies.{count_line, edit_line};
+ghost use Rattle.frame_session.specs.Replies.{count_line, edit_line, served_line};
 ghost use Rattle.frame_session.specs.Sessions.{behind_edit, frame_count, packet_count};
-ghost use Rattle.frame_session.specs.Answers.{Leaves, Means, RunRefuses, Runs, Serves, opening, requests_of};
+ghost use Rattle.frame_session.specs.Answers.{Leaves, Means, RunRefuses, RunStops, Runs, Serves, Stops, WritesFrameFirst, opening, requests_of};
 
 use crate::edit::Edit;
 use crate::lines::{Line, next_line, read_line};
@@ -80,6 +80,23 @@ fn write_frame<F: Write>(
     y4m_frame(frames, picture)
 }
 
+/// Writes frame `n`, and then its reply: where a writer refuses, the reply is not begun before the frame
+/// is written whole.
+fn write_answer<F: Write, R: Write>(
+    frames: &mut F,
+    replies: &mut R,
+    head_due: Option<Head>,
+    picture: &Picture,
+    n: u64,
+) -> Result<(), WriteFault>
+    ensures frame { OnOk result (Appends (F.contents frames.old) (F.contents frames.new) (opening head_due picture.now.width picture.now.height ++ frame_text picture.now)) }
+    ensures reply { OnOk result (Appends (R.contents replies.old) (R.contents replies.new) (served_line n)) }
+    ensures frame_first { Keeps (R.contents replies.old) (R.contents replies.new) ⊎ Appends (F.contents frames.old) (F.contents frames.new) (opening head_due picture.now.width picture.now.height ++ frame_text picture.now) }
+{
+    write_frame(frames, head_due, picture)?;
+    write_served(replies, n)
+}
+
 /// Serves frame `n`, or says why it is refused.
 fn serve_frame<F: Write, R: Write>(
     session: &mut Session,
@@ -87,14 +104,13 @@ fn serve_frame<F: Write, R: Write>(
     frames: &mut F,
     replies: &mut R,
 ) -> Result<(), WriteFault>
-    ensures { OnOk result (Serves session.old.now (Line.Frame n) (F.contents frames.old) (F.contents frames.new) (R.contents replies.old) (R.contents replies.new) session.new.now) }
+    ensures serves { OnOk result (Serves session.old.now (Line.Frame n) (F.contents frames.old) (F.contents frames.new) (R.contents replies.old) (R.contents replies.new) session.new.now) }
+    ensures frame_first { WritesFrameFirst session.old.now (Line.Frame n) (F.contents frames.old) (F.contents frames.new) (R.contents replies.old) (R.contents replies.new) session.new.now }
+    ensures capacity { session.new.cache.capacity ≡ session.old.cache.capacity }
 {
     let head_due = session.head_due();
     match session.frame(n) {
-        Ok(picture) => {
-            write_frame(frames, head_due, &picture)?;
-            write_served(replies, n)
-        }
+        Ok(picture) => write_answer(frames, replies, head_due, &picture, n),
         Err(refusal) => write_refused(replies, refusal),
     }
 }
@@ -113,7 +129,8 @@ fn serve_edit<R: Write>(
     edit: Edit,
     replies: &mut R,
 ) -> Result<(), WriteFault>
-    ensures { OnOk result ((edited : Result ℕ Refusal) × EditGives session.old.now.tables session.old.now.list edit edited × (session.new.now ≡ behind_edit edit session.old.now edited) × Appends (R.contents replies.old) (R.contents replies.new) (edit_line edited)) }
+    ensures answers { (edited : Result ℕ Refusal) × EditGives session.old.now.tables session.old.now.list edit edited × (session.new.now ≡ behind_edit edit session.old.now edited) × OnOk result (Appends (R.contents replies.old) (R.contents replies.new) (edit_line edited)) }
+    ensures capacity { session.new.cache.capacity ≡ session.old.cache.capacity }
 {
     let edited = session.edit(edit);
     write_edited(replies, edited)
@@ -126,7 +143,9 @@ fn serve<F: Write, R: Write>(
     frames: &mut F,
     replies: &mut R,
 ) -> Result<(), WriteFault>
-    ensures { OnOk result (Serves session.old.now line.entry (F.contents frames.old) (F.contents frames.new) (R.contents replies.old) (R.contents replies.new) session.new.now) }
+    ensures serves { OnOk result (Serves session.old.now line.entry (F.contents frames.old) (F.contents frames.new) (R.contents replies.old) (R.contents replies.new) session.new.now) }
+    ensures frame_first { WritesFrameFirst session.old.now line.entry (F.contents frames.old) (F.contents frames.new) (R.contents replies.old) (R.contents replies.new) session.new.now }
+    ensures capacity { session.new.cache.capacity ≡ session.old.cache.capacity }
 {
     match line {
         Line::Silent => Ok(()),
@@ -162,7 +181,9 @@ fn serve_all<F: Write, R: Write>(
     frames: &mut F,
     replies: &mut R,
 ) -> Result<(), WriteFault>
-    ensures { OnOk result (Runs session.old.now (requests_of requests.now) (F.contents frames.old) (F.contents frames.new) (R.contents replies.old) (R.contents replies.new) session.new.now) }
+    ensures runs { OnOk result (Runs session.old.now (requests_of requests.now) (F.contents frames.old) (F.contents frames.new) (R.contents replies.old) (R.contents replies.new) session.new.now) }
+    ensures stops { OnErr result (Stops session.old.now (requests_of requests.now) (F.contents frames.old) (F.contents frames.new) (R.contents replies.old) (R.contents replies.new)) }
+    ensures capacity { session.new.cache.capacity ≡ session.old.cache.capacity }
 {
     let mut rest = requests;
     'lines: loop {
@@ -195,7 +216,9 @@ pub fn run<F: Write, R: Write>(
 ) -> Result<Session, RunFault>
     requires { (1 ≤ capacity) × (capacity ≤ 4096) }
     ensures means { IfOk result (λ session. Means tables ivf.now requests.now (F.contents frames.old) (F.contents frames.new) (R.contents replies.old) (R.contents replies.new) session.now) }
+    ensures capacity { IfOk result (λ session. session.cache.capacity ≡ capacity) }
     ensures refused { IfErr result (RunRefuses ivf.now) }
+    ensures stops { IfErr result (RunStops tables ivf.now requests.now (F.contents frames.old) (F.contents frames.new) (R.contents replies.old) (R.contents replies.new)) }
     ensures frames { IfErr result (λ fault. Leaves fault (F.contents frames.old) (F.contents frames.new)) }
     ensures replies { IfErr result (λ fault. Leaves fault (R.contents replies.old) (R.contents replies.new)) }
 {

@@ -49,7 +49,7 @@ impl Model for Session {
 }
 
 impl Session {
-    ghost use Rattle.frame_session.specs.Cached.{CacheWithout, FrameCosts, IsSound, begun, left_behind, marks_after, place_of, store_of};
+    ghost use Rattle.frame_session.specs.Cached.{CacheWithout, FrameCosts, IsSound, begun, left_behind, marks_after, needs_picture, place_of, store_of};
     ghost use Rattle.frame_session.specs.Sessions.{IsAfterFrame, behind_edit, behind_script, fits, frame_count, frame_of, head_due, packet_count, picture_from, script_answer, shown_count, size_given};
 
     /// A session over a file's packets, which are at most 1,048,576. `capacity`, 1 to 4,096, is how
@@ -96,6 +96,8 @@ impl Session {
         ensures gives { Gives (picture_from (slice_get (outcomes self.old.now.tables (stream_of self.old.now.list)) place)) result }
         ensures after { self.new.now ≡ record self.old.now { decoded = self.new.now.decoded } }
         ensures costs { Costs self.old.now.tables (store_of self.old) self.old.cache place (is_ok result) (store_of self.new) self.new.cache }
+        ensures reached { needs_picture result ≡ is_ok result }
+        ensures capacity { self.new.cache.capacity ≡ self.old.cache.capacity }
         ensures rises { self.old.now.decoded ≤ self.new.now.decoded }
     {
         picture_at(&self.tables, &mut self.list, &mut self.cache, place)
@@ -121,7 +123,8 @@ impl Session {
     pub fn frame(&mut self, n: u64) -> Result<Picture, Refusal>
         ensures gives { GivesFrame (frame_of self.old.now n) result }
         ensures after { IsAfterFrame self.old.now (size_given result) self.new.now }
-        ensures costs { FrameCosts (place_of self.old.now n) self.old (is_ok result) self.new }
+        ensures costs { FrameCosts (place_of self.old.now n) self.old result self.new }
+        ensures capacity { self.new.cache.capacity ≡ self.old.cache.capacity }
     {
         let Some((source, trace)) = self.script.trace(self.shown(), n) else {
             return Err(Refusal::NoSuchFrame);
@@ -177,6 +180,7 @@ impl Session {
         ensures after { self.new.now ≡ behind_edit edit self.old.now result }
         ensures marks { self.new.marks ≡ marks_after edit self.old.marks result }
         ensures cache { CacheWithout (left_behind edit self.old.now.list result) self.old.cache self.new.cache }
+        ensures capacity { self.new.cache.capacity ≡ self.old.cache.capacity }
         ensures refused { OnErr result (self.new ≡ self.old) }
     {
         edit_kept(
@@ -197,6 +201,10 @@ impl Session {
     ) -> Result<u64, Refusal>
         ensures gives { Gives (edit_of self.old.now.tables self.old.now.list (Insert at stamp bytes.entry)) result }
         ensures after { self.new.now ≡ behind_edit (Insert at stamp bytes.entry) self.old.now result }
+        ensures marks { self.new.marks ≡ marks_after (Insert at stamp bytes.entry) self.old.marks result }
+        ensures cache { CacheWithout (left_behind (Insert at stamp bytes.entry) self.old.now.list result) self.old.cache self.new.cache }
+        ensures capacity { self.new.cache.capacity ≡ self.old.cache.capacity }
+        ensures refused { OnErr result (self.new ≡ self.old) }
     {
         if let Err(fault) = self.list.may_insert(at) {
             return Err(Refusal::by(fault));
@@ -211,6 +219,10 @@ impl Session {
     pub(crate) fn replace_written(&mut self, at: u64, bytes: Hex<'_>) -> Result<u64, Refusal>
         ensures gives { Gives (edit_of self.old.now.tables self.old.now.list (Replace at bytes.entry)) result }
         ensures after { self.new.now ≡ behind_edit (Replace at bytes.entry) self.old.now result }
+        ensures marks { self.new.marks ≡ marks_after (Replace at bytes.entry) self.old.marks result }
+        ensures cache { CacheWithout (left_behind (Replace at bytes.entry) self.old.now.list result) self.old.cache self.new.cache }
+        ensures capacity { self.new.cache.capacity ≡ self.old.cache.capacity }
+        ensures refused { OnErr result (self.new ≡ self.old) }
     {
         if let Err(fault) = self.list.may_replace(at) {
             return Err(Refusal::by(fault));

@@ -1,5 +1,5 @@
 -- What the parts of a run leave.
-use Rattle.std.specs.Prelude.{◌≡◌, ◌≢◌, Bool, false, ℕ, ◌<◌, ◌==◌, List, [], ◌∷◌, ◌++◌, length, Option, IfSome, codes, if◌then◌else◌}
+use Rattle.std.specs.Prelude.{◌≡◌, ◌≢◌, ◌⊎◌, Bool, false, ℕ, ◌<◌, ◌==◌, List, [], ◌∷◌, ◌++◌, length, Option, Some, IfSome, IsSome, codes, if◌then◌else◌}
 use Rattle.std.specs.Fmt.{decimal}
 use Rattle.std.specs.Io.KnownBytes.{Keeps}
 use Rattle.vp8_tables.specs.Rfc.{rfc_entries}
@@ -12,7 +12,7 @@ use Rattle.frame_session.specs.Sessions.{Now}
 use Rattle.frame_session.specs.declared.serving.RunFault.{RunFault}
 use Rattle.frame_session.specs.declared.serving.RunFault.TheVariants as runs
 use Rattle.vp8serve.specs.declared.fault.Fault.{Fault}
-use Rattle.vp8serve.specs.declared.fault.Fault.TheVariants.{CannotRead, TooLong, Tables, Input, CannotWrite, NoMemory}
+use Rattle.vp8serve.specs.declared.fault.Fault.TheVariants.{CommandLine, CannotRead, TooLong, Tables, Input, CannotWrite, NoMemory}
 
 -- the most bytes that a file may have
 abbrev pub limit : ℕ
@@ -29,6 +29,20 @@ IsReadFault name left _ = ⊥
 abbrev pub IsTableFault : List ℕ → Fault → Type 0
 IsTableFault bytes Tables = length bytes ≢ 3012
 IsTableFault bytes _ = ⊥
+
+-- why the tables were not read from the file of this name: with no name nothing is read
+abbrev pub IsTablesFault : Option (List ℕ) → Fault → Type 0
+IsTablesFault named (CannotRead path) = named ≡ Some path.now
+IsTablesFault named (TooLong path) = named ≡ Some path.now
+IsTablesFault named Tables = IsSome named
+IsTablesFault named NoMemory = Unit {0}
+IsTablesFault named _ = ⊥
+
+-- why the packets were not saved
+abbrev pub IsSaveFault : Fault → Type 0
+IsSaveFault CannotWrite = Unit {0}
+IsSaveFault NoMemory = Unit {0}
+IsSaveFault _ = ⊥
 
 -- the requests were answered so, and the replies are these; of the frames it is not known where they went
 abbrev pub IsReplied : (tables : TableEntries) → (bytes requests : List ℕ) → (replies replies' : Option (List ℕ)) → Now → Type 0
@@ -69,6 +83,22 @@ IsRefused bytes replies replies' (Input fault) = IvfRefuses bytes fault × Keeps
 IsRefused bytes replies replies' NoMemory = Keeps replies replies'
 IsRefused bytes replies replies' CannotWrite = Unit {0}
 IsRefused bytes replies replies' _ = ⊥
+
+-- a file of this name could not be read: the tables' or the stream's, and then no byte of the requests was read, or the requests'
+abbrev pub IsUnread : (tables : Option (List ℕ)) → (stream requests : List ℕ) → (left left' : Option (List ℕ)) → List ℕ → Type 0
+IsUnread tables stream requests left left' name = ((tables ≡ Some name ⊎ stream ≡ name) × (left' ≡ left)) ⊎ (requests ≡ name)
+
+-- why the program ends without an answer to all requests, in the order of its parts: an error in reading comes before the first reply, one of the
+-- tables or the stream before the first byte of the requests is read, and one of the stream's text before the first reply
+abbrev pub IsEnded : (unnamed : List ℕ) → (tables : Option (List ℕ)) → (stream requests : List ℕ) → (left left' replies replies' : Option (List ℕ)) → Fault → Type 0
+IsEnded unnamed tables stream requests left left' replies replies' CommandLine = ⊥
+IsEnded unnamed tables stream requests left left' replies replies' (CannotRead path) = IsUnread tables stream requests left left' path.now × (replies' ≡ replies)
+IsEnded unnamed tables stream requests left left' replies replies' (TooLong path) = IsUnread tables stream requests left left' path.now × (replies' ≡ replies)
+IsEnded unnamed tables stream requests left left' replies replies' Tables = IsSome tables × (left' ≡ left) × (replies' ≡ replies)
+IsEnded unnamed tables stream requests left left' replies replies' (Input fault) =
+    (bytes : List ℕ) × (stream ≡ codes "-" → bytes ≡ unnamed) × IvfRefuses bytes fault × Keeps replies replies'
+IsEnded unnamed tables stream requests left left' replies replies' CannotWrite = Unit {0}
+IsEnded unnamed tables stream requests left left' replies replies' NoMemory = Unit {0}
 
 -- a run's fault as the program's
 abbrev pub told_as : RunFault → Fault

@@ -1,5 +1,5 @@
 -- The statuses that the program ends with.
-use Rattle.std.specs.Prelude.{ℕ}
+use Rattle.std.specs.Prelude.{ℕ, Result, Ok, Err}
 use Rattle.vp8serve.specs.declared.fault.Fault.{Fault}
 use Rattle.vp8serve.specs.declared.fault.Fault.TheVariants.{CommandLine, CannotRead, TooLong, Tables, Input, CannotWrite, NoMemory}
 
@@ -12,3 +12,8 @@ status_of Tables = 1
 status_of (Input fault) = 1
 status_of CannotWrite = 1
 status_of NoMemory = 1
+
+-- the status that the program exits with: 0 without an error
+abbrev pub exit_status : {A : Type 0} → Result A Fault → ℕ
+exit_status (Ok a) = 0
+exit_status (Err fault) = status_of fault

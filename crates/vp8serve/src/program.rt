@@ -1,10 +1,11 @@
 // The program over a reader and two writers.
-ghost use Rattle.std.specs.Prelude.{◌≡◌, ◌≢◌, ◌≤◌, IfOk, IfErr, OnOk, Err, is_some};
+ghost use Rattle.std.specs.Prelude.{◌≡◌, ◌≢◌, ◌≤◌, [], IfOk, IfErr, OnOk, Err, is_some, option_map};
+ghost use Rattle.std.specs.Io.Buffered.{writer_buffer, writer_contents};
 ghost use Rattle.std.specs.Io.KnownBytes.{Appends};
 ghost use Rattle.clap.specs.Values.{kind_of};
 ghost use Rattle.frame_session.specs.Answers.{Means};
-ghost use Rattle.vp8serve.specs.Endings.{IsRefused, IsReplied, IsRunFault, IsServed, saved_text, spare_text};
-ghost use Rattle.vp8serve.specs.Statuses.{status_of};
+ghost use Rattle.vp8serve.specs.Endings.{IsEnded, IsRefused, IsReplied, IsRunFault, IsSaveFault, IsServed, saved_text, spare_text};
+ghost use Rattle.vp8serve.specs.Statuses.{exit_status, status_of};
 
 use crate::fault::Fault;
 use crate::sources::{read_requests, read_stream, read_tables};
@@ -60,6 +61,7 @@ pub fn run_to<F: Write, P: Write>(
 ) -> Result<Session, Fault<'static>>
     requires { (1 ≤ capacity) × (capacity ≤ 4096) }
     ensures answered { IfOk result (λ session. Means tables stream.now requests.now (F.contents frames.old) (F.contents frames.new) (P.contents replies.old) (P.contents replies.new) session.now) }
+    ensures capacity { IfOk result (λ session. session.cache.capacity ≡ capacity) }
     ensures refused { IfErr result (IsRunFault stream.now (F.contents frames.old) (F.contents frames.new) (P.contents replies.old) (P.contents replies.new)) }
 {
     let session = run(alloc, tables, capacity, stream, requests, frames, replies)?;
@@ -80,8 +82,8 @@ fn run_to_path<R: Files + AllocGlobal, P: Write>(
 ) -> Result<Session, Fault<'static>>
     requires { (1 ≤ capacity) × (capacity ≤ 4096) }
     ensures replied { IfOk result (λ session. IsReplied tables stream.now requests.now (P.contents replies.old) (P.contents replies.new) session.now) }
+    ensures capacity { IfOk result (λ session. session.cache.capacity ≡ capacity) }
     ensures refused { IfErr result (IsRefused stream.now (P.contents replies.old) (P.contents replies.new)) }
-    ensures fault { IfErr result (λ fault. status_of fault ≡ 1) }
 {
     let alloc = rt.alloc();
     if path == NO_FILE {
@@ -110,9 +112,13 @@ fn run_to_path<R: Files + AllocGlobal, P: Write>(
     )
 }
 
-/// Writes the packets that stand behind the run, and sees that all is written.
-pub fn save_to<W: Write>(session: &Session, w: &mut W) -> Result<(), Fault<'static>>
-    ensures saved { OnOk result (Appends (W.contents w.old) (W.contents w.new) (saved_text session.now.now)) }
+/// Writes the current packets through a buffer, of which nothing is left unwritten.
+pub fn save_to<W: Write + Drop>(
+    session: &Session,
+    w: &mut BufWriter<W>,
+) -> Result<(), Fault<'static>>
+    ensures saved { OnOk result (Appends (writer_contents W.contents w.old) (writer_contents W.contents w.new) (saved_text session.now.now)) }
+    ensures flushed { OnOk result (writer_buffer w.new ≡ []) }
     ensures fault { IfErr result (λ fault. fault ≡ Fault.CannotWrite) }
 {
     session.save(w).map_err(|_| Fault::CannotWrite)?;
@@ -125,7 +131,7 @@ fn save_to_path<R: Files + AllocGlobal>(
     session: &Session,
     path: Option<&str>,
 ) -> Result<(), Fault<'static>>
-    ensures { IfErr result (λ fault. status_of fault ≡ 1) }
+    ensures { IfErr result IsSaveFault }
 {
     let Some(path) = path else {
         return Ok(());
@@ -137,10 +143,11 @@ fn save_to_path<R: Files + AllocGlobal>(
     save_to(session, &mut saved)
 }
 
-/// Tells how many bytes stood behind the last whole record of the stream, where there are any.
-fn tell_spare<E: Write>(spare: u64, errors: &mut E) -> io::Result<()>
-    ensures { OnOk result (Appends (E.contents errors.old) (E.contents errors.new) (spare_text spare)) }
+/// Reports the number of trailing bytes in the stream, if there are any.
+fn tell_spare<E: Write>(session: &Session, errors: &mut E) -> io::Result<()>
+    ensures { OnOk result (Appends (E.contents errors.old) (E.contents errors.new) (spare_text session.now.now.spare)) }
 {
+    let spare = session.spare();
     if spare == 0 {
         return Ok(());
     }
@@ -148,6 +155,7 @@ fn tell_spare<E: Write>(spare: u64, errors: &mut E) -> io::Result<()>
 }
 
 /// Does what the command line's words ask for.
+#[tactic(auto, using(crate::proofs::Ended::tables_ended, crate::proofs::Ended::stream_ended, crate::proofs::Ended::requests_ended, crate::proofs::Ended::run_ended, crate::proofs::Ended::save_ended))]
 fn answer<'a, R: Files + AllocGlobal, I: Read, O: Write, E: Write>(
     rt: &R,
     words: Words<'a>,
@@ -158,7 +166,7 @@ fn answer<'a, R: Files + AllocGlobal, I: Read, O: Write, E: Write>(
 ) -> Result<(), Fault<'a>>
     requires { (1 ≤ capacity) × (capacity ≤ 4096) }
     ensures served { OnOk result (IsServed EMPTY words.entry.stream.now words.entry.requests.now (is_some words.entry.tables) (I.remaining input.old) (O.contents output.old) (O.contents output.new)) }
-    ensures fault { IfErr result (λ fault. status_of fault ≡ 1) }
+    ensures ended { IfErr result (IsEnded EMPTY (option_map (λ path. path.now) words.entry.tables) words.entry.stream.now words.entry.requests.now (I.remaining input.old) (I.remaining input.new) (O.contents output.old) (O.contents output.new)) }
 {
     let tables = read_tables(rt, words.tables)?;
     let stream = read_stream(rt, words.stream)?;
@@ -173,7 +181,7 @@ fn answer<'a, R: Files + AllocGlobal, I: Read, O: Write, E: Write>(
         output,
     )?;
     save_to_path(rt, &session, words.saved)?;
-    let _ = tell_spare(session.spare(), errors);
+    let _ = tell_spare(&session, errors);
     Ok(())
 }
 
@@ -194,6 +202,16 @@ fn answer_line<'a, R: Files + AllocGlobal, S: AsStr, I: Read, O: Write, E: Write
     }
 }
 
+/// The status of the program's answer; an error is shown to the user.
+fn exit_status<E: Write>(answer: Result<(), Fault<'_>>, errors: &mut E) -> u8
+    ensures { result ≡ exit_status answer.entry }
+{
+    match answer {
+        Ok(()) => 0,
+        Err(fault) => tell(fault, errors),
+    }
+}
+
 /// Runs the program on a command line, whose first word is the program's name, and gives the status
 /// that it ends with: 0 where every request was answered, be it by a refusal, and for help; 2 for a
 /// mistake on the command line; 1 for every other fault.
@@ -211,8 +229,6 @@ pub fn serve<R: Files + AllocGlobal, S: AsStr, I: Read, O: Write, E: Write>(
 ) -> u8
     ensures { result ≤ 2 }
 {
-    match answer_line(rt, words, input, output, errors) {
-        Ok(()) => 0,
-        Err(fault) => tell(fault, errors),
-    }
+    let answer = answer_line(rt, words, input, output, errors);
+    exit_status(answer, errors)
 }

@@ -1,9 +1,8 @@
 // What the program reads.
-ghost use Rattle.std.specs.Prelude.{◌≡◌, IfOk, IfErr, IfSome, Ok, codes, None, false, is_some};
+ghost use Rattle.std.specs.Prelude.{◌≡◌, IfOk, IfErr, IfSome, Ok, codes, None, false, is_some, option_map};
 ghost use Rattle.vp8_tables.specs.Rfc.{rfc_entries};
 ghost use Rattle.vp8_tables.specs.Tables.{entries_of};
-ghost use Rattle.vp8serve.specs.Statuses.{status_of};
-ghost use Rattle.vp8serve.specs.Endings.{IsReadFault, IsTableFault};
+ghost use Rattle.vp8serve.specs.Endings.{IsReadFault, IsTableFault, IsTablesFault};
 
 use crate::fault::Fault;
 use crate::words::NO_FILE;
@@ -58,7 +57,7 @@ pub fn read_tables<'a, R: Files + AllocGlobal>(
     path: Option<&'a str>,
 ) -> Result<Tables, Fault<'a>>
     ensures rfc { is_some path.entry ≡ false → IfOk result (λ tables. tables ≡ rfc_entries) }
-    ensures status { IfErr result (λ fault. status_of fault ≡ 1) }
+    ensures fault { IfErr result (IsTablesFault (option_map (λ path. path.now) path.entry)) }
 {
     match path {
         Some(path) => {

@@ -234,18 +234,47 @@ fn tells_a_reader_and_writers_that_fail(rt: HostRuntime) -> Result<(), Fail> {
         );
         assert_eq!(rt; status, 1, "{word}");
     }
+    Ok(())
+}
+
+/// An error that a buffered writer meets only when it is flushed is reported.
+#[test]
+fn flushes_its_writers(rt: HostRuntime) -> Result<(), Fail> {
     let mut frames = BufWriter::new(rt.alloc(), Broken {})?;
-    let mut replies = Vec::new(rt.alloc());
-    let refused = run_to(
+    let mut taken = Vec::new(rt.alloc());
+    let no_frames = run_to(
         rt.alloc(),
         Tables::rfc(),
         1,
         &ONE,
         b"frame 0\n",
         &mut frames,
+        &mut taken,
+    );
+    assert_eq!(rt; no_frames.err(), Some(Fault::CannotWrite));
+    let mut replies = BufWriter::new(rt.alloc(), Broken {})?;
+    let no_replies = run_to(
+        rt.alloc(),
+        Tables::rfc(),
+        1,
+        &ONE,
+        b"frame 0\n",
+        &mut taken,
         &mut replies,
     );
-    assert_eq!(rt; refused.err(), Some(Fault::CannotWrite));
+    assert_eq!(rt; no_replies.err(), Some(Fault::CannotWrite));
+    let mut output = BufWriter::new(rt.alloc(), Broken {})?;
+    let mut errors = Vec::new(rt.alloc());
+    let words = ["vp8serve"];
+    let status = serve(
+        &rt,
+        &words,
+        &mut b"count\n".as_slice(),
+        &mut output,
+        &mut errors,
+    );
+    assert!(rt; errors.as_slice() == b"vp8serve: cannot write\n".as_slice());
+    assert_eq!(rt; status, 1);
     Ok(())
 }
 
@@ -354,16 +383,19 @@ fn tells_a_save_that_fails(rt: HostRuntime) -> Result<(), Fail> {
     Ok(())
 }
 
-/// The least and the greatest number of kept states.
+/// The least and the greatest number of cached states: with one, frame 0 is decoded again.
 #[test]
-fn takes_numbers_of_kept_states(rt: HostRuntime) {
-    for count in ["1", "4096"] {
+fn takes_numbers_of_cached_states(rt: HostRuntime) -> Result<(), Fail> {
+    for (count, steps) in [("1", 3), ("4096", 2)] {
         let words = ["vp8serve", "--cache", count];
-        let run = run_program(&rt, &words, "blank 0 16 16\nhold 1\nframe 1\n");
-        assert!(rt; run.output.as_slice() == b"ok 1\nok 2\nserved 1\n".as_slice());
+        let requests = "blank 0 16 16\nhold 1\nframe 1\nframe 0\nstats\n";
+        let run = run_program(&rt, &words, requests);
+        let want = format!(in rt.alloc(); "ok 1\nok 2\nserved 1\nserved 0\ndecoded {steps}\n")?;
+        assert!(rt; run.output.as_slice() == want.as_bytes(), "{count}");
         assert_eq!(rt; run.errors.len(), 0);
         assert_eq!(rt; run.status, 0);
     }
+    Ok(())
 }
 
 /// What is written for the frame of `CODED` by tables that have one entry throughout.

@@ -1,4 +1,4 @@
-use Rattle.std.proofs.Common.{true}
+use Rattle.std.proofs.Common.{true, refl}
 use Rattle.frame_session.proofs.Sound.{reached_sound}
 use Rattle.frame_session.proofs.keeping.picture_at.Goals as goal
 
@@ -17,3 +17,12 @@ returns-in-Err-Refused-clause-rises c = c.in-Err-Refused.ensures.costs.rises
 
 pub returns-in-Err-NoMemory-clause-rises : goal.returns-in-Err-NoMemory-clause-rises
 returns-in-Err-NoMemory-clause-rises c = c.in-Err-NoMemory.ensures.costs.rises
+
+pub returns-in-Ok-clause-reached : goal.returns-in-Ok-clause-reached
+returns-in-Ok-clause-reached c = refl
+
+pub returns-in-Err-Refused-clause-reached : goal.returns-in-Err-Refused-clause-reached
+returns-in-Err-Refused-clause-reached c = refl
+
+pub returns-in-Err-NoMemory-clause-reached : goal.returns-in-Err-NoMemory-clause-reached
+returns-in-Err-NoMemory-clause-reached c = refl

@@ -1,4 +1,4 @@
-use Rattle.std.proofs.Common.{ap, rules}
+use Rattle.std.proofs.Common.{ℕ, List, Option, None, inr, ap}
 use Rattle.std.specs.Io.KnownBytes.{Appends}
 use Rattle.std.proofs.lemmas.Result.{on_ok_weaker}
 use Rattle.frame_session.specs.declared.lines.Line.TheVariants.{Unknown, Insert, Replace, Script, Count, Stats}
@@ -10,90 +10,133 @@ use Rattle.frame_session.specs.Cached.{SessionValue}
 use Rattle.frame_session.proofs.Served.{serves_silent, serves_unknown, serves_inserted, serves_replaced, serves_deleted, serves_moved, serves_blanked, serves_held, serves_script, serves_count, serves_stats}
 use Rattle.frame_session.proofs.serving.serve.Goals as goal
 
-pub returns-in-Silent : goal.returns-in-Silent
-returns-in-Silent g c = rw c.in-Silent.is (search (rules, serves_silent))
+pub returns-in-Silent-clause-serves : goal.returns-in-Silent-clause-serves
+returns-in-Silent-clause-serves g c =
+    let f = g.F.Write.contents c.args.frames.now in
+    let r = g.R.Write.contents c.args.replies.now in
+    rw c.in-Silent.is (serves_silent c.args.session.now.now f f r r)
 
-pub returns-in-Unknown : goal.returns-in-Unknown
-returns-in-Unknown g c =
+pub returns-in-Silent-clause-frame_first : goal.returns-in-Silent-clause-frame_first
+returns-in-Silent-clause-frame_first g c =
+    let f = g.F.Write.contents c.args.frames.now in
+    rw c.in-Silent.is (inr (serves_silent c.args.session.now.now f f None None))
+
+pub returns-in-Unknown-clause-serves : goal.returns-in-Unknown-clause-serves
+returns-in-Unknown-clause-serves g c =
     let f = g.F.Write.contents c.args.frames.now in
     let r = g.R.Write.contents c.args.replies.now in
     let r' = g.R.Write.contents c.write_refused.new.w in
-    let served : Appends r r' (refused_line refusals.Line) → Serves c.args.session.now.now Unknown f f r r' c.args.session.now.now = serves_unknown c.args.session.now.now f f r r' in
-    rw c.in-Unknown.is (on_ok_weaker c.write_refused.result served c.write_refused.ensures)
+    rw c.in-Unknown.is (on_ok_weaker c.write_refused.result (λ said. serves_unknown c.args.session.now.now f f r r' said) c.write_refused.ensures)
 
-pub returns-in-Insert : goal.returns-in-Insert
-returns-in-Insert g c =
+pub returns-in-Unknown-clause-frame_first : goal.returns-in-Unknown-clause-frame_first
+returns-in-Unknown-clause-frame_first g c =
+    let f = g.F.Write.contents c.args.frames.now in
+    rw c.in-Unknown.is (inr (serves_unknown c.args.session.now.now f f None None tt))
+
+pub returns-in-Insert-clause-serves : goal.returns-in-Insert-clause-serves
+returns-in-Insert-clause-serves g c =
     let f = g.F.Write.contents c.args.frames.now in
     let r = g.R.Write.contents c.args.replies.now in
     let r' = g.R.Write.contents c.write_edited.new.w in
-    let edited = c.insert_written-edited.result in
-    let new = c.insert_written-edited.new.self.now in
-    let served : Appends r r' (edit_line edited) → Serves c.args.session.now.now (Insert c.in-Insert.at c.in-Insert.stamp c.in-Insert.bytes) f f r r' new =
-    serves_inserted c.args.session.now.now f f r r' c.in-Insert.at c.in-Insert.stamp c.in-Insert.bytes edited new c.insert_written-edited.ensures.gives c.insert_written-edited.ensures.after in
-    rw c.in-Insert.is (on_ok_weaker c.write_edited.result served c.write_edited.ensures)
+    rw c.in-Insert.is (on_ok_weaker c.write_edited.result (λ said. serves_inserted c.args.session.now.now f f r r' c.in-Insert.at c.in-Insert.stamp c.in-Insert.bytes c.insert_written-edited.result c.insert_written-edited.new.self.now c.insert_written-edited.ensures.gives c.insert_written-edited.ensures.after said) c.write_edited.ensures)
 
-pub returns-in-Replace : goal.returns-in-Replace
-returns-in-Replace g c =
+pub returns-in-Insert-clause-frame_first : goal.returns-in-Insert-clause-frame_first
+returns-in-Insert-clause-frame_first g c =
+    let f = g.F.Write.contents c.args.frames.now in
+    rw c.in-Insert.is (inr (serves_inserted c.args.session.now.now f f None None c.in-Insert.at c.in-Insert.stamp c.in-Insert.bytes c.insert_written-edited.result c.insert_written-edited.new.self.now c.insert_written-edited.ensures.gives c.insert_written-edited.ensures.after tt))
+
+pub returns-in-Replace-clause-serves : goal.returns-in-Replace-clause-serves
+returns-in-Replace-clause-serves g c =
     let f = g.F.Write.contents c.args.frames.now in
     let r = g.R.Write.contents c.args.replies.now in
     let r' = g.R.Write.contents c.write_edited-in-Replace.new.w in
-    let edited = c.replace_written-edited.result in
-    let new = c.replace_written-edited.new.self.now in
-    let served : Appends r r' (edit_line edited) → Serves c.args.session.now.now (Replace c.in-Replace.at c.in-Replace.bytes) f f r r' new =
-    serves_replaced c.args.session.now.now f f r r' c.in-Replace.at c.in-Replace.bytes edited new c.replace_written-edited.ensures.gives c.replace_written-edited.ensures.after in
-    rw c.in-Replace.is (on_ok_weaker c.write_edited-in-Replace.result served c.write_edited-in-Replace.ensures)
+    rw c.in-Replace.is (on_ok_weaker c.write_edited-in-Replace.result (λ said. serves_replaced c.args.session.now.now f f r r' c.in-Replace.at c.in-Replace.bytes c.replace_written-edited.result c.replace_written-edited.new.self.now c.replace_written-edited.ensures.gives c.replace_written-edited.ensures.after said) c.write_edited-in-Replace.ensures)
 
-pub returns-in-Delete : goal.returns-in-Delete
-returns-in-Delete g c =
+pub returns-in-Replace-clause-frame_first : goal.returns-in-Replace-clause-frame_first
+returns-in-Replace-clause-frame_first g c =
+    let f = g.F.Write.contents c.args.frames.now in
+    rw c.in-Replace.is (inr (serves_replaced c.args.session.now.now f f None None c.in-Replace.at c.in-Replace.bytes c.replace_written-edited.result c.replace_written-edited.new.self.now c.replace_written-edited.ensures.gives c.replace_written-edited.ensures.after tt))
+
+pub returns-in-Delete-clause-serves : goal.returns-in-Delete-clause-serves
+returns-in-Delete-clause-serves g c =
     let f = g.F.Write.contents c.args.frames.now in
     let r = g.R.Write.contents c.args.replies.now in
     let r' = g.R.Write.contents c.serve_edit.new.replies in
-    rw c.in-Delete.is (on_ok_weaker c.serve_edit.result (serves_deleted c.args.session.now.now f f r r' c.in-Delete.at c.serve_edit.new.session.now) c.serve_edit.ensures)
+    rw c.in-Delete.is (on_ok_weaker c.serve_edit.result (λ said. serves_deleted c.args.session.now.now f f r r' c.in-Delete.at c.serve_edit.new.session.now (c.serve_edit.ensures.answers.0, c.serve_edit.ensures.answers.1, c.serve_edit.ensures.answers.2, said)) c.serve_edit.ensures.answers.3)
 
-pub returns-in-Move : goal.returns-in-Move
-returns-in-Move g c =
+pub returns-in-Delete-clause-frame_first : goal.returns-in-Delete-clause-frame_first
+returns-in-Delete-clause-frame_first g c =
+    let f = g.F.Write.contents c.args.frames.now in
+    rw c.in-Delete.is (inr (serves_deleted c.args.session.now.now f f None None c.in-Delete.at c.serve_edit.new.session.now (c.serve_edit.ensures.answers.0, c.serve_edit.ensures.answers.1, c.serve_edit.ensures.answers.2, tt)))
+
+pub returns-in-Move-clause-serves : goal.returns-in-Move-clause-serves
+returns-in-Move-clause-serves g c =
     let f = g.F.Write.contents c.args.frames.now in
     let r = g.R.Write.contents c.args.replies.now in
     let r' = g.R.Write.contents c.serve_edit-in-Move.new.replies in
-    rw c.in-Move.is (on_ok_weaker c.serve_edit-in-Move.result (serves_moved c.args.session.now.now f f r r' c.in-Move.from c.in-Move.to c.serve_edit-in-Move.new.session.now) c.serve_edit-in-Move.ensures)
+    rw c.in-Move.is (on_ok_weaker c.serve_edit-in-Move.result (λ said. serves_moved c.args.session.now.now f f r r' c.in-Move.from c.in-Move.to c.serve_edit-in-Move.new.session.now (c.serve_edit-in-Move.ensures.answers.0, c.serve_edit-in-Move.ensures.answers.1, c.serve_edit-in-Move.ensures.answers.2, said)) c.serve_edit-in-Move.ensures.answers.3)
 
-pub returns-in-Blank : goal.returns-in-Blank
-returns-in-Blank g c =
+pub returns-in-Move-clause-frame_first : goal.returns-in-Move-clause-frame_first
+returns-in-Move-clause-frame_first g c =
+    let f = g.F.Write.contents c.args.frames.now in
+    rw c.in-Move.is (inr (serves_moved c.args.session.now.now f f None None c.in-Move.from c.in-Move.to c.serve_edit-in-Move.new.session.now (c.serve_edit-in-Move.ensures.answers.0, c.serve_edit-in-Move.ensures.answers.1, c.serve_edit-in-Move.ensures.answers.2, tt)))
+
+pub returns-in-Blank-clause-serves : goal.returns-in-Blank-clause-serves
+returns-in-Blank-clause-serves g c =
     let f = g.F.Write.contents c.args.frames.now in
     let r = g.R.Write.contents c.args.replies.now in
     let r' = g.R.Write.contents c.serve_edit-in-Blank.new.replies in
-    rw c.in-Blank.is (on_ok_weaker c.serve_edit-in-Blank.result (serves_blanked c.args.session.now.now f f r r' c.in-Blank.at c.in-Blank.width c.in-Blank.height c.serve_edit-in-Blank.new.session.now) c.serve_edit-in-Blank.ensures)
+    rw c.in-Blank.is (on_ok_weaker c.serve_edit-in-Blank.result (λ said. serves_blanked c.args.session.now.now f f r r' c.in-Blank.at c.in-Blank.width c.in-Blank.height c.serve_edit-in-Blank.new.session.now (c.serve_edit-in-Blank.ensures.answers.0, c.serve_edit-in-Blank.ensures.answers.1, c.serve_edit-in-Blank.ensures.answers.2, said)) c.serve_edit-in-Blank.ensures.answers.3)
 
-pub returns-in-Hold : goal.returns-in-Hold
-returns-in-Hold g c =
+pub returns-in-Blank-clause-frame_first : goal.returns-in-Blank-clause-frame_first
+returns-in-Blank-clause-frame_first g c =
+    let f = g.F.Write.contents c.args.frames.now in
+    rw c.in-Blank.is (inr (serves_blanked c.args.session.now.now f f None None c.in-Blank.at c.in-Blank.width c.in-Blank.height c.serve_edit-in-Blank.new.session.now (c.serve_edit-in-Blank.ensures.answers.0, c.serve_edit-in-Blank.ensures.answers.1, c.serve_edit-in-Blank.ensures.answers.2, tt)))
+
+pub returns-in-Hold-clause-serves : goal.returns-in-Hold-clause-serves
+returns-in-Hold-clause-serves g c =
     let f = g.F.Write.contents c.args.frames.now in
     let r = g.R.Write.contents c.args.replies.now in
     let r' = g.R.Write.contents c.serve_edit-in-Hold.new.replies in
-    rw c.in-Hold.is (on_ok_weaker c.serve_edit-in-Hold.result (serves_held c.args.session.now.now f f r r' c.in-Hold.at c.serve_edit-in-Hold.new.session.now) c.serve_edit-in-Hold.ensures)
+    rw c.in-Hold.is (on_ok_weaker c.serve_edit-in-Hold.result (λ said. serves_held c.args.session.now.now f f r r' c.in-Hold.at c.serve_edit-in-Hold.new.session.now (c.serve_edit-in-Hold.ensures.answers.0, c.serve_edit-in-Hold.ensures.answers.1, c.serve_edit-in-Hold.ensures.answers.2, said)) c.serve_edit-in-Hold.ensures.answers.3)
 
-pub returns-in-Script : goal.returns-in-Script
-returns-in-Script g c =
+pub returns-in-Hold-clause-frame_first : goal.returns-in-Hold-clause-frame_first
+returns-in-Hold-clause-frame_first g c =
+    let f = g.F.Write.contents c.args.frames.now in
+    rw c.in-Hold.is (inr (serves_held c.args.session.now.now f f None None c.in-Hold.at c.serve_edit-in-Hold.new.session.now (c.serve_edit-in-Hold.ensures.answers.0, c.serve_edit-in-Hold.ensures.answers.1, c.serve_edit-in-Hold.ensures.answers.2, tt)))
+
+pub returns-in-Script-clause-serves : goal.returns-in-Script-clause-serves
+returns-in-Script-clause-serves g c =
     let f = g.F.Write.contents c.args.frames.now in
     let r = g.R.Write.contents c.args.replies.now in
     let r' = g.R.Write.contents c.write_edited-in-Script.new.w in
-    let set = c.set_script-set.result in
-    let new = c.set_script-set.new.self.now in
-    let served : Appends r r' (edit_line set) → Serves c.args.session.now.now (Script c.in-Script.text) f f r r' new =
-    serves_script c.args.session.now.now f f r r' c.in-Script.text set new (rw c.as_slice.ensures at c.set_script-set.ensures.gives) (ap (λ (v : SessionValue). v.now) (rw c.as_slice.ensures at c.set_script-set.ensures.after)) in
-    rw c.in-Script.is (on_ok_weaker c.write_edited-in-Script.result served c.write_edited-in-Script.ensures)
+    rw c.in-Script.is (on_ok_weaker c.write_edited-in-Script.result (λ said. serves_script c.args.session.now.now f f r r' c.in-Script.text c.set_script-set.result c.set_script-set.new.self.now (rw c.as_slice.ensures at c.set_script-set.ensures.gives) (ap (λ (v : SessionValue). v.now) (rw c.as_slice.ensures at c.set_script-set.ensures.after)) said) c.write_edited-in-Script.ensures)
 
-pub returns-in-Count : goal.returns-in-Count
-returns-in-Count g c =
+pub returns-in-Script-clause-frame_first : goal.returns-in-Script-clause-frame_first
+returns-in-Script-clause-frame_first g c =
+    let f = g.F.Write.contents c.args.frames.now in
+    rw c.in-Script.is (inr (serves_script c.args.session.now.now f f None None c.in-Script.text c.set_script-set.result c.set_script-set.new.self.now (rw c.as_slice.ensures at c.set_script-set.ensures.gives) (ap (λ (v : SessionValue). v.now) (rw c.as_slice.ensures at c.set_script-set.ensures.after)) tt))
+
+pub returns-in-Count-clause-serves : goal.returns-in-Count-clause-serves
+returns-in-Count-clause-serves g c =
     let f = g.F.Write.contents c.args.frames.now in
     let r = g.R.Write.contents c.args.replies.now in
     let r' = g.R.Write.contents c.tell_count.new.replies in
-    let served : Appends r r' (count_line (packet_count c.args.session.now.now) (frame_count c.args.session.now.now)) → Serves c.args.session.now.now Count f f r r' c.args.session.now.now = serves_count c.args.session.now.now f f r r' in
-    rw c.in-Count.is (on_ok_weaker c.tell_count.result served c.tell_count.ensures)
+    rw c.in-Count.is (on_ok_weaker c.tell_count.result (λ said. serves_count c.args.session.now.now f f r r' said) c.tell_count.ensures)
 
-pub returns-in-Stats : goal.returns-in-Stats
-returns-in-Stats g c =
+pub returns-in-Count-clause-frame_first : goal.returns-in-Count-clause-frame_first
+returns-in-Count-clause-frame_first g c =
+    let f = g.F.Write.contents c.args.frames.now in
+    rw c.in-Count.is (inr (serves_count c.args.session.now.now f f None None tt))
+
+pub returns-in-Stats-clause-serves : goal.returns-in-Stats-clause-serves
+returns-in-Stats-clause-serves g c =
     let f = g.F.Write.contents c.args.frames.now in
     let r = g.R.Write.contents c.args.replies.now in
     let r' = g.R.Write.contents c.write_stats.new.w in
-    let served : Appends r r' (stats_line c.args.session.now.now.decoded) → Serves c.args.session.now.now Stats f f r r' c.args.session.now.now = serves_stats c.args.session.now.now f f r r' in
-    rw c.in-Stats.is (on_ok_weaker c.write_stats.result served (rw c.decoded.ensures.value at c.write_stats.ensures))
+    rw c.in-Stats.is (on_ok_weaker c.write_stats.result (λ said. serves_stats c.args.session.now.now f f r r' said) (rw c.decoded.ensures.value at c.write_stats.ensures))
+
+pub returns-in-Stats-clause-frame_first : goal.returns-in-Stats-clause-frame_first
+returns-in-Stats-clause-frame_first g c =
+    let f = g.F.Write.contents c.args.frames.now in
+    rw c.in-Stats.is (inr (serves_stats c.args.session.now.now f f None None tt))

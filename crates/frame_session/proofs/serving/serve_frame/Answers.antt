@@ -1,17 +1,17 @@
-use Rattle.std.proofs.Common.{◌++◌, Option, subst}
-use Rattle.std.specs.Io.KnownBytes.{Appends}
+use Rattle.std.proofs.Common.{◌++◌, ◌⊎◌, inl, inr, List, ℕ, Option, None, subst}
+use Rattle.std.specs.Io.KnownBytes.{Appends, Keeps}
 use Rattle.std.proofs.lemmas.Result.{on_ok_weaker}
 use Rattle.stream_files.specs.declared.ivf.Head.{Head}
 use Rattle.stream_files.specs.Y4m.{frame_text}
 use Rattle.frame_session.specs.declared.lines.Line.TheVariants.{Frame}
 use Rattle.frame_session.specs.Replies.{refused_line, served_line}
 use Rattle.frame_session.specs.Sessions.{head_due}
-use Rattle.frame_session.specs.Answers.{Serves, opening}
-use Rattle.frame_session.proofs.Served.{serves_frame, serves_refused}
+use Rattle.frame_session.specs.Answers.{Serves, WritesFrameFirst, opening}
+use Rattle.frame_session.proofs.Served.{frame_and_reply, frame_or_no_reply, serves_frame, serves_refused}
 use Rattle.frame_session.proofs.serving.serve_frame.Goals as goal
 
-pub returns-in-Err : goal.returns-in-Err
-returns-in-Err g c =
+pub returns-in-Err-clause-serves : goal.returns-in-Err-clause-serves
+returns-in-Err-clause-serves g c =
     let f = g.F.Write.contents c.args.frames.now in
     let r = g.R.Write.contents c.args.replies.now in
     let r' = g.R.Write.contents c.write_refused.new.w in
@@ -19,15 +19,25 @@ returns-in-Err g c =
     serves_refused c.args.session.now.now f f r r' c.args.n c.in-Err.refusal c.frame.new.self.now c.in-Err.ensures.gives c.in-Err.ensures.after in
     on_ok_weaker c.write_refused.result served c.write_refused.ensures
 
-pub returns-in_ok-write_frame-in-Ok : goal.returns-in_ok-write_frame-in-Ok
-returns-in_ok-write_frame-in-Ok g c =
+pub returns-in-Err-clause-frame_first : goal.returns-in-Err-clause-frame_first
+returns-in-Err-clause-frame_first g c =
+    let f = g.F.Write.contents c.args.frames.now in
+    inr (serves_refused c.args.session.now.now f f None None c.args.n c.in-Err.refusal c.frame.new.self.now c.in-Err.ensures.gives c.in-Err.ensures.after tt)
+
+pub returns-in-Ok-clause-serves : goal.returns-in-Ok-clause-serves
+returns-in-Ok-clause-serves g c =
     let old = c.args.session.now.now in
     let f = g.F.Write.contents c.args.frames.now in
-    let f' = g.F.Write.contents c.write_frame.new.frames in
+    let f' = g.F.Write.contents c.write_answer.new.frames in
     let r = g.R.Write.contents c.args.replies.now in
-    let r' = g.R.Write.contents c.write_served.new.w in
-    let P : Option Head → Type 0 = λ h. Appends f f' (opening h c.in-Ok.picture.width c.in-Ok.picture.height ++ frame_text c.in-Ok.picture) in
-    let shown : P (head_due old) = subst P c.head_due-head_due.ensures c.in_ok-write_frame-in-Ok.ensures in
-    let served : Appends r r' (served_line c.args.n) → Serves old (Frame c.args.n) f f' r r' c.frame.new.self.now =
-    serves_frame old f f' r r' c.args.n c.in-Ok.picture c.frame.new.self.now c.in-Ok.ensures.gives c.in-Ok.ensures.after shown in
-    on_ok_weaker c.write_served.result served c.write_served.ensures
+    let r' = g.R.Write.contents c.write_answer.new.replies in
+    frame_and_reply old f f' r r' c.args.n c.in-Ok.picture c.frame.new.self.now c.head_due-head_due.result c.write_answer.result c.head_due-head_due.ensures c.in-Ok.ensures.gives c.in-Ok.ensures.after c.write_answer.ensures.frame c.write_answer.ensures.reply
+
+pub returns-in-Ok-clause-frame_first : goal.returns-in-Ok-clause-frame_first
+returns-in-Ok-clause-frame_first g c =
+    let old = c.args.session.now.now in
+    let f = g.F.Write.contents c.args.frames.now in
+    let f' = g.F.Write.contents c.write_answer.new.frames in
+    let r = g.R.Write.contents c.args.replies.now in
+    let r' = g.R.Write.contents c.write_answer.new.replies in
+    frame_or_no_reply old f f' r r' c.args.n c.in-Ok.picture c.frame.new.self.now c.head_due-head_due.result c.head_due-head_due.ensures c.in-Ok.ensures.gives c.in-Ok.ensures.after c.write_answer.ensures.frame_first
