@@ -1,10 +1,11 @@
 -- What edits and the shown list come to, as laws over them and on worked lists.
-use Rattle.std.specs.Prelude.{◌≡◌, ℕ, ◌<◌, ◌≤◌, Bool, true, false, List, [], ◌∷◌, length, Some, slice_get}
-use Rattle.frame_header.specs.Tags.{is_shown}
+use Rattle.std.specs.Prelude.{◌≡◌, ℕ, ◌<◌, ◌≤◌, Bool, true, false, List, [], ◌∷◌, length, Some, None, slice_get}
+use Rattle.frame_header.specs.Tags.{has_key_tag, is_shown, key_size_of}
 use Rattle.stream_files.specs.declared.packets.Packet.{Packet}
 use Rattle.packet_edits.specs.declared.entry.Entry.{Entry}
 use Rattle.packet_edits.specs.Edits.{Listing, deleted, inserted, pushed, replaced, starting, with_move}
-use Rattle.packet_edits.specs.Shown.{shown_places}
+use Rattle.packet_edits.specs.Shown.{shown_places, stream_of}
+use Rattle.packet_edits.specs.Sizes.{size_at}
 
 -- no packet of these has the id
 abbrev pub IsNotAmong : ℕ → List Entry → Type 0
@@ -47,6 +48,13 @@ pub record IsShownList : Type 0 where
       → (n : ℕ) × (slice_get (shown_places packets) n ≡ Some place)
   pub ascends : (packets : List (List ℕ)) (n m first later : ℕ) → slice_get (shown_places packets) n ≡ Some first → slice_get (shown_places packets) m ≡ Some later
       → n < m → first < later
+
+-- the size before an index is that of the last packet with a key tag before it; there is none when no packet before the
+-- index has a key tag
+pub record SizeIsOfLastKey : Type 0 where
+  pub of_last : (list : Listing) (at last : ℕ) (packet : List ℕ) → slice_get (stream_of list) last ≡ Some packet → last < at → has_key_tag packet ≡ true
+      → ((p : ℕ) (later : List ℕ) → slice_get (stream_of list) p ≡ Some later → last < p → p < at → has_key_tag later ≡ false) → size_at at list ≡ key_size_of packet
+  pub of_none : (list : Listing) (at : ℕ) → ((p : ℕ) (earlier : List ℕ) → slice_get (stream_of list) p ≡ Some earlier → p < at → has_key_tag earlier ≡ false) → size_at at list ≡ None
 
 -- a packet of one byte
 abbrev pub packet : ℕ → ℕ → ℕ → Entry

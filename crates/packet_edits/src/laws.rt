@@ -3,7 +3,7 @@
 ghost use Rattle.std.specs.Prelude.{◌≡◌, [], ◌∷◌, None, Some, true, false};
 ghost use Rattle.packet_edits.specs.declared.fault.EditFault.TheVariants as faults;
 ghost use Rattle.packet_edits.specs.Edits.{deleted, inserted, pushed, refused_insertion, refused_push, refused_replacement, replaced, starting, with_move};
-ghost use Rattle.packet_edits.specs.Laws.{IdsStayOwn, IsShownList, PushesAreInsertions, packet, three, unmarked};
+ghost use Rattle.packet_edits.specs.Laws.{IdsStayOwn, IsShownList, PushesAreInsertions, SizeIsOfLastKey, packet, three, unmarked};
 ghost use Rattle.packet_edits.specs.Marks.{marks_deleted, marks_inserted, marks_moved, marks_replaced};
 ghost use Rattle.packet_edits.specs.Shown.{shown_places};
 
@@ -20,6 +20,11 @@ pub fn ids_stay_own()
 /// Packets put in at the end are put in one after another.
 pub fn pushes_are_insertions()
     ensures { PushesAreInsertions }
+{}
+
+/// The size before an index is that of the last packet with a key tag before it.
+pub fn size_is_of_last_key()
+    ensures { SizeIsOfLastKey }
 {}
 
 /// Each edit of three packets, and faults in their order.

@@ -245,6 +245,16 @@ impl Store {
         self.entries.len()
     }
 
+    /// Does nothing. It says that there are at most 1,048,576 packets, that each has a mark or none,
+    /// and that each has an id of its own, below the next one.
+    pub fn holds_few(&self)
+        ensures few { length self.now.list.entries ≤ 1048576 }
+        ensures marks { length self.now.marks ≡ length self.now.list.entries }
+        ensures own_ids { HasOwnIds self.now.list }
+    {
+        let _entries = &self.entries;
+    }
+
     /// The bytes of the packet at place `i`, where one stands.
     pub fn packet(&self, i: usize) -> &[u8]
         requires { i < length self.now.list.entries }
