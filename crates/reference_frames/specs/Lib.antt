@@ -8,6 +8,7 @@ pub mod References
 pub mod States
 pub mod Unfiltered
 pub mod UnfilteredLaws
+pub mod Faults
 pub mod Steps
 pub mod StepLaws
 pub mod WrittenBlocks
