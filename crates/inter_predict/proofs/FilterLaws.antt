@@ -2,11 +2,12 @@
 use Rattle.std.specs.Prelude.{slice_index_or}
 use Rattle.std.proofs.Common.{◌≡◌, ℕ, suc, ◌+◌, ◌-◌, ◌*◌, ◌<◌, [], ℤ, pos, negsuc, ◌+ℤ◌, ◌-ℤ◌, ◌*ℤ◌, refl, ap, subst, sym, ◌∙◌, ◌/◌, ◌%◌, arith}
 use Rattle.std.proofs.lemmas.Int.{ints}
+use Rattle.vp8_tables.specs.Bounds.{held}
 use Rattle.vp8_tables.specs.declared.filters.TheConstants.{SIX_TAP_FILTERS}
 use Rattle.pixel_planes.specs.ReferenceSamples.{reference_sample}
 use Rattle.inter_predict.specs.declared.kinds.Kind.{Kind}
 use Rattle.inter_predict.specs.declared.kinds.Kind.TheVariants.{SixTap, Bilinear}
-use Rattle.inter_predict.specs.InterSample.{whole_part, fraction, held, filtered, weighed, between, across, inter_sample}
+use Rattle.inter_predict.specs.InterSample.{whole_part, fraction, filtered, weighed, between, across, inter_sample}
 use Rattle.inter_predict.specs.Laws.{TapsAddUp, KeepsOneValue, CopiesWhole}
 use Rattle.inter_predict.specs.Kernels.{tapped}
 use Rattle.inter_predict.proofs.TapSums.{below_eight, six_taps, six_small, six_between, two_taps, two_small, two_between}

@@ -4,7 +4,8 @@ use Rattle.std.specs.Int.{int_shr}
 use Rattle.std.proofs.Common.{◌≡◌, ℕ, zero, suc, ◌+◌, ◌-◌, ◌*◌, ◌/◌, ◌<◌, List, [], ◌∷◌, map, ℤ, pos, negsuc, ◌+ℤ◌, ◌-ℤ◌, ◌*ℤ◌, neg_ℤ, refl, ap, ◌∙◌, arith, lit≤}
 use Rattle.std.proofs.lemmas.Int.{ints}
 use Rattle.vp8_tables.specs.declared.filters.TheConstants.{SIX_TAP_FILTERS, BILINEAR_FILTERS}
-use Rattle.inter_predict.specs.InterSample.{held, weighed, filtered, between}
+use Rattle.vp8_tables.specs.Bounds.{held}
+use Rattle.inter_predict.specs.InterSample.{weighed, filtered, between}
 use Rattle.inter_predict.specs.declared.kinds.Kind.TheVariants.{SixTap, Bilinear}
 use Rattle.inter_predict.specs.declared.taps.Taps.{Taps}
 use Rattle.inter_predict.specs.declared.taps.TheConstants.{SIX_TAPS, TWO_TAPS}

@@ -1,6 +1,7 @@
 -- The samples that inter prediction takes from a reference plane (RFC 6386, section 18).
-use Rattle.std.specs.Prelude.{ℕ, ◌+◌, ◌-◌, ◌%◌, min, List, [], ◌∷◌, map, slice_index_or, ℤ, pos, negsuc, ◌+ℤ◌, ◌-ℤ◌, ◌*ℤ◌}
+use Rattle.std.specs.Prelude.{ℕ, ◌+◌, ◌-◌, ◌%◌, List, [], ◌∷◌, map, slice_index_or, ℤ, pos, negsuc, ◌+ℤ◌, ◌-ℤ◌, ◌*ℤ◌}
 use Rattle.std.specs.Int.{int_shr}
+use Rattle.vp8_tables.specs.Bounds.{held}
 use Rattle.vp8_tables.specs.declared.filters.TheConstants.{SIX_TAP_FILTERS, BILINEAR_FILTERS}
 use Rattle.pixel_planes.specs.Samples.{Samples}
 use Rattle.pixel_planes.specs.ReferenceSamples.{reference_sample}
@@ -15,11 +16,6 @@ whole_part eighths = int_shr eighths 3
 abbrev pub fraction : ℤ → ℕ
 fraction (pos n) = n % 8
 fraction (negsuc n) = 7 - n % 8
-
--- a number held within 0 to 255
-abbrev pub held : ℤ → ℕ
-held (pos n) = min n 255
-held (negsuc n) = 0
 
 -- the sum of each tap times the sample that it stands at
 abbrev pub weighed : List ℤ → (ℕ → ℕ) → ℤ

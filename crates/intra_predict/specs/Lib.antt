@@ -1,3 +1,4 @@
+pub mod Edges
 pub mod Means
 pub mod Blocks
 pub mod WholeSample

@@ -4,6 +4,7 @@ use Rattle.intra_predict.specs.declared.modes.BlockSize.{BlockSize}
 use Rattle.intra_predict.specs.declared.modes.BlockSize.TheVariants.{Sixteen, Eight}
 use Rattle.intra_predict.specs.declared.modes.WholeMode.{WholeMode}
 use Rattle.intra_predict.specs.declared.modes.WholeMode.TheVariants.{Dc, V, H, Tm}
+use Rattle.intra_predict.specs.Edges.{above_frame, left_of_frame}
 use Rattle.intra_predict.specs.Means.{mean_of, gradient}
 
 -- how many samples a row of a block has, and how many rows there are
@@ -16,14 +17,14 @@ abbrev pub inside : Option (List ℕ) → List ℕ
 inside None = []
 inside (Some samples) = samples
 
--- the sample above a column: 127 above the frame
+-- the sample above a column; where the side is above the frame, 127
 abbrev pub above_at : Option (List ℕ) → ℕ → ℕ
-above_at None column = 127
+above_at None column = above_frame
 above_at (Some above) column = slice_index above column
 
--- the sample to the left of a row: 129 to the left of the frame
+-- the sample to the left of a row; where the side is to the left of the frame, 129
 abbrev pub left_at : Option (List ℕ) → ℕ → ℕ
-left_at None row = 129
+left_at None row = left_of_frame
 left_at (Some left) row = slice_index left row
 
 -- the intra sample of a whole block in this column of this row; a side that is None is outside the frame

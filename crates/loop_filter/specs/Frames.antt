@@ -2,10 +2,9 @@
 use Rattle.std.specs.Prelude.{◌≡◌, ℕ, zero, suc, ◌+◌, ◌*◌, ◌/◌, ◌==◌, Bool, true, false, ◌||◌, if◌then◌else◌, List, slice_get, slice_index_or, Option, Some, None}
 use Rattle.frame_header.specs.declared.header.Header.{Header}
 use Rattle.mode_parser.specs.declared.records.MbMode.{MbMode}
-use Rattle.mode_parser.specs.declared.records.VectorMode.{VectorMode}
-use Rattle.mode_parser.specs.declared.records.VectorMode.TheVariants.{Zero, Nearest, Near, New, Split}
 use Rattle.mode_parser.specs.declared.records.YMode.{YMode}
 use Rattle.mode_parser.specs.declared.records.YMode.TheVariants.{Whole, B, Inter}
+use Rattle.mode_parser.specs.SplitModes.{is_split}
 use Rattle.pixel_planes.specs.Samples.{Samples}
 use Rattle.pixel_planes.specs.Pictures.{HasBlocks}
 use Rattle.pixel_planes.specs.PlaneSamples.{PlaneSamples}
@@ -16,13 +15,6 @@ use Rattle.loop_filter.specs.declared.blocks.Block.{Block}
 use Rattle.loop_filter.specs.declared.strengths.Strength.{Strength}
 
 -- whether a macroblock of this mode is parted into blocks with modes or vectors of their own
-abbrev pub is_split : VectorMode → Bool
-is_split Zero = false
-is_split Nearest = false
-is_split Near = false
-is_split New = false
-is_split Split = true
-
 abbrev pub is_parted : YMode → Bool
 is_parted (Whole mode) = false
 is_parted B = true

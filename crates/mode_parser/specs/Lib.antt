@@ -1,6 +1,7 @@
 pub mod SubModes
 pub mod Vectors
 pub mod Records
+pub mod SplitModes
 pub mod NearVectors
 pub mod Neighbours
 pub mod Candidates

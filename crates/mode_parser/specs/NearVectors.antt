@@ -1,10 +1,10 @@
 -- The near vectors of a macroblock (RFC 6386, section 16.3).
-use Rattle.std.specs.Prelude.{ℕ, ◌+◌, ◌-◌, ◌*◌, Bool, true, false, ◌&&◌, ◌==◌, nat_lt, nat_le, ℤ, pos, neg_ℤ, Option, Some, None, List, [], ◌∷◌, length, reverse, slice_index_or, if◌then◌else◌}
+use Rattle.std.specs.Prelude.{ℕ, ◌+◌, ◌-◌, ◌*◌, Bool, false, ◌&&◌, ◌==◌, nat_lt, nat_le, ℤ, pos, neg_ℤ, Option, Some, None, List, [], ◌∷◌, length, reverse, slice_index_or, if◌then◌else◌}
 use Rattle.std.specs.Int.{from_bool, int_min, int_max}
 use Rattle.frame_header.specs.declared.references.Reference.{Reference}
 use Rattle.frame_header.specs.declared.context.SignBiases.{SignBiases}
 use Rattle.mode_parser.specs.Vectors.{MotionVector, zero_vector, is_same, toward}
-use Rattle.mode_parser.specs.declared.records.VectorMode.TheVariants.{Zero, Nearest, Near as NearMode, New, Split}
+use Rattle.mode_parser.specs.SplitModes.{is_split}
 use Rattle.mode_parser.specs.declared.records.YMode.{YMode}
 use Rattle.mode_parser.specs.declared.records.YMode.TheVariants.{Whole, B, Inter}
 use Rattle.mode_parser.specs.declared.records.MbMode.{MbMode}
@@ -55,11 +55,7 @@ listing_of above left above_left reference biases =
 
 -- whether a macroblock is split, as a number
 abbrev pub is_split_mode : YMode → Bool
-is_split_mode (Inter reference Split) = true
-is_split_mode (Inter reference Zero) = false
-is_split_mode (Inter reference Nearest) = false
-is_split_mode (Inter reference NearMode) = false
-is_split_mode (Inter reference New) = false
+is_split_mode (Inter reference mode) = is_split mode
 is_split_mode (Whole mode) = false
 is_split_mode B = false
 

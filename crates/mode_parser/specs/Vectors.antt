@@ -1,7 +1,8 @@
 -- Motion vectors in quarters of a luma sample (RFC 6386, sections 5 and 18). Numbers are whole and do not wrap.
-use Rattle.std.specs.Prelude.{ℕ, Bool, false, ◌&&◌, ℤ, pos, neg_ℤ, ◌+ℤ◌, ◌≤ℤ◌, if◌then◌else◌}
+use Rattle.std.specs.Prelude.{Bool, false, ◌&&◌, ℤ, pos, neg_ℤ, ◌+ℤ◌, if◌then◌else◌}
 use Rattle.std.specs.Bool.{beq}
 use Rattle.std.specs.Ordering.{int_eq}
+use Rattle.vp8_tables.specs.Bounds.{IsWithin}
 use Rattle.frame_header.specs.declared.references.Reference.{Reference}
 use Rattle.frame_header.specs.declared.references.Reference.TheVariants.{Last, Golden, Altref}
 use Rattle.frame_header.specs.declared.context.SignBiases.{SignBiases}
@@ -10,10 +11,6 @@ use Rattle.frame_header.specs.declared.context.SignBiases.{SignBiases}
 pub record MotionVector : Type 0 where
   pub x : ℤ
   pub y : ℤ
-
--- no further from 0 than n
-abbrev pub IsWithin : ℕ → ℤ → Type 0
-IsWithin n z = (neg_ℤ (pos n) ≤ℤ z) × (z ≤ℤ pos n)
 
 abbrev pub IsInRange : ℤ → ℤ → Type 0
 IsInRange x y = IsWithin 70000 x × IsWithin 70000 y

@@ -2,7 +2,7 @@
 
 ghost use Rattle.std.specs.Prelude.{◌≡◌, ◌<◌, ◌≤◌, length, OnOk};
 ghost use Rattle.std.specs.Option.{option_copied};
-ghost use Rattle.mode_parser.specs.Vectors.{IsWithin};
+ghost use Rattle.vp8_tables.specs.Bounds.{IsWithin};
 ghost use Rattle.mode_parser.specs.InterRecords.{inter_y_mode, first_inter_sub_modes, which_reference, vector_mode, split_vectors, intra_mode};
 ghost use Rattle.mode_parser.specs.FrameModes.{place_of};
 ghost use Rattle.mode_parser.specs.Appending.{appended, referenced_mode_at, inter_mode_at};

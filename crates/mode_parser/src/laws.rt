@@ -20,7 +20,7 @@ ghost use Rattle.mode_parser.specs.Vectors.{zero_vector};
 ghost use Rattle.mode_parser.specs.NearVectors.{held, near_of};
 ghost use Rattle.mode_parser.specs.VectorReading.{new_vector};
 ghost use Rattle.mode_parser.specs.InterRecords.{are_starts};
-ghost use Rattle.mode_parser.specs.ChromaVectors.{chroma_component, first_luma, chroma_x_of};
+ghost use Rattle.mode_parser.specs.ChromaVectors.{chroma_component, first_luma, group_vector};
 ghost use Rattle.mode_parser.specs.Worked.{right_by, moved, golden_biased, middle, near_right, down_by_16};
 ghost use Rattle.mode_parser.specs.FrameModes.{record_above, record_left, record_above_left, place_of, modes_of};
 ghost use Rattle.mode_parser.specs.Segments.{segment_number, kept_segment, kept_map};
@@ -84,7 +84,7 @@ pub fn worked_chroma_vectors()
     ensures sums { (version : ℕ) → version < 3 → map (λ sum. chroma_component sum version) (pos 1 ∷ pos 2 ∷ neg_ℤ (pos 1) ∷ neg_ℤ (pos 2) ∷ pos 38 ∷ []) ≡ pos 0 ∷ pos 1 ∷ pos 0 ∷ neg_ℤ (pos 1) ∷ pos 10 ∷ [] }
     ensures whole { map (λ sum. chroma_component sum 3) (pos 38 ∷ neg_ℤ (pos 38) ∷ []) ≡ pos 8 ∷ neg_ℤ (pos 16) ∷ [] }
     ensures first_blocks { map first_luma (0 ∷ 1 ∷ 2 ∷ 3 ∷ []) ≡ 0 ∷ 2 ∷ 8 ∷ 10 ∷ [] }
-    ensures same { (x : ℕ) → chroma_x_of (replicate 16 (right_by (pos x))) 0 3 ≡ pos x }
+    ensures same { (x : ℕ) → group_vector 0 (λ n. right_by (pos x)) 3 ≡ (pos x, pos 0) }
 {}
 
 /// Each mode of a sub block has a number below 10, by which it is found again.

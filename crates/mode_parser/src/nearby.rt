@@ -2,7 +2,7 @@
 
 ghost use Rattle.std.specs.Prelude.{◌≡◌, ◌<◌, ◌≤◌, All};
 ghost use Rattle.std.specs.Option.{option_copied};
-ghost use Rattle.mode_parser.specs.Vectors.{IsWithin};
+ghost use Rattle.vp8_tables.specs.Bounds.{IsWithin};
 ghost use Rattle.mode_parser.specs.NearVectors.{held, clamped, best_in, near_in, near_of};
 ghost use Rattle.mode_parser.specs.Candidates.{near_by, AreLight};
 

@@ -2,7 +2,7 @@
 
 ghost use Rattle.std.specs.Prelude.{◌≡◌, ◌<◌, ◌≤◌, take, IsTrue};
 ghost use Rattle.std.specs.Option.{option_copied};
-ghost use Rattle.mode_parser.specs.Vectors.{IsWithin};
+ghost use Rattle.vp8_tables.specs.Bounds.{IsWithin};
 ghost use Rattle.mode_parser.specs.InterRecords.{vector_in, vector_above, vector_left, part_row, part_vector, block_vector, first_vectors, split_starts, split_vectors, are_starts};
 
 use crate::records::MbMode;

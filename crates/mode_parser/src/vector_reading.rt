@@ -3,7 +3,7 @@
 ghost use Rattle.std.specs.Prelude.{◌≡◌, ◌<◌, ◌≤◌, ◌+◌, ◌*◌, ◌^◌};
 ghost use Rattle.std.specs.Int.{from_bool};
 ghost use Rattle.bool_coder.specs.Reader.{read};
-ghost use Rattle.mode_parser.specs.Vectors.{IsWithin};
+ghost use Rattle.vp8_tables.specs.Bounds.{IsWithin};
 ghost use Rattle.mode_parser.specs.VectorReading.{long_size, short_size, vector_size, vector_component, new_vector};
 
 use crate::vectors::Vector;

@@ -1,7 +1,8 @@
 //! Motion vectors.
 
 ghost use Rattle.std.specs.Prelude.{◌≡◌};
-ghost use Rattle.mode_parser.specs.Vectors.{IsWithin, is_same, opposite, sum_of};
+ghost use Rattle.vp8_tables.specs.Bounds.{IsWithin};
+ghost use Rattle.mode_parser.specs.Vectors.{is_same, opposite, sum_of};
 
 use std::marker::Model;
 

@@ -8,10 +8,11 @@ use Rattle.inter_predict.proofs.FilterLaws.{copies_whole}
 use Rattle.pixel_planes.specs.Samples.{Samples, sample_at}
 use Rattle.pixel_planes.specs.ReferenceSamples.{held_place, reference_sample}
 use Rattle.pixel_planes.specs.Pictures.{PictureSamples}
+use Rattle.mode_parser.specs.ChromaVectors.{group_vector}
 use Rattle.mode_parser.specs.Records.{no_vectors}
 use Rattle.mode_parser.specs.Vectors.{zero_vector}
 use Rattle.mode_parser.specs.declared.records.VectorMode.TheVariants.{Zero}
-use Rattle.reference_frames.specs.InterPrediction.{block_vector, group_vector, luma_sample, chroma_sample}
+use Rattle.reference_frames.specs.InterPrediction.{block_vector, luma_sample, chroma_sample}
 use Rattle.reference_frames.specs.Unfiltered.{inter_macroblock, predicted_macroblock}
 use Rattle.reference_frames.specs.declared.references.References.{References}
 use Rattle.packet_forge.specs.Laws.{AreBytes}

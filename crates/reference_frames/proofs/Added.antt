@@ -4,7 +4,8 @@ use Rattle.std.proofs.Common.{◌≡◌, ℕ, zero, suc, ◌+◌, ◌-◌, ◌*�
 use Rattle.std.proofs.lemmas.Bool.{cases_lt}
 use Rattle.std.proofs.lemmas.List.{same_lists, length-replicate, get_or-replicate, length-take-le, get_or-take}
 use Rattle.std.proofs.lemmas.Int.{int_wrap_fits}
-use Rattle.transforms.specs.Residuals.{held, IsAdded}
+use Rattle.vp8_tables.specs.Bounds.{held}
+use Rattle.transforms.specs.Residuals.{IsAdded}
 use Rattle.transforms.specs.Transforms.{inverse_dct, dct_pass, dct_column, by_sine, by_cosine, eighth}
 use Rattle.reference_frames.specs.AddedBlocks.{IsAddedAt}
 use Rattle.reference_frames.proofs.Squares.{index_in, index_before, index_above, index_within, start_within, part_old, part_new, part_before, part_kept, whole_put}

@@ -12,7 +12,7 @@ use Rattle.intra_predict.specs.declared.modes.BlockSize.TheVariants.{Sixteen, Ei
 use Rattle.intra_predict.specs.declared.modes.WholeMode.{WholeMode}
 use Rattle.pixel_planes.specs.Samples.{Samples}
 use Rattle.reference_frames.specs.Restored.{Residual, block_at, restored}
-use Rattle.transforms.specs.Residuals.{held}
+use Rattle.vp8_tables.specs.Bounds.{held}
 use Rattle.transforms.specs.Transforms.{inverse_dct}
 use Rattle.reference_frames.specs.Unfiltered.{above_row, left_column, corner, block_row, with_block, with_block_rows, whole_block_sample, predicted_whole}
 

@@ -1,6 +1,7 @@
 pub mod Squares
 pub mod Placed
 pub mod Quarters
+pub mod AboveRight
 pub mod Added
 pub mod AddedFirst
 pub mod Blocks

@@ -7,7 +7,7 @@ use Rattle.inter_predict.specs.InterSample.{inter_sample, predicted}
 use Rattle.inter_predict.specs.declared.kinds.Kind.{Kind}
 use Rattle.intra_predict.specs.Blocks.{IsBlock}
 use Rattle.pixel_planes.specs.Samples.{Samples}
-use Rattle.transforms.specs.Residuals.{held}
+use Rattle.vp8_tables.specs.Bounds.{held}
 use Rattle.transforms.specs.Transforms.{inverse_dct}
 use Rattle.reference_frames.specs.PlacedBlocks.{IsInSquare, IsPlaced, from_corner, square_from}
 use Rattle.reference_frames.specs.Restored.{Residual, block_at, restored}

@@ -4,11 +4,12 @@ use Rattle.std.proofs.Common.{◌≡◌, inl, inr, ℕ, true, false, ◌+◌, �
 use Rattle.std.proofs.lemmas.Bool.{cases_lt}
 use Rattle.inter_predict.specs.InterSample.{inter_sample}
 use Rattle.inter_predict.specs.declared.kinds.Kind.{Kind}
-use Rattle.mode_parser.specs.ChromaVectors.{chroma_component}
+use Rattle.mode_parser.specs.ChromaVectors.{chroma_component, group_vector}
+use Rattle.mode_parser.specs.SplitModes.{is_split}
 use Rattle.mode_parser.specs.Vectors.{MotionVector, zero_vector}
 use Rattle.mode_parser.specs.declared.records.VectorMode.{VectorMode}
 use Rattle.pixel_planes.specs.Samples.{Samples}
-use Rattle.reference_frames.specs.InterPrediction.{is_split, kind_of, block_vector, luma_block, luma_sample, chroma_group, group_vector, chroma_sample}
+use Rattle.reference_frames.specs.InterPrediction.{kind_of, block_vector, luma_block, luma_sample, chroma_group, chroma_sample}
 use Rattle.reference_frames.specs.PlacedBlocks.{IsInSquare}
 
 -- the first block of a quarter

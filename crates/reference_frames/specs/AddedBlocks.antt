@@ -1,6 +1,6 @@
 -- Residuals that are added within a square.
 use Rattle.std.specs.Prelude.{◌≡◌, ℕ, ◌+◌, ◌-◌, ◌*◌, ◌<◌, ◌≤◌, List, length, slice_index, ℤ, pos, ◌+ℤ◌}
-use Rattle.transforms.specs.Residuals.{held}
+use Rattle.vp8_tables.specs.Bounds.{held}
 
 -- column i of row j is in the block of 4 by 4 samples that begins in this column and row
 abbrev pub IsInBlock : ℕ → ℕ → ℕ → ℕ → Type 0

@@ -12,7 +12,7 @@ use Rattle.token_parser.specs.declared.tokens.Tokens.{Tokens}
 use Rattle.transforms.specs.Factors.{dequantised, factors_of}
 use Rattle.transforms.specs.Transforms.{inverse_wht}
 use Rattle.transforms.specs.declared.factor_set.Factors.{Factors}
-use Rattle.reference_frames.specs.InterPrediction.{is_split}
+use Rattle.mode_parser.specs.SplitModes.{is_split}
 use Rattle.reference_frames.specs.Restored.{Residual}
 
 -- ---- the residual of a macroblock

@@ -1,25 +1,17 @@
 -- The samples of a macroblock that is predicted from a reference (RFC 6386, sections 16.3 and 18).
-use Rattle.std.specs.Prelude.{◌≡◌, ℕ, Bool, true, false, ◌+◌, ◌*◌, ◌/◌, ◌%◌, ◌==◌, if◌then◌else◌, List, slice_index_or, ℤ, pos, ◌+ℤ◌, ◌*ℤ◌}
+use Rattle.std.specs.Prelude.{◌≡◌, ℕ, false, ◌+◌, ◌*◌, ◌/◌, ◌==◌, if◌then◌else◌, List, slice_index_or, ℤ, pos, ◌*ℤ◌}
 use Rattle.inter_predict.specs.InterSample.{inter_sample}
 use Rattle.inter_predict.specs.declared.kinds.Kind.{Kind}
 use Rattle.inter_predict.specs.declared.kinds.Kind.TheVariants.{SixTap, Bilinear}
-use Rattle.mode_parser.specs.ChromaVectors.{chroma_component}
+use Rattle.mode_parser.specs.ChromaVectors.{group_vector}
+use Rattle.mode_parser.specs.SplitModes.{is_split}
 use Rattle.mode_parser.specs.Vectors.{MotionVector, zero_vector}
 use Rattle.mode_parser.specs.declared.records.VectorMode.{VectorMode}
-use Rattle.mode_parser.specs.declared.records.VectorMode.TheVariants.{Zero, Nearest, Near, New, Split}
 use Rattle.pixel_planes.specs.Samples.{Samples}
 
 -- the filters of a version: of six taps in version 0, of two in the others (section 9.1)
 abbrev pub kind_of : ℕ → Kind
 kind_of version = if version == 0 then SixTap else Bilinear
-
--- whether each block of a macroblock has a vector of its own (section 16.3)
-abbrev pub is_split : VectorMode → Bool
-is_split Split = true
-is_split Zero = false
-is_split Nearest = false
-is_split Near = false
-is_split New = false
 
 -- the vector of luma block n: its own where the macroblock is split, else the macroblock's, which is that of the last block (section 16.3)
 abbrev pub block_vector : VectorMode → List MotionVector → ℕ → MotionVector
@@ -38,17 +30,6 @@ luma_sample kind p mx my vector_of column row =
 -- the group of two by two luma blocks that stands over the sample in a column and row of the macroblock's chroma
 abbrev pub chroma_group : ℕ → ℕ → ℕ
 chroma_group column row = 2 * (row / 4) + column / 4
-
--- the sum of what a group's four luma blocks have, of which the first stands at its top left
-abbrev pub sum_of_group : (ℕ → ℤ) → ℕ → ℤ
-sum_of_group f group =
-    let n = 8 * (group / 2) + 2 * (group % 2) in
-    f n +ℤ f (n + 1) +ℤ f (n + 4) +ℤ f (n + 5)
-
--- the vector of a group, in eighths of a chroma sample: the mean of its blocks' vectors (section 18)
-unfoldable pub group_vector : ℕ → (ℕ → MotionVector) → ℕ → ℤ × ℤ
-group_vector version vector_of group =
-    (chroma_component (sum_of_group (λ n. (vector_of n).x) group) version, chroma_component (sum_of_group (λ n. (vector_of n).y) group) version)
 
 -- the sample in a column and row of a chroma plane of that macroblock
 abbrev pub chroma_sample : ℕ → Samples → ℕ → ℕ → (ℕ → MotionVector) → ℕ → ℕ → ℕ

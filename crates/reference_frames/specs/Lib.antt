@@ -8,6 +8,10 @@ pub mod References
 pub mod States
 pub mod Unfiltered
 pub mod UnfilteredLaws
+pub mod AboveRightLaws
+pub mod TokenLaws
+pub mod Worked
+pub mod Faults
 pub mod Steps
 pub mod StepLaws
 pub mod WrittenBlocks

@@ -1,6 +1,6 @@
 -- Samples with their residual (RFC 6386, section 14.5).
 use Rattle.std.specs.Prelude.{ℕ, ◌+◌, ◌*◌, ◌/◌, ◌%◌, List, [], slice_index_or, Option, None, Some, ℤ, pos, ◌+ℤ◌}
-use Rattle.transforms.specs.Residuals.{held}
+use Rattle.vp8_tables.specs.Bounds.{held}
 use Rattle.transforms.specs.Transforms.{inverse_dct}
 
 -- the residual of a macroblock: the dequantised coefficients of its blocks of 4 by 4 samples, which are 16 of luma, 4 of U

@@ -17,8 +17,8 @@ use Rattle.reference_frames.specs.References.{references_after}
 use Rattle.reference_frames.specs.Unfiltered.{unfiltered}
 use Rattle.reference_frames.specs.declared.references.References.{References}
 use Rattle.reference_frames.specs.declared.states.State.{State}
-use Rattle.reference_frames.specs.declared.steps.StepFault.{StepFault}
-use Rattle.reference_frames.specs.declared.steps.StepFault.TheVariants.{Refused, NoMemory}
+use Rattle.reference_frames.specs.declared.step_fault.StepFault.{StepFault}
+use Rattle.reference_frames.specs.declared.step_fault.StepFault.TheVariants.{Refused, NoMemory}
 
 -- the state that a packet goes on from: one with a key tag begins anew
 abbrev pub state_before : List ℕ → Option State → Option State

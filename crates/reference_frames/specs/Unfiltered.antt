@@ -5,6 +5,7 @@ use Rattle.std.specs.Simd.Lanes.{put_chunk}
 use Rattle.intra_predict.specs.declared.modes.SubMode.{SubMode}
 use Rattle.intra_predict.specs.declared.modes.SubMode.TheVariants.{Dc}
 use Rattle.intra_predict.specs.declared.modes.WholeMode.{WholeMode}
+use Rattle.intra_predict.specs.Edges.{above_frame, left_of_frame}
 use Rattle.intra_predict.specs.SubSample.{sub_sample}
 use Rattle.intra_predict.specs.WholeSample.{whole_sample}
 use Rattle.pixel_planes.specs.Samples.{Samples, uniform, sample_at, row_of, with_row}
@@ -48,15 +49,15 @@ HaveRoomFor planes columns rows = HasRoomFor planes.luma 16 columns rows × HasR
 
 -- the sample above column x of row y, 127 above the frame (section 12.2)
 abbrev pub above : Samples → ℕ → ℕ → ℕ
-above p x y = if y == 0 then 127 else sample_at p x (y - 1)
+above p x y = if y == 0 then above_frame else sample_at p x (y - 1)
 
 -- the sample to the left of column x of row y, 129 left of the frame (section 12.2)
 abbrev pub left : Samples → ℕ → ℕ → ℕ
-left p x y = if x == 0 then 129 else sample_at p (x - 1) y
+left p x y = if x == 0 then left_of_frame else sample_at p (x - 1) y
 
 -- the corner between the two: 127 above the frame, and 129 to its left below that
 abbrev pub corner : Samples → ℕ → ℕ → ℕ
-corner p x y = if y == 0 then 127 else left p x (y - 1)
+corner p x y = if y == 0 then above_frame else left p x (y - 1)
 
 -- n samples above a block at (x, y), from the left
 unfoldable pub above_row : Samples → ℕ → ℕ → ℕ → List ℕ

@@ -3,9 +3,12 @@
 ghost use Rattle.std.specs.Prelude.{◌≡◌, ◌+◌, ◌*◌, ◌/◌, ◌%◌, ◌<◌, ◌≤◌, IsTrue, length, slice_index_or, pos, ◌+ℤ◌, ◌*ℤ◌};
 ghost use Rattle.std.specs.Option.{option_copied};
 ghost use Rattle.inter_predict.specs.InterSample.{inter_sample};
-ghost use Rattle.mode_parser.specs.Vectors.{IsWithin, zero_vector};
+ghost use Rattle.vp8_tables.specs.Bounds.{IsWithin};
+ghost use Rattle.mode_parser.specs.ChromaVectors.{group_vector};
+ghost use Rattle.mode_parser.specs.SplitModes.{is_split};
+ghost use Rattle.mode_parser.specs.Vectors.{zero_vector};
 ghost use Rattle.pixel_planes.specs.PlaneSamples.{shown_of};
-ghost use Rattle.reference_frames.specs.InterPrediction.{kind_of, is_split, block_vector, luma_sample, chroma_sample, group_vector, IsWholeVector};
+ghost use Rattle.reference_frames.specs.InterPrediction.{kind_of, block_vector, luma_sample, chroma_sample, IsWholeVector};
 ghost use Rattle.reference_frames.specs.PlacedBlocks.{IsPlaced, from_corner};
 ghost use Rattle.reference_frames.specs.Restored.{restored};
 ghost use Rattle.reference_frames.specs.Unfiltered.{HoldsMacroblock, HoldsSquare, SameShape, SameSides, inter_macroblock, with_block};

@@ -11,8 +11,10 @@ mod prediction;
 mod references;
 mod residuals;
 mod states;
+mod step_fault;
 mod steps;
 
 pub use references::References;
 pub use states::{State, same_state};
-pub use steps::{StepFault, step};
+pub use step_fault::StepFault;
+pub use steps::step;

@@ -1,7 +1,7 @@
 //! What packets leave for those behind them (RFC 6386, section 9).
 
 ghost use Rattle.std.specs.Prelude.{◌≡◌, IfOk, IsTrue, ◌↔◌};
-ghost use Rattle.reference_frames.specs.States.{HasMap};
+ghost use Rattle.reference_frames.specs.States.{HasMap, HaveOneSize, IsState};
 
 use crate::comparison::{same_bytes, same_context};
 use crate::references::References;
@@ -12,7 +12,7 @@ use std::marker::Model;
 use std::rc::Rc;
 
 /// What packets leave for those behind them: the context of the last header, the segment of each
-/// macroblock, and the references, of which `last` has the size of the frames to come.
+/// macroblock, and the references, which all have the size of the frames to come.
 #[derive(Debug, Drop)]
 pub struct State {
     context: Context,
@@ -21,13 +21,13 @@ pub struct State {
 }
 
 impl Model for State {
-    ghost use Rattle.reference_frames.specs.States.{StateValue, HasMap};
+    ghost use Rattle.reference_frames.specs.States.{StateValue, IsState};
 
     ghost Value = { StateValue };
 
     ghost view = { λ s. record { context = s.context; segment_map = s.segment_map.value.items; references = s.references } };
 
-    ghost invariant = { λ s. HasMap (record { context = s.context; segment_map = s.segment_map.value.items; references = s.references }) };
+    ghost invariant = { λ s. IsState (record { context = s.context; segment_map = s.segment_map.value.items; references = s.references }) };
 }
 
 impl State {
@@ -38,7 +38,7 @@ impl State {
         segment_map: Vec<u8>,
         references: References,
     ) -> Result<State, NoMemory>
-        requires { HasMap (record { context = context; segment_map = segment_map.items; references = references }) }
+        requires { IsState (record { context = context; segment_map = segment_map.items; references = references }) }
         ensures { IfOk result (λ s. s ≡ record { context = context; segment_map = segment_map.items; references = references }) }
     {
         Ok(State {
@@ -65,7 +65,8 @@ impl State {
 
     /// The references.
     pub fn references(&self) -> &References
-        ensures { result.now ≡ self.now.references }
+        ensures value { result.now ≡ self.now.references }
+        ensures one_size { HaveOneSize result.now }
     {
         &self.references
     }

@@ -1,25 +1,17 @@
 ghost use Rattle.std.specs.Prelude.{◌≡◌, false, ◌+◌, ◌<◌, ◌≤◌, ◌*◌, length, All, IfOk, IsTrue, IsSome};
 ghost use Rattle.std.specs.Option.{option_copied, option_map, ForSome};
 ghost use Rattle.reference_frames.specs.Steps.{StepAnswers, decoded, height_of, references_before, references_behind, step_of, width_of};
-ghost use Rattle.reference_frames.specs.States.{HasMap};
+ghost use Rattle.reference_frames.specs.States.{HasMap, HaveOneSize};
 
 use crate::frames::{decoded_picture, macroblocks};
 use crate::references::References;
+use crate::step_fault::StepFault;
 use crate::states::State;
-use frame_header::{Cause, Header, read_header};
+use frame_header::{Header, read_header};
 use mode_parser::read_modes;
 use pixel_planes::{NoMemory, Picture};
 use std::alloc::Global;
 use vp8_tables::Tables;
-
-/// Why a step gives nothing.
-#[derive(Clone, Copy, Debug, PartialEq, Eq)]
-pub enum StepFault {
-    /// The packet is refused by this cause.
-    Refused(Cause),
-    /// Memory was refused.
-    NoMemory,
-}
 
 /// The shown size of a frame: that of its references, and a key frame's own.
 fn size_of(header: &Header, before: Option<&State>) -> (u16, u16)
@@ -53,7 +45,8 @@ fn map_before(before: Option<&State>) -> Option<&[u8]>
 
 /// The references before a frame, if it goes on from a state.
 fn references_before(before: Option<&State>) -> Option<&References>
-    ensures { option_copied result ≡ references_before (option_copied before.entry) }
+    ensures value { option_copied result ≡ references_before (option_copied before.entry) }
+    ensures one_size { ForSome (option_copied before.entry) (λ s. HaveOneSize s.references) }
 {
     match before {
         Some(before) => Some(before.references()),

@@ -7,8 +7,7 @@ use lib.Dec.{T}
 use lib.IntN.{nat_abs}
 use lib.Lanes.{top}
 use lib.Signed.{lt_z, non_neg}
-use Rattle.transforms.specs.Bounds.{IsWithin}
-use Rattle.transforms.specs.Residuals.{held}
+use Rattle.vp8_tables.specs.Bounds.{IsWithin, held}
 use Rattle.transforms.proofs.Bits.{Stand, Stand-plus, Stand-of, Stand-fits}
 
 -- bits that stand for a number below 0 become 0, and those for one above 255 become 255

@@ -4,7 +4,7 @@ use Rattle.std.specs.List.{range_with_len}
 use Rattle.std.specs.Prelude.{slice_index_or}
 use Rattle.std.specs.Int.{int_shr}
 use Rattle.std.proofs.lemmas.Int.{ints, to_z-of_z}
-use Rattle.transforms.specs.Bounds.{IsWithin}
+use Rattle.vp8_tables.specs.Bounds.{IsWithin}
 use Rattle.transforms.specs.Transforms.{by_sine, by_cosine, eighth, dct_pass, dct_column, inverse_dct}
 use Rattle.transforms.proofs.Rows.{below_four}
 use Rattle.transforms.proofs.Passes.{next_same, column_fits}

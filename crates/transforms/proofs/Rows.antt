@@ -3,7 +3,8 @@ use Rattle.std.proofs.Common.{◌≡◌, ℕ, zero, suc, ◌+◌, ◌*◌, ◌<�
 use Rattle.std.specs.Prelude.{slice_index, slice_index_or}
 use Rattle.std.proofs.Math.Nat.{mul-le-mul_left}
 use Rattle.std.proofs.lemmas.Bool.{cases_lt}
-use Rattle.transforms.specs.Residuals.{held, IsAdded, IsRowAdded}
+use Rattle.vp8_tables.specs.Bounds.{held}
+use Rattle.transforms.specs.Residuals.{IsAdded, IsRowAdded}
 
 -- what holds at 0 to 3 holds below 4
 pub below_four : (P : ℕ → Type 0) → P 0 → P 1 → P 2 → P 3 → (k : ℕ) → k < 4 → P k

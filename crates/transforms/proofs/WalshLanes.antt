@@ -3,7 +3,7 @@ use Rattle.std.proofs.Common.{◌≡◌, ℕ, ◌+◌, ◌-◌, ◌%◌, List, [
 use Rattle.std.specs.List.{range_with_len}
 use Rattle.std.specs.Int.{int_shr}
 use Rattle.std.proofs.lemmas.Int.{ints, to_z-of_z, SFits-int_wrap}
-use Rattle.transforms.specs.Bounds.{IsWithin}
+use Rattle.vp8_tables.specs.Bounds.{IsWithin}
 use Rattle.transforms.specs.Transforms.{reduced, coefficient, wht_pass, wht_column, inverse_wht_at}
 use Rattle.transforms.proofs.Passes.{next_same}
 use Rattle.transforms.proofs.Bits.{wider, Stand, Stand-plus, Stand-minus, Stand-of, Stand-fits}

@@ -1,4 +1,3 @@
 pub mod Transforms
 pub mod Residuals
-pub mod Bounds
 pub mod Factors

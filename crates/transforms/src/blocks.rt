@@ -1,5 +1,5 @@
 ghost use Rattle.std.specs.Prelude.{ℕ, ◌+◌, ◌<◌, ◌≤◌, length, slice_index_or, pos};
-ghost use Rattle.transforms.specs.Bounds.{IsWithin};
+ghost use Rattle.vp8_tables.specs.Bounds.{IsWithin};
 ghost use Rattle.transforms.specs.Residuals.{IsRowAdded};
 
 use std::simd::prelude::*;

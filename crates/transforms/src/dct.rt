@@ -2,7 +2,7 @@
 
 ghost use Rattle.std.specs.Prelude.{◌≡◌, ◌+◌, ◌*◌, ◌≤◌, length, ◌∷◌, map, replicate, pos};
 ghost use Rattle.std.specs.List.{range_with_len};
-ghost use Rattle.transforms.specs.Bounds.{IsWithin};
+ghost use Rattle.vp8_tables.specs.Bounds.{IsWithin};
 ghost use Rattle.transforms.specs.Transforms.{dct_column, eighth, inverse_dct};
 ghost use Rattle.transforms.specs.Residuals.{IsAdded};
 

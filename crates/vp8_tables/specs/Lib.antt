@@ -1,3 +1,4 @@
 pub mod Tables
 pub mod Fault
 pub mod Rfc
+pub mod Bounds

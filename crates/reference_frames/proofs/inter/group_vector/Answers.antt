@@ -1,8 +1,8 @@
 use Rattle.std.proofs.Common.{SFits, w32, to_z, of_z, ◌≡◌, ◌∙◌, ◌+◌, ◌*◌, ◌/◌, ◌%◌, ℤ, ◌+ℤ◌, ap, refl, rules}
 use Rattle.std.proofs.lemmas.Int.{to_z-of_z}
-use Rattle.mode_parser.specs.ChromaVectors.{chroma_component}
+use Rattle.mode_parser.specs.ChromaVectors.{chroma_component, group_vector, sum_of_group}
 use Rattle.mode_parser.specs.Vectors.{MotionVector}
-use Rattle.reference_frames.specs.InterPrediction.{group_vector, block_vector, sum_of_group}
+use Rattle.reference_frames.specs.InterPrediction.{block_vector}
 use Rattle.reference_frames.proofs.inter.group_vector.Goals as goal
 
 four_same : {a b c d a' b' c' d' : ℤ} → a ≡ a' → b ≡ b' → c ≡ c' → d ≡ d' → a +ℤ b +ℤ c +ℤ d ≡ a' +ℤ b' +ℤ c' +ℤ d'
