@@ -1,5 +1,6 @@
-use Rattle.std.proofs.Common.{◌≡◌, ℕ, zero, suc, ◌+◌, ◌*◌, ◌<◌, ◌≤◌, Bool, true, false, List, refl, ◌∙◌, arith}
-use Rattle.std.specs.Prelude.{ℤ, pos, slice_index_or, unsigned_abs, if◌then◌else◌}
+use Rattle.std.proofs.Common.{◌≡◌, ℕ, zero, suc, ◌+◌, ◌-◌, ◌*◌, ◌<◌, ◌≤◌, Bool, true, false, List, [], ◌∷◌, refl, ◌∙◌, arith}
+use Rattle.std.proofs.lemmas.Bool.{and_parts, ltb-true}
+use Rattle.std.specs.Prelude.{nat_lt, ◌&&◌, ℤ, pos, slice_index_or, slice_range, take, drop, unsigned_abs, if◌then◌else◌}
 use Rattle.std.specs.Int.{from_bool}
 use Rattle.bool_coder.specs.Reader.{Reader, read}
 use Rattle.bool_coder.specs.Reading.{Reading, ◌>>=◌, give, flag, more_bits, literal, signed}
@@ -107,3 +108,29 @@ leaf-chain tree probs small = leaf_below-chain _ tree probs 0 small
 
 -- what closes most definitions: the steps of a `do`, an `if` and the numbers
 pub ruleset chains = (bind-chain, if-chain, give-chain, flag-chain, literal-chain, signed-chain)
+
+-- a fixed list of bytes
+unfoldable pub are_bytes : List ℕ → Bool
+are_bytes [] = true
+are_bytes (byte ∷ bytes) = nat_lt byte 256 && are_bytes bytes
+
+pub probabilities : (bytes : List ℕ) → are_bytes bytes ≡ true → AreProbabilities bytes
+unfolding are_bytes
+probabilities [] are k = omega arith
+probabilities (byte ∷ bytes) are zero = ltb-true _ _ (and_parts _ _ are).0
+probabilities (byte ∷ bytes) are (suc k) = probabilities bytes (and_parts _ _ are).1 k
+
+-- a part of a list of bytes
+take-probabilities : (n : ℕ) (probs : List ℕ) → AreProbabilities probs → AreProbabilities (take n probs)
+take-probabilities zero probs small k = omega arith
+take-probabilities (suc n) [] small k = omega arith
+take-probabilities (suc n) (prob ∷ probs) small zero = small 0
+take-probabilities (suc n) (prob ∷ probs) small (suc k) = take-probabilities n probs (λ j. small (suc j)) k
+
+drop-probabilities : (n : ℕ) (probs : List ℕ) → AreProbabilities probs → AreProbabilities (drop n probs)
+drop-probabilities zero probs small = small
+drop-probabilities (suc n) [] small = small
+drop-probabilities (suc n) (prob ∷ probs) small = drop-probabilities n probs (λ j. small (suc j))
+
+pub part-probabilities : (probs : List ℕ) (start end : ℕ) → AreProbabilities probs → AreProbabilities (slice_range probs start end)
+part-probabilities probs start end small = take-probabilities (end - start) (drop start probs) (drop-probabilities start probs small)
