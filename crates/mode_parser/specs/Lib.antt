@@ -12,3 +12,4 @@ pub mod FrameModes
 pub mod Appending
 pub mod KeyShape
 pub mod Worked
+pub mod Chains
