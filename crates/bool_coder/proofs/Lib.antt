@@ -11,3 +11,4 @@ pub mod SixBytes
 pub mod Shifts
 pub mod Leaves
 pub mod Level
+pub mod Chains

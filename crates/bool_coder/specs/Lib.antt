@@ -6,3 +6,4 @@ pub mod CodeText
 pub mod Low
 pub mod Window
 pub mod Worked
+pub mod Chains

@@ -1,8 +1,9 @@
 //! Laws that show that the definitions mean what they are to mean.
 
-ghost use Rattle.std.specs.Prelude.{◌≡◌, ◌≤◌, ◌+◌, ℕ, length, pos, negsuc, neg_ℤ, true, false, [], ◌∷◌, replicate, IsTrue};
+ghost use Rattle.std.specs.Prelude.{◌≡◌, ◌<◌, ◌≤◌, ◌+◌, ℕ, length, pos, negsuc, neg_ℤ, true, false, [], ◌∷◌, replicate, IsTrue};
+ghost use Rattle.bool_coder.specs.Chains.{Chain, HasProbabilities, IsChain, and_then, run};
 ghost use Rattle.bool_coder.specs.Reader.{Reader, text_start, started, read};
-ghost use Rattle.bool_coder.specs.Reading.{literal, signed};
+ghost use Rattle.bool_coder.specs.Reading.{Reading, give, flag, literal, signed};
 ghost use Rattle.bool_coder.specs.Trees.{is_tree, leaf_below, leaf};
 ghost use Rattle.bool_coder.specs.Uncut.{uncut_read, settled, bits_read};
 ghost use Rattle.bool_coder.specs.Worked.{steps};
@@ -16,6 +17,28 @@ pub fn uncut_reads_alike(bytes: &[u8], probs: &[u8])
     ensures start { settled (text_start bytes.now) ≡ started bytes.now }
     ensures step { (prob : ℕ) → (r : Reader) → prob ≤ 255 → 2 ≤ r.range → read prob (settled r) ≡ ((uncut_read prob r).0, settled (uncut_read prob r).1) }
     ensures range { (prob : ℕ) → (r : Reader) → prob ≤ 255 → 2 ≤ r.range → 2 ≤ (uncut_read prob r).1.range }
+{}
+
+/// Every chain of reads gives the same value by either reader, for every byte text; the two readers
+/// after it again differ by no more than that one is settled.
+pub fn chains_read_alike<T>(bytes: &[u8])
+    ensures value { (chain : Chain T) → HasProbabilities chain → (run read chain (started bytes.now)).0 ≡ (run uncut_read chain (text_start bytes.now)).0 }
+    ensures reader { (chain : Chain T) → HasProbabilities chain → (r : Reader) → 2 ≤ r.range → run read chain (settled r) ≡ ((run uncut_read chain r).0, settled (run uncut_read chain r).1) }
+{}
+
+/// A value, a bit, and one chain of reads after another are chains of reads.
+pub fn chains_are_composed<T, U>()
+    ensures value { (value : T) → IsChain (give value) }
+    ensures bit { (prob : ℕ) → prob < 256 → IsChain (read prob) }
+    ensures next { (first : Reading T) (next : T → Reading U) → IsChain first → ((value : T) → IsChain (next value)) → IsChain (and_then first next) }
+{}
+
+/// Flags, numbers and leaves are chains of reads, so RFC 6386's reader reads the same.
+pub fn numbers_are_chains(tree: &[i8], probs: &[u8])
+    ensures flag { IsChain flag }
+    ensures literal { (count : ℕ) → IsChain (literal count) }
+    ensures signed { (count : ℕ) → IsChain (signed count) }
+    ensures leaf { IsChain (leaf tree.now probs.now) }
 {}
 
 /// What a reader gives of texts that an encoder wrote, and of one that holds the window at the

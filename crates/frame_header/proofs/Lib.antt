@@ -2,3 +2,4 @@ pub mod PlaceLemmas
 pub mod KeyLemmas
 pub mod UpdateLemmas
 pub mod InterLemmas
+mod ChainLemmas

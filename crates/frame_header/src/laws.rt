@@ -1,10 +1,13 @@
 //! Laws that show that the definitions mean what they are to mean.
 
-ghost use Rattle.std.specs.Prelude.{◌≡◌, true, [], ◌∷◌, ◌++◌, None, Some, Err, IsOkAnd};
+ghost use Rattle.std.specs.Prelude.{◌≡◌, Bool, true, [], ◌∷◌, ◌++◌, None, Some, Err, IsOkAnd};
+ghost use Rattle.bool_coder.specs.Chains.{IsChain, and_then};
 ghost use Rattle.bool_coder.specs.Reader.{started};
 ghost use Rattle.frame_header.specs.Fields.{fields};
 ghost use Rattle.frame_header.specs.Contexts.{default_context};
 ghost use Rattle.frame_header.specs.Header.{header_of};
+ghost use Rattle.frame_header.specs.TrailingFields.{trailing_fields};
+ghost use Rattle.frame_header.specs.declared.context.Context.{Context};
 ghost use Rattle.frame_header.specs.KeyFrames.{KeysLeaveDefaults, KeysRefreshAll, KeysTakeNoContext};
 ghost use Rattle.frame_header.specs.InterFrames.{ProbabilitiesComeBack};
 ghost use Rattle.frame_header.specs.WorkedInter.{IsInterWritten, inter_before, inter_packet};
@@ -73,4 +76,11 @@ pub fn keys_refresh_all()
 /// Where a frame that is no key frame does not refresh them, the probabilities before it come back.
 pub fn probabilities_come_back()
     ensures { ProbabilitiesComeBack }
+{}
+
+/// The fields of a header are a chain of reads, so RFC 6386's reader reads the same header.
+pub fn headers_are_chains(updates: &[u8])
+    ensures first { (is_key : Bool) (before : Context) → IsChain (fields is_key before) }
+    ensures trailing { (is_key : Bool) (before : Context) → IsChain (trailing_fields is_key updates.now before) }
+    ensures all { (is_key : Bool) (before : Context) → IsChain (and_then (fields is_key before) (λ read. trailing_fields is_key updates.now read.1)) }
 {}

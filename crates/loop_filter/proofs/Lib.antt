@@ -9,3 +9,4 @@ pub mod Scalars
 pub mod Raster
 pub mod ThreeEdges
 pub mod Transposed
+pub mod OwnLines

@@ -5,7 +5,7 @@ use Rattle.mode_parser.specs.declared.records.MbMode.{MbMode}
 use Rattle.mode_parser.specs.declared.records.YMode.{YMode}
 use Rattle.mode_parser.specs.declared.records.YMode.TheVariants.{Whole, B, Inter}
 use Rattle.mode_parser.specs.SplitModes.{is_split}
-use Rattle.pixel_planes.specs.Samples.{Samples}
+use Rattle.pixel_planes.specs.Samples.{Samples, PlaneValue}
 use Rattle.pixel_planes.specs.Pictures.{HasBlocks}
 use Rattle.pixel_planes.specs.PlaneSamples.{PlaneSamples}
 use Rattle.loop_filter.specs.Levels.{level_of}
@@ -73,6 +73,10 @@ HaveBlocks planes columns rows = HasBlocks planes.luma 16 columns rows × HasBlo
 abbrev pub KeepSides : PlaneSamples → PlaneSamples → Type 0
 KeepSides old new =
     (new.luma.width ≡ old.luma.width) × (new.luma.height ≡ old.luma.height) × (new.cb.width ≡ old.cb.width) × (new.cb.height ≡ old.cb.height) × (new.cr.width ≡ old.cr.width) × (new.cr.height ≡ old.cr.height)
+
+-- a plane whose samples were filtered has a border as wide as before, which is out of date
+abbrev pub HasOldBorder : PlaneValue → PlaneValue → Type 0
+HasOldBorder old new = (new.border ≡ old.border) × (new.is_current ≡ false)
 
 -- the planes behind the filter of all macroblocks; the simple filter leaves chroma as it is (section 15.2)
 abbrev pub planes_filtered : Bool → (ℕ → Option Strength) → ℕ → ℕ → PlaneSamples → PlaneSamples

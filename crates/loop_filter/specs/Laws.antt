@@ -1,5 +1,5 @@
 -- Examples and statements that laws speak of.
-use Rattle.std.specs.Prelude.{◌≡◌, ℕ, zero, suc, ◌*◌, ◌/◌, ◌%◌, ◌<◌, Bool, false, if◌then◌else◌, List, [], ◌∷◌, pos, negsuc, Option, None, IfSome}
+use Rattle.std.specs.Prelude.{◌≡◌, ◌≢◌, ℕ, zero, suc, ◌+◌, ◌-◌, ◌*◌, ◌/◌, ◌%◌, ◌<◌, ◌≤◌, length, slice_index, Bool, false, if◌then◌else◌, List, [], ◌∷◌, pos, negsuc, Option, None, IfSome}
 use Rattle.frame_header.specs.declared.context.FilterDeltas.{FilterDeltas}
 use Rattle.frame_header.specs.declared.context.Segments.{Segments}
 use Rattle.frame_header.specs.declared.header.Header.{Header}
@@ -9,7 +9,11 @@ use Rattle.mode_parser.specs.declared.records.YMode.TheVariants.{Whole}
 use Rattle.pixel_planes.specs.Samples.{Samples}
 use Rattle.pixel_planes.specs.PlaneSamples.{PlaneSamples}
 use Rattle.loop_filter.specs.Levels.{level_of}
-use Rattle.loop_filter.specs.Blocks.{Shape, luma, chroma, filtered_by}
+use Rattle.loop_filter.specs.Lines.{Line}
+use Rattle.loop_filter.specs.Edges.{line_in}
+use Rattle.loop_filter.specs.Blocks.{Shape, luma, chroma, column_edge, row_edge, filtered_by}
+use Rattle.loop_filter.specs.declared.blocks.Block.{Block}
+use Rattle.loop_filter.specs.declared.edge_limits.EdgeLimits.{EdgeLimits}
 use Rattle.loop_filter.specs.Frames.{HaveBlocks, block_at, strength_at, strength_of, columns_in, rows_in, filtered_planes}
 use Rattle.loop_filter.specs.declared.edge_limits.Limits.{Limits}
 use Rattle.loop_filter.specs.declared.strengths.Strength.{Strength}
@@ -67,3 +71,33 @@ GoesMacroblockByMacroblock =
 -- the sides of planes of so many macroblocks tell how many there are
 abbrev pub SidesTellMacroblocks : Type 0
 SidesTellMacroblocks = (planes : PlaneSamples) (columns rows : ℕ) → HaveBlocks planes columns rows → (columns_in planes ≡ columns) × (rows_in planes ≡ rows)
+
+-- an edge of `count` lines changed them, each by itself, and every sample of no line is as it was
+pub record ChangesItsLines (filter : Line → Line) (count start between across : ℕ) (old new : List ℕ) : Type 0 where
+  pub whole : length new ≡ length old
+  pub lines : (i : ℕ) → i < count → start + i * between + 7 * across < length old → line_in new (start + i * between) across ≡ filter (line_in old (start + i * between) across)
+  pub others : (place : ℕ) → ((i k : ℕ) → i < count → k < 8 → place ≢ start + i * between + k * across) → slice_index new place ≡ slice_index old place
+
+-- so does each edge of a block, between columns and between rows
+abbrev pub ColumnEdgesChangeTheirLines : Type 0
+ColumnEdgesChangeTheirLines =
+    (filter : Line → Line) (side : ℕ) (block : Block) (x : ℕ) (samples : List ℕ) → 8 ≤ block.stride → ChangesItsLines filter side (block.start + x - 4) block.stride 1 samples (column_edge filter side block x samples)
+
+abbrev pub RowEdgesChangeTheirLines : Type 0
+RowEdgesChangeTheirLines =
+    (filter : Line → Line) (side : ℕ) (block : Block) (y : ℕ) (samples : List ℕ) → side ≤ block.stride → 1 ≤ block.stride → ChangesItsLines filter side (block.start + y * block.stride - 4 * block.stride) 1 block.stride samples (row_edge filter side block y samples)
+
+-- the samples of a line across an edge, and the limits of an edge
+abbrev pub line_of : List ℕ → Line
+line_of samples = line_in samples 0 1
+
+abbrev pub edge_limits_are : ℕ → ℕ → ℕ → EdgeLimits
+edge_limits_are edge interior variance = record { edge = edge; interior = interior; variance = variance }
+
+-- a line with a step of 20 at the edge, which is measured as 54; the greatest step beside it is 5, and that is between p1 and p0
+abbrev pub worked_line : Line
+worked_line = line_of (90 ∷ 92 ∷ 95 ∷ 100 ∷ 120 ∷ 124 ∷ 126 ∷ 128 ∷ [])
+
+-- a line that is flat on both sides of a step of 64, so far that the numbers of its filters are held
+abbrev pub worked_step : Line
+worked_step = line_of (0 ∷ 0 ∷ 0 ∷ 0 ∷ 64 ∷ 64 ∷ 64 ∷ 64 ∷ [])

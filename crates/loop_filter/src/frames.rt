@@ -1,9 +1,9 @@
 //! The filter of a frame: its macroblocks in raster order (RFC 6386, section 15.1).
 
-ghost use Rattle.std.specs.Prelude.{◌≡◌, ◌*◌, ◌<◌, ◌≤◌, length, IfSome};
+ghost use Rattle.std.specs.Prelude.{◌≡◌, ◌*◌, ◌<◌, ◌≤◌, true, false, length, IfSome};
 ghost use Rattle.pixel_planes.specs.PlaneSamples.{shown_of};
 ghost use Rattle.loop_filter.specs.Blocks.{HasSmallLimits, luma, chroma};
-ghost use Rattle.loop_filter.specs.Frames.{HaveBlocks, KeepSides, block_at, columns_in, rows_in, filtered_planes};
+ghost use Rattle.loop_filter.specs.Frames.{HaveBlocks, KeepSides, HasOldBorder, block_at, columns_in, rows_in, filtered_planes};
 ghost use Rattle.loop_filter.specs.Strengths.{AreLimits};
 ghost use Rattle.loop_filter.specs.Macroblocks.{IsFrame, IsPlane, strengths, macroblock_filtered, row_of_all, rows_of_all};
 
@@ -158,6 +158,9 @@ pub fn frame(header: &Header, modes: &Modes, flags: &[bool], planes: &mut Planes
     ensures value { shown_of planes.new ≡ filtered_planes header.now modes.now.records flags.now (shown_of planes.old) }
     ensures sides { KeepSides (shown_of planes.old) (shown_of planes.new) }
     ensures unfiltered { header.now.filter.level ≡ 0 → planes.new ≡ planes.old }
+    ensures luma_border { 0 < header.now.filter.level → HasOldBorder planes.old.luma planes.new.luma }
+    ensures chroma_borders { 0 < header.now.filter.level → header.now.filter.is_simple ≡ false → HasOldBorder planes.old.cb planes.new.cb × HasOldBorder planes.old.cr planes.new.cr }
+    ensures simple { header.now.filter.is_simple ≡ true → (planes.new.cb ≡ planes.old.cb) × (planes.new.cr ≡ planes.old.cr) }
 {
     if header.filter.level == 0 {
         return;

@@ -8,7 +8,8 @@ ghost use Rattle.mode_parser.specs.declared.records.YMode.TheVariants.{Whole, B,
 ghost use Rattle.loop_filter.specs.Levels.{level_in, changed_level};
 ghost use Rattle.loop_filter.specs.Strengths.{limits_of};
 ghost use Rattle.loop_filter.specs.FourSamples.{simple_four};
-ghost use Rattle.loop_filter.specs.Laws.{worked_deltas, worked_segments, limits_are, LeavesFramesOfLevel0, LeavesMacroblocksOfLevel0, LeavesInnerEdges, GoesMacroblockByMacroblock, SidesTellMacroblocks};
+ghost use Rattle.loop_filter.specs.Lines.{inner_line, macroblock_line};
+ghost use Rattle.loop_filter.specs.Laws.{worked_deltas, worked_segments, limits_are, LeavesFramesOfLevel0, LeavesMacroblocksOfLevel0, LeavesInnerEdges, GoesMacroblockByMacroblock, SidesTellMacroblocks, ColumnEdgesChangeTheirLines, RowEdgesChangeTheirLines, edge_limits_are, line_of, worked_line, worked_step};
 
 /// Levels of 20 and 60 in segments, and changed by each reference and mode: of the modes inside the
 /// frame B alone has a change of its own. A sum of frame and segment is held before it is changed:
@@ -66,4 +67,27 @@ pub fn sides_tell_macroblocks()
 pub fn worked_steps()
     ensures within { simple_four 25 (100 ∷ 100 ∷ 110 ∷ 110 ∷ []) ≡ 100 ∷ 102 ∷ 107 ∷ 110 ∷ [] }
     ensures above { simple_four 24 (100 ∷ 100 ∷ 110 ∷ 110 ∷ []) ≡ 100 ∷ 100 ∷ 110 ∷ 110 ∷ [] }
+{}
+
+/// The two normal filters on either side of each of their limits, as RFC 6386, section 15.3 works
+/// them out: a line is filtered up to its limits, and it has high edge variance above the threshold.
+/// Of the step of 20 a is 31 with the outer samples and 60 without; of the step of 64 it is 127.
+#[tactic(auto, unfolding(crate::specs::Lines::inner_line, crate::specs::Lines::macroblock_line, crate::specs::Lines::is_filtered, crate::specs::Lines::is_varied, crate::specs::Lines::lack, crate::specs::Lines::eighth, crate::specs::Lines::share, crate::specs::Lines::raised, crate::specs::Lines::lowered))]
+pub fn worked_lines()
+    ensures inner { inner_line (edge_limits_are 54 5 5) worked_line ≡ line_of (90 ∷ 92 ∷ 99 ∷ 107 ∷ 112 ∷ 120 ∷ 126 ∷ 128 ∷ []) }
+    ensures inner_varied { inner_line (edge_limits_are 54 5 4) worked_line ≡ line_of (90 ∷ 92 ∷ 95 ∷ 104 ∷ 116 ∷ 124 ∷ 126 ∷ 128 ∷ []) }
+    ensures inner_held { inner_line (edge_limits_are 160 1 0) worked_step ≡ line_of (0 ∷ 0 ∷ 8 ∷ 15 ∷ 49 ∷ 56 ∷ 64 ∷ 64 ∷ []) }
+    ensures macroblock { macroblock_line (edge_limits_are 54 5 5) worked_line ≡ line_of (90 ∷ 94 ∷ 99 ∷ 107 ∷ 113 ∷ 120 ∷ 124 ∷ 128 ∷ []) }
+    ensures macroblock_varied { macroblock_line (edge_limits_are 54 5 4) worked_line ≡ line_of (90 ∷ 92 ∷ 95 ∷ 104 ∷ 116 ∷ 124 ∷ 126 ∷ 128 ∷ []) }
+    ensures macroblock_held { macroblock_line (edge_limits_are 160 1 0) worked_step ≡ line_of (0 ∷ 9 ∷ 18 ∷ 27 ∷ 37 ∷ 46 ∷ 55 ∷ 64 ∷ []) }
+    ensures inner_above { inner_line (edge_limits_are 53 5 5) worked_line ≡ worked_line }
+    ensures inner_rough { inner_line (edge_limits_are 54 4 5) worked_line ≡ worked_line }
+    ensures macroblock_above { macroblock_line (edge_limits_are 53 5 5) worked_line ≡ worked_line }
+    ensures macroblock_rough { macroblock_line (edge_limits_are 54 4 5) worked_line ≡ worked_line }
+{}
+
+/// A filtered edge changes its own lines, each by itself, and no other sample.
+pub fn edges_change_their_lines()
+    ensures columns { ColumnEdgesChangeTheirLines }
+    ensures rows { RowEdgesChangeTheirLines }
 {}

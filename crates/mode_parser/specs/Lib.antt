@@ -13,3 +13,4 @@ pub mod FrameModes
 pub mod Appending
 pub mod KeyShape
 pub mod Worked
+pub mod Chains

@@ -24,6 +24,7 @@ ghost use Rattle.mode_parser.specs.ChromaVectors.{chroma_component, first_luma, 
 ghost use Rattle.mode_parser.specs.Worked.{right_by, moved, golden_biased, middle, near_right, down_by_16};
 ghost use Rattle.mode_parser.specs.FrameModes.{record_above, record_left, record_above_left, place_of, modes_of};
 ghost use Rattle.mode_parser.specs.Segments.{segment_number, kept_segment, kept_map};
+ghost use Rattle.mode_parser.specs.Chains.{RecordsAreChains, FramesAreChains};
 ghost use Rattle.mode_parser.specs.KeyShape.{HasShape, HasKeyShape, ReadsZeros, dc_record};
 
 use frame_header::Header;
@@ -172,4 +173,11 @@ pub fn zeros_are_dc(tables: &Tables, header: &Header, columns: usize, rows: usiz
     requires key { IsTrue header.now.is_key }
     requires zeros { ReadsZeros header.now.reader }
     ensures { (map : Option (List ℕ)) → (modes_of tables.now header.now columns rows map).records ≡ replicate (columns * rows) dc_record }
+{}
+
+/// The record of each macroblock, and all records of a frame, are chains of reads, so RFC 6386's
+/// reader reads the same modes.
+pub fn records_are_chains()
+    ensures each { RecordsAreChains }
+    ensures all { FramesAreChains }
 {}

@@ -7,3 +7,4 @@ pub mod BlockPlaces
 pub mod Zigzag
 pub mod BlockSteps
 pub mod TokenLaws
+pub mod ChainLemmas

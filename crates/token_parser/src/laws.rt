@@ -1,6 +1,7 @@
 //! Laws that show that the definitions mean what they are to mean.
 
 ghost use Rattle.std.specs.Prelude.{◌≡◌, ◌<◌, ◌≤◌, ℕ, ℤ, pos, negsuc, true, false, [], ◌∷◌, ◌++◌, List, Bool, replicate, slice_set};
+ghost use Rattle.bool_coder.specs.Chains.{IsChain};
 ghost use Rattle.bool_coder.specs.Reader.{Reader};
 ghost use Rattle.token_parser.specs.declared.places.TheConstants.{BANDS, ZIGZAG};
 ghost use Rattle.token_parser.specs.declared.tokens.Tokens.{Tokens};
@@ -67,4 +68,9 @@ pub fn worked_tokens()
 pub fn y2_waits()
     ensures read { (probs : List ℕ) (before : Tokens) (r : Reader) → HasSameY2 before (macroblock probs false before r).0 }
     ensures skipped { (before : Tokens) → HasSameY2 before (skipped false before) }
+{}
+
+/// The tokens of a macroblock are a chain of reads, so RFC 6386's reader reads the same tokens.
+pub fn tokens_are_chains(probs: &[u8])
+    ensures { (has_y2 : Bool) (before : Tokens) → IsChain (macroblock probs.now has_y2 before) }
 {}
