@@ -1,6 +1,5 @@
--- Each request list has a meaning in which memory is never refused.
+-- Each request list has a meaning in which nothing is out of memory.
 use Rattle.std.proofs.Common.{◌≡◌, ℕ, List, [], ◌∷◌, Bool, true, false, cond, Option, Some, None, Result, Ok, Err, get_or, option_map, refl, ap, arith}
-use Rattle.pixel_planes.specs.Pictures.{PictureSamples}
 use Rattle.script_nodes.specs.declared.faults.ScriptFault.TheVariants as scripts
 use Rattle.script_nodes.specs.declared.nodes.Node.{Node}
 use Rattle.script_nodes.specs.declared.traces.Step.{Step}
@@ -17,21 +16,21 @@ use Rattle.frame_session.specs.declared.size.Size.{Size}
 use Rattle.state_cache.specs.Decoding.{Outcome}
 use Rattle.frame_session.specs.Gives.{Gives}
 use Rattle.packet_edits.specs.declared.fault.EditFault.TheVariants as faults
-use Rattle.packet_edits.specs.Edits.{Listing, refused_insertion}
+use Rattle.packet_edits.specs.Edits.{Listing}
 use Rattle.packet_edits.specs.Sizes.{size_at}
 use Rattle.packet_forge.specs.declared.faults.ForgeFault.{ForgeFault}
 use Rattle.packet_forge.specs.declared.faults.ForgeFault.TheVariants as forging
 use Rattle.packet_forge.specs.Packets.{blank_of}
 use Rattle.vp8_tables.specs.declared.tables.Tables.{Tables}
 use Rattle.frame_session.proofs.Forging.{blank_lacks_none, held_lacks_none}
-use Rattle.frame_session.specs.Edits.{edit_of, held, held_at, refusal_by, refused_forged, unless_refused}
+use Rattle.frame_session.specs.Edits.{edit_of, held_at, refusal_by, refused_forged, unless_refused}
 use Rattle.frame_session.specs.Replies.{refused_line, served_line, ok_line, edit_line, count_line, stats_line}
 use Rattle.frame_session.specs.Scripts.{told_script}
 use Rattle.frame_session.specs.Sessions.{Now, after_frame, behind_edit, behind_script, fits, fitted, frame_count, frame_from, frame_made, frame_of, outcome_of, packet_count, picture_from, script_answer, shown_count, size_of, size_served}
 use Rattle.frame_session.specs.Answers.{Answer, Answers, Run, answer_to_frame, told}
 use Rattle.frame_session.specs.Laws.{HaveMemory}
 
--- a frame may be answered as it is wanted
+-- a frame may have the wanted answer
 chosen_given : (shown : Shown) (b : Bool) → Gives (cond b (Ok shown) (Err refusals.SizeDiffers)) (cond b (Ok shown) (Err refusals.SizeDiffers))
 chosen_given shown true = refl
 chosen_given shown false = refl
@@ -49,7 +48,7 @@ wanted_given : (old : Now) (from : Option Origin) → Gives (frame_from old from
 wanted_given old None = refl
 wanted_given old (Some from) = made_given old.size from.steps (outcome_of old from.frame)
 
--- and then its reply does not tell of want of memory
+-- and then its reply is not `refused NoMemory`
 refusal_told : (refusal : Refusal) → (refusal ≡ refusals.NoMemory → ⊥) → refused_line refusal ≡ refused_line refusals.NoMemory → ⊥
 refusal_told refusals.NoMemory some e = absurd (some refl)
 refusal_told refusals.Line some e = let other : 76 ≡ 78 = ap (λ (l : List ℕ). get_or l 8 0) e in absurd (omega (arith, other))
@@ -67,7 +66,7 @@ refusal_told refusals.Number some e = let other : 117 ≡ 111 = ap (λ (l : List
 refusal_told refusals.SizeDiffers some e = let other : 83 ≡ 78 = ap (λ (l : List ℕ). get_or l 8 0) e in absurd (omega (arith, other))
 refusal_told (refusals.Packet place cause) some e = let other : 112 ≡ 78 = ap (λ (l : List ℕ). get_or l 8 0) e in absurd (omega (arith, other))
 
--- a reply that does not begin as a refusal does
+-- a reply that begins differently from a refusal
 pub begins_otherwise : (reply : List ℕ) (refusal : Refusal) → (get_or reply 0 0 ≡ 114 → ⊥) → reply ≡ refused_line refusal → ⊥
 begins_otherwise reply refusal other e = other (ap (λ (l : List ℕ). get_or l 0 0) e)
 
@@ -92,7 +91,7 @@ wanted_some : (old : Now) (from : Option Origin) → frame_from old from ≡ Err
 wanted_some old None e = cc
 wanted_some old (Some from) e = made_some old.size from.steps (outcome_of old from.frame) e
 
--- an edit may be answered as it is wanted, and its reply does not tell of want of memory
+-- an edit may have the wanted answer, and its reply is not `refused NoMemory`
 record IsTold (answer : Result ℕ Refusal) : Type 0 where
   gives : Gives answer answer
   enough : edit_line answer ≡ refused_line refusals.NoMemory → ⊥
@@ -163,7 +162,7 @@ script_told : (count : ℕ) (nodes : Option (List Node)) → IsTold (told_script
 script_told count None = record { gives = refl; enough = refusal_told refusals.Syntax (λ h. cc) }
 script_told count (Some nodes) = nodes_told count nodes _ _ _
 
--- an answer to one line, which does not tell of want of memory, and what stands behind it
+-- an answer to one line, other than `refused NoMemory`, and the state after it
 pub record HasAnswer (old : Now) (line : Line) : Type 0 where
   pub answer : Answer
   pub new : Now
@@ -226,7 +225,7 @@ answered old Stats =
     let reply = stats_line old.decoded in
     record { answer = told reply; new = old; means = (refl, refl); enough = begins_otherwise reply refusals.NoMemory (λ h. omega (arith, h)) }
 
--- answers to lines, none of which tells of want of memory
+-- answers to lines, none of which is `refused NoMemory`
 pub record HaveAnswers (old : Now) (lines : List Line) : Type 0 where
   pub answers : List Answer
   pub new : Now

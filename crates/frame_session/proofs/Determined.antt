@@ -1,4 +1,4 @@
--- Where memory is never refused, a request list has one meaning, but for the number of steps.
+-- If nothing is out of memory, a request list has one meaning, except for the number of steps.
 use Rattle.std.proofs.Common.{◌≡◌, ℕ, List, [], ◌∷◌, Option, Some, None, Result, Ok, Err, refl, sym, ap, ◌∙◌, subst}
 use Rattle.script_nodes.specs.Shown.{Shown}
 use Rattle.frame_session.specs.declared.lines.Line.{Line}
@@ -19,7 +19,7 @@ use Rattle.frame_session.specs.Laws.{AllAlike, AreAlike, HaveMemory}
 abbrev counted : Now → ℕ → Now
 counted now steps = record now { decoded = steps }
 
--- what is given is what is wanted, unless there was no memory
+-- the result is the wanted one, unless it is NoMemory
 given : {A : Type 0} (want answer : Result A Refusal) → (answer ≡ Err refusals.NoMemory → ⊥) → Gives want answer → want ≡ answer
 given want (Ok value) enough gives = gives
 given want (Err refusals.NoMemory) enough gives = absurd (enough refl)
@@ -38,22 +38,22 @@ given want (Err refusals.Reference) enough gives = gives
 given want (Err refusals.Number) enough gives = gives
 given want (Err (refusals.Packet place cause)) enough gives = gives
 
--- a reply that does not tell of want of memory comes from a frame that does not
+-- a reply other than `refused NoMemory` comes from a frame other than NoMemory
 enough_for : (old : Now) (n : ℕ) (answer : Answer) (frame : Result Shown Refusal) → answer ≡ answer_to_frame old n frame → (answer.reply ≡ refused_line refusals.NoMemory → ⊥) → frame ≡ Err refusals.NoMemory → ⊥
 enough_for old n answer frame is enough lacks =
     enough (ap (λ (a : Answer). a.reply) (is ∙ ap (λ (f : Result Shown Refusal). answer_to_frame old n f) lacks))
 
--- what stands behind a frame, but for the number of steps, doesn't depend on that number
+-- the state after a frame, except for the number of steps, does not depend on that number
 after_counted : (old : Now) (steps d : ℕ) (size : Option Size) → counted (after_frame (counted old steps) size) d ≡ counted (after_frame old size) d
 after_counted old steps d (Some size) = refl
 after_counted old steps d None = refl
 
--- an answer that leaves everything as it is
+-- an answer that leaves everything unchanged
 same_answer : (old : Now) (steps : ℕ) (answer answer' wanted : Answer) (new new' : Now) → (answer ≡ wanted) × (new ≡ old) → (answer' ≡ wanted) × (new' ≡ counted old steps) → (answer' ≡ answer) × (new' ≡ counted new new'.decoded)
 same_answer old steps answer answer' wanted new new' first second =
     (second.0 ∙ sym first.0, second.1 ∙ ap (λ (s : Now). counted s steps) (sym first.1) ∙ ap (λ (d : ℕ). counted new d) (sym (ap (λ (s : Now). s.decoded) second.1)))
 
--- two answers to an edit that give the same
+-- two answers to an edit with the same result
 same_edit : (old : Now) (steps : ℕ) (edit : Edit) (edited edited' : Result ℕ Refusal) (answer answer' : Answer) (new new' : Now) → edited' ≡ edited → AnswersEdit old edit edited answer new → AnswersEdit (counted old steps) edit edited' answer' new' → (answer' ≡ answer) × (new' ≡ counted new new'.decoded)
 same_edit old steps edit edited edited' answer answer' new new' same first second =
     let again : new' ≡ counted (behind_edit edit old edited) steps = second.1 ∙ ap (λ (e : Result ℕ Refusal). behind_edit edit (counted old steps) e) same in (
@@ -61,7 +61,7 @@ same_edit old steps edit edited edited' answer answer' new new' same first secon
       again ∙ ap (λ (s : Now). counted s steps) (sym first.1) ∙ ap (λ (d : ℕ). counted new d) (sym (ap (λ (s : Now). s.decoded) again)),
     )
 
--- and so do two that do not tell of want of memory
+-- and two that are not `refused NoMemory`
 told_edit : (edited : Result ℕ Refusal) (answer : Answer) → answer ≡ told (edit_line edited) → (answer.reply ≡ refused_line refusals.NoMemory → ⊥) → edited ≡ Err refusals.NoMemory → ⊥
 told_edit edited answer is enough lacks = enough (ap (λ (a : Answer). a.reply) is ∙ ap edit_line lacks)
 
@@ -71,7 +71,7 @@ one_edit old steps edit edited edited' answer answer' new new' gives gives' firs
     let wanted' : edit_of old.tables old.list edit ≡ edited' = given (edit_of old.tables old.list edit) edited' (told_edit edited' answer' second.0 enough') gives' in
     same_edit old steps edit edited edited' answer answer' new new' (sym wanted' ∙ wanted) first second
 
--- the same of a script
+-- the same for a script
 script_counted : (old : Now) (steps : ℕ) (text : List ℕ) (set : Result ℕ Refusal) → behind_script text (counted old steps) set ≡ counted (behind_script text old set) steps
 script_counted old steps text (Ok count) = refl
 script_counted old steps text (Err refusal) = refl
@@ -87,7 +87,7 @@ one_script old steps text set set' answer answer' new new' gives gives' first se
       again ∙ ap (λ (s : Now). counted s steps) (sym first.1) ∙ ap (λ (d : ℕ). counted new d) (sym steps_are),
     )
 
--- two answers to one line, of which the second was given after another number of steps
+-- two answers to one line, the second after another number of steps
 one_answer : (old : Now) (steps : ℕ) (line : Line) (answer answer' : Answer) (new new' : Now) → Answers old line answer new → Answers (counted old steps) line answer' new' → (answer.reply ≡ refused_line refusals.NoMemory → ⊥) → (answer'.reply ≡ refused_line refusals.NoMemory → ⊥) → AreAlike line answer answer' × (new' ≡ counted new new'.decoded)
 one_answer old steps Silent answer answer' new new' first second enough enough' = same_answer old steps answer answer' _ new new' first second
 one_answer old steps Unknown answer answer' new new' first second enough enough' = same_answer old steps answer answer' _ new new' first second

@@ -1,4 +1,4 @@
--- What forging a packet may answer.
+-- The results that forging a packet may have.
 use Rattle.std.proofs.Common.{◌≡◌, ℕ, List, [], Bool, true, false, cond, Option, Some, None, Result, Ok, Err, length, option_map, refl, sym, ap, ◌∙◌, subst}
 use Rattle.std.specs.Result.{result_unwrap_or}
 use Rattle.vp8_tables.specs.declared.tables.Tables.{Tables}
@@ -9,15 +9,14 @@ use Rattle.packet_edits.specs.Faults.{unless_refused as told_unless}
 use Rattle.packet_forge.specs.declared.faults.ForgeFault.{ForgeFault}
 use Rattle.packet_forge.specs.declared.faults.ForgeFault.TheVariants as forging
 use Rattle.packet_forge.specs.Faults.{ForgeRefuses}
-use Rattle.packet_forge.specs.Packets.{blank_of, hold_of}
+use Rattle.packet_forge.specs.Packets.{blank_of}
 use Rattle.frame_session.specs.declared.edit.Edit.{Edit}
 use Rattle.frame_session.specs.declared.edit.Edit.TheVariants.{Insert}
 use Rattle.frame_session.specs.declared.refusal.Refusal.{Refusal}
-use Rattle.frame_session.specs.declared.refusal.Refusal.TheVariants as refusals
 use Rattle.frame_session.specs.Edits.{after_edit, edit_of, edited, held, inserted_forged, refusal_by, refusal_by_forging, refused_forged, stamp_before, unless_refused}
 use Rattle.frame_session.specs.Gives.{Gives}
 
--- no packet is wanted that lacks memory
+-- no packet that is wanted is NoMemory
 chosen_lacks_none : (outside large : Bool) (packet : List ℕ) → cond outside (Err forging.Size) (cond large (Err forging.TooLarge) (Ok packet)) ≡ Err forging.NoMemory → ⊥
 chosen_lacks_none true large packet e = cc
 chosen_lacks_none false true packet e = cc
@@ -30,19 +29,19 @@ pub held_lacks_none : (tables : Tables) (size : Option (ℕ × ℕ)) → held ta
 held_lacks_none tables None e = cc
 held_lacks_none tables (Some size) e = chosen_lacks_none _ _ _ e
 
--- no insertion is refused for want of memory before it is made
+-- no insertion is refused as out of memory before it is made
 insertion_lacks_none : (outside full spent : Bool) → cond outside (Some faults.Place) (cond full (Some faults.Full) (cond spent (Some faults.Spent) None)) ≡ Some faults.NoMemory → ⊥
 insertion_lacks_none true full spent e = cc
 insertion_lacks_none false true spent e = cc
 insertion_lacks_none false false true e = cc
 insertion_lacks_none false false false e = cc
 
--- the fault that is told is the first one
+-- the error that is reported is the first one
 first_fault : (insertion : Option EditFault) (fault : EditFault) → told_unless insertion ≡ Err fault → insertion ≡ Some fault
 first_fault None fault e = cc
 first_fault (Some first) fault e = let same : first ≡ fault = cc in ap (λ (x : EditFault). Some x) same
 
--- no fault is told where there is none
+-- no error is reported if there is none
 no_fault : (insertion : Option EditFault) → told_unless insertion ≡ Ok tt → insertion ≡ None
 no_fault None e = refl
 no_fault (Some first) e = cc
@@ -53,7 +52,7 @@ told_first faults.Full forged count some = refl
 told_first faults.Spent forged count some = refl
 told_first faults.NoMemory forged count some = absurd (some refl)
 
--- a fault of the insertion is told first
+-- an error of the insertion is reported first
 pub insertion_refused : (list : Listing) (at : ℕ) (fault : EditFault) (forged : Result (List ℕ) ForgeFault) (count : ℕ) → told_unless (refused_insertion list at) ≡ Err fault → Gives (unless_refused (refused_forged (refused_insertion list at) forged) count) (Err (refusal_by fault))
 insertion_refused list at fault forged count e =
     let first : refused_insertion list at ≡ Some fault = first_fault (refused_insertion list at) fault e in
@@ -69,7 +68,7 @@ forging_given (Err forging.Size) count forging.NoMemory some refused = absurd (r
 forging_given (Err forging.TooLarge) count forging.NoMemory some refused = tt
 forging_given (Err forging.NoMemory) count forging.NoMemory some refused = absurd (some refl)
 
--- where the insertion has no fault, that of forging is told
+-- if the insertion has no error, the error of forging is reported
 pub forging_refused : (list : Listing) (at : ℕ) (want : Result (List ℕ) ForgeFault) (count : ℕ) (fault : ForgeFault) → told_unless (refused_insertion list at) ≡ Ok tt → (want ≡ Err forging.NoMemory → ⊥) → ForgeRefuses want fault → Gives (unless_refused (refused_forged (refused_insertion list at) want) count) (Err (refusal_by_forging fault))
 forging_refused list at want count fault none some refused =
     let P : Option EditFault → Type 0 = λ insertion. Gives (unless_refused (refused_forged insertion want) count) (Err (refusal_by_forging fault)) in
@@ -84,7 +83,7 @@ inserted_same at stamp bytes forged list made is =
     ap (λ (s : ℕ). inserted at s bytes list) is
     ∙ ap (λ (b : List ℕ). inserted at (stamp_before at list) b list) (sym (ap (λ (f : Result (List ℕ) ForgeFault). result_unwrap_or f []) made))
 
--- what putting in the forged bytes answers
+-- the result of inserting the forged bytes
 pub insertion_gives : (tables : Tables) (list : Listing) (at stamp : ℕ) (bytes : List ℕ) (forged : Result (List ℕ) ForgeFault) (answer : Result ℕ Refusal) → forged ≡ Ok bytes → stamp ≡ stamp_before at list → Gives (edit_of tables list (Insert at stamp bytes)) answer → Gives (unless_refused (refused_forged (refused_insertion list at) forged) (length (inserted_forged at forged list).entries)) answer
 insertion_gives tables list at stamp bytes forged answer made is gives =
     let first : option_map refusal_by (refused_insertion list at) ≡ refused_forged (refused_insertion list at) forged =
@@ -97,7 +96,7 @@ after_same : (tables : Tables) (edit edit' : Edit) (list : Listing) (answer : Re
 after_same tables edit edit' list (Ok count) same = same
 after_same tables edit edit' list (Err refusal) same = refl
 
--- and what it leaves
+-- and the list after it
 pub insertion_leaves : (tables : Tables) (list new : Listing) (at stamp : ℕ) (bytes : List ℕ) (forged : Result (List ℕ) ForgeFault) (edit : Edit) (answer : Result ℕ Refusal) → forged ≡ Ok bytes → stamp ≡ stamp_before at list → edited tables edit list ≡ inserted_forged at forged list → new ≡ after_edit tables (Insert at stamp bytes) list answer → new ≡ after_edit tables edit list answer
 insertion_leaves tables list new at stamp bytes forged edit answer made is forges after =
     after ∙ after_same tables (Insert at stamp bytes) edit list answer (inserted_same at stamp bytes forged list made is ∙ sym forges)

@@ -1,5 +1,5 @@
--- What a session gives of a frame is the frame that is wanted.
-use Rattle.std.proofs.Common.{◌≡◌, ℕ, suc, ◌+◌, ◌≤◌, List, [], ◌∷◌, Bool, true, false, cond, Option, Some, None, Result, Ok, Err, length, map, slice_get, refl, sym, ap, ◌∙◌, arith, subst}
+-- A frame that a session returns is the wanted frame.
+use Rattle.std.proofs.Common.{◌≡◌, ℕ, suc, ◌+◌, ◌≤◌, List, [], ◌∷◌, Bool, true, false, cond, Option, Some, None, Result, Ok, Err, length, slice_get, refl, sym, ap, ◌∙◌, arith, subst}
 use Rattle.std.specs.Prelude.{option_and_then}
 use Rattle.std.proofs.lemmas.List.{length-map}
 use Rattle.frame_header.specs.Tags.{is_shown}
@@ -19,7 +19,7 @@ use Rattle.state_cache.specs.Decoding.{Outcome, outcomes}
 use Rattle.frame_session.specs.Gives.{GivesFrame}
 use Rattle.frame_session.specs.Sessions.{Now, fits, fitted, frame_from, frame_made, frame_of, outcome_of, picture_from, shown_count, size_of, stream_of}
 
--- no more packets are shown than stand
+-- there are at most as many shown packets as packets
 few_from : (place : ℕ) (xs : List (List ℕ)) → length (shown_from place xs) ≤ length xs
 few_from place [] = omega arith
 few_from place (x ∷ xs) = by_first (is_shown x) (few_from (place + 1) xs)
@@ -33,7 +33,7 @@ few_shown list count most is few =
     let long : length (stream_in list) ≡ length list.entries = length-map list.entries (λ (e : Entry). e.bytes) in
     omega (arith, is, few, long, few_from 0 (stream_in list))
 
--- what has the size of the stream is given
+-- a frame with the size of the stream is returned
 chosen : (shown : Shown) (b : Bool) → b ≡ true → cond b (Ok shown) (Err refusals.SizeDiffers) ≡ Ok shown
 chosen shown true e = refl
 chosen shown false e = cc

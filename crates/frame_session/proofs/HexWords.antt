@@ -1,4 +1,4 @@
--- What words of hexadecimal digits write.
+-- The bytes of words of hexadecimal digits.
 use Rattle.std.proofs.Common.{◌≡◌, ℕ, ◌%◌, true, false, List, [], length, Some, None, Result, Ok, Err, refl, ap, ◌∙◌}
 use Rattle.std.specs.Prelude.{codes}
 use Rattle.std.specs.List.{AllPass}

@@ -1,4 +1,4 @@
--- What answers leave as it was.
+-- Parts of the state that answers leave unchanged.
 use Rattle.std.proofs.Common.{◌≡◌, ℕ, ◌≤◌, List, [], ◌∷◌, Result, Ok, Err, sym, ap, ◌∙◌, arith}
 use Rattle.script_nodes.specs.Shown.{Shown}
 use Rattle.frame_session.specs.declared.lines.Line.{Line}
@@ -12,12 +12,12 @@ use Rattle.frame_session.specs.Sessions.{IsAfterFrame, Now, behind_edit, behind_
 use Rattle.frame_session.specs.Answers.{Answer, Answers, Run, answer_to_frame}
 use Rattle.frame_session.proofs.Answered.{begins_otherwise}
 
--- what stands behind a script has the same number of steps
+-- the state after a script has the same number of steps
 script_counts : (old new : Now) (text : List ℕ) (set : Result ℕ Refusal) → new ≡ behind_script text old set → old.decoded ≤ new.decoded
 script_counts old new text (Ok count) is = rw is (omega arith)
 script_counts old new text (Err refusal) is = rw is (omega arith)
 
--- one line more leaves the number of steps or raises it
+-- one more line leaves the number of steps or raises it
 line_counts : (old new : Now) (line : Line) (answer : Answer) → Answers old line answer new → old.decoded ≤ new.decoded
 line_counts old new Silent answer means = rw means.1 (omega arith)
 line_counts old new Unknown answer means = rw means.1 (omega arith)
@@ -41,7 +41,7 @@ lines_count old new (line ∷ lines) (answer ∷ answers) ran =
     let rest : ran.0.decoded ≤ new.decoded = lines_count ran.0 new lines answers ran.2 in
     omega (arith, first, rest)
 
--- what is as it was
+-- an unchanged state
 same : (old new : Now) → new ≡ old → new ≡ record old { decoded = new.decoded }
 same old new is = is ∙ ap (λ (s : Now). record old { decoded = s.decoded }) (sym is)
 

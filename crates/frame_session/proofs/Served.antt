@@ -1,11 +1,10 @@
--- What the functions that answer lines give is the meaning of the lines.
+-- The functions that answer lines follow the meaning of the lines.
 use Rattle.std.proofs.Common.{◌≡◌, ◌⊎◌, inl, inr, ℕ, List, [], ◌∷◌, ◌++◌, map, Option, None, Some, Result, Ok, Err, refl, sym, ap, ◌∙◌, subst, append_assoc, append-nil}
 use Rattle.std.specs.List.{flat_map}
 use Rattle.std.specs.Io.KnownBytes.{Appends, Keeps}
 use Rattle.std.specs.Prelude.{OnOk}
 use Rattle.std.proofs.KnownBytes.{Appends-nil, Appends-trans}
 use Rattle.pixel_planes.specs.Pictures.{PictureSamples}
-use Rattle.script_nodes.specs.Shown.{Shown}
 use Rattle.stream_files.specs.Y4m.{frame_text}
 use Rattle.stream_files.specs.declared.ivf.Head.{Head}
 use Rattle.frame_session.specs.declared.lines.Line.{Line}
@@ -119,7 +118,7 @@ module _ (old : Now) (f f' r r' : Option (List ℕ)) (n : ℕ) (picture : Pictur
   frame_or_no_reply is gives after (inr shown) =
       inr (serves_frame old f f' None None n picture new gives after (subst (λ (h : Option Head). Appends f f' (opening h picture.width picture.height ++ frame_text picture)) is shown) tt)
 
--- one line more
+-- one more line
 run_more : (old mid new : Now) (lines : List Line) (answers : List Answer) (line : Line) (answer : Answer) → Run old lines answers mid → Answers mid line answer new → Run old (lines ++ line ∷ []) (answers ++ answer ∷ []) new
 run_more old mid new [] [] line answer same step = let P : Now → Type 0 = λ s. Answers s line answer new in (new, subst P same step, refl)
 run_more old mid new [] (x ∷ answers) line answer ran step = absurd ran
@@ -145,7 +144,7 @@ runs_more old mid new lines line f f' f'' r r' r'' ran served =
       said = subst Q (sym (flat_map-push (λ x. x.reply) ran.answers served.answer)) (Appends-trans r r' r'' (replies_of ran.answers) served.answer.reply ran.said served.said);
     }
 
--- the requests done and those left are all, with one line more
+-- the lines done and the lines left are all lines, with one more line
 pub all_more : (done : List Line) (asked : Line) (line : List ℕ) (left behind : List (List ℕ)) (all : List Line) → asked ≡ asked_by line → left ≡ line ∷ behind → done ++ map asked_by left ≡ all → (done ++ asked ∷ []) ++ map asked_by behind ≡ all
 all_more done asked line left behind all is next whole =
     append_assoc done (asked ∷ []) (map asked_by behind)
@@ -153,7 +152,7 @@ all_more done asked line left behind all is next whole =
     ∙ ap (λ (ls : List (List ℕ)). done ++ map asked_by ls) (sym next)
     ∙ whole
 
--- where no line is left, all are done
+-- if no line is left, all are done
 pub runs_all : (old new : Now) (done : List Line) (left : List (List ℕ)) (all : List Line) (f f' r r' : Option (List ℕ)) → left ≡ [] → done ++ map asked_by left ≡ all → Runs old done f f' r r' new → Runs old all f f' r r' new
 runs_all old new done left all f f' r r' none whole ran =
     let same : done ≡ all = sym (append-nil done) ∙ ap (λ (ls : List (List ℕ)). done ++ map asked_by ls) (sym none) ∙ whole in

@@ -1,24 +1,20 @@
--- What a session keeps stays sound, and what its frames cost.
-use Rattle.std.proofs.Common.{◌≡◌, ℕ, zero, suc, ◌<◌, ◌≤◌, ◌⊎◌, inl, inr, Bool, true, false, List, [], ◌∷◌, Option, Some, None, Result, Ok, Err, length, slice_get, option_map, refl, sym, ap, subst, ◌∙◌, arith}
-use Rattle.std.specs.Prelude.{option_and_then, IsSome}
+-- A session's cache stays sound.
+use Rattle.std.proofs.Common.{◌≡◌, ℕ, zero, suc, ◌≤◌, ◌⊎◌, inl, inr, Bool, List, [], ◌∷◌, Option, Some, None, Result, Ok, Err, length, refl, sym, ap, subst, ◌∙◌, arith}
+use Rattle.std.specs.Prelude.{IsSome}
 use Rattle.std.specs.Result.{result_unwrap_or}
 use Rattle.vp8_tables.specs.declared.tables.Tables.{Tables}
 use Rattle.packet_edits.specs.declared.entry.Entry.{Entry}
 use Rattle.packet_edits.specs.Edits.{Listing}
 use Rattle.packet_edits.specs.Laws.{HasOwnIds}
 use Rattle.packet_edits.specs.Marks.{StoreValue}
-use Rattle.packet_edits.specs.Shown.{shown_places}
 use Rattle.packet_forge.specs.Packets.{blank_of}
 use Rattle.pixel_planes.specs.Pictures.{PictureSamples}
-use Rattle.script_nodes.specs.declared.traces.Step.{Step}
-use Rattle.script_nodes.specs.Frames.{Origin, traced}
-use Rattle.script_nodes.specs.Scripts.{origin_of}
 use Rattle.state_cache.specs.declared.outcomes.Kept.{Kept}
 use Rattle.state_cache.specs.declared.outcomes.Broken.{Broken}
 use Rattle.state_cache.specs.declared.outcomes.ReachFault.TheVariants.{Refused, NoMemory}
 use Rattle.state_cache.specs.Costs.{Costs, IsIdOf}
 use Rattle.state_cache.specs.Decoding.{Outcome}
-use Rattle.state_cache.specs.EditLaws.{EditsKeepCoherence, EditsKeepIds, IsKeptWithout, IsMarked, NextIdIsNotKept, StandIn, behind_deletion, behind_insertion, behind_move, behind_replacement, id_at}
+use Rattle.state_cache.specs.EditLaws.{EditsKeepCoherence, EditsKeepIds, IsKeptWithout, IsMarked, NextIdIsNotKept, StandIn, behind_insertion, behind_move, id_at}
 use Rattle.state_cache.specs.Reaching.{CacheValue, ReachAnswers, view_of}
 use Rattle.state_cache.specs.Views.{Before, CoherentFrom, IsCoherent, Seen, entering, kept_in, known, leaving as leaving_packet, seens}
 use Rattle.frame_session.specs.declared.edit.Edit.{Edit}
@@ -27,17 +23,17 @@ use Rattle.frame_session.specs.declared.refusal.Refusal.{Refusal}
 use Rattle.frame_session.specs.declared.refusal.Refusal.TheVariants as refusals
 use Rattle.frame_session.specs.Gives.{Gives, MayLackMemory}
 use Rattle.frame_session.specs.Edits.{after_edit, edited, held_at, stamp_before}
-use Rattle.frame_session.specs.Cached.{CacheWithout, FrameCosts, IsSound, SessionValue, leaving, left_behind, marks_after, marks_edited, place_of, store_of}
-use Rattle.frame_session.specs.Sessions.{Now, picture_from, shown_count, stream_of}
+use Rattle.frame_session.specs.Cached.{CacheWithout, IsSound, leaving, left_behind, marks_after, marks_edited}
+use Rattle.frame_session.specs.Sessions.{picture_from}
 
--- no packet stands behind the last
+-- there is no packet past the last
 pub no_id : (es : List Entry) (at : ℕ) → length es ≤ at → None ≡ id_at es at
 no_id [] at h = refl
 no_id (e ∷ es) zero h = absurd (omega (arith, h))
 no_id (e ∷ es) (suc at) h = no_id es at (omega (arith, h))
 
 module _ (tables : Tables) where
-  -- nothing is kept
+  -- nothing is cached
   none_coherent : (b : Before) (ps : List Seen) → CoherentFrom tables b ps (kept_in [])
   none_coherent b [] = tt
   none_coherent b (p ∷ ps) = (tt, none_coherent (leaving_packet tables (entering b p) p.bytes (kept_in [] p.id)) ps)
@@ -54,7 +50,7 @@ module _ (tables : Tables) where
       nothing_stands : (list : Listing) (id : ℕ) → IsSome (kept_in [] id) → IsIdOf list id
       nothing_stands list id some = cc
 
-  -- a place is reached, or not
+  -- a packet is reached, or not
   stands_still : (list new : Listing) (before : CacheValue) (id : ℕ) → new ≡ list → StandIn list (view_of before) → IsSome (view_of before id) ⊎ IsIdOf list id → IsIdOf new id
   stands_still list new before id same stand (inl was) = subst (λ (l : Listing). IsIdOf l id) (sym same) (stand id was)
   stands_still list new before id same stand (inr is) = subst (λ (l : Listing). IsIdOf l id) (sym same) is
@@ -66,7 +62,7 @@ module _ (tables : Tables) where
     bounded = costs.bounded;
   }
 
-  -- what reaching a place answers is what may be told of it
+  -- the result of reaching a packet is one that a frame may have
   pub picture_given : (o : Option Outcome) (kept : Kept) → (want : Outcome) × (o ≡ Some want) × ReachAnswers want (Ok kept) → Gives (picture_from o) (Ok kept.picture)
   picture_given o kept reached = ap picture_from (reached.1 ∙ ap Some reached.2)
 

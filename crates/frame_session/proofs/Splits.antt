@@ -15,7 +15,7 @@ not_zero n h = grind (arith, nat_tests)
 one_more : (n : ℕ) → 1 + n ≡ suc n
 one_more n = omega arith
 
--- where no element passes, the list is the one part
+-- if no element passes, the list is the only part
 split_whole : (p : ℕ → Bool) (xs : List ℕ) → length xs ≤ position_or_len p xs → slice_split p xs ≡ xs ∷ []
 split_whole p [] h = refl
 split_whole p (x ∷ xs) h = by_first (p x) refl (split_whole p xs)
@@ -48,7 +48,7 @@ pub lines-last : (text : List ℕ) → 0 < length text → length text ≤ posit
 lines-last [] h k = absurd (omega arith)
 lines-last (x ∷ xs) h k = ap lines_of_parts (split_whole (λ b. b == 10) (x ∷ xs) k) ∙ ap (λ none. cond none [] ((x ∷ xs) ∷ [])) (not_zero (length (x ∷ xs)) h)
 
--- spaces in front are no words
+-- leading spaces are not words
 pub words_of-spaces : (line : List ℕ) → words_of (drop (prefix_len (λ b. b == 32) line) line) ≡ words_of line
 words_of-spaces [] = refl
 words_of-spaces (x ∷ xs) = by_first (x == 32) refl (words_of-spaces xs)
@@ -59,7 +59,7 @@ words_of-spaces (x ∷ xs) = by_first (x == 32) refl (words_of-spaces xs)
         let none : prefix_len (λ b. b == 32) (x ∷ xs) ≡ 0 = rw e refl in
         ap (λ n. words_of (drop n (x ∷ xs))) none
 
--- the parts of a line: what stands before the first space, and then parts that have the words behind it
+-- the parts of a line: the text before the first space, and then parts with the words after it
 pub record Parts (line : List ℕ) : Type 0 where
   pub more : List (List ℕ)
   pub split : slice_split (λ b. b == 32) line ≡ before_first (λ b. b == 32) line ∷ more
@@ -97,7 +97,7 @@ words_of-first (x ∷ xs) h k = by_first (x == 32) refl
         ∙ ap (λ none. cond (not none) (word ∷ behind) behind) some
         ∙ ap (λ words. word ∷ words) (sym parts.words)
 
--- a first word is no empty part
+-- a first word is not an empty part
 first_some : (line : List ℕ) → 0 < length line → prefix_len (λ b. b == 32) line ≡ 0 → 0 < position_or_len (λ b. b == 32) line
 first_some [] h k = absurd (omega arith)
 first_some (x ∷ xs) h k = by_first (x == 32) refl
@@ -124,7 +124,7 @@ cut_first text line behind kept n at front back some strip =
     let rest_is : after_first (λ b. b == 10) text ≡ drop 1 behind = ap (λ k. drop (k + 1) text) place ∙ sym (drop-drop 1 n text) ∙ ap (drop 1) (sym back) in
     lines-first text (omega (arith, more, at)) ∙ rw (kept_is, rest_is, all) refl
 
--- what stands behind the spaces begins with none
+-- the text after the spaces begins with none
 no_space_behind : (line words : List ℕ) (n : ℕ) → n ≡ prefix_len (λ b. b == 32) line → words ≡ drop n line → n < length line → prefix_len (λ b. b == 32) words ≡ 0
 no_space_behind line words n spaces behind within =
     let stops : get_or line n 0 == 32 ≡ false = ap (λ k. get_or line k 0 == 32) spaces ∙ prefix_len_stops (λ b. b == 32) line 0 (omega (arith, spaces, within)) in

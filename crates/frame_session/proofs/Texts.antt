@@ -1,4 +1,4 @@
--- The text of a picture is that of what it shows.
+-- The text of a picture is the text of its shown samples.
 use Rattle.std.proofs.Common.{◌≡◌, ℕ, zero, suc, ◌+◌, ◌*◌, ◌<◌, ◌≤◌, List, [], ◌∷◌, ◌++◌, codes, length, get_or, refl, sym, ap, ◌∙◌, arith, add-zero, zero-add, subst}
 use Rattle.std.proofs.lemmas.List.{length-take-le}
 use Rattle.pixel_planes.specs.Samples.{IsWhole, row_of}

@@ -1,4 +1,4 @@
--- The meaning of a request list: which replies and frames may answer its lines, and what stands behind them.
+-- The meaning of a request list: the replies and frames that may answer its lines, and the state after them.
 use Rattle.std.specs.Prelude.{◌≡◌, ◌⊎◌, ℕ, List, [], ◌∷◌, ◌++◌, map, Option, Some, None, Result, Ok, Err}
 use Rattle.std.specs.List.{flat_map}
 use Rattle.std.specs.Io.KnownBytes.{Appends, Keeps}
@@ -24,20 +24,20 @@ use Rattle.frame_session.specs.Frames.{shown_text}
 use Rattle.frame_session.specs.Replies.{refused_line, served_line, edit_line, count_line, stats_line}
 use Rattle.frame_session.specs.Sessions.{IsAfterFrame, Now, behind_edit, behind_script, frame_count, frame_of, head_due, packet_count, script_answer, size_served, start}
 
--- what the lines of a text ask for, one after another
+-- the requests of a text, line by line
 abbrev pub requests_of : List ℕ → List Line
 requests_of text = map asked_by (lines text)
 
--- a line's reply, and what it writes of frames
+-- a line's reply, and the bytes that it writes of frames
 pub record Answer : Type 0 where
   pub reply : List ℕ
   pub frames : List ℕ
 
--- a reply alone
+-- only a reply
 abbrev pub told : List ℕ → Answer
 told reply = record { reply = reply; frames = [] }
 
--- the line that opens the frames, where it is still to be written with a head
+-- the line that opens the frames, if it is still to be written with a head
 abbrev pub opening : Option Head → ℕ → ℕ → List ℕ
 opening None width height = []
 opening (Some head) width height = y4m_line width height head.rate head.scale
@@ -47,15 +47,15 @@ abbrev pub answer_to_frame : Now → ℕ → Result Shown Refusal → Answer
 answer_to_frame now n (Ok shown) = record { reply = served_line n; frames = opening (head_due now) shown.width shown.height ++ shown_text shown }
 answer_to_frame now n (Err refusal) = told (refused_line refusal)
 
--- an edit was answered so
+-- an edit and its result, with the answer and the new state
 abbrev pub AnswersEdit : Now → Edit → Result ℕ Refusal → Answer → Now → Type 0
 AnswersEdit old edit edited answer new = (answer ≡ told (edit_line edited)) × (new ≡ behind_edit edit old edited)
 
--- a script was answered so
+-- a script and its result, with the answer and the new state
 abbrev pub AnswersScript : Now → List ℕ → Result ℕ Refusal → Answer → Now → Type 0
 AnswersScript old text set answer new = (answer ≡ told (edit_line set)) × (new ≡ behind_script text old set)
 
--- what may be answered to a line, and what stands behind it: a frame, a script, and packets that are put in, may lack memory
+-- a line, an answer that it may have, and the state after it; a frame, a script, and an insertion may be out of memory
 abbrev pub Answers : Now → Line → Answer → Now → Type 0
 Answers old requests.Silent answer new = (answer ≡ told []) × (new ≡ old)
 Answers old requests.Unknown answer new = (answer ≡ told (refused_line refusals.Line)) × (new ≡ old)
@@ -76,40 +76,40 @@ Answers old (requests.Script text) answer new =
 Answers old requests.Count answer new = (answer ≡ told (count_line (packet_count old) (frame_count old))) × (new ≡ old)
 Answers old requests.Stats answer new = (answer ≡ told (stats_line old.decoded)) × (new ≡ old)
 
--- what may be answered to lines, one after another
+-- lines in sequence, answers that they may have, and the state after them
 abbrev pub Run : Now → List Line → List Answer → Now → Type 0
 Run old [] [] new = new ≡ old
 Run old (line ∷ lines) (answer ∷ answers) new = (mid : Now) × Answers old line answer mid × Run mid lines answers new
 Run old [] (answer ∷ answers) new = ⊥
 Run old (line ∷ lines) [] new = ⊥
 
--- all replies, and all that is written of frames
+-- all replies, and all bytes of frames
 abbrev pub replies_of : List Answer → List ℕ
 replies_of answers = flat_map (λ answer. answer.reply) answers
 
 abbrev pub frames_of : List Answer → List ℕ
 frames_of answers = flat_map (λ answer. answer.frames) answers
 
--- between two moments a line was answered, and the answer is what the two writers gained
+-- between two moments a line was answered, and the two writers gained the answer
 pub record Serves (old : Now) (line : Line) (frames frames' replies replies' : Option (List ℕ)) (new : Now) : Type 0 where
   pub answer : Answer
   pub means : Answers old line answer new
   pub shown : Appends frames frames' answer.frames
   pub said : Appends replies replies' answer.reply
 
--- between two moments these lines were answered, and the answers are what the two writers gained
+-- between two moments these lines were answered, and the two writers gained the answers
 pub record Runs (old : Now) (lines : List Line) (frames frames' replies replies' : Option (List ℕ)) (new : Now) : Type 0 where
   pub answers : List Answer
   pub means : Run old lines answers new
   pub shown : Appends frames frames' (frames_of answers)
   pub said : Appends replies replies' (replies_of answers)
 
--- between two moments a line was answered, at least as far as its frames: no byte of the reply was written, or all that the line writes of frames
--- was (the replies are left open: `None`)
+-- between two moments a line was answered, at least up to its reply: no byte of the reply was written, or all bytes of its frame
+-- were (the reply is left open: `None`)
 abbrev pub WritesFrameFirst : (old : Now) → (line : Line) → (frames frames' replies replies' : Option (List ℕ)) → (new : Now) → Type 0
 WritesFrameFirst old line frames frames' replies replies' new = Keeps replies replies' ⊎ Serves old line frames frames' None None new
 
--- between two moments these lines were answered up to an error of a writer: the lines before one in whole, and that one at least as far as its frames
+-- between two moments these lines were answered up to a writer's error: the lines before one in whole, and that one at least up to its reply
 pub record Stops (old : Now) (lines : List Line) (frames frames' replies replies' : Option (List ℕ)) : Type 0 where
   pub done : List Line
   pub line : Line
@@ -122,13 +122,13 @@ pub record Stops (old : Now) (lines : List Line) (frames frames' replies replies
   pub new : Now
   pub frame_first : WritesFrameFirst mid line frames_mid frames' replies_mid replies' new
 
--- the requests of this text were answered over the file that these bytes are
+-- the requests of this text were answered over the file of these bytes
 pub record Means (tables : Tables) (bytes requests : List ℕ) (frames frames' replies replies' : Option (List ℕ)) (end : Now) : Type 0 where
   pub file : Ivf
   pub is : IsIvf bytes file
   pub runs : Runs (start tables file) (requests_of requests) frames frames' replies replies' end
 
--- when a run gives no session: a fault of the file comes exactly where reading the file answers it
+-- when a run returns no session: a file error is exactly the error of reading the file
 abbrev pub RunRefuses : List ℕ → RunFault → Type 0
 RunRefuses bytes (faults.Ivf fault) = IvfRefuses bytes fault
 RunRefuses bytes faults.Write = (file : Ivf) × IsIvf bytes file
@@ -140,7 +140,7 @@ Leaves (faults.Ivf fault) old new = Keeps old new
 Leaves faults.Write old new = Unit {0}
 Leaves faults.NoMemory old new = Keeps old new
 
--- a run that a writer's error ends stops in its request list: no reply is begun before its frame is written whole
+-- a run that a writer's error ends stops within its request list: no reply begins before its whole frame is written
 abbrev pub RunStops : Tables → (bytes requests : List ℕ) → (frames frames' replies replies' : Option (List ℕ)) → RunFault → Type 0
 RunStops tables bytes requests frames frames' replies replies' (faults.Ivf fault) = Unit {0}
 RunStops tables bytes requests frames frames' replies replies' faults.Write =

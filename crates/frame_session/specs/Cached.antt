@@ -1,5 +1,5 @@
--- What a session keeps to answer by, beside what its answers depend on: the marks of its packets and its cache.
-use Rattle.std.specs.Prelude.{◌≡◌, ℕ, ◌≤◌, Bool, true, false, [], List, length, slice_get, Option, Some, None, Result, Ok, Err, option_and_then, is_ok}
+-- The state of a session that its answers do not depend on: the marks of its packets and its cache.
+use Rattle.std.specs.Prelude.{◌≡◌, ℕ, ◌≤◌, Bool, true, false, [], List, length, slice_get, Option, Some, None, Result, Ok, Err, option_and_then}
 use Rattle.vp8_tables.specs.declared.tables.Tables.{Tables}
 use Rattle.stream_files.specs.declared.ivf.Ivf.{Ivf}
 use Rattle.packet_edits.specs.Edits.{Listing}
@@ -17,7 +17,7 @@ use Rattle.frame_session.specs.declared.refusal.Refusal.{Refusal}
 use Rattle.frame_session.specs.declared.refusal.Refusal.TheVariants as refusals
 use Rattle.frame_session.specs.Sessions.{Now, shown_count, start, stream_of}
 
--- a session: what its answers depend on, a mark or none for each packet, and its cache
+-- a session: the state that its answers depend on, a mark or none for each packet, and its cache
 pub record SessionValue : Type 0 where
   pub now : Now
   pub marks : List Bool
@@ -27,7 +27,7 @@ pub record SessionValue : Type 0 where
 abbrev pub store_of : SessionValue → StoreValue
 store_of session = record { list = session.now.list; marks = session.marks }
 
--- a session as it begins: no packet is marked, and no outcome is kept
+-- a new session: no packet is marked, and no outcome is cached
 abbrev pub begun : Tables → ℕ → Ivf → SessionValue
 begun tables capacity file = record {
   now = start tables file;
@@ -35,13 +35,13 @@ begun tables capacity file = record {
   cache = record { entries = []; capacity = capacity; decoded = 0 };
 }
 
--- what is kept is coherent with the packets and their marks, is of packets that stand, and is no more than may be kept
+-- the cached outcomes are coherent with the packets and their marks, belong to packets of the list, and are at most as many as the capacity
 pub record IsSound (tables : Tables) (store : StoreValue) (cache : CacheValue) : Type 0 where
   pub coherent : IsCoherent tables (seens store) (view_of cache)
   pub stand : StandIn store.list (view_of cache)
   pub bounded : length cache.entries ≤ cache.capacity
 
--- the place of the packet that frame n comes from, if so many frames are served
+-- the index of the packet that frame n comes from, if there is such a frame
 abbrev pub place_of : Now → ℕ → Option ℕ
 place_of now n = option_and_then (λ origin. slice_get (shown_places (stream_of now)) origin.frame) (traced (shown_count now) now.script n)
 
@@ -52,13 +52,13 @@ needs_picture (Err refusals.CropOutside) = true
 needs_picture (Err refusals.SizeDiffers) = true
 needs_picture (Err refusal) = false
 
--- a frame costs what reaching its packet costs; if the answer follows from the packet's picture, the packet was reached. With no packet nothing changes
+-- a frame costs as much as reaching its packet; if the answer follows from the packet's picture, the packet was reached. With no packet nothing changes
 abbrev pub FrameCosts : Option ℕ → SessionValue → Result PictureSamples Refusal → SessionValue → Type 0
 FrameCosts None old answer new = new ≡ old
 FrameCosts (Some index) old answer new =
     (reached : Bool) × Costs old.now.tables (store_of old) old.cache index reached (store_of new) new.cache × (needs_picture answer ≡ true → reached ≡ true)
 
--- the marks behind an edit that is accepted
+-- the marks after an edit that is accepted
 abbrev pub marks_edited : Edit → List Bool → List Bool
 marks_edited (Insert at stamp bytes) marks = marks_inserted at marks
 marks_edited (Replace at bytes) marks = marks_replaced at marks
@@ -67,26 +67,26 @@ marks_edited (Move from to) marks = marks_moved from to marks
 marks_edited (Blank at width height) marks = marks_inserted at marks
 marks_edited (Hold at) marks = marks_inserted at marks
 
--- what stands behind an edit that was answered so: what it makes, or what stood before where it is refused
+-- the value after an edit with this result: the new value, or the old one if it is refused
 abbrev pub behind_answer : {A : Type 0} → A → A → Result ℕ Refusal → A
 behind_answer made before (Ok count) = made
 behind_answer made before (Err refusal) = before
 
--- the marks behind an edit that was answered so
+-- the marks after an edit with this result
 abbrev pub marks_after : Edit → List Bool → Result ℕ Refusal → List Bool
 marks_after edit marks answer = behind_answer (marks_edited edit marks) marks answer
 
--- the id of the packet that an edit takes out of the list, if it takes one
+-- the id of the packet that an edit removes from the list, if it removes one
 abbrev pub leaving : Edit → Listing → Option ℕ
 leaving (Replace at bytes) list = id_at list.entries at
 leaving (Delete at) list = id_at list.entries at
 leaving edit list = None
 
--- the id that left by an edit that was answered so
+-- the id that was removed by an edit with this result
 abbrev pub left_behind : Edit → Listing → Result ℕ Refusal → Option ℕ
 left_behind edit list answer = behind_answer (leaving edit list) None answer
 
--- where a packet left, nothing is kept for its id any more and all else is as it was; where none did, the cache is as it was
+-- if a packet was removed, nothing is cached for its id and all else is unchanged; if none was, the cache is unchanged
 abbrev pub CacheWithout : Option ℕ → CacheValue → CacheValue → Type 0
 CacheWithout None old new = new ≡ old
 CacheWithout (Some id) old new = IsWithout id (view_of old) (view_of new) × (new.capacity ≡ old.capacity) × (new.decoded ≡ old.decoded)

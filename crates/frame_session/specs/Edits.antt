@@ -1,4 +1,4 @@
--- Edits as a session is asked for them: what each makes of the packet list, and its answer.
+-- Edits of a session: the new packet list, and the result.
 use Rattle.std.specs.Prelude.{ℕ, ◌-◌, ◌==◌, [], List, length, slice_get, Option, Some, None, Result, Ok, Err, option_map, if◌then◌else◌, ◌≡◌}
 use Rattle.std.specs.Option.{option_map_or}
 use Rattle.std.specs.Result.{result_unwrap_or}
@@ -16,33 +16,33 @@ use Rattle.frame_session.specs.declared.refusal.Refusal.{Refusal}
 use Rattle.frame_session.specs.declared.refusal.Refusal.TheVariants as refusals
 use Rattle.frame_session.specs.Gives.{Gives}
 
--- the refusal of a request whose edit has a fault
+-- the refusal of a request whose edit has an error
 abbrev pub refusal_by : EditFault → Refusal
 refusal_by faults.Place = refusals.Place
 refusal_by faults.Full = refusals.Full
 refusal_by faults.Spent = refusals.Spent
 refusal_by faults.NoMemory = refusals.NoMemory
 
--- the refusal of a request whose packet is not forged
+-- the refusal of a request whose packet cannot be forged
 abbrev pub refusal_by_forging : ForgeFault → Refusal
 refusal_by_forging forging.Size = refusals.Size
 refusal_by_forging forging.TooLarge = refusals.TooLarge
 refusal_by_forging forging.NoMemory = refusals.NoMemory
 
--- the stamp of the packet before a place, and 0 where none stands there
+-- the time stamp of the packet before an index, and 0 if there is none
 abbrev pub stamp_before : ℕ → Listing → ℕ
 stamp_before at list = if at == 0 then 0 else option_map_or (λ entry. entry.stamp) (slice_get list.entries (at - 1)) 0
 
--- what is forged to hold a picture of this size: nothing where there is none
+-- the packet that is forged to hold a picture of this size: an error if there is none
 abbrev pub held : Tables → Option (ℕ × ℕ) → Result (List ℕ) ForgeFault
 held tables None = Err forging.Size
 held tables (Some size) = hold_of tables size.0 size.1
 
--- the packet that holds the picture at a place: its size is that of the key frames before it
+-- the packet that holds the picture at an index: its size is that of the key frames before it
 abbrev pub held_at : Tables → Listing → ℕ → Result (List ℕ) ForgeFault
 held_at tables list at = held tables (size_at at list)
 
--- a forged packet put in at a place, with the stamp of the packet before
+-- a forged packet inserted at an index, with the time stamp of the packet before it
 abbrev pub inserted_forged : ℕ → Result (List ℕ) ForgeFault → Listing → Listing
 inserted_forged at forged list = inserted at (stamp_before at list) (result_unwrap_or forged []) list
 
@@ -55,7 +55,7 @@ edited tables (Move from to) list = with_move from to list
 edited tables (Blank at width height) list = inserted_forged at (blank_of tables width height) list
 edited tables (Hold at) list = inserted_forged at (held_at tables list at) list
 
--- the first refusal of a forged packet: that of its insertion, or else that of its forging
+-- the first refusal of a forged packet: its insertion's, or otherwise its forging's
 abbrev pub refused_forged : Option EditFault → Result (List ℕ) ForgeFault → Option Refusal
 refused_forged (Some fault) forged = Some (refusal_by fault)
 refused_forged None (Err fault) = Some (refusal_by_forging fault)
@@ -70,23 +70,23 @@ refused_edit tables list (Move from to) = option_map refusal_by (refused_move li
 refused_edit tables list (Blank at width height) = refused_forged (refused_insertion list at) (blank_of tables width height)
 refused_edit tables list (Hold at) = refused_forged (refused_insertion list at) (held_at tables list at)
 
--- the answer where nothing is refused
+-- the result if nothing is refused
 abbrev pub unless_refused : Option Refusal → ℕ → Result ℕ Refusal
 unless_refused None count = Ok count
 unless_refused (Some refusal) count = Err refusal
 
--- an edit's answer: how many packets stand behind it, or the first refusal
+-- an edit's result: the new number of packets, or the first refusal
 abbrev pub edit_of : Tables → Listing → Edit → Result ℕ Refusal
 edit_of tables list edit = unless_refused (refused_edit tables list edit) (length (edited tables edit list).entries)
 
--- what may be answered to an edit: want of memory where a packet is put in
+-- the results that an edit may have: an insertion may also be out of memory
 abbrev pub EditGives : Tables → Listing → Edit → Result ℕ Refusal → Type 0
 EditGives tables list (Insert at stamp bytes) answer = Gives (edit_of tables list (Insert at stamp bytes)) answer
 EditGives tables list (Blank at width height) answer = Gives (edit_of tables list (Blank at width height)) answer
 EditGives tables list (Hold at) answer = Gives (edit_of tables list (Hold at)) answer
 EditGives tables list edit answer = answer ≡ edit_of tables list edit
 
--- the list after an edit that was answered so
+-- the list after an edit with this result
 abbrev pub after_edit : Tables → Edit → Listing → Result ℕ Refusal → Listing
 after_edit tables edit list (Ok count) = edited tables edit list
 after_edit tables edit list (Err refusal) = list

@@ -1,11 +1,11 @@
--- Answers that may lack memory.
+-- Results that may be out of memory instead.
 use Rattle.std.specs.Prelude.{◌≡◌, Result, Ok, Err}
 use Rattle.pixel_planes.specs.Pictures.{PictureSamples, IsWholePicture}
 use Rattle.script_nodes.specs.Shown.{Shown, Shows}
 use Rattle.frame_session.specs.declared.refusal.Refusal.{Refusal}
 use Rattle.frame_session.specs.declared.refusal.Refusal.TheVariants as refusals
 
--- want of memory may be told in place of it
+-- NoMemory may be reported instead of this result
 abbrev pub MayLackMemory : {A : Type 0} → Result A Refusal → Type 0
 MayLackMemory (Ok a) = Unit {0}
 MayLackMemory (Err (refusals.Packet place cause)) = Unit {0}
@@ -24,7 +24,7 @@ MayLackMemory (Err refusals.Nodes) = ⊥
 MayLackMemory (Err refusals.Reference) = ⊥
 MayLackMemory (Err refusals.Number) = ⊥
 
--- the answer is the one that is wanted, or that there was no memory
+-- the result is the wanted one, or NoMemory where that may be reported instead
 abbrev pub Gives : {A : Type 0} → Result A Refusal → Result A Refusal → Type 0
 Gives want (Err refusals.NoMemory) = MayLackMemory want
 Gives want (Err refusals.Line) = want ≡ Err refusals.Line
@@ -43,7 +43,7 @@ Gives want (Err refusals.SizeDiffers) = want ≡ Err refusals.SizeDiffers
 Gives want (Err (refusals.Packet place cause)) = want ≡ Err (refusals.Packet place cause)
 Gives want (Ok a) = want ≡ Ok a
 
--- the answer is a whole picture that shows the frame that is wanted, or a refusal that may be told
+-- the result is a whole picture that shows the wanted frame, or a refusal that may be reported
 abbrev pub GivesFrame : Result Shown Refusal → Result PictureSamples Refusal → Type 0
 GivesFrame want (Ok picture) = (shown : Shown) × (want ≡ Ok shown) × Shows picture shown × IsWholePicture picture
 GivesFrame want (Err refusal) = Gives want (Err refusal)

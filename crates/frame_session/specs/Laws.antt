@@ -1,4 +1,4 @@
--- What the meaning of a request list comes to, as laws over its definition.
+-- Laws that follow from the definition of a request list's meaning.
 use Rattle.std.specs.Prelude.{◌≡◌, ℕ, ◌≤◌, List, [], ◌∷◌}
 use Rattle.frame_session.specs.declared.lines.Line.{Line}
 use Rattle.frame_session.specs.declared.lines.Line.TheVariants.{Stats}
@@ -8,12 +8,12 @@ use Rattle.frame_session.specs.Replies.{refused_line, stats_line}
 use Rattle.frame_session.specs.Sessions.{Now}
 use Rattle.frame_session.specs.Answers.{Answer, Answers, Run, told}
 
--- no answer tells of want of memory
+-- no reply is `refused NoMemory`
 abbrev pub HaveMemory : List Answer → Type 0
 HaveMemory [] = Unit {0}
 HaveMemory (answer ∷ answers) = (answer.reply ≡ refused_line refusals.NoMemory → ⊥) × HaveMemory answers
 
--- two answers to a line are one, but for the number that `stats` tells
+-- two answers to a line are the same, except for the number that `stats` reports
 abbrev pub AreAlike : Line → Answer → Answer → Type 0
 AreAlike Stats answer answer' = (steps : ℕ) × (steps' : ℕ) × (answer ≡ told (stats_line steps)) × (answer' ≡ told (stats_line steps'))
 AreAlike line answer answer' = answer' ≡ answer
@@ -23,21 +23,21 @@ AllAlike [] [] [] = Unit {0}
 AllAlike (line ∷ lines) (answer ∷ answers) (answer' ∷ answers') = AreAlike line answer answer' × AllAlike lines answers answers'
 AllAlike lines answers answers' = ⊥
 
--- where no answer tells of want of memory, the requests have one answer each but for the numbers that `stats` tells, and
--- what stands behind them differs in the number of steps alone
+-- if no reply is `refused NoMemory`, the requests have one answer each except for the numbers that `stats` reports, and
+-- the states after them differ only in the number of steps
 abbrev pub AnswersAreOne : Type 0
 AnswersAreOne = (old new new' : Now) (lines : List Line) (answers answers' : List Answer) → Run old lines answers new → Run old lines answers' new'
     → HaveMemory answers → HaveMemory answers' → AllAlike lines answers answers' × (new' ≡ record new { decoded = new'.decoded })
 
--- the number that `stats` tells never falls
+-- the number that `stats` reports never falls
 abbrev pub StepsNeverFall : Type 0
 StepsNeverFall = (old new : Now) (lines : List Line) (answers : List Answer) → Run old lines answers new → old.decoded ≤ new.decoded
 
--- a line that is refused changes nothing but the number of steps: neither packets nor ids nor the script nor the fixed size
+-- a refused line changes only the number of steps: neither packets nor ids nor the script nor the fixed size
 abbrev pub RefusedLinesChangeNothing : Type 0
 RefusedLinesChangeNothing = (old new : Now) (line : Line) (answer : Answer) (refusal : Refusal) → Answers old line answer new → answer.reply ≡ refused_line refusal
     → new ≡ record old { decoded = new.decoded }
 
--- from every session, each list of requests has answers of which none tells of want of memory
+-- in every session, each list of requests has answers of which none is `refused NoMemory`
 abbrev pub AnswersExist : Type 0
 AnswersExist = (old : Now) (lines : List Line) → (answers : List Answer) × (new : Now) × Run old lines answers new × HaveMemory answers

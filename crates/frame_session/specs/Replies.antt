@@ -27,12 +27,12 @@ refusal_word refusals.Reference = codes "Reference"
 refusal_word refusals.Number = codes "Number"
 refusal_word refusals.NoMemory = codes "NoMemory"
 
--- a cause as a reply tells it: its name, and the partition's number where it has one
+-- a cause in a reply: its name, and the partition's number if it has one
 abbrev pub cause_text : Cause → List ℕ
 cause_text (causes.TokenPartition k) = codes "TokenPartition " ++ decimal k
 cause_text cause = cause_word cause
 
--- what a refusal says behind the word `refused`
+-- the text after the word `refused`
 abbrev pub refusal_text : Refusal → List ℕ
 refusal_text (refusals.Packet place cause) = codes "packet " ++ decimal place ++ codes " " ++ cause_text cause
 refusal_text refusal = refusal_word refusal
@@ -45,7 +45,7 @@ refused_line refusal = codes "refused " ++ refusal_text refusal ++ 10 ∷ []
 abbrev pub served_line : ℕ → List ℕ
 served_line n = codes "served " ++ decimal n ++ 10 ∷ []
 
--- the reply to an edit or a script that was taken, behind which so many packets stand
+-- the reply to an edit or a script that was accepted, with the new number of packets
 abbrev pub ok_line : ℕ → List ℕ
 ok_line count = codes "ok " ++ decimal count ++ 10 ∷ []
 
@@ -54,15 +54,15 @@ abbrev pub edit_line : Result ℕ Refusal → List ℕ
 edit_line (Ok count) = ok_line count
 edit_line (Err refusal) = refused_line refusal
 
--- how many packets stand, and how many frames the script serves
+-- the number of packets, and the number of frames that the script serves
 abbrev pub count_line : ℕ → ℕ → List ℕ
 count_line packets frames = codes "packets " ++ decimal packets ++ codes " frames " ++ decimal frames ++ 10 ∷ []
 
--- how many steps of decoding were made
+-- the number of decoding steps made
 abbrev pub stats_line : ℕ → List ℕ
 stats_line steps = codes "decoded " ++ decimal steps ++ 10 ∷ []
 
--- the name of a run's fault
+-- the name of a run's error
 abbrev pub run_fault_word : RunFault → List ℕ
 run_fault_word (faults.Ivf fault) = codes "Ivf"
 run_fault_word faults.Write = codes "Write"

@@ -1,4 +1,4 @@
--- What the lines of a request list ask for. The lines of a text are std's `lines`.
+-- The requests of the lines of a request list. The lines of a text are std's `lines`.
 use Rattle.std.specs.Prelude.{ℕ, List, [], ◌∷◌, nat_eq, if◌then◌else◌, codes}
 use Rattle.std.specs.List.{starts_with}
 use Rattle.std.specs.Option.{option_map_or}
@@ -7,12 +7,12 @@ use Rattle.frame_session.specs.declared.lines.Line.{Line}
 use Rattle.frame_session.specs.declared.lines.Line.TheVariants.{Silent, Unknown, Frame, Insert, Replace, Delete, Move, Blank, Hold, Script, Count, Stats}
 use Rattle.frame_session.specs.Words.{words_of, number_of, bytes_of, behind_word}
 
--- a line that goes on with a number, and with what is asked for behind it
+-- a line that continues with a number, and with the words after it
 abbrev pub with_number : (ℕ → List (List ℕ) → Line) → List (List ℕ) → Line
 with_number next [] = Unknown
 with_number next (word ∷ words) = option_map_or (λ n. next n words) (number_of word) Unknown
 
--- a line that goes on with bytes, and with what is asked for behind them
+-- a line that continues with bytes, and with the words after them
 abbrev pub with_bytes : (List ℕ → List (List ℕ) → Line) → List (List ℕ) → Line
 with_bytes next [] = Unknown
 with_bytes next (word ∷ words) = option_map_or (λ bytes. next bytes words) (bytes_of word) Unknown
@@ -22,7 +22,7 @@ abbrev pub at_end : Line → List (List ℕ) → Line
 at_end line [] = line
 at_end line (word ∷ words) = Unknown
 
--- what each command asks for with the words behind it
+-- each command, from the words after it
 abbrev pub frame_by : List (List ℕ) → Line
 frame_by words = with_number (λ n. at_end (Frame n)) words
 
@@ -44,12 +44,12 @@ blank_by words = with_number (λ at. with_number (λ width. with_number (λ heig
 abbrev pub hold_by : List (List ℕ) → Line
 hold_by words = with_number (λ at. at_end (Hold at)) words
 
--- a script: the text behind the command, which has these words
+-- a script: the text after the command, which has these words
 abbrev pub script_by : List ℕ → List (List ℕ) → Line
 script_by text [] = Unknown
 script_by text (word ∷ words) = Script text
 
--- what a line of these words asks for, with this text behind the first: nothing where there are none, or where `#` begins the first
+-- the request of a line with these words and this text after the first: none if there are no words, or if the first begins with `#`
 abbrev pub asked_by_words : List ℕ → List (List ℕ) → Line
 asked_by_words text [] = Silent
 asked_by_words text (command ∷ words) =
@@ -66,6 +66,6 @@ asked_by_words text (command ∷ words) =
     else if bytes_eq command (codes "stats") then at_end Stats words
     else Unknown
 
--- what a line asks for
+-- the request of a line
 abbrev pub asked_by : List ℕ → Line
 asked_by line = asked_by_words (behind_word line) (words_of line)

@@ -1,4 +1,4 @@
--- Scripts as a session is given them.
+-- Scripts of a session.
 use Rattle.std.specs.Prelude.{ℕ, List, Result, Ok, Err}
 use Rattle.script_nodes.specs.declared.faults.ApplyFault.{ApplyFault}
 use Rattle.script_nodes.specs.declared.faults.ApplyFault.TheVariants as applies
@@ -8,7 +8,7 @@ use Rattle.script_nodes.specs.declared.nodes.Node.{Node}
 use Rattle.frame_session.specs.declared.refusal.Refusal.{Refusal}
 use Rattle.frame_session.specs.declared.refusal.Refusal.TheVariants as refusals
 
--- the refusal of a request whose script has a fault
+-- the refusal of a request whose script has an error
 abbrev pub refusal_by_script : ScriptFault → Refusal
 refusal_by_script faults.Syntax = refusals.Syntax
 refusal_by_script faults.Nodes = refusals.Nodes
@@ -21,7 +21,7 @@ abbrev pub refusal_by_apply : ApplyFault → Refusal
 refusal_by_apply applies.CropOutside = refusals.CropOutside
 refusal_by_apply applies.NoMemory = refusals.NoMemory
 
--- the answer to a script where this many packets stand
+-- the result of a script, when there are this many packets
 abbrev pub told_script : ℕ → Result (List Node) ScriptFault → Result ℕ Refusal
 told_script count (Ok nodes) = Ok count
 told_script count (Err fault) = Err (refusal_by_script fault)

@@ -1,4 +1,4 @@
--- The words of a request line, and what they write.
+-- The words of a request line, and the values that they write.
 use Rattle.std.specs.Prelude.{ℕ, drop, ◌^◌, Bool, List, [], Option, None, Some, ◌&&◌, ◌==◌, not, nat_lt, nat_le, if◌then◌else◌, filter, length, codes}
 use Rattle.std.specs.Char.{is_ascii_digit}
 use Rattle.std.specs.List.{list_all, position_or_len, prefix_len, slice_split}
@@ -7,15 +7,15 @@ use Rattle.std.specs.Str.{bytes_eq}
 use Rattle.std.specs.Str.Parse.{digits_value}
 use Rattle.hex.specs.Hex.{decode_of}
 
--- the words of a line: the parts between spaces, but for the empty ones
+-- the words of a line: the parts between spaces, except empty ones
 abbrev pub words_of : List ℕ → List (List ℕ)
 words_of line = filter (λ word. not (length word == 0)) (slice_split (λ b. b == 32) line)
 
--- what stands in front of the first word is left out
+-- the line from its first word, without leading spaces
 abbrev pub from_word : List ℕ → List ℕ
 from_word line = drop (prefix_len (λ b. b == 32) line) line
 
--- what stands behind the first word, with its spaces
+-- the text after the first word, with its spaces
 abbrev pub behind_word : List ℕ → List ℕ
 behind_word line = drop (position_or_len (λ b. b == 32) (from_word line)) (from_word line)
 
@@ -31,6 +31,6 @@ number_of word = if is_numeral word && nat_lt (digits_value 10 word) (2 ^ 64) th
 abbrev pub digits_bytes : List ℕ → List ℕ
 digits_bytes digits = result_unwrap_or (decode_of digits) []
 
--- the bytes that a word writes: none for `-`, else those of an even number of hexadecimal digits
+-- the bytes that a word writes: none for `-`, otherwise an even number of hexadecimal digits
 abbrev pub bytes_of : List ℕ → Option (List ℕ)
 bytes_of word = if bytes_eq word (codes "-") then Some [] else result_ok (decode_of word)

@@ -11,31 +11,31 @@ use std::alloc::Global;
 use stream_files::Bytes;
 use vp8_tables::Tables;
 
-/// A change of the packet list. Places are counted from 0.
+/// A change of the packet list. Indices are counted from 0.
 #[derive(Debug, Drop)]
 pub enum Edit {
-    /// A packet with a new id is put in at place `at`, which is at most the number of packets.
+    /// Inserts a packet with a new id at index `at`, which is at most the number of packets.
     Insert { at: u64, stamp: u64, bytes: Bytes },
-    /// The packet at place `at` gets other bytes and a new id, and keeps its time stamp.
+    /// Gives the packet at index `at` other bytes and a new id; its time stamp stays.
     Replace { at: u64, bytes: Bytes },
-    /// The packet at place `at` is taken out.
+    /// Removes the packet at index `at`.
     Delete { at: u64 },
-    /// The packet at place `from` is taken out and put in at place `to` of the shortened list.
+    /// Removes the packet at index `from` and inserts it at index `to` of the shortened list.
     Move { from: u64, to: u64 },
-    /// A packet whose picture is 128 throughout is put in at place `at`: a key frame of `width` by
-    /// `height` luma samples, each 1 to 16,383. It has the time stamp of the packet before, or 0.
+    /// Inserts a packet whose picture is 128 throughout at index `at`: a key frame of `width` by
+    /// `height` luma samples, each 1 to 16,383. It has the time stamp of the packet before it, or 0.
     Blank { at: u64, width: u64, height: u64 },
-    /// A packet that shows the last reference again is put in at place `at`, of the size that the last
-    /// packet with a key tag before it tells. It has the time stamp of the packet before, or 0.
+    /// Inserts a packet that shows the last reference again at index `at`. Its size is the one of the last
+    /// packet with a key tag before `at`. It has the time stamp of the packet before it, or 0.
     Hold { at: u64 },
 }
 
-/// Makes an edit, and gives how many packets stand then.
+/// Makes an edit, and returns the new number of packets.
 ///
-/// An insertion is refused as `Place`, `Full`, `Spent` and then `NoMemory`; that of a forged packet as
-/// `Place`, `Full`, `Spent`, `Size`, `TooLarge` and then `NoMemory`, which may stand in place of
-/// `TooLarge`; a replacement as `Place` and then `Spent`, and the others as `Place`. The list is then
-/// as it was.
+/// Refusals come in this order. An insertion: `Place`, `Full`, `Spent`, `NoMemory`. A forged packet:
+/// `Place`, `Full`, `Spent`, `Size`, `TooLarge`, `NoMemory`; `NoMemory` may also come instead of
+/// `TooLarge`. A replacement: `Place`, `Spent`. The others: `Place`. A refused edit leaves the list
+/// unchanged.
 pub fn make_edit(
     alloc: Global,
     tables: &Tables,

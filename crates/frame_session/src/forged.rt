@@ -1,4 +1,4 @@
-// Edits that put in a forged packet.
+// Edits that insert a forged packet.
 ghost use Rattle.std.specs.Prelude.{◌≡◌, Ok, IfOk, IfErr};
 ghost use Rattle.packet_forge.specs.Faults.{ForgeRefuses};
 ghost use Rattle.packet_forge.specs.Packets.{blank_of, is_side};
@@ -15,7 +15,7 @@ use std::alloc::Global;
 use stream_files::Bytes;
 use vp8_tables::Tables;
 
-/// The time stamp of the packet before place `at`, or 0 where none stands there.
+/// The time stamp of the packet before index `at`, or 0 if there is none.
 fn stamp_before(list: &Store, at: u64) -> u64
     ensures { result ≡ stamp_before at list.now.list }
 {
@@ -28,14 +28,14 @@ fn stamp_before(list: &Store, at: u64) -> u64
     list.stamp((at - 1) as usize)
 }
 
-/// Whether a frame can have a side.
+/// Whether a frame can have this width or height.
 fn is_side(side: u64) -> bool
     ensures { result ≡ is_side side }
 {
     0 < side && side <= 16_383
 }
 
-/// A blank packet of a size of any numbers.
+/// A blank packet of any size: width and height may be any numbers.
 fn forge_blank(
     alloc: Global,
     tables: &Tables,
@@ -51,7 +51,7 @@ fn forge_blank(
     blank(alloc, tables, width as u16, height as u16)
 }
 
-/// A packet that holds a picture of this size.
+/// A hold packet for a picture of this size.
 fn forge_hold(
     alloc: Global,
     tables: &Tables,
@@ -66,7 +66,7 @@ fn forge_hold(
     }
 }
 
-/// Puts in a blank packet, which is forged once its insertion is not refused.
+/// Inserts a blank packet, which is forged only if its insertion is not refused.
 pub(crate) fn insert_blank(
     alloc: Global,
     tables: &Tables,
@@ -88,7 +88,7 @@ pub(crate) fn insert_blank(
     }
 }
 
-/// Puts in a packet that holds the picture before it, which is forged once its insertion is not
+/// Inserts a packet that repeats the last reference, which is forged only if its insertion is not
 /// refused.
 pub(crate) fn insert_hold(
     alloc: Global,

@@ -1,4 +1,4 @@
-//! Bytes that a request line writes in hexadecimal digits.
+//! Bytes as hexadecimal digits in a request line.
 
 ghost use Rattle.std.specs.Prelude.{◌≡◌, IfOk, codes};
 ghost use Rattle.std.specs.Str.{bytes_eq};
@@ -12,7 +12,7 @@ use std::alloc::Global;
 use std::marker::Model;
 use stream_files::Bytes;
 
-/// A word that writes bytes, not yet read: an even number of hexadecimal digits of either case. A
+/// A word that writes bytes, not yet decoded: an even number of hexadecimal digits of either case. A
 /// contract sees the bytes.
 #[derive(Drop)]
 pub struct Hex<'a> {
@@ -32,8 +32,8 @@ impl<'a> Model for Hex<'a> {
 }
 
 impl<'a> Hex<'a> {
-    /// The bytes that a word writes: `-` for none, else hexadecimal digits, two for each byte.
-    /// `None` where it is neither. Nothing is allocated.
+    /// The bytes that a word writes: `-` for none, otherwise two hexadecimal digits for each byte.
+    /// `None` if it is neither. Nothing is allocated.
     pub fn of_word(word: &'a [u8]) -> Option<Hex<'a>>
         ensures { result ≡ bytes_of word.now }
     {
@@ -49,7 +49,7 @@ impl<'a> Hex<'a> {
         Some(Hex { digits: word })
     }
 
-    /// The bytes, in memory of their own.
+    /// Decodes the bytes into memory of their own.
     pub fn read(self, alloc: Global) -> Result<Bytes, NoMemory>
         ensures { IfOk result (λ bytes. bytes ≡ self.entry) }
     {

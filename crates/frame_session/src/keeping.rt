@@ -1,4 +1,4 @@
-//! What a session keeps from one request to the next: packets with their marks, and a cache that is
+//! The state that a session keeps between requests: packets with their marks, and a cache that is
 //! coherent with them.
 ghost use Rattle.std.specs.Prelude.{◌≡◌, ◌<◌, ◌≤◌, OnErr, is_ok, length, slice_get};
 ghost use Rattle.packet_edits.specs.Shown.{stream_of};
@@ -19,7 +19,7 @@ use state_cache::{Cache, ReachFault};
 use std::alloc::Global;
 use vp8_tables::Tables;
 
-/// The picture at the place of a packet, where one stands.
+/// The picture of the packet at index `place`.
 #[tactic(auto, using(crate::proofs::Sound::reached_sound, crate::proofs::Sound::picture_given, crate::proofs::Sound::break_given, crate::proofs::Sound::nothing_given))]
 pub(crate) fn picture_at(
     tables: &Tables,
@@ -46,7 +46,7 @@ pub(crate) fn picture_at(
     }
 }
 
-/// The id of the packet at place `at`, if one stands there.
+/// The id of the packet at index `at`, if there is one.
 #[tactic(auto, using(crate::proofs::Sound::no_id))]
 fn id_at(list: &Store, at: u64) -> Option<u64>
     ensures { result ≡ id_at list.now.list.entries at }
@@ -58,7 +58,7 @@ fn id_at(list: &Store, at: u64) -> Option<u64>
     }
 }
 
-/// The id of the packet that an edit takes out of the list, if it takes one.
+/// The id of the packet that an edit removes from the list, if it removes one.
 fn leaving(list: &Store, edit: &Edit) -> Option<u64>
     ensures { result ≡ leaving edit.now list.now.list }
 {
@@ -69,7 +69,7 @@ fn leaving(list: &Store, edit: &Edit) -> Option<u64>
     }
 }
 
-/// Drops what is kept for the packet that left, where one did.
+/// Drops the cached outcome of the packet that was removed, if one was.
 fn drop_left(cache: &mut Cache, left: Option<u64>)
     ensures without { CacheWithout left cache.old cache.new }
     ensures bounded { length cache.old.entries ≤ cache.old.capacity → length cache.new.entries ≤ cache.new.capacity }
@@ -81,8 +81,8 @@ fn drop_left(cache: &mut Cache, left: Option<u64>)
     }
 }
 
-/// Makes an edit, drops what is kept for a packet that leaves by it, and gives how many packets stand
-/// then. Where the edit is refused all is as it was.
+/// Makes an edit, drops the cached outcome of a packet that it removes, and returns the new number of
+/// packets. A refused edit changes nothing.
 pub(crate) fn edit_kept(
     alloc: Global,
     tables: &Tables,

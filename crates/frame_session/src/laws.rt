@@ -11,23 +11,23 @@ ghost use Rattle.frame_session.specs.Laws.{AnswersAreOne, AnswersExist, RefusedL
 
 use vp8_tables::Tables;
 
-/// Each request list has a meaning in which memory is never refused.
+/// Each request list has a meaning in which nothing is out of memory.
 pub fn answers_exist()
     ensures { AnswersExist }
 {}
 
-/// Where memory is never refused, a request list has one meaning, but for the number of steps, which
-/// `stats` tells.
+/// If nothing is out of memory, a request list has one meaning, except for the number of steps that
+/// `stats` reports.
 pub fn answers_are_one()
     ensures { AnswersAreOne }
 {}
 
-/// The number that `stats` tells never falls.
+/// The number that `stats` reports never falls.
 pub fn steps_never_fall()
     ensures { StepsNeverFall }
 {}
 
-/// A refused line changes nothing but the number of steps: neither packets nor ids nor the script
+/// A refused line changes only the number of steps: neither packets nor ids nor the script
 /// nor the fixed size.
 pub fn refused_lines_change_nothing()
     ensures { RefusedLinesChangeNothing }
@@ -53,7 +53,7 @@ pub fn worked_edits(tables: &Tables)
     ensures no_key { edit_of tables.now three (edits.Hold 3) ≡ Err refusals.Size }
 {}
 
-/// What lines ask for.
+/// The requests of worked lines.
 #[tactic(auto, unfolding(hex::specs::Hex::decode_pairs))]
 pub fn worked_lines()
     ensures insert { asked_by (codes "insert 1 2 0aF9") ≡ requests.Insert 1 2 (10 ∷ 249 ∷ []) }

@@ -1,4 +1,4 @@
-//! Sessions over a stream: its packets decoded from the start, its script, its request lines read and answered,
+//! Sessions over a stream: packets decoded from the start, a script, request lines and their replies,
 //! and `run`, which does all of that over the bytes of a file and of a request list.
 #![tactic(auto)]
 

@@ -1,4 +1,4 @@
-//! Reads the lines of a request list: lines, words, numbers, and what a line asks for.
+//! Reads the lines of a request list: lines, words, numbers, and requests.
 
 ghost use Rattle.std.specs.Prelude.{◌≡◌, ℕ, List, ◌<◌, ◌≤◌, ◌==◌, [], ◌∷◌, length, MatchOption, IfSome, IfNone};
 ghost use Rattle.std.specs.Char.{is_ascii_digit};
@@ -16,39 +16,39 @@ use std::str;
 /// The most digits of a number.
 const MOST_DIGITS: usize = 20;
 
-/// What a request line asks for.
+/// A request line.
 #[derive(Drop)]
 pub enum Line<'a> {
     /// No words, or a comment: no reply.
     Silent,
-    /// No request, which is refused.
+    /// Not a request: refused.
     Unknown,
-    /// The frame of this number, counted from 0.
+    /// Serves the frame with this number, counted from 0.
     Frame(u64),
-    /// A packet put in at place `at`.
+    /// Inserts a packet at index `at`.
     Insert { at: u64, stamp: u64, bytes: Hex<'a> },
-    /// Other bytes for the packet at place `at`.
+    /// Replaces the bytes of the packet at index `at`.
     Replace { at: u64, bytes: Hex<'a> },
-    /// The packet at place `at` taken out.
+    /// Removes the packet at index `at`.
     Delete { at: u64 },
-    /// The packet at place `from` moved to place `to` of the others.
+    /// Moves the packet at index `from` to index `to` of the others.
     Move { from: u64, to: u64 },
-    /// A blank packet put in at place `at`, of this many luma samples.
+    /// Inserts a blank packet of this many luma samples at index `at`.
     Blank { at: u64, width: u64, height: u64 },
-    /// A packet put in at place `at` that holds the picture before it.
+    /// Inserts a packet at index `at` that repeats the last reference.
     Hold { at: u64 },
-    /// Another script.
+    /// Sets another script.
     Script(ScriptText<'a>),
-    /// How many packets stand, and how many frames the script serves.
+    /// Reports the number of packets and the number of frames that the script serves.
     Count,
-    /// How many steps of decoding were made.
+    /// Reports the number of decoding steps made.
     Stats,
 }
 
-/// The first line of a text and what follows it, or `None` where no line is left.
+/// The first line of a text and the text after it, or `None` if no line is left.
 ///
-/// A line ends at a newline, which the last may lack. One carriage return before the newline is
-/// dropped; at the end of a last line that lacks its newline it stays.
+/// A line ends at a newline; the last line may be unterminated. One carriage return before the newline is
+/// dropped; at the end of an unterminated last line it is part of that line, as in Rust's `lines`.
 pub fn next_line(text: &[u8]) -> Option<(&[u8], &[u8])>
     ensures next { MatchOption result (lines text.now ≡ []) (λ found. lines text.now ≡ found.0.now ∷ lines found.1.now) }
     ensures shorter { IfSome result (λ found. length found.1.now < length text.now) }
@@ -64,7 +64,7 @@ pub fn next_line(text: &[u8]) -> Option<(&[u8], &[u8])>
     }
 }
 
-// How many bytes stand before the first of this value, or before the end.
+// The number of bytes before the first of this value, or before the end.
 fn length_before(byte: u8, text: &[u8]) -> usize
     ensures value { result ≡ position_or_len (λ b. b == byte) text.now }
     ensures within { result ≤ length text.now }
@@ -78,10 +78,10 @@ fn without_carriage_return(line: &[u8]) -> &[u8]
     line.strip_suffix(b"\r").unwrap_or(line)
 }
 
-/// The first word of a line and what stands behind it, or `None` where no word is left.
+/// The first word of a line and the text after it, or `None` if no word is left.
 ///
-/// Words are parted by one or more spaces, and spaces at both ends of the line are dropped. A
-/// space is the byte 32 alone.
+/// Words are separated by one or more spaces, and spaces at both ends of the line are dropped. Only
+/// byte 32 is a space.
 pub fn next_word(line: &[u8]) -> Option<(&[u8], &[u8])>
     ensures next { MatchOption result (words_of line.now ≡ []) (λ found. words_of line.now ≡ found.0.now ∷ words_of found.1.now) }
     ensures behind { IfSome result (λ found. found.1.now ≡ behind_word line.now) }
@@ -101,7 +101,7 @@ fn leading_spaces(line: &[u8]) -> usize
     line.iter().take_while(|byte| **byte == b' ').count()
 }
 
-/// The number that a word writes: 1 to 20 decimal digits, of a value that fits 64 bits.
+/// The number that a word writes: 1 to 20 decimal digits, with a value that fits 64 bits.
 pub fn number(word: &[u8]) -> Option<u64>
     ensures { result ≡ number_of word.now }
 {
@@ -123,7 +123,7 @@ fn has_digits_alone(word: &[u8]) -> bool
     word.iter().all(|byte| byte.is_ascii_digit())
 }
 
-/// The number that the next word writes and what stands behind it, or `None` where there is none.
+/// The number that is the next word and the text after it, or `None` if there is none.
 fn next_number(line: &[u8]) -> Option<(u64, &[u8])>
     ensures none { IfNone result ((next : ℕ → List (List ℕ) → Line) → with_number next (words_of line.now) ≡ Unknown) }
     ensures some { IfSome result (λ found. (next : ℕ → List (List ℕ) → Line) → with_number next (words_of line.now) ≡ next found.0 (words_of found.1.now)) }
@@ -135,7 +135,7 @@ fn next_number(line: &[u8]) -> Option<(u64, &[u8])>
     }
 }
 
-/// The bytes that the next word writes and what stands behind it, or `None` where there are none.
+/// The bytes that are the next word and the text after it, or `None` if there are none.
 fn next_bytes(line: &[u8]) -> Option<(Hex<'_>, &[u8])>
     ensures none { IfNone result ((next : List ℕ → List (List ℕ) → Line) → with_bytes next (words_of line.now) ≡ Unknown) }
     ensures some { IfSome result (λ found. (next : List ℕ → List (List ℕ) → Line) → with_bytes next (words_of line.now) ≡ next found.0 (words_of found.1.now)) }
@@ -147,7 +147,7 @@ fn next_bytes(line: &[u8]) -> Option<(Hex<'_>, &[u8])>
     }
 }
 
-/// What is asked for where no word is left.
+/// The request, if no word is left.
 fn ended<'a>(asked: Line<'a>, rest: &[u8]) -> Line<'a>
     ensures { result ≡ at_end asked.entry (words_of rest.now) }
 {
@@ -157,12 +157,12 @@ fn ended<'a>(asked: Line<'a>, rest: &[u8]) -> Line<'a>
     }
 }
 
-/// What a line asks for.
+/// The request of a line.
 ///
-/// A line without words and one whose first word begins with `#` ask for nothing. The requests are
+/// A line without words, or whose first word begins with `#`, has no reply. The requests are
 /// `frame N`, `insert AT STAMP HEX`, `replace AT HEX`, `delete AT`, `move FROM TO`, `blank AT W H`,
-/// `hold AT`, `script TEXT`, `count` and `stats`, where HEX is `-` or an even number of hexadecimal digits, TEXT is the rest of
-/// the line, with a word in it, and the others are numbers; every other line is unknown.
+/// `hold AT`, `script TEXT`, `count` and `stats`. HEX is `-` or an even number of hexadecimal digits, TEXT is the rest of
+/// the line with at least one word, and the others are numbers; every other line is unknown.
 pub fn read_line(line: &[u8]) -> Line<'_>
     ensures { result ≡ asked_by line.now }
 {
@@ -312,7 +312,7 @@ mod tests {
         }
     }
 
-    /// A line's request: its name, its numbers in their order, and its bytes.
+    /// A line's request: its name, its numbers in order, and its bytes.
     type Asked = (&'static str, u64, u64, &'static [u8]);
 
     fn name_of(line: &Line<'_>) -> (&'static str, u64, u64) {

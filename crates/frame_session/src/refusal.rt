@@ -9,49 +9,49 @@ use thiserror::Error;
 /// Why a request is refused.
 #[derive(Clone, Copy, Debug, PartialEq, Eq, Error)]
 pub enum Refusal {
-    /// The line is no request.
+    /// The line is not a request.
     #[error("the line is no request")]
     Line,
-    /// No packet stands at the place.
+    /// There is no packet at the index.
     #[error("no packet stands at the place")]
     Place,
-    /// The most packets stand.
+    /// The list already has the most packets that are allowed.
     #[error("the most packets stand")]
     Full,
     /// No id is left for another packet.
     #[error("no id is left")]
     Spent,
-    /// No frame has the size that a packet was to be forged for.
+    /// No frame has the size that was asked of a forged packet.
     #[error("no frame has the size")]
     Size,
-    /// The first partition of a packet that was to be forged is too large.
+    /// The first partition of a packet to be forged is too large.
     #[error("the forged packet is too large")]
     TooLarge,
-    /// Fewer frames are shown.
+    /// The script serves fewer frames.
     #[error("fewer frames are shown")]
     NoSuchFrame,
-    /// The stream is broken at the packet at `place`, counted from 0.
+    /// The stream is broken at the packet at index `place`, counted from 0.
     #[error("the stream is broken at packet {place}: {cause}")]
     Packet { place: usize, cause: Cause },
-    /// A crop of the script reaches past the size that it meets.
+    /// A crop of the script reaches past the size that it is applied to.
     #[error("a crop of the script reaches past the picture")]
     CropOutside,
-    /// The frame has not the size of the first frame that was served.
+    /// The frame does not have the size of the first frame that was served.
     #[error("the frame has another size than the first frame that was served")]
     SizeDiffers,
-    /// The text of a script is not one of nodes.
+    /// The text of a script does not consist of nodes.
     #[error("the text is not one of nodes")]
     Syntax,
     /// A script has more than 16 nodes.
     #[error("the script has too many nodes")]
     Nodes,
-    /// A node of a script does not use nodes before it alone.
+    /// A node of a script uses a node that is not before it.
     #[error("a node uses one that does not stand before it")]
     Reference,
-    /// A number of a script is not allowed where it stands.
+    /// A number of a script is not allowed at its position.
     #[error("a number of the script is not allowed")]
     Number,
-    /// Memory was refused.
+    /// Out of memory.
     #[error("memory was refused")]
     NoMemory,
 }
@@ -61,7 +61,7 @@ impl Refusal {
     ghost use Rattle.frame_session.specs.Scripts.{refusal_by_apply, refusal_by_script};
     ghost use Rattle.frame_session.specs.Replies.{refusal_word};
 
-    /// The refusal of a request whose edit has a fault.
+    /// The refusal of a request whose edit has an error.
     pub(crate) fn by(fault: EditFault) -> Refusal
         ensures { result ≡ refusal_by fault }
     {
@@ -73,7 +73,7 @@ impl Refusal {
         }
     }
 
-    /// The refusal of a request whose packet is not forged.
+    /// The refusal of a request whose packet cannot be forged.
     pub(crate) fn by_forging(fault: ForgeFault) -> Refusal
         ensures { result ≡ refusal_by_forging fault }
     {
@@ -84,7 +84,7 @@ impl Refusal {
         }
     }
 
-    /// The refusal of a request whose script has a fault.
+    /// The refusal of a request whose script has an error.
     pub(crate) fn by_script(fault: ScriptFault) -> Refusal
         ensures { result ≡ refusal_by_script fault }
     {
@@ -107,7 +107,7 @@ impl Refusal {
         }
     }
 
-    /// The refusal's name; that of `Packet` is `packet`, without its place and cause.
+    /// The refusal's name; that of `Packet` is `packet`, without its index and cause.
     pub fn word(self) -> &'static str
         ensures { result.now ≡ refusal_word self }
     {

@@ -15,7 +15,7 @@ pub fn write_served<W: Write>(w: &mut W, n: u64) -> Result<(), WriteFault>
     writeln!(w, "served {n}").map_err(|_| WriteFault::Write)
 }
 
-/// Writes the reply to an edit that was made, or that is refused.
+/// Writes the reply to an edit, made or refused.
 pub fn write_edited<W: Write>(w: &mut W, answer: Result<u64, Refusal>) -> Result<(), WriteFault>
     ensures { OnOk result (Appends (W.contents w.old) (W.contents w.new) (edit_line answer)) }
 {
@@ -31,21 +31,21 @@ fn write_ok<W: Write>(w: &mut W, count: u64) -> Result<(), WriteFault>
     writeln!(w, "ok {count}").map_err(|_| WriteFault::Write)
 }
 
-/// Writes how many packets stand, and how many frames are shown.
+/// Writes the number of packets and the number of frames served.
 pub fn write_count<W: Write>(w: &mut W, packets: u64, frames: u64) -> Result<(), WriteFault>
     ensures { OnOk result (Appends (W.contents w.old) (W.contents w.new) (count_line packets frames)) }
 {
     writeln!(w, "packets {packets} frames {frames}").map_err(|_| WriteFault::Write)
 }
 
-/// Writes how many steps of decoding were made.
+/// Writes the number of decoding steps made.
 pub fn write_stats<W: Write>(w: &mut W, steps: u64) -> Result<(), WriteFault>
     ensures { OnOk result (Appends (W.contents w.old) (W.contents w.new) (stats_line steps)) }
 {
     writeln!(w, "decoded {steps}").map_err(|_| WriteFault::Write)
 }
 
-/// Writes the reply to a line that is refused.
+/// Writes the reply to a refused line.
 pub fn write_refused<W: Write>(w: &mut W, refusal: Refusal) -> Result<(), WriteFault>
     ensures { OnOk result (Appends (W.contents w.old) (W.contents w.new) (refused_line refusal)) }
 {

@@ -2,7 +2,7 @@ ghost use Rattle.std.specs.Prelude.{◌≡◌};
 
 use std::marker::Model;
 
-/// What a request line writes of a script, not yet read. A contract sees its bytes.
+/// The script text of a request line, not yet parsed. A contract sees its bytes.
 #[derive(Drop)]
 pub struct ScriptText<'a> {
     text: &'a [u8],

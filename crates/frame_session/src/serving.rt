@@ -19,16 +19,16 @@ use stream_files::{Head, IvfFault, WriteFault, ivf_read, y4m_frame, y4m_header};
 use thiserror::Error;
 use vp8_tables::Tables;
 
-/// Why a run gives no session.
+/// Why a run returns no session.
 #[derive(Clone, Copy, Debug, PartialEq, Eq, Error)]
 pub enum RunFault {
-    /// The bytes of the stream are no IVF file, or memory for its packets was refused.
+    /// The bytes of the stream are not an IVF file, or out of memory for its packets.
     #[error("the stream cannot be read: {0}")]
     Ivf(IvfFault),
-    /// A writer refused. Nothing is told of how much went out.
+    /// A writer returned an error. How much was written is left open.
     #[error("a writer refused")]
     Write,
-    /// Memory was refused at the start.
+    /// Out of memory at the start.
     #[error("memory was refused")]
     NoMemory,
 }
@@ -36,7 +36,7 @@ pub enum RunFault {
 impl RunFault {
     ghost use Rattle.frame_session.specs.Replies.{run_fault_word};
 
-    /// The fault's name; that of the file's fault is its own.
+    /// The error's name; that of a file error is `Ivf`.
     pub fn word(self) -> &'static str
         ensures { result.now ≡ run_fault_word self }
     {
@@ -48,7 +48,7 @@ impl RunFault {
     }
 }
 
-/// Writes the line that opens the frames, where its head is due.
+/// Writes the line that opens the frames, if its head is due.
 fn write_opening<F: Write>(
     frames: &mut F,
     head_due: Option<Head>,
@@ -68,7 +68,7 @@ fn write_opening<F: Write>(
     }
 }
 
-/// Writes a frame, behind the line that opens the frames where its head is due.
+/// Writes a frame, after the line that opens the frames if its head is due.
 fn write_frame<F: Write>(
     frames: &mut F,
     head_due: Option<Head>,
@@ -80,8 +80,8 @@ fn write_frame<F: Write>(
     y4m_frame(frames, picture)
 }
 
-/// Writes frame `n`, and then its reply: where a writer refuses, the reply is not begun before the frame
-/// is written whole.
+/// Writes frame `n`, and then its reply: if a writer fails, no byte of the reply was written before the
+/// whole frame.
 fn write_answer<F: Write, R: Write>(
     frames: &mut F,
     replies: &mut R,
@@ -97,7 +97,7 @@ fn write_answer<F: Write, R: Write>(
     write_served(replies, n)
 }
 
-/// Serves frame `n`, or says why it is refused.
+/// Serves frame `n`, or reports why it is refused.
 fn serve_frame<F: Write, R: Write>(
     session: &mut Session,
     n: u64,
@@ -115,7 +115,7 @@ fn serve_frame<F: Write, R: Write>(
     }
 }
 
-/// Tells how many packets stand, and how many frames are served.
+/// Reports the number of packets and the number of frames served.
 fn tell_count<R: Write>(session: &Session, replies: &mut R) -> Result<(), WriteFault>
     ensures { OnOk result (Appends (R.contents replies.old) (R.contents replies.new) (count_line (packet_count session.now.now) (frame_count session.now.now))) }
 {
@@ -123,7 +123,7 @@ fn tell_count<R: Write>(session: &Session, replies: &mut R) -> Result<(), WriteF
     write_count(replies, packets, frames)
 }
 
-/// Makes an edit and tells how many packets stand then, or why it is refused.
+/// Makes an edit and reports the new number of packets, or why it is refused.
 fn serve_edit<R: Write>(
     session: &mut Session,
     edit: Edit,
@@ -197,14 +197,14 @@ fn serve_all<F: Write, R: Write>(
 
 /// Runs a request list over an IVF file.
 ///
-/// `capacity`, 1 to 4,096, is how many decoded states may be kept. The frames that are served go to
-/// `frames` as a YUV4MPEG2 text, whose first line comes with the first frame; a reply for each line
-/// that is neither empty nor a comment goes to `replies`. The session that is given stands where the
-/// list ends.
+/// `capacity`, 1 to 4,096, is the most decoded states that are cached. Served frames go to
+/// `frames` as a YUV4MPEG2 text, whose first line is written with the first frame; a reply for each line
+/// that is neither empty nor a comment goes to `replies`. The session is returned as it is after the last
+/// line.
 ///
-/// `RunFault::Ivf` where the bytes are no IVF file, or memory for its packets was refused, and
-/// `RunFault::NoMemory` where memory for the session was refused: nothing is written then.
-/// `RunFault::Write` where a writer refused; the run ends there.
+/// `RunFault::Ivf` if the bytes are not an IVF file, or out of memory for its packets;
+/// `RunFault::NoMemory` if out of memory for the session: nothing is written then.
+/// `RunFault::Write` if a writer fails; the run ends there.
 pub fn run<F: Write, R: Write>(
     alloc: Global,
     tables: Tables,

@@ -24,8 +24,8 @@ use std::marker::Model;
 use stream_files::{Head, Ivf, WriteFault};
 use vp8_tables::Tables;
 
-/// A stream and what was asked of it so far, with decoded states that are kept from one request to the
-/// next.
+/// A stream and the edits and script applied to it so far, with decoded states that are cached between
+/// requests.
 #[derive(Drop)]
 pub struct Session {
     alloc: Global,
@@ -52,11 +52,11 @@ impl Session {
     ghost use Rattle.frame_session.specs.Cached.{CacheWithout, FrameCosts, IsSound, begun, left_behind, marks_after, needs_picture, place_of, store_of};
     ghost use Rattle.frame_session.specs.Sessions.{IsAfterFrame, behind_edit, behind_script, fits, frame_count, frame_of, head_due, packet_count, picture_from, script_answer, shown_count, size_given};
 
-    /// A session over a file's packets, which are at most 1,048,576. `capacity`, 1 to 4,096, is how
-    /// many decoded states may be kept; none is kept yet. The packets get ids from 0 on, and the script
+    /// A session over a file's packets, at most 1,048,576. `capacity`, 1 to 4,096, is the most
+    /// decoded states that are cached; the cache starts empty. The packets get ids starting at 0, and the script
     /// is empty.
     ///
-    /// `NoMemory` where memory for the packet list or for what is kept was refused.
+    /// `NoMemory` if out of memory for the packet list or the cache.
     pub fn new(alloc: Global, tables: Tables, capacity: u16, file: Ivf) -> Result<Session, NoMemory>
         requires capacity { (1 ≤ capacity) × (capacity ≤ 4096) }
         requires few { length file.packets ≤ 1048576 }
@@ -81,7 +81,7 @@ impl Session {
         })
     }
 
-    /// How many packets are shown, at most 1,048,576.
+    /// The number of shown packets, at most 1,048,576.
     fn shown(&self) -> u64
         ensures value { result ≡ shown_count self.now.now }
         ensures few { result ≤ 1048576 }
@@ -90,7 +90,7 @@ impl Session {
         self.list.frames() as u64
     }
 
-    /// The picture at the place of a packet.
+    /// The picture of the packet at index `place`.
     fn decoded_at(&mut self, place: usize) -> Result<Picture, Refusal>
         requires { place < length self.old.now.list.entries }
         ensures gives { Gives (picture_from (slice_get (outcomes self.old.now.tables (stream_of self.old.now.list)) place)) result }
@@ -113,13 +113,13 @@ impl Session {
         }
     }
 
-    /// Frame `n` of the script as it stands over the shown packets as they stand, counted from 0. What
-    /// the picture's coded samples outside its shown size are is not told.
+    /// Frame `n` of the current script over the current shown packets, counted from 0. The
+    /// picture's coded samples outside its shown size are left open.
     ///
-    /// Refused as `NoSuchFrame` where the script serves fewer frames; `Packet` where the packet that the
-    /// frame comes from is broken; `CropOutside` where a crop reaches past the size that it meets;
-    /// `SizeDiffers` where the frame has another size than the first one given; and as `NoMemory`, in
-    /// place of any but the first.
+    /// Refused as `NoSuchFrame` if the script serves fewer frames; `Packet` if the packet that the
+    /// frame comes from is broken; `CropOutside` if a crop reaches past the size that it is applied to;
+    /// `SizeDiffers` if the frame does not have the size of the first frame served; and `NoMemory`, instead
+    /// of any of these but the first.
     pub fn frame(&mut self, n: u64) -> Result<Picture, Refusal>
         ensures gives { GivesFrame (frame_of self.old.now n) result }
         ensures after { IsAfterFrame self.old.now (size_given result) self.new.now }
@@ -148,11 +148,11 @@ impl Session {
         Ok(made)
     }
 
-    /// Takes the script that a text writes in place of the one that stands, and gives how many packets
-    /// stand.
+    /// Sets the script that a text writes, and returns the number of
+    /// packets.
     ///
     /// Refused as `Syntax`, `Nodes`, `Reference`, `Number` and then `NoMemory`, each over the whole
-    /// text: the old script stands then.
+    /// text: the old script remains then.
     pub fn set_script(&mut self, text: &[u8]) -> Result<u64, Refusal>
         ensures gives { Gives (script_answer self.old.now text.now) result }
         ensures after { self.new ≡ record self.old { now = behind_script text.now self.old.now result } }
@@ -167,14 +167,14 @@ impl Session {
         }
     }
 
-    /// Makes an edit of the packet list, and gives how many packets stand then.
+    /// Makes an edit of the packet list, and returns the new number of packets.
     ///
-    /// An insertion is refused as `Place` where `at` is above the number of packets, `Full` where
-    /// 1,048,576 packets stand, `Spent` where no id is left, and `NoMemory`, in this order; one of a
-    /// forged packet, behind `Spent`, as `Size` where no frame has the size, `TooLarge` where its first
-    /// partition has more than 524,287 bytes, and `NoMemory`, which may stand in place of `TooLarge`; a
-    /// replacement as `Place` where no packet stands at `at`, and `Spent`; a deletion or a move as
-    /// `Place` where no packet stands at one of its places. A refused edit changes nothing.
+    /// Refusals come in this order. An insertion: `Place` if `at` is above the number of packets, `Full` if
+    /// there are 1,048,576 packets, `Spent` if no id is left, and `NoMemory`. A forged packet, after
+    /// `Spent`: `Size` if no frame has the size, `TooLarge` if its first partition has more than 524,287
+    /// bytes, and `NoMemory`, which may also come instead of `TooLarge`. A replacement: `Place` if there
+    /// is no packet at `at`, and `Spent`. A deletion or a move: `Place` if there is no packet at one of its
+    /// indices. A refused edit changes nothing.
     pub fn edit(&mut self, edit: Edit) -> Result<u64, Refusal>
         ensures gives { EditGives self.old.now.tables self.old.now.list edit result }
         ensures after { self.new.now ≡ behind_edit edit self.old.now result }
@@ -192,7 +192,7 @@ impl Session {
         )
     }
 
-    /// Puts in a packet of bytes that are made once nothing else is refused.
+    /// Inserts a packet whose bytes are decoded only once nothing else is refused.
     pub(crate) fn insert_written(
         &mut self,
         at: u64,
@@ -215,7 +215,7 @@ impl Session {
         }
     }
 
-    /// Replaces a packet by bytes that are made once nothing else is refused.
+    /// Replaces a packet by bytes that are decoded only once nothing else is refused.
     pub(crate) fn replace_written(&mut self, at: u64, bytes: Hex<'_>) -> Result<u64, Refusal>
         ensures gives { Gives (edit_of self.old.now.tables self.old.now.list (Replace at bytes.entry)) result }
         ensures after { self.new.now ≡ behind_edit (Replace at bytes.entry) self.old.now result }
@@ -233,7 +233,7 @@ impl Session {
         }
     }
 
-    /// How many packets stand, and how many frames the script serves of those that are shown.
+    /// The number of packets, and the number of frames that the script serves.
     pub fn count(&self) -> (u64, u64)
         ensures packets { result.0 ≡ packet_count self.now.now }
         ensures frames { result.1 ≡ frame_count self.now.now }
@@ -241,7 +241,7 @@ impl Session {
         (self.list.len() as u64, self.script.length(self.shown()))
     }
 
-    /// How many steps of decoding were made, whatever they answered; at most 18,446,744,073,709,551,615.
+    /// The number of decoding steps made, whatever their result; at most 18,446,744,073,709,551,615.
     pub fn decoded(&self) -> u64
         ensures value { result ≡ self.now.now.decoded }
         ensures sound { IsSound self.now.now.tables (store_of self.now) self.now.cache }
@@ -249,7 +249,7 @@ impl Session {
         self.cache.decoded()
     }
 
-    /// The file's head, while no frame was served and the line that opens the frames is not written.
+    /// The file's head, as long as no frame was served and the line that opens the frames is not written.
     pub(crate) fn head_due(&self) -> Option<Head>
         ensures { result ≡ head_due self.now.now }
     {
@@ -259,17 +259,17 @@ impl Session {
         }
     }
 
-    /// Writes the packets as they stand as an IVF file, with the head of the file that the session began
-    /// with. No memory is taken, and the session stays as it is.
+    /// Writes the current packets as an IVF file, with the head of the file that the session started
+    /// with. No memory is taken, and the session does not change.
     ///
-    /// `Write` where the writer gives an error; nothing is told then of how much went out.
+    /// `Write` if the writer returns an error; part of the file may have been written.
     pub fn save<W: Write>(&self, w: &mut W) -> Result<(), WriteFault>
         ensures { OnOk result (Appends (W.contents w.old) (W.contents w.new) (written_text self.now.now.head (packets_of self.now.now.list))) }
     {
         self.list.save(w, self.head)
     }
 
-    /// How many bytes stood behind the last whole record of the file.
+    /// The number of trailing bytes after the last whole record of the file.
     pub fn spare(&self) -> u64
         ensures { result ≡ self.now.now.spare }
     {

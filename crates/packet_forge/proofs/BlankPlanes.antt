@@ -17,7 +17,7 @@ use Rattle.packet_forge.proofs.BlankModes.{grey_mode}
 abbrev pub grey_at : ℕ → ℕ → ℕ
 grey_at i j = 128
 
--- what stands above and to the left of a macroblock
+-- the samples above and to the left of a macroblock
 above_is : (side columns rows my mx : ℕ) (p : Samples) → 0 < side → mx < columns → my < rows → IsBegun grey_at side columns rows my mx p → (side * my ≡ 0 → ⊥) → side * suc mx ≤ side * columns → side * suc my ≤ side * rows → above_side p (side * mx) (side * my) side ≡ Some (replicate side 128)
 above_is side columns rows my mx p some in_row in_frame begun under wide high =
     let each : (k : ℕ) → k < side → above p (side * mx + k) (side * my) ≡ 128 = λ k less.
@@ -50,7 +50,7 @@ means_16 = record { one = refl; two = refl }
 one_and_none : (side : ℕ) → MeansGrey side → mean_of (replicate side 128 ++ []) ≡ 128
 one_and_none side means = ap mean_of (append-nil (replicate side 128)) ∙ means.one
 
--- what mode DC gives between two such sides
+-- the samples that mode DC predicts from two such sides
 between : (p : Samples) (x y side : ℕ) (upper beside : Option (List ℕ)) → above_side p x y side ≡ upper → left_side p x y side ≡ beside → mean_of (inside upper ++ inside beside) ≡ 128 → (column row : ℕ) → whole_block_sample p x y side Dc column row ≡ 128
 unfolding whole_sample
 between p x y side upper beside upper_is beside_is mean column row =

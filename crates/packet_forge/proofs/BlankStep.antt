@@ -38,9 +38,9 @@ use Rattle.packet_forge.proofs.Frames.{frame_done}
 use Rattle.packet_forge.proofs.BlankModes.{grey_mode, first_modes-grey}
 use Rattle.packet_forge.proofs.BlankPlanes.{grey_at, greys}
 
--- ---- what is forged
+-- ---- the forged packet
 
--- where a packet is forged, its sides are 1 to 16,383 and its first partition fits its tag
+-- if a packet is forged, its width and height are 1 to 16,383 and its first partition fits its tag
 forged_parts : (b c : Bool) (packet p : List ℕ) → (if not b then Err Size else if c then Err TooLarge else Ok packet) ≡ Ok p → (b ≡ true) × (c ≡ false) × (packet ≡ p)
 forged_parts false c packet p e = absurd (err_ok Size p e)
   where
@@ -109,7 +109,7 @@ probable_blank updates count probable =
 
 -- ---- the header
 
--- what is read of the first partition
+-- the fields that are read from the first partition
 record ReadsBlank (updates : List ℕ) (count : ℕ) (r : Reader) : Type 0 where
   front : Reader
   header : Reader
@@ -125,7 +125,7 @@ reads_blank updates count r all =
     let parts = reads_both (zeros 16) (zeros 13 ++ zeros_at updates ++ skip_pairs) r both.mid both.front in
     record { front = parts.mid; header = both.mid; end = all.end; first = parts.front; second = parts.behind; macroblocks = both.behind }
 
--- the bytes of the packet at their places
+-- the bytes of the packet by index
 blank_bytes_header : (tables : TableEntries) (before : Option Context) (first : List ℕ) (width height : ℕ) (m s : Reader) → length first ≤ 524287 → (0 < width) × (width ≤ 16383) → (0 < height) × (height ≤ 16383) → Reads (zeros 16) (started first) m → Reads (zeros 13 ++ zeros_at tables.updates ++ skip_pairs) m s → length tables.updates ≡ 1056 →
     header_of tables before (tag_bytes 0 (length first) ++ key_start width height ++ first) ≡ Ok (blank_header_of tables width height (10 + length first) s)
 blank_bytes_header tables before first width height m s small wide high reads_first reads_second updates =
@@ -156,7 +156,7 @@ uniform_at w h i j a b =
 uniform_plane : (w h : ℕ) → IsPlane w h (uniform w h 128)
 uniform_plane w h = record { wide = refl; high = refl; whole = length-replicate (w * h) 128 }
 
--- three planes that are each another's are the same planes
+-- three planes that are equal one by one are the same planes
 same_parts : (a a' b b' c c' : Samples) → a ≡ a' → b ≡ b' → c ≡ c' → ◌≡◌ {A = PlaneSamples} (record { luma = a; cb = b; cr = c }) (record { luma = a'; cb = b'; cr = c' })
 same_parts a a' b b' c c' e f g = cc
 
@@ -214,7 +214,7 @@ blank_step tables state width height updates probable is =
     ap (λ (ms : List MbMode). decoded_picture packet value None width height ms) modes ∙ grey_decoded tables packet width height (10 + length first) reads.header is.wide is.high in
     (shown, subst (λ (r : Result (State × PictureSamples) Cause). IsOkAnd r (λ d. d.1 ≡ grey_picture width height)) (sym step) picture)
 
--- a blank packet gives a grey picture
+-- a blank packet decodes to a grey picture
 pub blank_grey : (tables : TableEntries) (state : Option State) (width height : ℕ) → length tables.updates ≡ 1056 → All (λ p. p ≤ 255) tables.updates → BlankIsGrey tables state width height
 blank_grey tables state width height updates probable packet e =
     let is = is_forged width height (blank_partition tables width height) (blank_packet tables width height) packet e in

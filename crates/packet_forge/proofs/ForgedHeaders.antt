@@ -71,7 +71,7 @@ start_of-key before packet size width height tag long code wide high some_wide s
 pub start_of-later : (before : Context) (packet : List ℕ) (size : ℕ) → tag_of packet ≡ Some (shown_tag false size) → start_of (Some before) packet ≡ Ok (record { tag = shown_tag false size; place = 3; width = 0; height = 0 })
 start_of-later before packet size tag = rw tag refl
 
--- the one token partition is empty
+-- the only token partition is empty
 pub token_places-one : (packet : List ℕ) (end : ℕ) → length packet ≡ end → token_places packet end 1 ≡ Ok (record { items = record { start = end; length = 0 } ∷ [] })
 unfolding token_places
 token_places-one packet end long =
@@ -80,7 +80,7 @@ token_places-one packet end long =
     let same : end + 0 ≡ end = omega arith in
     rw (long, same, nothing, same, none) refl
 
--- the header of a blank packet, with the reader that stands behind it
+-- the header of a blank packet, with the reader after it
 abbrev pub blank_header_of : TableEntries → ℕ → ℕ → ℕ → Reader → Header
 blank_header_of tables width height end reader = record {
   is_key = true;

@@ -1,4 +1,4 @@
--- The planes of a frame whose macroblocks have one record, which has no residual.
+-- The planes of a frame whose macroblocks all have one record, which has no residual.
 use Rattle.std.specs.Prelude.{Option, replicate, slice_get}
 use Rattle.std.proofs.Common.{◌≡◌, ℕ, zero, suc, ◌+◌, ◌*◌, ◌<◌, ◌≤◌, true, List, length, Some, None, refl, ap, sym, ◌∙◌, add-zero, zero-mul, arith}
 use Rattle.std.proofs.lemmas.List.{length-replicate, get_or-replicate}
@@ -14,17 +14,17 @@ use Rattle.reference_frames.specs.declared.references.References.{References}
 use Rattle.reference_frames.proofs.MacroblockOrder.{predicted_more}
 use Rattle.packet_forge.proofs.Targets.{IsBegun, begun_next, begun_none}
 
--- what is done in each of the three planes
+-- the same in each of the three planes
 pub record AreBegun (luma cb cr : ℕ → ℕ → ℕ) (columns rows my mx : ℕ) (planes : PlaneSamples) : Type 0 where
   pub in_luma : IsBegun luma 16 columns rows my mx planes.luma
   pub in_cb : IsBegun cb 8 columns rows my mx planes.cb
   pub in_cr : IsBegun cr 8 columns rows my mx planes.cr
 
--- one macroblock of this record does its samples
+-- one macroblock of this record writes its samples
 pub record DoesOne (luma cb cr : ℕ → ℕ → ℕ) (columns rows version : ℕ) (references : Option References) (mode : MbMode) : Type 0 where
   pub one : (my mx : ℕ) (planes : PlaneSamples) → mx < columns → my < rows → AreBegun luma cb cr columns rows my mx planes → AreBegun luma cb cr columns rows my (suc mx) (predicted_macroblock version references planes mx my mode None)
 
--- the record at each place
+-- the record at each index
 pub slice_get-replicate : (count n : ℕ) (mode : MbMode) → n < count → slice_get (replicate count mode) n ≡ Some mode
 slice_get-replicate count n mode lt =
     slice_get-get_or (replicate count mode) n mode (rw (length-replicate count mode) lt) ∙ ap Some (get_or-replicate count n mode mode lt)

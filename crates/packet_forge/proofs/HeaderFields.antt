@@ -1,4 +1,4 @@
--- The fields of the headers of forged packets, as they are read back.
+-- The fields of the headers of forged packets, read back.
 use Rattle.std.proofs.Common.{◌≡◌, ℕ, zero, suc, true, false, List, [], ◌∷◌, ◌++◌, Some, length, take, refl, sym, subst, arith}
 use Rattle.std.specs.Prelude.{pos}
 use Rattle.std.proofs.lemmas.List.{take_all}
@@ -83,7 +83,7 @@ partition_count-zeros : (r s : Reader) → Reads (zeros 2) r s → partition_cou
 unfolding partition_count
 partition_count-zeros r s h = rw (literal-zeros 2 r s h) refl
 
--- the fields that frames of both kinds have
+-- the fields of both kinds of frames
 record ReadsFields (before : Context) (r s : Reader) : Type 0 where
   first : Reader
   second : Reader
@@ -122,7 +122,7 @@ fields-inter before r s h =
     let rest = reads_fields before r s h in
     rw (rest.segments, rest.loop, rest.adjusted, rest.count) refl
 
--- ---- the fields behind it
+-- ---- the fields after it
 
 abbrev pub no_quantizers : Quantizers
 no_quantizers = record { y_ac_index = 0; y_dc_delta = pos 0; y2_dc_delta = pos 0; y2_ac_delta = pos 0; uv_dc_delta = pos 0; uv_ac_delta = pos 0 }
@@ -159,7 +159,7 @@ refreshes-key : (before : SignBiases) (r s : Reader) → Reads (zeros 1) r s →
 unfolding refreshes
 refreshes-key before r s h = rw (h.bit, h.behind) refl
 
--- all coefficients stay
+-- no coefficient probability changes
 pub coefficients-stay : (updates before : List ℕ) (r s : Reader) → length updates ≡ 1056 → Reads (zeros_at updates) r s → first_updated updated 1056 updates before r ≡ (before, s)
 coefficients-stay updates before r s long h =
     let all : take 1056 updates ≡ updates = take_all 1056 updates (omega (arith, long)) in

@@ -1,4 +1,4 @@
--- The fields of the header of a hold packet, behind the number of token partitions.
+-- The fields of the header of a hold packet, after the number of token partitions.
 use Rattle.std.specs.Prelude.{slice_index_or}
 use Rattle.std.proofs.Common.{◌≡◌, ℕ, false, List, [], ◌∷◌, ◌++◌, Some, None, length, refl, ap, ◌∙◌, arith}
 use Rattle.vp8_tables.specs.declared.vectors.TheConstants.{VECTOR_UPDATE_PROBABILITIES}
@@ -31,7 +31,7 @@ hold_references = record { inter = 1; last = 255; golden = 128 }
 abbrev pub two_rows : List (List ℕ) → List (List ℕ)
 two_rows before = slice_index_or before 0 [] ∷ slice_index_or before 1 [] ∷ []
 
--- the context of a frame that holds the last
+-- the context of a hold frame
 abbrev pub hold_context : Context → Context
 hold_context before = record before { probabilities = record before.probabilities { vectors = two_rows before.probabilities.vectors }; sign_biases = no_biases }
 

@@ -15,7 +15,7 @@ use Rattle.packet_forge.proofs.HeaderFields.{no_colors, no_segmentation, no_filt
 use Rattle.packet_forge.proofs.HoldFields.{no_updates, hold_references, hold_context, trailing-inter}
 use Rattle.packet_forge.proofs.ForgedHeaders.{shown_tag, tag_of-later, start_of-later, token_places-one, first_end-fits}
 
--- the header behind a context, with the reader that stands behind it
+-- the header after a context, with the reader after it
 abbrev pub hold_header_of : Context → ℕ → Reader → Header
 hold_header_of before end reader = record {
   is_key = false;

@@ -1,4 +1,4 @@
--- The modes of a frame that holds the last.
+-- The modes of a hold frame.
 use Rattle.std.specs.Prelude.{Option, replicate, nat_lt, ◌==◌}
 use Rattle.std.proofs.Common.{◌≡◌, ℕ, zero, suc, ◌+◌, ◌-◌, ◌*◌, ◌/◌, ◌%◌, ◌<◌, ◌≤◌, inl, inr, Bool, true, false, List, [], ◌∷◌, Some, None, refl, ap, ◌∙◌, arith, eq-eqb}
 use Rattle.std.proofs.Math.Nat.{zero-mod, div-eq_of_lt, div-add-mod, mod-lt, mul-zero}
@@ -81,7 +81,7 @@ segment_at-hold : (context : Context) (end : ℕ) (reader : Reader) (map : Optio
 unfolding segment_at
 segment_at-hold context end reader map place r = refl
 
--- the neighbours of a place behind records that are all the same
+-- the neighbours of a macroblock that follows records that are all the same
 record HasNeighbours (columns place : ℕ) (has_above has_left has_both : Bool) : Type 0 where
   above : record_above (replicate place hold_mode) columns place ≡ neighbour has_above
   left : record_left (replicate place hold_mode) columns place ≡ neighbour has_left

@@ -1,4 +1,4 @@
--- The planes of a frame that holds the last.
+-- The planes of a hold frame.
 use Rattle.std.specs.Prelude.{ℤ, pos, ◌+ℤ◌}
 use Rattle.std.proofs.Common.{◌≡◌, ℕ, suc, ◌+◌, ◌*◌, ◌<◌, ◌≤◌, Some, refl, ap, ◌∙◌, add-zero, arith}
 use Rattle.std.proofs.Math.Nat.{mul-le-mul_left}
@@ -20,7 +20,7 @@ use Rattle.packet_forge.proofs.Targets.{IsFrame, begun_more}
 use Rattle.packet_forge.proofs.Frames.{DoesOne}
 use Rattle.packet_forge.proofs.HoldModes.{hold_mode}
 
--- the place of a coordinate inside a side
+-- a coordinate inside a width or height
 held_inside : (side place : ℕ) → place < side → held_place side (pos place) ≡ place
 held_inside side place lt = omega arith
 

@@ -1,4 +1,4 @@
--- Pairs that are read back one after another, and what is made of them.
+-- Pairs that are read back in sequence, and values that are made from them.
 use Rattle.std.proofs.Common.{◌≡◌, ℕ, zero, suc, ◌≤◌, Bool, false, List, [], ◌∷◌, ◌++◌, map, length, take, drop, get_or, set, refl, ap, sym, subst, ◌∙◌, add-one, arith}
 use Rattle.std.proofs.lemmas.List.{take_more, map-append, set-get_or}
 use Rattle.std.specs.List.{All}
@@ -10,23 +10,23 @@ use Rattle.bool_coder.proofs.RoundTrip.{code_text-read}
 use Rattle.frame_header.specs.Updates.{first_updated}
 use Rattle.packet_forge.specs.Pairs.{zeros_at}
 
--- the first pair is read from here, and what holds of the reader behind it
+-- the first pair is read here, and this holds of the reader after it
 pub record ReadsPair (pair : Bool × ℕ) (r : Reader) (rest : Reader → Type 0) : Type 0 where
   pub mid : Reader
   pub bit : read pair.1 r ≡ (pair.0, mid)
   pub behind : rest mid
 
--- from r these pairs are read, and s is the reader behind them
+-- from r these pairs are read, and s is the reader after them
 abbrev pub Reads : List (Bool × ℕ) → Reader → Reader → Type 0
 Reads [] r s = r ≡ s
 Reads (pair ∷ pairs) r s = ReadsPair pair r (λ m. Reads pairs m s)
 
--- some reader stands behind them
+-- there is a reader after them
 pub record ReadsAll (pairs : List (Bool × ℕ)) (r : Reader) : Type 0 where
   pub end : Reader
   pub all : Reads pairs r end
 
--- what is read is told bit by bit
+-- the bits that are read, one by one
 told : (prob : ℕ) (r : Reader) (bit : Bool) → (read prob r).0 ≡ bit → read prob r ≡ (bit, (read prob r).1)
 told prob r bit is = rw (← is) refl
 
@@ -42,7 +42,7 @@ reads_bits (pair ∷ pairs) r same =
 pub reads_text : (pairs : List (Bool × ℕ)) → All (λ p. p.1 ≤ 255) pairs → ReadsAll pairs (started (code_text pairs))
 reads_text pairs probable = reads_bits pairs (started (code_text pairs)) (code_text-read pairs probable)
 
--- the pairs in front, and those behind them
+-- the first pairs, and the pairs after them
 pub record ReadsBoth (xs ys : List (Bool × ℕ)) (r s : Reader) : Type 0 where
   pub mid : Reader
   pub front : Reads xs r mid
@@ -54,9 +54,9 @@ reads_both (x ∷ xs) ys r s reads =
     let rest = reads_both xs ys reads.mid s reads.behind in
     record { mid = rest.mid; front = record { mid = reads.mid; bit = reads.bit; behind = rest.front }; behind = rest.behind }
 
--- ---- updates that are none
+-- ---- updates that change nothing
 
--- a way of reading that leaves a value as it is at a zero
+-- a way of reading that leaves a value as it was at a zero
 abbrev pub KeepsAtZero : (ℕ → ℕ → Reading ℕ) → Type 0
 KeepsAtZero way = (update before : ℕ) (r s : Reader) → read update r ≡ (false, s) → way update before r ≡ (before, s)
 
@@ -78,7 +78,7 @@ updates_none way (suc n) updates before r s keeps fits reads =
     first_updated-suc way n updates before before r both.mid both.behind.mid (get_or before n 0) before_is here
     ∙ ap (λ (xs : List ℕ). (xs, both.behind.mid)) (set-get_or before n 0) ∙ ap (λ (t : Reader). (before, t)) both.behind.behind
 
--- what is read behind what was read is read with it
+-- pairs that are read after others are read with them
 pub reads_joined : (xs ys : List (Bool × ℕ)) (r m s : Reader) → Reads xs r m → Reads ys m s → Reads (xs ++ ys) r s
 reads_joined [] ys r m s front behind = subst (λ (t : Reader). Reads ys t s) (sym front) behind
 reads_joined (x ∷ xs) ys r m s front behind = record { mid = front.mid; bit = front.bit; behind = reads_joined xs ys front.mid m s front.behind behind }

@@ -1,4 +1,4 @@
--- What is in a plane, as its macroblocks are written in raster order, each with the samples that it is to have.
+-- A plane whose macroblocks are written in raster order, each with its target samples.
 use Rattle.std.proofs.Common.{◌≡◌, ℕ, suc, ◌+◌, ◌-◌, ◌*◌, ◌/◌, ◌%◌, ◌<◌, ◌≤◌, ◌⊎◌, inl, inr, List, length, get_or, refl, ap, sym, ◌∙◌, arith}
 use Rattle.std.proofs.lemmas.Bool.{cases_lt}
 use Rattle.std.proofs.lemmas.List.{length-replicate, ext_get_or}
@@ -9,11 +9,11 @@ use Rattle.reference_frames.specs.Unfiltered.{HoldsSquare, with_block}
 use Rattle.reference_frames.specs.PlacedBlocks.{IsInSquare}
 use Rattle.reference_frames.proofs.Flat.{IsPlane, IsPlane-with_block_rows, block_write_local}
 
--- column i of row j is in a macroblock before that in column mx of row my, in raster order
+-- column i of row j is in a macroblock before the macroblock in column mx of row my, in raster order
 abbrev pub IsBefore : ℕ → ℕ → ℕ → ℕ → ℕ → Type 0
 IsBefore side my mx i j = (j < side * my) ⊎ ((j < side * my + side) × (i < side * mx))
 
--- the samples of the macroblocks before this one are those that they are to be
+-- the macroblocks before this one have their target samples
 pub record IsBegun (target : ℕ → ℕ → ℕ) (side columns rows my mx : ℕ) (p : Samples) : Type 0 where
   pub shape : IsPlane (side * columns) (side * rows) p
   pub done : (i j : ℕ) → i < side * columns → j < side * rows → IsBefore side my mx i j → sample_at p i j ≡ target i j
@@ -27,7 +27,7 @@ pub record IsFrame (side columns rows : ℕ) : Type 0 where
   pub has_rows : 0 < rows
   pub few_rows : rows ≤ 1024
 
--- a place is in a square, or it is not
+-- a position is in a square, or it is not
 in_or_out : (x y side i j : ℕ) → IsInSquare x y side i j ⊎ (IsInSquare x y side i j → ⊥)
 in_or_out x y side i j =
     elim (cases_lt i x) [
@@ -44,7 +44,7 @@ in_or_out x y side i j =
       ]
     ]
 
--- what is before the next macroblock and not in this one is before this one
+-- a position before the next macroblock and not in this one is before this one
 before_out : (side my mx i j : ℕ) → IsBefore side my (suc mx) i j → (IsInSquare (side * mx) (side * my) side i j → ⊥) → IsBefore side my mx i j
 before_out side my mx i j (inl above) out = inl above
 before_out side my mx i j (inr (low, left)) out =
@@ -70,7 +70,7 @@ whole_plane side columns rows p frame shape =
     positive : (a b : ℕ) → 0 < a → 0 < b → 0 < a * b
     positive a b h k = mul-pos h k
 
--- one macroblock more
+-- one more macroblock
 pub begun_more : (target : ℕ → ℕ → ℕ) (side columns rows my mx : ℕ) (p : Samples) (sample : ℕ → ℕ → ℕ) → IsFrame side columns rows → mx < columns → my < rows → ((column row : ℕ) → column < side → row < side → sample column row ≡ target (side * mx + column) (side * my + row)) → IsBegun target side columns rows my mx p → IsBegun target side columns rows my (suc mx) (with_block p (side * mx) (side * my) side sample)
 begun_more target side columns rows my mx p sample frame in_row in_frame right begun =
     let x = side * mx in
@@ -111,7 +111,7 @@ begun_none target side columns rows = record {
   done = λ i j a b before. absurd (elim before [ inl above ↦ omega (arith, above) | inr (low, left) ↦ omega (arith, left) ]);
 }
 
--- all is done: the plane is that of the same shape with those samples
+-- all is done: the plane is the one of the same shape with those samples
 same_parts : (w w' h h' : ℕ) (s s' : List ℕ) → w ≡ w' → h ≡ h' → s ≡ s' → ◌≡◌ {A = Samples} (record { width = w; height = h; samples = s }) (record { width = w'; height = h'; samples = s' })
 same_parts w w' h h' s s' e f g = cc
 

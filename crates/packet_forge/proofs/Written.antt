@@ -1,4 +1,4 @@
--- Pairs written one after another.
+-- Pairs written in sequence.
 use Rattle.std.proofs.Common.{◌≡◌, ℕ, suc, ◌+◌, ◌*◌, ◌<◌, Bool, false, List, [], ◌∷◌, ◌++◌, length, take, get_or, refl, ap, sym, ◌∙◌, add-one}
 use Rattle.std.proofs.lemmas.List.{take_more, map-append}
 use Rattle.bool_coder.specs.CodeText.{Code, no_code, written, all_written, text_of}
@@ -11,16 +11,16 @@ pub written_append : (xs ys : List (Bool × ℕ)) (c : Code) → all_written (xs
 written_append [] ys c = refl
 written_append (x ∷ xs) ys c = written_append xs ys (written x.0 x.1 c)
 
--- more is written behind what was
+-- more is appended to what was written
 pub written_more : (xs ys : List (Bool × ℕ)) (a b c : Code) → b ≡ all_written xs a → c ≡ all_written ys b → c ≡ all_written (xs ++ ys) a
 written_more xs ys a b c first second = second ∙ ap (all_written ys) first ∙ sym (written_append xs ys a)
 
--- one pair more
+-- one more pair
 pub pairs_more : (pairs : List (Bool × ℕ)) (i : ℕ) (a b c : Code) → i < length pairs → b ≡ all_written (take i pairs) a → c ≡ written (get_or pairs i (false, 0)).0 (get_or pairs i (false, 0)).1 b → c ≡ all_written (take (i + 1) pairs) a
 pairs_more pairs i a b c lt first second =
     written_more (take i pairs) (get_or pairs i (false, 0) ∷ []) a b c first second ∙ ap (λ xs. all_written xs a) (sym (take_more pairs i (false, 0) lt))
 
--- one zero more
+-- one more zero
 pub zeros_more : (probabilities : List ℕ) (i : ℕ) (a b c : Code) → i < length probabilities → b ≡ all_written (zeros_at (take i probabilities)) a → c ≡ written false (get_or probabilities i 0) b → c ≡ all_written (zeros_at (take (i + 1) probabilities)) a
 zeros_more probabilities i a b c lt first second =
     let next : zeros_at (take (i + 1) probabilities) ≡ zeros_at (take i probabilities) ++ (false, get_or probabilities i 0) ∷ [] = ap zeros_at (take_more probabilities i 0 lt) ∙ map-append (λ p. (false, p)) (take i probabilities) (get_or probabilities i 0 ∷ []) in
@@ -34,7 +34,7 @@ pub macroblock_pairs-suc : (pairs : ℕ → List (Bool × ℕ)) (n : ℕ) → ma
 unfolding macroblock_pairs
 macroblock_pairs-suc pairs n = refl
 
--- one macroblock more
+-- one more macroblock
 pub macroblocks_more : (pairs : ℕ → List (Bool × ℕ)) (n : ℕ) (a b c : Code) → b ≡ all_written (macroblock_pairs pairs n) a → c ≡ all_written (pairs n) b → c ≡ all_written (macroblock_pairs pairs (n + 1)) a
 macroblocks_more pairs n a b c first second =
     let next : macroblock_pairs pairs (n + 1) ≡ macroblock_pairs pairs n ++ pairs n = rw add-one (macroblock_pairs-suc pairs n) in

@@ -18,12 +18,12 @@ grey_picture width height = record {
   cr = uniform (8 * macroblocks width) (8 * macroblocks height) 128;
 }
 
--- a blank packet is shown, and its step from a state or none gives, with the same tables, a picture of its size that is 128 throughout
+-- a blank packet is shown, and its step from a state or none returns, with the same tables, a picture of its size that is 128 throughout
 abbrev pub BlankIsGrey : TableEntries → Option State → ℕ → ℕ → Type 0
 BlankIsGrey tables state width height =
     (packet : List ℕ) → blank_of tables width height ≡ Ok packet → (is_shown packet ≡ true) × IsOkAnd (step_of tables state packet) (λ decoded. decoded.1 ≡ grey_picture width height)
 
--- the update probabilities are as many as there are, and each is a byte
+-- there are as many update probabilities as the RFC has, and each is a byte
 abbrev pub AreUpdates : TableEntries → Type 0
 AreUpdates tables = (length tables.updates ≡ 1056) × ((place : ℕ) → slice_index tables.updates place < 256)
 
@@ -38,7 +38,7 @@ pub record HasLast (state : State) : Type 0 where
   pub cb : AreBytes state.references.last.cb
   pub cr : AreBytes state.references.last.cr
 
--- a hold packet of a state's size is shown, and its step from that state gives, with the same tables, the last reference as its picture and leaves every reference as it was
+-- a hold packet of a state's size is shown, and its step from that state returns, with the same tables, the last reference as its picture and leaves every reference as it was
 abbrev pub HoldShowsLast : Type 0
 HoldShowsLast =
     (tables : TableEntries) (state : State) (packet : List ℕ) → AreUpdates tables → HasLast state → hold_of tables state.references.last.width state.references.last.height ≡ Ok packet →

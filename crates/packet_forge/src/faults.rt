@@ -3,22 +3,22 @@ ghost use Rattle.packet_forge.specs.Faults.{forge_fault_word};
 
 use thiserror::Error;
 
-/// Why a packet is not forged, in the order in which it is checked.
+/// Why a packet is not forged, in the order of the checks.
 #[derive(Clone, Copy, Debug, PartialEq, Eq, Error)]
 pub enum ForgeFault {
-    /// A side of the picture is 0 or above 16,383.
+    /// The width or height is 0 or above 16,383.
     #[error("no frame has this size")]
     Size,
-    /// The first partition has more than 524,287 bytes, which is what a tag can tell.
+    /// The first partition has more than 524,287 bytes, the most that a tag can give.
     #[error("the first partition is too large")]
     TooLarge,
-    /// There was no memory for the packet.
+    /// Out of memory for the packet.
     #[error("no memory for the packet")]
     NoMemory,
 }
 
 impl ForgeFault {
-    /// The fault's name.
+    /// The error's name.
     pub const fn word(self) -> &'static str
         ensures { result.now ≡ forge_fault_word self }
     {

@@ -6,19 +6,19 @@ ghost use Rattle.packet_forge.specs.Laws.{BlankIsGrey, HoldShowsLast};
 use reference_frames::State;
 use vp8_tables::Tables;
 
-// Says of a byte list what its type says: proofs take it from the call.
+// States what the type of a byte list implies: proofs take it from the call.
 fn bytes_fit(bytes: &[u8])
     ensures { (place : ℕ) → slice_index bytes.now place < 256 }
 {}
 
-// Says of an array how long it is: proofs take it from the call.
+// States the length of an array: proofs take it from the call.
 fn array_fits(entries: &[u8; 1056])
     ensures { length entries.now ≡ 1056 }
 {}
 
-/// From any state or none, the step of a packet of [`blank`](crate::blank) gives, with the same
-/// tables, a picture of its size that is 128 throughout, and the packet is shown: for every table
-/// set, every size and every state.
+/// For every table set, every size and every state or none: the step of a packet of
+/// [`blank`](crate::blank), with the same tables, returns a picture of its size that is 128 throughout,
+/// and the packet is shown.
 pub fn blank_is_grey(tables: &Tables, state: Option<&State>, width: u16, height: u16)
     ensures { BlankIsGrey tables.now (option_copied state.entry) width height }
 {
@@ -26,9 +26,9 @@ pub fn blank_is_grey(tables: &Tables, state: Option<&State>, width: u16, height:
     bytes_fit(tables.updates());
 }
 
-/// On a state, the step of a packet of [`hold`](crate::hold) of that state's size gives, with the
-/// same tables, the last reference as its picture and changes no sample of any reference, and the
-/// packet is shown: for all tables and states that keep their types' ranges.
+/// For all tables and states in their types' ranges: the step of a packet of [`hold`](crate::hold) of
+/// the state's size, with the same tables, returns the last reference as its picture and changes no
+/// sample of any reference, and the packet is shown.
 pub fn hold_shows_last()
     ensures { HoldShowsLast }
 {}

@@ -1,4 +1,4 @@
-//! Forged packets: one whose frame is grey throughout, and one whose frame holds the last.
+//! Forged packets: a grey key frame, and a frame that repeats the last reference.
 #![tactic(auto)]
 
 mod faults;

@@ -12,17 +12,17 @@ use bool_coder::{Encoder, NoMemory};
 use std::alloc::Global;
 use vp8_tables::Tables;
 
-/// The most bytes that a first partition may have: its size has 19 bits.
+/// The most bytes of a first partition: its size has 19 bits.
 const MAX_PARTITION: usize = 524_287;
 
-/// Whether a frame can have a side.
+/// Whether a frame can have this width or height.
 fn is_side(side: u16) -> bool
     ensures { result ≡ is_side side }
 {
     0 < side && side <= 16_383
 }
 
-/// How many macroblocks cover a side.
+/// The number of macroblocks that cover a width or height.
 fn macroblocks(side: u16) -> usize
     requires { side ≤ 16383 }
     ensures value { result ≡ macroblocks_of side }
@@ -44,7 +44,7 @@ fn write_blank(alloc: Global, tables: &Tables, width: u16, height: u16) -> Resul
     encoder.finish()
 }
 
-/// The first partition of a frame that holds the last.
+/// The first partition of a hold frame.
 #[tactic(auto, unfolding(crate::specs::Packets::hold_partition))]
 fn write_hold(alloc: Global, tables: &Tables, width: u16, height: u16) -> Result<Vec<u8>, NoMemory>
     requires wide { (0 < width) × (width ≤ 16383) }
@@ -58,7 +58,7 @@ fn write_hold(alloc: Global, tables: &Tables, width: u16, height: u16) -> Result
     encoder.finish()
 }
 
-/// The tag of a shown frame of version 0, with bit 0 as it is and the size of its first partition.
+/// The tag of a shown frame of version 0, with this bit 0 and the size of its first partition.
 fn tag(later: u32, size: usize) -> [u8; 3]
     requires later { later ≤ 1 }
     requires size { size ≤ 524287 }
@@ -72,7 +72,7 @@ fn tag(later: u32, size: usize) -> [u8; 3]
     ]
 }
 
-/// What stands behind the tag of a key frame of this size.
+/// The bytes after the tag of a key frame of this size.
 fn key_start(width: u16, height: u16) -> [u8; 7]
     ensures { result ≡ key_start_of width height }
 {
@@ -87,7 +87,7 @@ fn key_start(width: u16, height: u16) -> [u8; 7]
     ]
 }
 
-/// Three texts, one behind the other.
+/// Three texts in sequence.
 fn joined(alloc: Global, tag: &[u8], start: &[u8], first: &[u8]) -> Result<Vec<u8>, NoMemory>
     ensures { IfOk result (λ packet. packet.items ≡ tag.now ++ start.now ++ first.now) }
 {
@@ -97,7 +97,7 @@ fn joined(alloc: Global, tag: &[u8], start: &[u8], first: &[u8]) -> Result<Vec<u
     Ok(packet)
 }
 
-/// A packet of this tag's bit 0, of what stands behind its tag, and of its first partition.
+/// A packet with this bit 0 of the tag, these bytes after its tag, and this first partition.
 fn packet_of(alloc: Global, later: u32, start: &[u8], first: &[u8]) -> Result<Vec<u8>, ForgeFault>
     requires { later ≤ 1 }
     ensures value { IfOk result (λ packet. packet.items ≡ tag_bytes later (length first.now) ++ start.now ++ first.now) }
@@ -110,14 +110,14 @@ fn packet_of(alloc: Global, later: u32, start: &[u8], first: &[u8]) -> Result<Ve
     joined(alloc, &tag(later, first.len()), start, first).map_err(|_| ForgeFault::NoMemory)
 }
 
-/// A packet of a key frame of `width` by `height` shown luma samples whose every sample is 128,
-/// decoded with the same tables (RFC 6386, sections 9 and 19).
+/// Forges a key frame packet of `width` by `height` shown luma samples, which decodes, with the same tables, to a picture whose
+/// samples are all 128 (RFC 6386, sections 9 and 19).
 ///
-/// It is shown, of version 0 and without scaling; its fields are 0, all its macroblocks are skipped
-/// and predicted by mode DC, and its one token partition is empty.
+/// The frame is shown, of version 0 and without scaling; its fields are 0, all its macroblocks are skipped
+/// and predicted by mode DC, and its only token partition is empty.
 ///
-/// `Size` where a side is 0 or above 16,383; then `TooLarge` where the first partition has more
-/// bytes than a tag can tell; `NoMemory` where a growth is refused, also in place of `TooLarge`.
+/// `Size` if the width or height is 0 or above 16,383; then `TooLarge` if the first partition has more
+/// bytes than a tag can give; `NoMemory` if an allocation fails, also instead of `TooLarge`.
 pub fn blank(alloc: Global, tables: &Tables, width: u16, height: u16) -> Result<Vec<u8>, ForgeFault>
     ensures bytes { IfOk result (λ packet. blank_of tables.now width height ≡ Ok packet.items) }
     ensures refused { IfErr result (ForgeRefuses (blank_of tables.now width height)) }
@@ -131,14 +131,14 @@ pub fn blank(alloc: Global, tables: &Tables, width: u16, height: u16) -> Result<
     packet_of(alloc, 0, &key_start(width, height), &first)
 }
 
-/// A packet of a frame that shows the last reference again and changes no reference, behind a state
-/// of `width` by `height` shown luma samples and with the same tables (RFC 6386, sections 9 and 19).
+/// Forges a packet that shows the last reference again and changes no reference, when it follows a state
+/// of `width` by `height` shown luma samples and is decoded with the same tables (RFC 6386, sections 9 and 19).
 ///
-/// It is shown and of version 0; all its macroblocks are skipped and predicted from the last frame
-/// by zero vectors, and its one token partition is empty.
+/// The frame is shown and of version 0; all its macroblocks are skipped and predicted from the last frame
+/// by zero vectors, and its only token partition is empty.
 ///
-/// `Size` where a side is 0 or above 16,383; then `TooLarge` where the first partition has more
-/// bytes than a tag can tell; `NoMemory` where a growth is refused, also in place of `TooLarge`.
+/// `Size` if the width or height is 0 or above 16,383; then `TooLarge` if the first partition has more
+/// bytes than a tag can give; `NoMemory` if an allocation fails, also instead of `TooLarge`.
 pub fn hold(alloc: Global, tables: &Tables, width: u16, height: u16) -> Result<Vec<u8>, ForgeFault>
     ensures bytes { IfOk result (λ packet. hold_of tables.now width height ≡ Ok packet.items) }
     ensures refused { IfErr result (ForgeRefuses (hold_of tables.now width height)) }

@@ -40,7 +40,7 @@ fn write_byte(encoder: &mut Encoder, number: u8) -> Result<(), NoMemory>
     encoder.bit(number % 2 == 1, 128)
 }
 
-/// Writes that macroblocks may be skipped, and the probability that one is not.
+/// Writes mb_no_coeff_skip and prob_skip_false: macroblocks may be skipped.
 fn write_skip(encoder: &mut Encoder) -> Result<(), NoMemory>
     ensures { OnOk result (encoder.new ≡ all_written skip_pairs encoder.old) }
 {
@@ -58,7 +58,7 @@ pub(crate) fn write_blank_header(encoder: &mut Encoder, updates: &[u8]) -> Resul
     write_skip(encoder)
 }
 
-/// A macroblock of a blank frame.
+/// Writes a macroblock of a blank frame.
 const BLANK_MACROBLOCK: [(bool, u8); 5] = [
     (true, 1),
     (true, 145),
@@ -67,7 +67,7 @@ const BLANK_MACROBLOCK: [(bool, u8); 5] = [
     (false, 142),
 ];
 
-/// Writes so many macroblocks of a blank frame.
+/// Writes this many macroblocks of a blank frame.
 pub(crate) fn write_blank_macroblocks(encoder: &mut Encoder, count: usize) -> Result<(), NoMemory>
     ensures { OnOk result (encoder.new ≡ all_written
         (macroblock_pairs (λ place. blank_macroblock) count) encoder.old) }
@@ -78,7 +78,7 @@ pub(crate) fn write_blank_macroblocks(encoder: &mut Encoder, count: usize) -> Re
     Ok(())
 }
 
-/// Writes the probabilities of the references, and that those of the modes stay.
+/// Writes prob_intra, prob_last and prob_gf, and that the probabilities of the modes are not updated.
 fn write_references(encoder: &mut Encoder) -> Result<(), NoMemory>
     ensures { OnOk result (encoder.new ≡ all_written reference_pairs encoder.old) }
 {
@@ -88,7 +88,7 @@ fn write_references(encoder: &mut Encoder) -> Result<(), NoMemory>
     write_zeros(encoder, &[128; 2])
 }
 
-/// Writes that the probabilities of vectors stay.
+/// Writes that the probabilities of vectors are not updated.
 fn write_vector_updates(encoder: &mut Encoder) -> Result<(), NoMemory>
     ensures { OnOk result (encoder.new ≡ all_written (zeros_at vector_updates) encoder.old) }
 {
@@ -97,7 +97,7 @@ fn write_vector_updates(encoder: &mut Encoder) -> Result<(), NoMemory>
     write_zeros(encoder, column)
 }
 
-/// Writes the header of a frame that holds the last, with the update probabilities of coefficients.
+/// Writes the header of a hold frame, with the update probabilities of coefficients.
 #[tactic(auto, unfolding(crate::specs::Pairs::hold_header))]
 pub(crate) fn write_hold_header(encoder: &mut Encoder, updates: &[u8]) -> Result<(), NoMemory>
     ensures { OnOk result (encoder.new ≡ all_written (hold_header updates.now) encoder.old) }
@@ -109,7 +109,7 @@ pub(crate) fn write_hold_header(encoder: &mut Encoder, updates: &[u8]) -> Result
     write_vector_updates(encoder)
 }
 
-/// The probability of a zero vector between such macroblocks above and to the left.
+/// The probability of a zero vector, given the macroblocks above and to the left.
 fn zero_vector_odds(has_above: bool, has_left: bool) -> u8
     ensures { result ≡ zero_vector_probability has_above has_left }
 {
@@ -120,7 +120,7 @@ fn zero_vector_odds(has_above: bool, has_left: bool) -> u8
     }
 }
 
-/// Writes the macroblock at a place of a frame of so many columns that holds the last.
+/// Writes a macroblock of a hold frame with this many columns.
 fn write_hold_macroblock(
     encoder: &mut Encoder,
     columns: usize,
@@ -134,7 +134,7 @@ fn write_hold_macroblock(
     encoder.bit(false, odds)
 }
 
-/// Writes so many macroblocks of a frame of so many columns that holds the last.
+/// Writes this many macroblocks of a hold frame with this many columns.
 pub(crate) fn write_hold_macroblocks(
     encoder: &mut Encoder,
     columns: usize,

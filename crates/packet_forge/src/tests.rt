@@ -13,7 +13,7 @@ fn tables(rt: &impl Abort, alloc: Global) -> Result<Tables, Fail> {
     Ok(Tables::read(&bytes).expect(rt, "3,012 bytes"))
 }
 
-// What an encoder of its own made of the pairs, written in Python after RFC 6386, section 7.3.
+// The pairs as encoded by a separate encoder, written in Python after RFC 6386, section 7.3.
 const BLANK_16: [u8; 18] = [
     0x10, 1, 0, 0x9D, 1, 0x2A, 16, 0, 16, 0, 0, 0, 0, 0, 3, 0x65, 0x40, 0,
 ];
@@ -65,8 +65,8 @@ fn sides_are_1_to_16383(rt: HostRuntime) {
 /// A key packet of 16 by 16 samples that reads 0 at every bit: its luma is 129 below row 3.
 const KEY: [u8; 10] = [0x10, 0, 0, 0x9D, 1, 0x2A, 16, 0, 16, 0];
 
-/// Whether each of the first 16 samples of the first 16 rows is 128; past an edge its sample stands
-/// again.
+/// Whether each of the first 16 samples of the first 16 rows is 128; past an edge the sample at the edge
+/// repeats.
 fn is_grey(plane: &Plane) -> bool {
     (0..16).all(|y| (0..16).all(|x| plane.sample(x, y) == 128))
 }
@@ -76,7 +76,7 @@ fn is_grey_picture(picture: &Picture) -> bool {
     is_grey(picture.luma()) && is_grey(picture.cb()) && is_grey(picture.cr())
 }
 
-/// The state behind a packet from none, with tables whose entries are all 128, and its picture.
+/// The state after a packet that is decoded from none, with tables whose entries are all 128, and its picture.
 fn decoded(rt: &impl Abort, alloc: Global, packet: &[u8]) -> (State, Picture) {
     let decoded = step(alloc, &Tables::flat(), None, packet);
     decoded.expect(rt, "a key packet")

@@ -1,4 +1,4 @@
--- What steps make of a picture, one after another.
+-- Steps applied to a picture in sequence.
 use Rattle.std.specs.Prelude.{IsSome, is_some, is_ok}
 use Rattle.std.specs.Result.{result_ok}
 use Rattle.std.proofs.lemmas.List.{drop_all}
@@ -20,7 +20,7 @@ shown_none : (steps : List Step) → after_steps use_step steps None ≡ None
 shown_none [] = refl
 shown_none (step ∷ steps) = shown_none steps
 
--- steps make something of a picture just where they leave a size
+-- steps make a picture exactly if they leave a size
 pub shown_where_size : (steps : List Step) (s : Shown) → is_some (steps_size steps (s.width, s.height)) ≡ is_some (steps_shown steps s)
 shown_where_size [] s = refl
 shown_where_size (Weigh weight ∷ steps) s = shown_where_size steps (faded_to weight s)
@@ -34,7 +34,7 @@ pub none_shown : (o : Option Shown) → is_some o ≡ false → o ≡ None
 none_shown None h = refl
 none_shown (Some s) h = cc
 
--- a picture that shows a cut of what another shows, which shows `s`, shows the cut of `s`
+-- a picture that shows an area of another, which shows `s`, shows the area of `s`
 cut_shows : (p next : PictureSamples) (s : Shown) (area : Area) → Shows p s → is_inside area p.width p.height ≡ true → Shows next (cut_to area (shown_in p)) → Shows next (cut_to area s)
 cut_shows p next s area before inside made = record {
   wide = made.wide;
@@ -53,7 +53,7 @@ fade_shows p next s weight before made = record {
   each = λ component x y across down. made.each component x y across down ∙ ap (weighed weight (black component)) (before.each component x y (rw (← made.wide) across) (rw (← made.high) down));
 }
 
--- what a step makes of what is shown
+-- a step applied to shown samples
 pub record IsStepped (step : Step) (p next : PictureSamples) (s : Shown) : Type 0 where
   pub now : Shown
   pub is : step_shown step s ≡ Some now
@@ -80,7 +80,7 @@ stepped (Cut area) p next s before made = by_inside (is_inside area p.width p.he
         }
     by_inside false e m = let none = rw e at m in absurd none
 
--- what was made of a picture by the first i steps
+-- the first i steps applied to a picture
 pub record IsMade (steps : List Step) (i : ℕ) (picture made : PictureSamples) : Type 0 where
   pub now : Shown
   pub shows : Shows made now
@@ -127,7 +127,7 @@ made_shows steps i picture made before all =
     let end : steps_shown steps (shown_in picture) ≡ Some before.now = before.left ∙ ap (λ (l : List Step). steps_shown l before.now) (drop_all i steps all) in
     rw end before.shows
 
--- what an answer about the size tells
+-- what the result says of the size
 pub size_answered : {E : Type 0} (r : Result Size E) (steps : List Step) (p : PictureSamples) (w h : ℕ) → result_ok r ≡ steps_size steps (w, h) → w ≡ p.width → h ≡ p.height → is_some (steps_size steps (p.width, p.height)) ≡ is_ok r
 size_answered {E = E} r steps p w h is wide high = rw (← wide, ← high) (sym (ap is_some is) ∙ ok_some r)
   where

@@ -1,4 +1,4 @@
--- What is made of each node with what stands for those below it.
+-- A value for each node, computed from the values of the nodes below it.
 use Rattle.std.proofs.Common.{◌≡◌, ℕ, zero, suc, ◌+◌, ◌-◌, ◌<◌, true, List, [], ◌∷◌, ◌++◌, length, drop, get_or, refl, sym, ap, ◌∙◌, arith, add-one, length-append}
 use Rattle.std.proofs.Math.Seq.{drop-cons}
 use Rattle.std.proofs.lemmas.List.{get_or_append_left, get_or-append_right}
@@ -7,12 +7,12 @@ use Rattle.script_nodes.specs.Nodes.{uses_below, all_use_below}
 use Rattle.script_nodes.specs.Lengths.{built}
 use Rattle.script_nodes.proofs.Uses.{both}
 
--- what is made of a node goes by what stands for those that it uses
+-- the value of a node depends on the values of the nodes that it uses
 pub record IsLocal {B : Type 0} (make : List B → Node → B) : Type 0 where
   pub same : (n : ℕ) (below all : List B) (node : Node) → uses_below n node ≡ true → ((k : ℕ) (d : B) → k < n → get_or all k d ≡ get_or below k d) → make all node ≡ make below node
 
 module _ {B : Type 0} (make : List B → Node → B) where
-  -- one node more
+  -- one more node
   pub built-next : (below : List B) (nodes : List Node) (i : ℕ) (e : Node) → i < length nodes → built make below (drop i nodes) ≡ built make (below ++ make below (get_or nodes i e) ∷ []) (drop (i + 1) nodes)
   built-next below nodes i e h = rw (add-one i, drop-cons nodes i e h) refl
 
@@ -23,14 +23,14 @@ module _ {B : Type 0} (make : List B → Node → B) where
   length-built below [] = omega arith
   length-built below (node ∷ nodes) = omega (arith, length-built (below ++ make below node ∷ []) nodes, length-one_more below (make below node))
 
-  -- what stood there stays
+  -- earlier values stay
   pub built_below : (below : List B) (nodes : List Node) (k : ℕ) (d : B) → k < length below → get_or (built make below nodes) k d ≡ get_or below k d
   built_below below [] k d h = refl
   built_below below (node ∷ nodes) k d h =
       built_below (below ++ make below node ∷ []) nodes k d (omega (arith, length-one_more below (make below node)))
       ∙ get_or_append_left below (make below node ∷ []) d k h
 
-  -- what was made of a node, by what stands for all of them
+  -- the value of a node, from the values of all of them
   pub built_at : IsLocal make → (below : List B) (nodes : List Node) (k : ℕ) (d : B) (e : Node) → all_use_below (length below) nodes ≡ true → k < length nodes → get_or (built make below nodes) (length below + k) d ≡ make (built make below nodes) (get_or nodes k e)
   built_at local below [] k d e uses h = absurd (omega arith)
   built_at local below (node ∷ nodes) zero d e uses h =

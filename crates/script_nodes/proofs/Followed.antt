@@ -1,4 +1,4 @@
--- A frame of a script is what the steps of its trace make of the source's frame.
+-- A frame of a script is the source's frame with the steps of its trace applied.
 use Rattle.std.specs.Prelude.{slice_index, slice_index_or, nat_lt}
 use Rattle.std.proofs.Common.{◌≡◌, ℕ, zero, suc, ◌+◌, ◌-◌, Bool, true, false, List, [], ◌∷◌, ◌++◌, length, get_or, refl, sym, ap, ◌∙◌, arith, inl, inr}
 use Rattle.std.proofs.lemmas.Bool.{cases_lt, cases_eq}
@@ -14,7 +14,7 @@ use Rattle.script_nodes.specs.Shown.{use_step, IsFollowed}
 use Rattle.script_nodes.proofs.Built.{length-one_more}
 
 module _ {A : Type 0} (made : Step → A → A) (counts : List ℕ) (source : ℕ → A) where
-  -- what the steps of an origin make of its frame
+  -- the steps of an origin applied to its frame
   abbrev pub after : Origin → A
   after from = after_steps made from.steps (source from.frame)
 
@@ -22,12 +22,12 @@ module _ {A : Type 0} (made : Step → A → A) (counts : List ℕ) (source : �
   after_more [] step frame = refl
   after_more (first ∷ steps) step frame = after_more steps step (made first frame)
 
-  -- clips and the origins of their frames go together
+  -- clips and the origins of their frames agree
   pub record GoTogether (clips : List (ℕ → A)) (origins : List (ℕ → Origin)) : Type 0 where
     pub long : length clips ≡ length origins
     pub same : (k i : ℕ) → slice_index_or clips k source i ≡ after (slice_index_or origins k origin i)
 
-  -- so do those of a node
+  -- and so they do for a node
   node_same : (clips : List (ℕ → A)) (origins : List (ℕ → Origin)) (node : Node) (i : ℕ) → GoTogether clips origins → node_frame made counts source clips node i ≡ after (node_frame with_step counts origin origins node i)
   node_same clips origins (Trim lower first count) i t = t.same lower (first + i)
   node_same clips origins (Splice front back) i t = by_place (nat_lt i (slice_index counts front)) refl
@@ -80,7 +80,7 @@ module _ {A : Type 0} (made : Step → A → A) (counts : List ℕ) (source : �
 pub trace_followed : {A : Type 0} (made : Step → A → A) (source : ℕ → A) (n : ℕ) (nodes : List Node) (i : ℕ) → script_frame made source n nodes i ≡ after made (lengths n nodes) source (script_frame with_step origin n nodes i)
 trace_followed made source n nodes i = (all_together made (lengths n nodes) source (source ∷ []) (origin ∷ []) nodes (source_together made (lengths n nodes) source)).same (length nodes) i
 
--- the same, of an origin that is found by the nodes and the numbers of frames as code holds them
+-- the same for an origin that the code found, from its nodes and numbers of frames
 pub found_followed : (n : ℕ) (nodes a b : List Node) (counts found : List ℕ) (last i frame : ℕ) (steps new : List Step) → new ≡ steps → origin_of frame steps ≡ slice_index_or (frames with_step counts origin b) last origin i → counts ≡ found → found ≡ lengths n a → a ≡ nodes → b ≡ nodes → last ≡ length nodes → IsFollowed n nodes i frame new
 found_followed n nodes a b counts found last i frame steps new pushed is held counted same same' end source =
     let from : origin_of frame new ≡ script_frame with_step origin n nodes i = ap (origin_of frame) pushed ∙ is ∙ rw (held, counted, same, same', end) refl in

@@ -1,4 +1,4 @@
--- The clips that nodes are, by the clips that they use.
+-- The clips that are nodes, by the clips that they use.
 use Rattle.std.specs.List.{All, list_all}
 use Rattle.std.specs.Prelude.{slice_index, slice_index_or, min, nat_lt, if◌then◌else◌}
 use Rattle.std.proofs.Common.{◌≡◌, ℕ, zero, suc, ◌+◌, ◌-◌, ◌^◌, ◌<◌, ◌≤◌, Bool, true, List, [], ◌∷◌, ◌++◌, length, get_or, refl, sym, ap, subst, ◌∙◌, arith}
@@ -39,21 +39,21 @@ module _ {A : Type 0} (made : Step → A → A) (counts : List ℕ) (source : �
   frame_same n below all (Crop lower area) uses same = ap (λ (f : ℕ → A). λ (i : ℕ). made (Cut area) (f i)) (same lower source (ltb-true lower n uses))
   frame_same n below all (Fade lower ramp) uses same = ap (λ (f : ℕ → A). λ (i : ℕ). made (Weigh (weight_at ramp i)) (f i)) (same lower source (ltb-true lower n uses))
 
-  -- the frames of a node, by those of all clips
+  -- the frames of a node, by the frames of all clips
   pub frames_at : (nodes : List Node) (clip : ℕ) (e : Node) → all_use_below 1 nodes ≡ true → 0 < clip → clip ≤ length nodes → get_or (frames made counts source nodes) clip source ≡ node_frame made counts source (frames made counts source nodes) (get_or nodes (clip - 1) e)
   frames_at nodes clip e uses some within =
       let place : 1 + (clip - 1) ≡ clip = omega arith in
       sym (ap (λ k. get_or (frames made counts source nodes) k source) place)
       ∙ built_at (node_frame made counts source) (record { same = frame_same }) (source ∷ []) nodes (clip - 1) source e uses (omega arith)
 
--- the number of frames of a node, by those of all clips
+-- the number of frames of a node, by the numbers of all clips
 pub lengths_at : (n : ℕ) (nodes : List Node) (clip : ℕ) (e : Node) → all_use_below 1 nodes ≡ true → 0 < clip → clip ≤ length nodes → slice_index (lengths n nodes) clip ≡ node_length (lengths n nodes) (get_or nodes (clip - 1) e)
 lengths_at n nodes clip e uses some within =
     let place : 1 + (clip - 1) ≡ clip = omega arith in
     sym (ap (λ k. get_or (lengths n nodes) k 0) place)
     ∙ built_at node_length lengths_local (n ∷ []) nodes (clip - 1) 0 e uses (omega arith)
 
--- a node uses clips below it alone
+-- a node uses only clips below it
 uses_from : (own : ℕ) (nodes : List Node) (k : ℕ) (e : Node) → all_use_below own nodes ≡ true → k < length nodes → uses_below (own + k) (get_or nodes k e) ≡ true
 uses_from own [] k e uses within = absurd (omega arith)
 uses_from own (node ∷ nodes) zero e uses within = let same : own + 0 ≡ own = omega arith in rw same (both _ _ uses).0
@@ -61,7 +61,7 @@ uses_from own (node ∷ nodes) (suc k) e uses within =
     let same : own + suc k ≡ own + 1 + k = omega arith in
     rw same (uses_from (own + 1) nodes k e (both _ _ uses).1 (omega arith))
 
--- what is known of a clip of a script that is a node
+-- what holds of a clip of a script that is a node
 pub record IsClip (nodes : List Node) (counts : List ℕ) (clip : ℕ) (node : Node) : Type 0 where
   pub uses : uses_below clip node ≡ true
   pub count : slice_index counts clip ≡ node_length counts node
@@ -79,11 +79,11 @@ frame_is made source nodes counts clip i e node given some within is =
     ap (λ f. f i) (frames_at made counts source nodes clip e given.script.below some within)
     ∙ ap (λ (m : Node). node_frame made counts source (frames made counts source nodes) m i) is
 
--- how many clips a script has
+-- the number of clips of a script
 pub given_long : (nodes : List Node) (counts : List ℕ) → Given nodes counts → length counts ≡ length nodes + 1
 given_long nodes counts given = ap length given.counted ∙ length-built node_length (slice_index counts 0 ∷ []) nodes ∙ (let e : 1 + length nodes ≡ length nodes + 1 = omega arith in e)
 
--- a clip of a script that is the node at the place before its number
+-- a clip of a script is the node at the index before its number
 pub record IsNode (nodes : List Node) (counts : List ℕ) (clip : ℕ) (e node : Node) : Type 0 where
   pub given : Given nodes counts
   pub some : 0 < clip
@@ -91,7 +91,7 @@ pub record IsNode (nodes : List Node) (counts : List ℕ) (clip : ℕ) (e node :
   pub is : get_or nodes (clip - 1) e ≡ node
 
 module _ (nodes : List Node) (counts : List ℕ) (clip i : ℕ) (e : Node) where
-  -- which clips a node uses, and that the frame stands in them
+  -- the clips that a node uses, and the frame is one of theirs
   pub trim_inside : (source first count : ℕ) → IsNode nodes counts clip e (Trim source first count) → i < slice_index counts clip → (source < clip) × (first + i < slice_index counts source)
   trim_inside source first count n inside =
       let c = clip_is nodes counts clip e (Trim source first count) n.given n.some n.within n.is in
@@ -112,13 +112,13 @@ module _ (nodes : List Node) (counts : List ℕ) (clip i : ℕ) (e : Node) where
       let c = clip_is nodes counts clip e (Fade source ramp) n.given n.some n.within n.is in
       (ltb-true source clip c.uses, omega (arith, c.count))
 
-  -- where a frame of the source comes from
+  -- the origin of a frame of the source
   pub source_frame : clip ≡ 0 → slice_index_or (frames with_step counts origin nodes) clip origin i ≡ origin i
   source_frame first =
       ap (λ k. slice_index_or (frames with_step counts origin nodes) k origin i) first
       ∙ ap (λ f. f i) (built_below (node_frame with_step counts origin) (origin ∷ []) nodes 0 origin (omega arith))
 
-  -- where a frame of a node comes from
+  -- the origin of a frame of a node
   frame_here : (node : Node) → IsNode nodes counts clip e node → slice_index_or (frames with_step counts origin nodes) clip origin i ≡ node_frame with_step counts origin (frames with_step counts origin nodes) node i
   frame_here node n = frame_is with_step origin nodes counts clip i e node n.given n.some n.within n.is
 

@@ -29,6 +29,6 @@ number_from : {E : Type 0} (word : List ℕ) (r : Result ℕ E) → length word 
 number_from word (Ok n) short h small is = grind (arith, nat_tests)
 number_from word (Err e) short h small is = grind (arith, nat_tests)
 
--- what `parse` reads of digits is the number
+-- `parse` reads digits as the number
 pub number_parsed : {E : Type 0} (word : List ℕ) (r : Result ℕ E) → length word ≤ 10 → list_all is_ascii_digit word ≡ true → ParsesUnsigned 64 10 word r → result_ok r ≡ number_of word
 number_parsed word r short h is = number_from word r short h (fits _ (digits_value_short digits word 10 h short)) (parse_digits digits 64 word r is h)

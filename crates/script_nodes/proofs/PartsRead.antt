@@ -1,4 +1,4 @@
--- The nodes that are read of a text, part by part.
+-- The nodes that are read from a text, part by part.
 use Rattle.std.specs.Prelude.{◌==◌}
 use Rattle.std.specs.Borrow.{Bor}
 use Rattle.std.specs.List.{slice_split}
@@ -8,17 +8,17 @@ use Rattle.script_nodes.specs.declared.nodes.Node.{Node}
 use Rattle.script_nodes.specs.Nodes.{node_of, node_before, nodes_by_parts}
 use Rattle.script_nodes.specs.Reading.{parts_left}
 
--- nodes before others, where those are there
+-- nodes before others, if those exist
 abbrev pub nodes_behind : List Node → Option (List Node) → Option (List Node)
 nodes_behind all None = None
 nodes_behind all (Some more) = Some (all ++ more)
 
--- how long what is left of a text is
+-- the length of the rest of a text
 abbrev pub left_length : Option (Bor (List ℕ)) → ℕ
 left_length None = 0
 left_length (Some text) = suc (length text.now)
 
--- the nodes of the parts that were read: they are held, or they are more than 16
+-- the nodes of the parts that were read: they are stored, or they are more than 16
 pub record IsRead (text : List ℕ) (nodes : List Node) (has_more : Bool) (left : Option (Bor (List ℕ))) : Type 0 where
   pub all : List Node
   pub parts : nodes_by_parts (slice_split (λ b. b == 59) text) ≡ nodes_behind all (nodes_by_parts (parts_left left))
@@ -44,7 +44,7 @@ none_read text nodes none = record { all = []; parts = nothing_before (nodes_by_
     nothing_before None = refl
     nothing_before (Some more) = refl
 
--- the parts behind one that was read
+-- the parts after one that was read
 parts_behind : (all : List Node) (node : Node) (part : List ℕ) (found : Option (List Node)) (before : List (List ℕ)) (left : Option (Bor (List ℕ))) → found ≡ nodes_behind all (nodes_by_parts before) → before ≡ part ∷ parts_left left → node_of part ≡ Some node → found ≡ nodes_behind (all ++ node ∷ []) (nodes_by_parts (parts_left left))
 parts_behind all node part found before left is cut read =
     is ∙ ap (λ (parts : List (List ℕ)). nodes_behind all (nodes_by_parts parts)) cut ∙ ap (λ (first : Option Node). nodes_behind all (node_before first (nodes_by_parts (parts_left left)))) read
@@ -53,7 +53,7 @@ parts_behind all node part found before left is cut read =
 one_longer : (all : List Node) (node : Node) → length (all ++ node ∷ []) ≡ length all + 1
 one_longer all node = length-append all (node ∷ [])
 
--- one more node, where 16 are held
+-- one more node, when 16 are stored
 pub one_left_out : (text : List ℕ) (nodes : List Node) (has_more : Bool) (here : Bor (List ℕ)) (part : List ℕ) (left : Option (Bor (List ℕ))) (node : Node) → IsRead text nodes has_more (Some here) → slice_split (λ b. b == 59) here.now ≡ part ∷ parts_left left → node_of part ≡ Some node → length nodes ≡ 16 → IsRead text nodes true left
 one_left_out text nodes has_more here part left node before cut read full = record {
   all = before.all ++ node ∷ [];
@@ -65,7 +65,7 @@ one_left_out text nodes has_more here part left node before cut read full = reco
     enough true held = omega arith
     enough false held = omega (arith, ap length held, full)
 
--- one more node that is held
+-- one more node that is stored
 pub one_held : (text : List ℕ) (nodes new : List Node) (has_more : Bool) (here : Bor (List ℕ)) (part : List ℕ) (left : Option (Bor (List ℕ))) (node : Node) → IsRead text nodes has_more (Some here) → slice_split (λ b. b == 59) here.now ≡ part ∷ parts_left left → node_of part ≡ Some node → length nodes < 16 → new ≡ nodes ++ node ∷ [] → IsRead text new has_more left
 one_held text nodes new has_more here part left node before cut read room is = record {
   all = before.all ++ node ∷ [];
@@ -77,7 +77,7 @@ one_held text nodes new has_more here part left node before cut read room is = r
     held true had = absurd (omega arith)
     held false had = is ∙ ap (λ (l : List Node). l ++ node ∷ []) had
 
--- a part that writes no node
+-- a part that is not a node
 pub no_node : (text : List ℕ) (nodes : List Node) (has_more : Bool) (here : Bor (List ℕ)) (part : List ℕ) (left : Option (Bor (List ℕ))) → IsRead text nodes has_more (Some here) → slice_split (λ b. b == 59) here.now ≡ part ∷ parts_left left → node_of part ≡ None → nodes_by_parts (slice_split (λ b. b == 59) text) ≡ None
 no_node text nodes has_more here part left before cut read =
     before.parts ∙ ap (λ (parts : List (List ℕ)). nodes_behind before.all (nodes_by_parts parts)) cut ∙ ap (λ (first : Option Node). nodes_behind before.all (node_before first (nodes_by_parts (parts_left left)))) read

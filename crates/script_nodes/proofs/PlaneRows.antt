@@ -16,7 +16,7 @@ use Rattle.script_nodes.specs.Rows.{IsFadedTo}
 use Rattle.script_nodes.specs.Planes.{block_side, IsCodedPlane, HasRows}
 use Rattle.script_nodes.proofs.Uses.{both}
 
--- what is shown of a component is no wider than its coded size
+-- the shown width of a component is at most its coded width
 pub side_fits : (component : Component) (n : ℕ) → side_of component n ≤ block_side component * macroblocks n
 side_fits Luma n = omega arith
 side_fits Cb n = omega arith
@@ -25,7 +25,7 @@ side_fits Cr n = omega arith
 pub rows_none : (component : Component) (width height : ℕ) (sample : ℕ → ℕ → ℕ) (plane : PlaneValue) → IsCodedPlane component width height plane → HasRows component width height sample 0 plane
 rows_none component width height sample plane coded = record { coded = coded; each = λ x y inside below. absurd (omega arith) }
 
--- one row more
+-- one more row
 pub rows_more : (component : Component) (width height : ℕ) (sample : ℕ → ℕ → ℕ) (plane : PlaneValue) (y : ℕ) (row : List ℕ) → HasRows component width height sample y plane → y < side_of component height → length row ≡ plane.shown.width → ((x : ℕ) → x < side_of component width → slice_index row x ≡ sample x y) → HasRows component width height sample (y + 1) (with_row_written plane y row)
 rows_more component width height sample plane y row before below long right =
     let wide : side_of component width ≤ plane.shown.width = omega (arith, side_fits component width, before.coded.blocks.0) in
@@ -39,7 +39,7 @@ rows_more component width height sample plane y row before below long right =
           ];
     }
 
--- a shown row of a picture is no wider than its plane
+-- a shown row of a picture is not wider than its plane
 pub shown_fits : (p : PictureSamples) (component : Component) → IsWholePicture p → side_of component p.width ≤ (plane_of p component).width
 shown_fits p Luma whole = omega (arith, side_fits Luma p.width, whole.4.0.0)
 shown_fits p Cb whole = omega (arith, side_fits Cb p.width, whole.4.1.0)
@@ -51,7 +51,7 @@ shown_at p component x y whole inside =
     get_or-take (side_of component p.width) (row_of (plane_of p component) y) x 0 inside
     ∙ sample_of_row (plane_of p component) x y (omega (arith, shown_fits p component whole))
 
--- a place of an area in the picture in which it lies
+-- a position of an area in the picture around it
 pub place_inside : (component : Component) (at wide whole x : ℕ) → at + wide ≤ whole → x < side_of component wide → place_of component at + x < side_of component whole
 place_inside Luma at wide whole x fits less = omega arith
 place_inside Cb at wide whole x fits less = omega arith

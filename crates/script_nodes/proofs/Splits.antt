@@ -13,7 +13,7 @@ not_zero n h = grind (arith, nat_tests)
 one_more : (n : ℕ) → 1 + n ≡ suc n
 one_more n = omega arith
 
--- where no element passes, the list is the one part
+-- if no element passes, the list is the only part
 pub split_whole : (p : ℕ → Bool) (xs : List ℕ) → length xs ≤ position_or_len p xs → slice_split p xs ≡ xs ∷ []
 split_whole p [] h = refl
 split_whole p (x ∷ xs) h = by_first (p x) refl (split_whole p xs)
@@ -22,7 +22,7 @@ split_whole p (x ∷ xs) h = by_first (p x) refl (split_whole p xs)
     by_first true e ih = let h' = rw e at h in absurd (omega arith)
     by_first false e ih = let h' = rw e at h in rw (e, ih (omega arith)) refl
 
--- spaces in front are no words
+-- leading spaces are not words
 pub words_of-spaces : (text : List ℕ) → words_of (drop (prefix_len (λ b. b == 32) text) text) ≡ words_of text
 words_of-spaces [] = refl
 words_of-spaces (x ∷ xs) = by_first (x == 32) refl (words_of-spaces xs)
@@ -33,7 +33,7 @@ words_of-spaces (x ∷ xs) = by_first (x == 32) refl (words_of-spaces xs)
         let none : prefix_len (λ b. b == 32) (x ∷ xs) ≡ 0 = rw e refl in
         ap (λ n. words_of (drop n (x ∷ xs))) none
 
--- the parts of a text: what stands before the first space, and then parts that have the words behind it
+-- the parts of a text: the text before the first space, and then parts with the words after it
 pub record Parts (text : List ℕ) : Type 0 where
   pub more : List (List ℕ)
   pub split : slice_split (λ b. b == 32) text ≡ before_first (λ b. b == 32) text ∷ more
@@ -71,7 +71,7 @@ words_of-first (x ∷ xs) h k = by_first (x == 32) refl
         ∙ ap (λ none. cond (not none) (word ∷ behind) behind) some
         ∙ ap (λ words. word ∷ words) (sym parts.words)
 
--- a first word is no empty part
+-- a first word is not an empty part
 first_some : (text : List ℕ) → 0 < length text → prefix_len (λ b. b == 32) text ≡ 0 → 0 < position_or_len (λ b. b == 32) text
 first_some [] h k = absurd (omega arith)
 first_some (x ∷ xs) h k = by_first (x == 32) refl
@@ -80,7 +80,7 @@ first_some (x ∷ xs) h k = by_first (x == 32) refl
     by_first true e = let k' = rw e at k in absurd (omega arith)
     by_first false e = rw e (omega arith)
 
--- what stands behind the spaces begins with none
+-- the text after the spaces begins with none
 no_space_behind : (text words : List ℕ) (n : ℕ) → n ≡ prefix_len (λ b. b == 32) text → words ≡ drop n text → n < length text → prefix_len (λ b. b == 32) words ≡ 0
 no_space_behind text words n spaces behind within =
     let stops : get_or text n 0 == 32 ≡ false = ap (λ k. get_or text k 0 == 32) spaces ∙ prefix_len_stops (λ b. b == 32) text 0 (omega (arith, spaces, within)) in

@@ -1,4 +1,4 @@
--- The frames of each node, by recursion to the nodes below it, whatever a frame is: a picture, or the trace of one.
+-- The frames of each node, by recursion to the nodes below it, for any kind of frame: a picture, or the trace of one.
 use Rattle.std.specs.Prelude.{ℕ, ◌+◌, ◌-◌, ◌*◌, ◌/◌, List, [], ◌∷◌, ◌++◌, length, nat_lt, nat_le, if◌then◌else◌, slice_index, slice_index_or, Option, None, Some}
 use Rattle.script_nodes.specs.declared.nodes.Ramp.{Ramp}
 use Rattle.script_nodes.specs.declared.nodes.Node.{Node}
@@ -7,14 +7,14 @@ use Rattle.script_nodes.specs.declared.traces.Step.{Step}
 use Rattle.script_nodes.specs.declared.traces.Step.TheVariants.{Cut, Weigh}
 use Rattle.script_nodes.specs.Lengths.{built, lengths, script_length}
 
--- the weight of frame i in 256ths: `start` before the ramp, `end` behind it, and evenly from the one to the other between
+-- the weight of frame i in 256ths: `start` before the ramp, `end` after it, and evenly from the one to the other between
 unfoldable pub weight_at : Ramp → ℕ → ℕ
 weight_at ramp i =
     if nat_lt i ramp.first then ramp.start
     else if nat_le (ramp.first + ramp.count) i then ramp.end
     else (ramp.start * (ramp.count - (i - ramp.first)) + ramp.end * (i - ramp.first)) / ramp.count
 
--- frame i of a node, where `made` is what a step makes of a frame, the numbers of frames and the frames of those below are these, those of the source first
+-- frame i of a node; `made` applies a step to a frame, and the numbers of frames and the frames of the clips below are given, the source's first
 abbrev pub node_frame : {A : Type 0} → (Step → A → A) → List ℕ → (ℕ → A) → List (ℕ → A) → Node → ℕ → A
 node_frame made counts source below (Trim lower first count) = λ i. slice_index_or below lower source (first + i)
 node_frame made counts source below (Splice front back) = λ i.
@@ -27,11 +27,11 @@ node_frame made counts source below (Fade lower ramp) = λ i. made (Weigh (weigh
 abbrev pub frames : {A : Type 0} → (Step → A → A) → List ℕ → (ℕ → A) → List Node → List (ℕ → A)
 frames made counts source nodes = built (node_frame made counts source) (source ∷ []) nodes
 
--- frame i of the last node of a script, where the source has n frames and these are they
+-- frame i of the last node of a script, given the n frames of the source
 abbrev pub script_frame : {A : Type 0} → (Step → A → A) → (ℕ → A) → ℕ → List Node → ℕ → A
 script_frame made source n nodes i = slice_index_or (frames made (lengths n nodes) source nodes) (length nodes) source i
 
--- where a frame comes from: a frame of the source, and what is made of it, in order
+-- the origin of a frame: a frame of the source, and the steps to apply to it, in order
 pub record Origin : Type 0 where
   pub frame : ℕ
   pub steps : List Step
@@ -40,15 +40,15 @@ pub record Origin : Type 0 where
 abbrev pub origin : ℕ → Origin
 origin i = record { frame = i; steps = [] }
 
--- one step more
+-- one more step
 abbrev pub with_step : Step → Origin → Origin
 with_step step from = record from { steps = from.steps ++ step ∷ [] }
 
--- where frame i of a script comes from, or none where the script is no longer than that
+-- the origin of frame i of a script, or none if the script has at most i frames
 abbrev pub traced : ℕ → List Node → ℕ → Option Origin
 traced n nodes i = if nat_lt i (script_length n nodes) then Some (script_frame with_step origin n nodes i) else None
 
--- what steps make of a frame, one after another
+-- steps applied to a frame in sequence
 abbrev pub after_steps : {A : Type 0} → (Step → A → A) → List Step → A → A
 after_steps made [] frame = frame
 after_steps made (step ∷ steps) frame = after_steps made steps (made step frame)

@@ -1,4 +1,4 @@
--- What the definitions of this crate come to.
+-- What follows from the definitions of this crate.
 use Rattle.std.specs.Prelude.{◌≡◌, ℕ, ◌+◌, ◌<◌, List, [], ◌∷◌, ◌++◌, None, Some, Ok, Err, codes}
 use Rattle.pixel_planes.specs.Pictures.{PictureSamples, IsWholePicture, shown_plane}
 use Rattle.pixel_planes.specs.declared.pictures.Component.{Component}
@@ -11,11 +11,11 @@ use Rattle.script_nodes.specs.Lengths.{script_length}
 use Rattle.script_nodes.specs.Frames.{origin, with_step, script_frame, traced, weight_at}
 use Rattle.script_nodes.specs.Shown.{Shown, Shows, IsFollowed, weighed}
 
--- a frame of a script is what the steps of its trace make of the source's frame, whatever the source shows
+-- a frame of a script is the source's frame with the steps of its trace applied, whatever the source shows
 abbrev pub TracesAreFollowed : Type 0
 TracesAreFollowed = (n : ℕ) (nodes : List Node) (i : ℕ) → let from = script_frame with_step origin n nodes i in IsFollowed n nodes i from.frame from.steps
 
--- frames 1 and 2 of three, and behind them all three: frame 2 of the five is the source's first
+-- frames 1 and 2 of three, followed by all three: frame 2 of the five is the source's first
 abbrev pub WorkedSplice : Type 0
 WorkedSplice =
     let nodes = Trim 0 1 2 ∷ Splice 1 0 ∷ [] in
@@ -27,13 +27,13 @@ sixteen =
     let four = codes "trim 0 0 1;trim 0 0 1;trim 0 0 1;trim 0 0 1" in
     four ++ 59 ∷ four ++ 59 ∷ four ++ 59 ∷ four
 
--- the faults of worked texts, each told before those behind it, wherever it stands
+-- the errors of worked texts, each reported before the errors after it, wherever it is
 abbrev pub WorkedFaults : Type 0
 WorkedFaults =
     (script_of (codes "-") ≡ Ok []) × (script_of (codes "blur 0") ≡ Err Syntax) × (script_of (codes "trim 1 0 1;") ≡ Err Syntax) × (script_of (sixteen ++ codes ";trim 9 0 1") ≡ Err Nodes) × (script_of (sixteen ++ codes ";blur 0") ≡ Err Syntax)
     × (script_of (codes "crop 0 1 0 4 4;trim 2 0 1") ≡ Err Reference) × (script_of (codes "trim 1 0 1") ≡ Err Reference) × (script_of (codes "crop 0 1 0 4 4") ≡ Err Number) × (script_of (codes "trim 0 0 4294967296") ≡ Err Number)
 
--- the whole weight keeps a sample, none leaves black alone, and half of it takes the brightest luma to 126
+-- the whole weight keeps a sample, none leaves only black, and half of it takes the brightest luma to 126
 abbrev pub WorkedWeights : Type 0
 WorkedWeights = ((dark sample : ℕ) → weighed 256 dark sample ≡ sample) × ((dark sample : ℕ) → weighed 0 dark sample ≡ dark) × (weighed 128 16 235 ≡ 126)
 

@@ -1,4 +1,4 @@
--- The nodes that a text writes, and whether they are a script.
+-- The nodes of a text, and whether they are a script.
 use Rattle.std.specs.Prelude.{ℕ, ◌+◌, ◌^◌, ◌%◌, Bool, true, false, List, [], ◌∷◌, Option, None, Some, Result, Ok, Err, ◌&&◌, ◌==◌, not, nat_lt, nat_le, if◌then◌else◌, length, codes}
 use Rattle.std.specs.List.{list_all, slice_split}
 use Rattle.std.specs.Option.{option_map_or}
@@ -13,7 +13,7 @@ use Rattle.script_nodes.specs.Words.{words_of, number_of}
 
 -- ---- the text of a node
 
--- a node that goes on with a number, and with what is written behind it
+-- a node that continues with a number, and with the words after it
 abbrev pub with_number : (ℕ → List (List ℕ) → Option Node) → List (List ℕ) → Option Node
 with_number next [] = None
 with_number next (word ∷ words) = option_map_or (λ n. next n words) (number_of word) None
@@ -23,7 +23,7 @@ abbrev pub at_end : Node → List (List ℕ) → Option Node
 at_end node [] = Some node
 at_end node (word ∷ words) = None
 
--- what each kind of node is with the words behind its name
+-- each kind of node, from the words after its name
 abbrev pub trim_by : List (List ℕ) → Option Node
 trim_by words = with_number (λ source. with_number (λ first. with_number (λ count. at_end (Trim source first count)))) words
 
@@ -56,37 +56,37 @@ node_of text = node_by_words (words_of text)
 
 -- ---- the text of all nodes
 
--- a node before others, where both are there
+-- a node before others, if both exist
 abbrev pub node_before : Option Node → Option (List Node) → Option (List Node)
 node_before None nodes = None
 node_before (Some node) None = None
 node_before (Some node) (Some nodes) = Some (node ∷ nodes)
 
--- the node of each text, or none where one of them writes no node
+-- the node of each text, or none if one of them is not a node
 abbrev pub nodes_by_parts : List (List ℕ) → Option (List Node)
 nodes_by_parts [] = Some []
 nodes_by_parts (part ∷ parts) = node_before (node_of part) (nodes_by_parts parts)
 
--- whether a text is the one word `-`
+-- whether a text is the single word `-`
 abbrev pub is_dash : List (List ℕ) → Bool
 is_dash [] = false
 is_dash (word ∷ []) = bytes_eq word (codes "-")
 is_dash (word ∷ next ∷ words) = false
 
--- the nodes that a text writes: none for `-`, else those of its parts between `;`
+-- the nodes of a text: none for `-`, otherwise the nodes of its parts between `;`
 abbrev pub nodes_of : List ℕ → Option (List Node)
 nodes_of text = if is_dash (words_of text) then Some [] else nodes_by_parts (slice_split (λ b. b == 59) text)
 
 -- ---- whether nodes are a script
 
--- whether a node uses nodes below this number alone
+-- whether a node uses only nodes below this number
 abbrev pub uses_below : ℕ → Node → Bool
 uses_below own (Trim source first count) = nat_lt source own
 uses_below own (Splice front back) = nat_lt front own && nat_lt back own
 uses_below own (Crop source area) = nat_lt source own
 uses_below own (Fade source ramp) = nat_lt source own
 
--- whether each node uses nodes below its own number alone; the first one has this number
+-- whether each node uses only nodes below its own number; the first one has this number
 abbrev pub all_use_below : ℕ → List Node → Bool
 all_use_below own [] = true
 all_use_below own (node ∷ nodes) = uses_below own node && all_use_below (own + 1) nodes
@@ -95,11 +95,11 @@ all_use_below own (node ∷ nodes) = uses_below own node && all_use_below (own +
 abbrev pub is_number : ℕ → Bool
 is_number n = nat_lt n (2 ^ 32)
 
--- whether a number is the place of an area: it is even
+-- whether a number is a position of an area: it is even
 abbrev pub is_place : ℕ → Bool
 is_place n = is_number n && n % 2 == 0
 
--- whether a number is the side of a picture
+-- whether a number is the width or height of a picture
 abbrev pub is_side : ℕ → Bool
 is_side n = nat_lt 0 n && nat_le n 16383
 
@@ -113,14 +113,14 @@ is_area area = is_place area.x && is_place area.y && is_side area.width && is_si
 abbrev pub is_ramp : Ramp → Bool
 is_ramp ramp = is_number ramp.first && is_number ramp.count && nat_lt 0 ramp.count && is_weight ramp.start && is_weight ramp.end
 
--- whether the numbers of a node, but for those of the nodes that it uses, are allowed
+-- whether the numbers of a node, except the numbers of nodes that it uses, are allowed
 abbrev pub has_numbers : Node → Bool
 has_numbers (Trim source first count) = is_number first && is_number count
 has_numbers (Splice front back) = true
 has_numbers (Crop source area) = is_area area
 has_numbers (Fade source ramp) = is_ramp ramp
 
--- the script that nodes are, or the first fault against them
+-- the script of these nodes, or their first error
 abbrev pub script_by : Option (List Node) → Result (List Node) ScriptFault
 script_by None = Err Syntax
 script_by (Some nodes) =
@@ -129,6 +129,6 @@ script_by (Some nodes) =
     else if not (list_all has_numbers nodes) then Err Number
     else Ok nodes
 
--- the script that a text writes, or the first fault against it
+-- the script of a text, or its first error
 abbrev pub script_of : List ℕ → Result (List Node) ScriptFault
 script_of text = script_by (nodes_of text)

@@ -1,4 +1,4 @@
--- What is known of the nodes of a script.
+-- What holds of the nodes of a script.
 use Rattle.std.specs.Prelude.{◌≡◌, ℕ, ◌≤◌, true, List, length, slice_index}
 use Rattle.std.specs.List.{list_all}
 use Rattle.script_nodes.specs.declared.nodes.Node.{Node}
@@ -7,7 +7,7 @@ use Rattle.script_nodes.specs.Nodes.{all_use_below, has_numbers}
 use Rattle.script_nodes.specs.Lengths.{lengths}
 use Rattle.script_nodes.specs.Frames.{Origin}
 
--- at most 16 nodes, each of which uses those before it, with numbers that are allowed
+-- at most 16 nodes, each of which uses earlier ones, with numbers that are allowed
 pub record IsScript (nodes : List Node) : Type 0 where
   pub few : length nodes ≤ 16
   pub below : all_use_below 1 nodes ≡ true

@@ -1,4 +1,4 @@
--- What a picture shows, and what a step makes of it for each shown sample.
+-- The samples that a picture shows, and each step as a function of them.
 use Rattle.std.specs.Prelude.{◌≡◌, ℕ, ◌+◌, ◌-◌, ◌*◌, ◌/◌, ◌<◌, Bool, ◌&&◌, nat_le, if◌then◌else◌, List, Option, None, Some}
 use Rattle.pixel_planes.specs.Samples.{sample_at}
 use Rattle.pixel_planes.specs.Pictures.{PictureSamples, side_of, plane_of}
@@ -16,27 +16,27 @@ pub record Shown : Type 0 where
   pub height : ℕ
   pub sample : Component → ℕ → ℕ → ℕ
 
--- a picture shows this; its other samples are not looked at
+-- a picture shows this; its other samples are left open
 pub record Shows (p : PictureSamples) (shown : Shown) : Type 0 where
   pub wide : p.width ≡ shown.width
   pub high : p.height ≡ shown.height
   pub each : (component : Component) (x y : ℕ) → x < side_of component p.width → y < side_of component p.height → sample_at (plane_of p component) x y ≡ shown.sample component x y
 
--- what a picture shows
+-- the samples that a picture shows
 abbrev pub shown_in : PictureSamples → Shown
 shown_in p = record { width = p.width; height = p.height; sample = λ component x y. sample_at (plane_of p component) x y }
 
--- whether an area lies in a picture of this size
+-- whether an area is inside a picture of this size
 abbrev pub is_inside : Area → ℕ → ℕ → Bool
 is_inside area width height = nat_le (area.x + area.width) width && nat_le (area.y + area.height) height
 
--- a luma place as it is in this component
+-- a luma position in this component
 abbrev pub place_of : Component → ℕ → ℕ
 place_of Luma n = n
 place_of Cb n = n / 2
 place_of Cr n = n / 2
 
--- what an area of a picture shows
+-- the samples of an area of a picture
 abbrev pub cut_to : Area → Shown → Shown
 cut_to area shown = record {
   width = area.width;
@@ -50,11 +50,11 @@ black Luma = 16
 black Cb = 128
 black Cr = 128
 
--- a sample at a weight in 256ths, black having the rest of the weight: rounded
+-- a sample at a weight in 256ths, with black at the rest: rounded
 abbrev pub weighed : ℕ → ℕ → ℕ → ℕ
 weighed weight dark sample = (weight * sample + (256 - weight) * dark + 128) / 256
 
--- what a picture shows at a weight
+-- the samples of a picture at a weight
 abbrev pub faded_to : ℕ → Shown → Shown
 faded_to weight shown = record {
   width = shown.width;
@@ -62,29 +62,29 @@ faded_to weight shown = record {
   sample = λ component x y. weighed weight (black component) (shown.sample component x y);
 }
 
--- what a step makes of a picture, or none where it cuts past the picture's size
+-- a step applied to a picture, or none if it crops past the picture's size
 abbrev pub step_shown : Step → Shown → Option Shown
 step_shown (Cut area) shown = if is_inside area shown.width shown.height then Some (cut_to area shown) else None
 step_shown (Weigh weight) shown = Some (faded_to weight shown)
 
--- the same, of a picture that may not be there
+-- the same for a picture that may not exist
 abbrev pub use_step : Step → Option Shown → Option Shown
 use_step step None = None
 use_step step (Some shown) = step_shown step shown
 
--- what steps make of a picture, or none where one of them cuts past the size that it meets
+-- steps applied to a picture, or none if one of them crops past the size of its picture
 abbrev pub steps_shown : List Step → Shown → Option Shown
 steps_shown steps shown = after_steps use_step steps (Some shown)
 
--- what frame i of a script shows, where the source of n frames shows this, is what steps make of one of its frames
+-- frame i of a script shows the source's frame with steps applied, when the source of n frames shows this
 abbrev pub IsFollowed : ℕ → List Node → ℕ → ℕ → List Step → Type 0
 IsFollowed n nodes i frame steps = (source : ℕ → Option Shown) → script_frame use_step source n nodes i ≡ after_steps use_step steps (source frame)
 
--- a size of a picture
+-- the size of a picture
 abbrev pub Size : Type 0
 Size = ℕ × ℕ
 
--- the size that a step leaves, or none where it cuts past the size
+-- the size after a step, or none if it crops past the size
 abbrev pub step_size : Step → Size → Option Size
 step_size (Cut area) size = if is_inside area size.0 size.1 then Some (area.width, area.height) else None
 step_size (Weigh weight) size = Some size
@@ -93,6 +93,6 @@ abbrev pub use_size : Step → Option Size → Option Size
 use_size step None = None
 use_size step (Some size) = step_size step size
 
--- the size that steps leave, or none where one of them cuts past the size that it meets
+-- the size after steps, or none if one of them crops past its size
 abbrev pub steps_size : List Step → Size → Option Size
 steps_size steps size = after_steps use_size steps (Some size)

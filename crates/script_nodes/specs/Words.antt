@@ -1,10 +1,10 @@
--- The words of a node, and the numbers that they write.
+-- The words of a node, and the numbers among them.
 use Rattle.std.specs.Prelude.{ℕ, Bool, List, Option, None, Some, ◌&&◌, ◌==◌, not, nat_lt, nat_le, if◌then◌else◌, filter, length}
 use Rattle.std.specs.Char.{is_ascii_digit}
 use Rattle.std.specs.List.{list_all, slice_split}
 use Rattle.std.specs.Str.Parse.{digits_value}
 
--- the words of a text: the parts between spaces, but for the empty ones
+-- the words of a text: the parts between spaces, except empty ones
 abbrev pub words_of : List ℕ → List (List ℕ)
 words_of text = filter (λ word. not (length word == 0)) (slice_split (λ b. b == 32) text)
 

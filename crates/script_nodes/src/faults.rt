@@ -3,28 +3,28 @@ ghost use Rattle.script_nodes.specs.Faults.{script_fault_word, apply_fault_word}
 
 use thiserror::Error;
 
-/// Why a text is no script, in the order in which it is checked, each over the whole text.
+/// Why a text is not a script, in the order of the checks, each over the whole text.
 #[derive(Clone, Copy, Debug, PartialEq, Eq, Error)]
 pub enum ScriptFault {
-    /// An unknown word, a wrong number of words, a word that is no number, or an empty node.
+    /// An unknown word, a wrong number of words, a word that is not a number, or an empty node.
     #[error("the text is not one of nodes")]
     Syntax,
     /// More than 16 nodes.
     #[error("the script has too many nodes")]
     Nodes,
-    /// A node that does not use nodes below its own number alone.
+    /// A node that uses a node that is not below its own number.
     #[error("a node uses one that does not stand before it")]
     Reference,
-    /// A number that is not allowed where it stands.
+    /// A number that is not allowed at its position.
     #[error("a number of the script is not allowed")]
     Number,
-    /// There was no memory for the nodes.
+    /// Out of memory for the nodes.
     #[error("no memory for the nodes")]
     NoMemory,
 }
 
 impl ScriptFault {
-    /// The fault's name.
+    /// The error's name.
     pub const fn word(self) -> &'static str
         ensures { result.now ≡ script_fault_word self }
     {
@@ -38,13 +38,13 @@ impl ScriptFault {
     }
 }
 
-/// A crop reaches past the size of the picture that it meets.
+/// A crop reaches past the size of the picture that it is applied to.
 #[derive(Clone, Copy, Debug, PartialEq, Eq, Error)]
 #[error("a crop reaches past the picture")]
 pub struct CropOutside;
 
 impl CropOutside {
-    /// The fault's name.
+    /// The error's name.
     pub const fn word(self) -> &'static str
         ensures { result.now ≡ codes "CropOutside" }
     {
@@ -52,19 +52,19 @@ impl CropOutside {
     }
 }
 
-/// Why a trace gives no picture, in the order in which it is checked.
+/// Why a trace makes no picture, in the order of the checks.
 #[derive(Clone, Copy, Debug, PartialEq, Eq, Error)]
 pub enum ApplyFault {
-    /// A crop reaches past the size of the picture that it meets.
+    /// A crop reaches past the size of the picture that it is applied to.
     #[error("a crop reaches past the picture")]
     CropOutside,
-    /// There was no memory for the samples, or a plane cannot be shared once more.
+    /// Out of memory for the samples, or a plane cannot be shared again.
     #[error("no memory for the picture")]
     NoMemory,
 }
 
 impl ApplyFault {
-    /// The fault's name.
+    /// The error's name.
     pub const fn word(self) -> &'static str
         ensures { result.now ≡ apply_fault_word self }
     {

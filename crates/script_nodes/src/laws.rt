@@ -2,22 +2,22 @@
 
 ghost use Rattle.script_nodes.specs.Laws.{TracesAreFollowed, WorkedSplice, WorkedFaults, WorkedWeights, RampsMeetTheirEnds, ShownSamplesAreTold};
 
-/// A frame of a script is what the steps of its trace make of the source's frame.
+/// A frame of a script is the source's frame with the steps of its trace applied.
 pub fn traces_are_followed()
     ensures { TracesAreFollowed }
 {}
 
-/// A clip that is joined to the source: its text, its length and where its frames come from.
+/// A clip that is spliced with the source: its text, its length and the origins of its frames.
 pub fn worked_splice()
     ensures { WorkedSplice }
 {}
 
-/// Texts that are no scripts.
+/// Texts that are not scripts.
 pub fn worked_faults()
     ensures { WorkedFaults }
 {}
 
-/// What weights make of samples.
+/// Samples at weights.
 pub fn worked_weights()
     ensures { WorkedWeights }
 {}

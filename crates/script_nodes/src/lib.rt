@@ -1,4 +1,4 @@
-//! Scripts: clips that are trimmed, joined, cut and faded, told by frame numbers, and the pictures
+//! Scripts: clips that are trimmed, spliced, cropped and faded, given by frame numbers, and the pictures
 //! that they make.
 #![tactic(auto)]
 

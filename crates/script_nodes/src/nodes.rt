@@ -3,10 +3,10 @@ ghost use Rattle.script_nodes.specs.Nodes.{uses_below, has_numbers, is_place, is
 ghost use Rattle.script_nodes.specs.Lengths.{node_length};
 ghost use Rattle.script_nodes.specs.Frames.{weight_at};
 
-/// The largest number that a script may name.
+/// The largest number in a script.
 const MOST_NUMBER: u64 = 4_294_967_295;
 
-/// The greatest side of a picture.
+/// The largest width or height of a picture.
 const MOST_SIDE: u64 = 16_383;
 
 /// The weight of a picture that is not faded.
@@ -14,16 +14,16 @@ pub(crate) const WHOLE: u64 = 256;
 
 /// A part of a picture, in luma samples.
 ///
-/// In a script the place is even and at most 4,294,967,295 each way, and the sides are 1 to 16,383.
+/// In a script the position is even and at most 4,294,967,295 each way, and width and height are 1 to 16,383.
 #[derive(Clone, Copy, Debug, Default, PartialEq, Eq)]
 pub struct Area {
     /// The column of its first sample.
     pub x: u64,
     /// The row of its first sample.
     pub y: u64,
-    /// How many columns it has.
+    /// The number of its columns.
     pub width: u64,
-    /// How many rows it has.
+    /// The number of its rows.
     pub height: u64,
 }
 
@@ -33,31 +33,31 @@ pub struct Area {
 /// at most 256.
 #[derive(Clone, Copy, Debug, Default, PartialEq, Eq)]
 pub struct Ramp {
-    /// The frame from which on the weight changes.
+    /// The frame at which the weight starts to change.
     pub first: u64,
-    /// Over how many frames it changes.
+    /// The number of frames over which it changes.
     pub count: u64,
     /// The weight of the frames before these.
     pub start: u64,
-    /// The weight of the frames behind these.
+    /// The weight of the frames after these.
     pub end: u64,
 }
 
-/// A clip that is made of others, which are named by their numbers: 0 is the source, and the nodes
-/// of a script have the numbers from 1 on in their order.
+/// A clip that is made of others, which are given by their numbers: 0 is the source, and the nodes
+/// of a script are numbered from 1 in their order.
 #[derive(Clone, Copy, Debug, PartialEq, Eq)]
 pub enum Node {
-    /// At most `count` frames of a clip, from frame `first` on.
+    /// At most `count` frames of a clip, starting at frame `first`.
     Trim { source: u64, first: u64, count: u64 },
-    /// The frames of one clip, and behind them those of another.
+    /// The frames of one clip, followed by the frames of another.
     Splice { front: u64, back: u64 },
     /// An area of each frame of a clip.
     Crop { source: u64, area: Area },
-    /// The frames of a clip, each at its weight and black at the rest.
+    /// The frames of a clip, each at its weight with black at the rest.
     Fade { source: u64, ramp: Ramp },
 }
 
-/// The node by which unused places are filled: it has no frames.
+/// The node that fills unused slots: it has no frames.
 impl Default for Node {
     fn default() -> Self {
         Node::Trim {
@@ -69,7 +69,7 @@ impl Default for Node {
 }
 
 impl Area {
-    /// Whether a script may name this area.
+    /// Whether a script may have this area.
     fn is_allowed(&self) -> bool
         ensures { result ≡ is_area self.now }
     {
@@ -90,7 +90,7 @@ fn is_side(n: u64) -> bool
 }
 
 impl Ramp {
-    /// Whether a script may name this ramp.
+    /// Whether a script may have this ramp.
     fn is_allowed(&self) -> bool
         ensures { result ≡ is_ramp self.now }
     {
@@ -101,7 +101,7 @@ impl Ramp {
             && self.end <= WHOLE
     }
 
-    /// The weight of a frame, 0 to 256, for a ramp that a script may name.
+    /// The weight of a frame, 0 to 256, for a ramp that a script may have.
     pub(crate) fn weight(&self, frame: u64) -> u16
         requires { is_ramp self.now ≡ true }
         ensures value { result ≡ weight_at self.now frame }
@@ -119,7 +119,7 @@ impl Ramp {
 }
 
 impl Node {
-    /// Whether the node uses clips of numbers below this one alone.
+    /// Whether the node uses only clips with numbers below this one.
     pub(crate) fn uses_below(&self, own: u64) -> bool
         ensures { result ≡ uses_below own self.now }
     {
@@ -131,7 +131,7 @@ impl Node {
         }
     }
 
-    /// Whether the numbers of the node, but for those of clips, are allowed in a script.
+    /// Whether the numbers of the node, except clip numbers, are allowed in a script.
     pub(crate) fn has_numbers(&self) -> bool
         ensures { result ≡ has_numbers self.now }
     {
@@ -143,7 +143,7 @@ impl Node {
         }
     }
 
-    /// How many frames the node has, where `below` tells it of the clips below, that of the source
+    /// The number of frames of the node. `below` has the number of frames of each clip below it, the source's
     /// first, each at most 2^62.
     pub(crate) fn length(&self, below: &[u64]) -> u64
         requires uses { uses_below (length below.now) self.now ≡ true }

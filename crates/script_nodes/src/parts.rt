@@ -7,7 +7,7 @@ ghost use Rattle.script_nodes.specs.declared.nodes.Node.{Node};
 use crate::nodes::{Area, Node, Ramp};
 use crate::words::{next_word, number};
 
-/// The number that the next word writes and what stands behind it, or `None` where there is none.
+/// The number that is the next word and the text after it, or `None` if there is none.
 fn next_number(text: &[u8]) -> Option<(u64, &[u8])>
     ensures none { IfNone result ((next : ℕ → List (List ℕ) → Option Node) → with_number next (words_of text.now) ≡ None) }
     ensures some { IfSome result (λ found. (next : ℕ → List (List ℕ) → Option Node) → with_number next (words_of text.now) ≡ next found.0 (words_of found.1.now)) }
@@ -19,7 +19,7 @@ fn next_number(text: &[u8]) -> Option<(u64, &[u8])>
     }
 }
 
-/// The node, where no word is left.
+/// The node, if no word is left.
 fn ended(node: Node, rest: &[u8]) -> Option<Node>
     ensures { result ≡ at_end node (words_of rest.now) }
 {
@@ -87,7 +87,7 @@ fn fade_node(words: &[u8]) -> Option<Node>
     ended(Node::Fade { source, ramp }, rest)
 }
 
-/// The node that a text writes, or `None` where it writes none.
+/// The node that a text writes, or `None` if it does not write one.
 pub(crate) fn read_node(text: &[u8]) -> Option<Node>
     ensures { result ≡ node_of text.now }
 {

@@ -1,4 +1,4 @@
-//! Makes the pictures that traces tell of.
+//! Makes the pictures of traces.
 ghost use Rattle.std.specs.Prelude.{◌≡◌, ◌<◌, ◌≤◌, [], true, IfOk, IfErr, IsSome};
 ghost use Rattle.script_nodes.specs.Shown.{Shows, shown_in, cut_to, faded_to, is_inside, step_shown, step_size, steps_shown};
 ghost use Rattle.script_nodes.specs.Planes.{ShowsMade, RefusesMade};
@@ -11,7 +11,7 @@ use crate::traces::{Step, Trace};
 use pixel_planes::{Component, NoMemory, Picture, Planes};
 use std::alloc::Global;
 
-/// An area of a picture, in which it lies.
+/// An area of a picture, inside it.
 fn cut(alloc: Global, picture: &Picture, area: &Area) -> Result<Picture, NoMemory>
     requires inside { is_inside area.now picture.now.width picture.now.height ≡ true }
     requires wide { (0 < area.now.width) × (area.now.width ≤ 16383) }
@@ -39,7 +39,7 @@ fn fade(alloc: Global, picture: &Picture, weight: u16) -> Result<Picture, NoMemo
     Picture::share(alloc, planes, picture.width(), picture.height())
 }
 
-/// What a step makes of a picture, past whose size it does not cut.
+/// A step applied to a picture, when its area is inside it.
 fn stepped(alloc: Global, picture: &Picture, step: &Step) -> Result<Picture, NoMemory>
     requires allowed { IsStep step.now }
     requires inside { IsSome (step_size step.now (picture.now.width, picture.now.height)) }
@@ -51,12 +51,12 @@ fn stepped(alloc: Global, picture: &Picture, step: &Step) -> Result<Picture, NoM
     }
 }
 
-/// What the steps of a trace make of a picture, one after another.
+/// The steps of a trace applied to a picture in sequence.
 ///
-/// Where there are none it is the same picture, whose planes are shared, and no memory is taken.
-/// What its coded samples outside the shown size are is not told. `CropOutside` where a crop
-/// reaches past the size that it meets, and else `NoMemory` where a plane or its shared block is
-/// refused, or a plane of the picture cannot be shared once more.
+/// Without steps it is the same picture, whose planes are shared, and no memory is taken.
+/// Its coded samples outside the shown size are left open. `CropOutside` if a crop
+/// reaches past the size of its picture, and otherwise `NoMemory` if the memory of a plane or of its shared block
+/// is refused, or a plane of the picture cannot be shared again.
 pub fn apply(alloc: Global, picture: &Picture, trace: &Trace) -> Result<Picture, ApplyFault>
     ensures shown { IfOk result (ShowsMade (steps_shown trace.now (shown_in picture.now))) }
     ensures same { trace.now ≡ [] → IfOk result (λ made. made ≡ picture.now) }

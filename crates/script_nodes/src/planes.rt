@@ -1,4 +1,4 @@
-//! Makes the planes of a cut and of a faded picture.
+//! Makes the planes of a cropped and of a faded picture.
 ghost use Rattle.std.specs.Prelude.{◌≡◌, ◌<◌, ◌≤◌, true, IfOk};
 ghost use Rattle.pixel_planes.specs.Pictures.{side_of};
 ghost use Rattle.script_nodes.specs.Shown.{is_inside, place_of, black, cut_to, faded_to, shown_in};
@@ -9,7 +9,7 @@ use crate::rows::{copy_row, fade_row};
 use pixel_planes::{Component, NoMemory, Picture, Plane};
 use std::alloc::Global;
 
-/// The side of a macroblock in this component.
+/// The width and height of a macroblock in this component.
 fn block_side(component: Component) -> usize
     ensures value { result ≡ block_side component }
     ensures small { (0 < result) × (result ≤ 16) }
@@ -20,7 +20,7 @@ fn block_side(component: Component) -> usize
     }
 }
 
-/// A luma side as it is in this component: half of it in chroma, rounded up.
+/// A luma width or height in this component: half of it in chroma, rounded up.
 fn side_of(component: Component, side: usize) -> usize
     requires { side ≤ 16383 }
     ensures { result ≡ side_of component side }
@@ -31,7 +31,7 @@ fn side_of(component: Component, side: usize) -> usize
     }
 }
 
-/// A luma place as it is in this component: half of it in chroma.
+/// A luma position in this component: half of it in chroma.
 fn place_of(component: Component, place: usize) -> usize
     ensures { result ≡ place_of component place }
 {
@@ -71,7 +71,7 @@ fn blank(
     )
 }
 
-/// A component of an area of a picture, in which the area lies.
+/// A component of an area inside a picture.
 pub(crate) fn cut_plane(
     alloc: Global,
     picture: &Picture,

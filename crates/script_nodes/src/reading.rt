@@ -15,7 +15,7 @@ use arrayvec::ArrayVec;
 /// The nodes of a script.
 pub(crate) type Nodes = ArrayVec<Node, 16>;
 
-/// What stands before the first `;` of a text, and what stands behind it where there is one.
+/// The text before the first `;`, and the text after it if there is one.
 fn cut_part(text: &[u8]) -> (&[u8], Option<&[u8]>)
     ensures cut { IsCut text.now result.0.now result.1 }
     ensures shorter { IfSome result.1 (λ rest. length rest.now < length text.now) }
@@ -27,9 +27,9 @@ fn cut_part(text: &[u8]) -> (&[u8], Option<&[u8]>)
     }
 }
 
-/// The nodes that the parts of a text write, those between `;`.
+/// The nodes that are the parts of a text between `;`.
 ///
-/// `Syntax` where a part writes no node, and else `Nodes` where there are more than 16 parts.
+/// `Syntax` if a part is not a node, and otherwise `Nodes` if there are more than 16 parts.
 fn read_parts(text: &[u8]) -> Result<Nodes, ScriptFault>
     ensures value { IfOk result (λ nodes. nodes_by_parts (slice_split (λ b. b == 59) text.now) ≡ Some nodes.items) }
     ensures refused { IfErr result (RefusesParts (nodes_by_parts (slice_split (λ b. b == 59) text.now))) }
@@ -53,7 +53,7 @@ fn read_parts(text: &[u8]) -> Result<Nodes, ScriptFault>
     Ok(nodes)
 }
 
-/// Whether the text is the one word `-`.
+/// Whether the text is the single word `-`.
 fn is_dash(text: &[u8]) -> bool
     ensures { result ≡ is_dash (words_of text.now) }
 {
@@ -63,7 +63,7 @@ fn is_dash(text: &[u8]) -> bool
     next_word(rest).is_none() && word == b"-".as_slice()
 }
 
-/// The nodes that a text writes: none for `-`, else those of its parts.
+/// The nodes of a text: none for `-`, otherwise the nodes of its parts.
 fn read_text(text: &[u8]) -> Result<Nodes, ScriptFault>
     ensures value { IfOk result (λ nodes. nodes_of text.now ≡ Some nodes.items) }
     ensures refused { IfErr result (RefusesParts (nodes_of text.now)) }
@@ -74,7 +74,7 @@ fn read_text(text: &[u8]) -> Result<Nodes, ScriptFault>
     read_parts(text)
 }
 
-/// Whether each node uses clips of numbers below its own alone.
+/// Whether each node uses only clips with numbers below its own.
 fn all_use_below(nodes: &[Node]) -> bool
     requires { length nodes.now ≤ 16 }
     ensures { result ≡ all_use_below 1 nodes.now }
@@ -95,7 +95,7 @@ fn all_have_numbers(nodes: &[Node]) -> bool
     nodes.iter().all(|node| node.has_numbers())
 }
 
-/// The nodes of the script that a text writes, or the first fault against it.
+/// The nodes of the script that a text writes, or its first error.
 pub(crate) fn read_script(text: &[u8]) -> Result<Nodes, ScriptFault>
     ensures value { IfOk result (λ nodes. script_of text.now ≡ Ok nodes.items) }
     ensures refused { IfErr result (RefusesText text.now) }

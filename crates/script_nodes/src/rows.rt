@@ -1,4 +1,4 @@
-//! Rows of samples that are copied, and that are faded in lanes.
+//! Rows of samples that are copied, or faded in lanes.
 ghost use Rattle.std.specs.Prelude.{◌≡◌, ℕ, ◌+◌, ◌*◌, ◌/◌, ◌<◌, ◌≤◌, length, slice_index};
 ghost use Rattle.script_nodes.specs.Shown.{weighed};
 ghost use Rattle.script_nodes.specs.Rows.{IsFadedTo};
@@ -6,10 +6,10 @@ ghost use Rattle.script_nodes.specs.Rows.{IsFadedTo};
 use std::simd::Simd;
 use std::simd::prelude::*;
 
-/// How many samples are faded at once.
+/// The number of samples that are faded at a time.
 const LANES: usize = 32;
 
-/// A sample at a weight in 256ths, at most 256, `dark` having the rest: rounded.
+/// A sample at a weight in 256ths, at most 256, with `dark` at the rest: rounded.
 ///
 /// No sum needs more than 16 bits: it is at most 256 times 255, and 128.
 #[inline(always)]
@@ -21,7 +21,7 @@ fn faded(sample: u8, weight: u16, dark: u8) -> u8
     ((weight * u16::from(sample) + rest) / 256) as u8
 }
 
-/// The `N` samples from `start` on at a weight.
+/// The `N` samples starting at `start`, at a weight.
 #[inline(always)]
 fn faded_lanes<const N: usize>(row: &[u8], start: usize, weight: u16, dark: u8) -> Simd<u8, N>
     requires lanes { N ≤ 64 }
@@ -47,7 +47,7 @@ fn fade_whole(row: &[u8], weight: u16, dark: u8, out: &mut [u8])
     }
 }
 
-/// Writes the samples of a row from `first` on at a weight.
+/// Writes the samples of a row starting at `first`, at a weight.
 fn fade_rest(row: &[u8], first: usize, weight: u16, dark: u8, out: &mut [u8])
     requires room { length row.now ≤ length out.old }
     requires first { first ≤ length row.now }
@@ -61,7 +61,7 @@ fn fade_rest(row: &[u8], first: usize, weight: u16, dark: u8, out: &mut [u8])
     }
 }
 
-/// Writes `count` samples of a row from place `from` on.
+/// Writes `count` samples of a row starting at `from`.
 pub(crate) fn copy_row(row: &[u8], from: usize, count: usize, out: &mut [u8])
     requires part { from + count ≤ length row.now }
     requires room { count ≤ length out.old }
@@ -71,7 +71,7 @@ pub(crate) fn copy_row(row: &[u8], from: usize, count: usize, out: &mut [u8])
     out[..count].copy_from_slice(&row[from..from + count]);
 }
 
-/// Writes the samples of a row at a weight in 256ths, at most 256, `dark` having the rest.
+/// Writes the samples of a row at a weight in 256ths, at most 256, with `dark` at the rest.
 pub(crate) fn fade_row(row: &[u8], weight: u16, dark: u8, out: &mut [u8])
     requires room { length row.now ≤ length out.old }
     requires weight { weight ≤ 256 }

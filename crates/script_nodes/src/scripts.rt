@@ -16,8 +16,8 @@ use arrayvec::ArrayVec;
 use std::alloc::Global;
 use std::marker::Model;
 
-/// A script: at most 16 nodes, each of which uses those before it. The last one is served, or the
-/// source where there is none.
+/// A script: at most 16 nodes, each of which uses earlier ones. The last one is served, or the
+/// source if there is none.
 #[derive(Debug, Drop)]
 pub struct Script {
     nodes: Vec<Node>,
@@ -35,14 +35,14 @@ impl Model for Script {
     ghost invariant = { λ s. IsScript s.nodes.items };
 }
 
-/// Where a frame comes from: a frame of the source, and what is made of it.
+/// The origin of a frame: a frame of the source, and the steps to apply to it.
 #[derive(Drop)]
 struct Found {
     frame: u64,
     steps: ArrayVec<Step, 16>,
 }
 
-/// How many frames each of the clips has, that of a source of `n` frames first.
+/// The number of frames of each clip, when the source has `n` frames; the source's is first.
 ///
 /// `n` is at most 1,048,576.
 fn lengths_of(nodes: &[Node], n: u64) -> ArrayVec<u64, 17>
@@ -62,7 +62,7 @@ fn lengths_of(nodes: &[Node], n: u64) -> ArrayVec<u64, 17>
     found
 }
 
-/// Where a frame of a clip comes from. The frame stands in the clip.
+/// The origin of a frame of a clip. The frame is one of the clip's.
 fn found_in(nodes: &[Node], lengths: &[u64], clip: u64, frame: u64) -> Found
     requires given { Given nodes.now lengths.now }
     requires clip { clip ≤ length nodes.now }
@@ -111,10 +111,10 @@ impl Script {
         }
     }
 
-    /// The script that a text writes: nodes parted by `;`, or none for `-`.
+    /// The script that a text writes: nodes separated by `;`, or none for `-`.
     ///
-    /// The faults come in the order of [`ScriptFault`], each over the whole text, and `NoMemory` only
-    /// where none of the others holds.
+    /// Errors come in the order of [`ScriptFault`], each over the whole text, and `NoMemory` only
+    /// if none of the others holds.
     pub fn parse(alloc: Global, text: &[u8]) -> Result<Script, ScriptFault>
         ensures value { IfOk result (λ script. script_of text.now ≡ Ok script) }
         ensures refused { IfErr result (RefusesText text.now) }
@@ -126,7 +126,7 @@ impl Script {
         }
     }
 
-    /// How many frames the script serves of a source of `n` frames, at most 1,048,576.
+    /// The number of frames that the script serves, when the source has `n` frames, at most 1,048,576.
     pub fn length(&self, n: u64) -> u64
         requires { n ≤ 1048576 }
         ensures { result ≡ script_length n self.now }
@@ -135,11 +135,11 @@ impl Script {
         lengths[self.nodes.len()]
     }
 
-    /// The frame of the source that a frame of the script comes from, counted from 0, and what is
-    /// made of it. The source has `n` frames, at most 1,048,576.
+    /// The source's frame that a frame of the script comes from, counted from 0, and the steps to apply
+    /// to it. The source has `n` frames, at most 1,048,576.
     ///
-    /// `None` where the script serves no more than `frame` frames. Time goes by the number of nodes,
-    /// and not by the numbers of frames.
+    /// `None` if the script serves at most `frame` frames. Time depends on the number of nodes,
+    /// and not on the numbers of frames.
     pub fn trace(&self, n: u64, frame: u64) -> Option<(u64, Trace)>
         requires { n ≤ 1048576 }
         ensures none { IfNone result (traced n self.now frame ≡ None) }

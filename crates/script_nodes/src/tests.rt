@@ -16,12 +16,12 @@ const SEVENTEEN: &[u8] = b"trim 0 0 1;trim 0 0 1;trim 0 0 1;trim 0 0 1;trim 0 0 
 trim 0 0 1;trim 0 0 1;trim 0 0 1;trim 0 0 1;trim 0 0 1;trim 0 0 1;trim 0 0 1;trim 0 0 1;trim 0 0 1;\
 trim 0 0 1; trim 9 0 1";
 
-/// Seventeen nodes and a word that is none.
+/// Seventeen nodes and a word that is not a node.
 const BROKEN: &[u8] = b"trim 0 0 1;trim 0 0 1;trim 0 0 1;trim 0 0 1;trim 0 0 1;trim 0 0 1;\
 trim 0 0 1;trim 0 0 1;trim 0 0 1;trim 0 0 1;trim 0 0 1;trim 0 0 1;trim 0 0 1;trim 0 0 1;trim 0 0 1;\
 trim 0 0 1;trim 0 0 1;blur 0";
 
-/// The name of the fault of a text, or the number of frames that its script has of three.
+/// The name of the error of a text, or the number of frames that its script makes of three.
 fn parsed(alloc: Global, text: &[u8]) -> (&'static str, u64) {
     match Script::parse(alloc, text) {
         Ok(script) => ("script", script.length(3)),
@@ -132,7 +132,7 @@ fn numbered(alloc: Global, width: u16) -> Result<Picture, NoMemory>
     Picture::share(alloc, planes, width, 15)
 }
 
-/// What a script makes of its first frame.
+/// A script applied to its first frame.
 fn first_frame(alloc: Global, text: &[u8], picture: &Picture) -> Result<Picture, Fail> {
     let script = Script::parse(alloc, text)?;
     let (_, trace) = script.trace(1, 0).ok_or("no frame")?;
@@ -141,7 +141,7 @@ fn first_frame(alloc: Global, text: &[u8], picture: &Picture) -> Result<Picture,
 
 const COMPONENTS: [Component; 3] = [Component::Luma, Component::Cb, Component::Cr];
 
-/// How many rows of a component of a picture are shown.
+/// The number of shown rows of a component of a picture.
 fn row_count(picture: &Picture, component: Component) -> usize
     ensures { result ≡ shown_height picture.now component }
 {
@@ -152,7 +152,7 @@ fn row_count(picture: &Picture, component: Component) -> usize
     }
 }
 
-/// A sample at half its weight and black at the other half, as the formula has it.
+/// A sample at half its weight and black at the other half, by the formula.
 fn half(component: Component, sample: u8) -> u32 {
     let black = match component {
         Component::Luma => 16,
@@ -161,7 +161,7 @@ fn half(component: Component, sample: u8) -> u32 {
     (128 * u32::from(sample) + (256 - 128) * black + 128) / 256
 }
 
-/// Whether each sample of the row is that of the other at half its weight.
+/// Whether each sample of the row is the other's at half its weight.
 fn is_half(component: Component, row: &[u8], other: &[u8]) -> bool {
     row.len() == other.len()
         && row
@@ -170,7 +170,7 @@ fn is_half(component: Component, row: &[u8], other: &[u8]) -> bool {
             .all(|(a, b)| u32::from(*a) == half(component, *b))
 }
 
-/// Whether each shown sample is that of the other picture at half its weight.
+/// Whether each shown sample is the other picture's at half its weight.
 fn is_half_of(picture: &Picture, other: &Picture) -> bool {
     if picture.width() != other.width() || picture.height() != other.height() {
         return false;
@@ -238,7 +238,7 @@ fn crops_a_picture(rt: HostRuntime) -> Result<(), Fail> {
     Ok(())
 }
 
-/// The name of the fault of a script's first frame, or `picture`.
+/// The name of the error of a script's first frame, or `picture`.
 fn made(alloc: Global, text: &[u8], picture: &Picture) -> Result<&'static str, Fail> {
     let script = Script::parse(alloc, text)?;
     let (_, trace) = script.trace(1, 0).ok_or("no frame")?;

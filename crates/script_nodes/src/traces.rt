@@ -9,25 +9,25 @@ use crate::nodes::Area;
 use arrayvec::ArrayVec;
 use std::marker::Model;
 
-/// What is made of a frame.
+/// One step that is applied to a frame.
 #[derive(Clone, Copy, Debug, PartialEq, Eq)]
 pub enum Step {
     /// This area is cut out of it.
     Cut(Area),
-    /// It is faded to this weight in 256ths, at most 256, and black has the rest.
+    /// It is faded to this weight in 256ths, at most 256, with black at the rest.
     Weigh(u16),
 }
 
-/// The step by which unused places are filled: it changes nothing.
+/// The step that fills unused slots: it changes nothing.
 impl Default for Step {
     fn default() -> Self {
         Step::Weigh(256)
     }
 }
 
-/// What is made of a frame of the source, in the order of use: at most 16 steps.
+/// The steps to apply to a frame of the source, in order: at most 16.
 ///
-/// The sides of each area are 1 to 16,383, and each weight is at most 256.
+/// The width and height of each area are 1 to 16,383, and each weight is at most 256.
 #[derive(Debug, Drop)]
 pub struct Trace {
     steps: ArrayVec<Step, 16>,
@@ -47,7 +47,7 @@ impl Model for Trace {
 }
 
 impl Step {
-    /// The size that the step makes of this one, or `CropOutside` where its area reaches past it.
+    /// The size after the step, or `CropOutside` if its area reaches past this one.
     fn size(&self, width: u16, height: u16) -> Result<(u16, u16), CropOutside>
         requires { IsStep self.now }
         ensures { result_ok result ≡ step_size self.now (width, height) }
@@ -76,7 +76,7 @@ impl Trace {
         Trace { steps }
     }
 
-    /// The steps in the order of use, at most 16.
+    /// The steps in order, at most 16.
     pub fn steps(&self) -> &[Step]
         ensures value { result.now ≡ self.now }
         ensures few { length result.now ≤ 16 }
@@ -85,8 +85,8 @@ impl Trace {
         &self.steps
     }
 
-    /// The shown size that a picture of this one has behind the steps, or `CropOutside` where a
-    /// crop reaches past the size that it meets.
+    /// The shown size after the steps, from this one, or `CropOutside` if a
+    /// crop reaches past the size that it is applied to.
     pub fn size(&self, width: u16, height: u16) -> Result<(u16, u16), CropOutside>
         ensures { result_ok result ≡ steps_size self.now (width, height) }
     {

@@ -1,4 +1,4 @@
-//! Reads the words of a node and the numbers that they write.
+//! Reads the words of a node and the numbers among them.
 ghost use Rattle.std.specs.Prelude.{◌≡◌, ◌<◌, ◌≤◌, ◌==◌, [], ◌∷◌, length, MatchOption, IfSome};
 ghost use Rattle.std.specs.Char.{is_ascii_digit};
 ghost use Rattle.std.specs.List.{list_all, position_or_len, prefix_len};
@@ -9,7 +9,7 @@ use std::str;
 /// The most digits of a number.
 const MOST_DIGITS: usize = 10;
 
-/// How many bytes stand before the first of this value, or before the end.
+/// The number of bytes before the first of this value, or before the end.
 pub(crate) fn length_before(byte: u8, text: &[u8]) -> usize
     ensures value { result ≡ position_or_len (λ b. b == byte) text.now }
     ensures within { result ≤ length text.now }
@@ -17,10 +17,10 @@ pub(crate) fn length_before(byte: u8, text: &[u8]) -> usize
     text.iter().take_while(|b| **b != byte).count()
 }
 
-/// The first word of a text and what stands behind it, or `None` where no word is left.
+/// The first word of a text and the text after it, or `None` if no word is left.
 ///
-/// Words are parted by one or more spaces, and spaces at both ends of the text are dropped. A
-/// space is the byte 32 alone.
+/// Words are separated by one or more spaces, and spaces at both ends of the text are dropped. Only
+/// byte 32 is a space.
 pub(crate) fn next_word(text: &[u8]) -> Option<(&[u8], &[u8])>
     ensures next { MatchOption result (words_of text.now ≡ []) (λ found. words_of text.now ≡ found.0.now ∷ words_of found.1.now) }
     ensures shorter { IfSome result (λ found. length found.1.now < length text.now) }

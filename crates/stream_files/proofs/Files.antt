@@ -7,7 +7,7 @@ use Rattle.stream_files.specs.declared.ivf.Ivf.{Ivf}
 use Rattle.stream_files.specs.Ivf.{HasHeader, HasRecord, Records, IsRecordCount, IsIvf, body, head_of}
 use Rattle.stream_files.proofs.Walks.{records-longest}
 
--- what a walk over all records met is the file's
+-- the packets of a walk over all records are the file's
 pub is_ivf : (bytes : List ℕ) (head : Head) (packets : List Packet) (rest : List ℕ) (spare count : ℕ)
     → HasHeader bytes → head ≡ head_of bytes → Records (body bytes) packets rest → ¬ HasRecord rest → spare ≡ length rest
     → IsRecordCount (body bytes) count → count ≤ MAX_PACKETS
@@ -24,14 +24,14 @@ is_ivf bytes head packets rest spare count has_header is_head records over is_sp
       omega (arith, fewer, counted.counted, few);
 }
 
--- where the records were counted there is a file
+-- if the records can be counted there is a file
 pub is_some_ivf : (bytes : List ℕ) (count : ℕ) → HasHeader bytes → IsRecordCount (body bytes) count → count ≤ MAX_PACKETS → (file : Ivf) × IsIvf bytes file
 is_some_ivf bytes count has_header counted few = (
   record { head = head_of bytes; packets = counted.packets; spare = length counted.rest },
   is_ivf bytes (head_of bytes) counted.packets counted.rest (length counted.rest) count has_header refl counted.records counted.over refl counted few,
 )
 
--- what a reader of the records answers for what stands behind the header
+-- the result of reading the records after the header
 pub reads_ivf : (bytes text : List ℕ) (head : Head) (packets : List Packet) (rest : List ℕ) (count : ℕ)
     → text ≡ body bytes → HasHeader bytes → head ≡ head_of bytes → Records text packets rest → ¬ HasRecord rest
     → IsRecordCount text count → count ≤ MAX_PACKETS
@@ -40,7 +40,7 @@ reads_ivf bytes text head packets rest count is_body has_header is_head records 
     is_ivf bytes head packets rest (length rest) count has_header is_head
     (subst (λ t. Records t packets rest) is_body records) over refl (subst (λ t. IsRecordCount t count) is_body counted) few
 
--- and where there was no memory for the packets
+-- the same when there is no memory for the packets
 pub lacks_ivf : (bytes text : List ℕ) (count : ℕ) → text ≡ body bytes → HasHeader bytes → IsRecordCount text count → count ≤ MAX_PACKETS
     → (file : Ivf) × IsIvf bytes file
 lacks_ivf bytes text count is_body has_header counted few =

@@ -1,4 +1,4 @@
--- The header of an IVF text, written out.
+-- The header of an IVF text, in full.
 use Rattle.std.proofs.Common.{◌≡◌, ℕ, ◌+◌, ◌-◌, ◌^◌, ◌<◌, ◌≤◌, List, ◌++◌, length, take, drop, codes, refl, sym, ap, ◌∙◌, subst, arith, append_assoc, length-append, length-drop, take-append-drop}
 use Rattle.std.proofs.lemmas.List.{take_at, drop_at, drop-drop, length-take-le}
 use Rattle.byteorder.specs.Endian.{little_number, little_bytes}
@@ -9,13 +9,13 @@ use Rattle.stream_files.specs.Ivf.{IsIvf, Records, body, head_of, header_length}
 use Rattle.stream_files.specs.Texts.{IsBytes, IsIvfText, FieldsFit, fields_text, records_text}
 use Rattle.stream_files.proofs.Texts.{bytes-drop, field_at, records_read, records_spelled}
 
--- the parts of a text, one behind the other
+-- the parts of a text in sequence
 regrouped : (m v l f w h r s c u p t : List ℕ)
     → m ++ v ++ l ++ f ++ w ++ h ++ r ++ s ++ c ++ u ++ p ++ t
     ≡ m ++ (v ++ (l ++ (f ++ (w ++ (h ++ (r ++ (s ++ (c ++ (u ++ (p ++ t))))))))))
 regrouped m v l f w h r s c u p t = simp append_assoc
 
--- what stands behind the part at a place
+-- the bytes after the part at an index
 next : (k n : ℕ) (text part behind : List ℕ) → drop k text ≡ part ++ behind → length part ≡ n → drop (k + n) text ≡ behind
 next k n text part behind here len = sym (drop-drop n k text) ∙ ap (drop n) here ∙ drop_at part behind n len
 
@@ -23,11 +23,11 @@ next k n text part behind here len = sym (drop-drop n k text) ∙ ap (drop n) he
 front : (n : ℕ) (text part behind : List ℕ) → text ≡ part ++ behind → length part ≡ n → take n text ≡ part
 front n text part behind here len = ap (take n) here ∙ take_at part behind n len
 
--- the number that stands at a place
+-- the number at an index
 told : (k n x : ℕ) (text behind : List ℕ) → drop k text ≡ little_bytes n x ++ behind → x < 256 ^ n → little_number n (drop k text) ≡ x
 told k n x text behind here fits = ap (little_number n) here ∙ little_number-reads_back n x behind fits
 
--- what a text that is written so says at its places
+-- what a text of this form has at each index
 record Places (text : List ℕ) (len : ℕ) (head : Head) (t : List ℕ) : Type 0 where
   magic : take 4 text ≡ codes "DKIF"
   four_cc : take 4 (drop 8 text) ≡ codes "VP80"
@@ -71,7 +71,7 @@ places v len head c u t text fit long least e0 =
 same_head : (h : Head) (w g r s : ℕ) → w ≡ h.width → g ≡ h.height → r ≡ h.rate → s ≡ h.scale → (let other : Head = record { width = w; height = g; rate = r; scale = s } in h ≡ other)
 same_head h w g r s a b c d = rw (a, b, c, d) refl
 
--- what is written so is read
+-- a text of this form is read
 pub text_is_ivf : (bytes : List ℕ) (file : Ivf) → IsIvfText bytes file → IsIvf bytes file
 text_is_ivf bytes file is =
     let len = 28 + length is.unused in
@@ -91,7 +91,7 @@ text_is_ivf bytes file is =
       few = is.few;
     }
 
--- parts that are found one behind the other
+-- parts that are found in sequence
 chained : (text m v l f w h r s c u b p t d4 d6 d8 d12 d14 d16 d20 d24 d28 : List ℕ)
     → text ≡ m ++ d4 → d4 ≡ v ++ d6 → d6 ≡ l ++ d8 → d8 ≡ f ++ d12 → d12 ≡ w ++ d14 → d14 ≡ h ++ d16 → d16 ≡ r ++ d20 → d20 ≡ s ++ d24 → d24 ≡ c ++ d28 → d28 ≡ u ++ b → b ≡ p ++ t
     → text ≡ m ++ v ++ l ++ f ++ w ++ h ++ r ++ s ++ c ++ u ++ p ++ t
@@ -99,12 +99,12 @@ chained text m v l f w h r s c u b p t d4 d6 d8 d12 d14 d16 d20 d24 d28 e0 e4 e6
     let whole : text ≡ m ++ (v ++ (l ++ (f ++ (w ++ (h ++ (r ++ (s ++ (c ++ (u ++ (p ++ t)))))))))) = cc in
     whole ∙ sym (regrouped m v l f w h r s c u p t)
 
--- a part that stands at a place
+-- a part at an index
 part_at : (k n : ℕ) (text part : List ℕ) → take n (drop k text) ≡ part → drop k text ≡ part ++ drop (k + n) text
 part_at k n text part is_part =
     sym (take-append-drop n (drop k text)) ∙ ap (λ t. t ++ drop n (drop k text)) is_part ∙ ap (λ t. part ++ t) (drop-drop n k text)
 
--- what is read is written so
+-- a text that is read has this form
 pub ivf_is_text : (bytes : List ℕ) (file : Ivf) → IsBytes bytes → IsIvf bytes file → IsIvfText bytes file
 ivf_is_text bytes file are is =
     let len = header_length bytes in

@@ -1,4 +1,4 @@
--- The four low bytes of a number are those of its low 32 bits.
+-- The four low bytes of a number are the bytes of its low 32 bits.
 use Rattle.std.proofs.Common.{◌≡◌, ℕ, ◌/◌, ◌%◌, List, [], ◌∷◌, arith}
 use Rattle.byteorder.specs.Endian.{little_bytes}
 

@@ -1,4 +1,4 @@
--- The little-endian bytes of the number that bytes stand for are these bytes.
+-- Bytes, read as a little-endian number and written again, are the same bytes.
 use Rattle.std.proofs.Common.{◌≡◌, ℕ, zero, suc, ◌+◌, ◌*◌, ◌^◌, ◌/◌, ◌<◌, ◌≤◌, List, [], ◌∷◌, length, take, refl, sym, ap, ◌∙◌, arith, append-nil}
 use Rattle.std.proofs.Math.Nat.{mod-lt}
 use Rattle.std.proofs.lemmas.List.{length-take-le}
@@ -25,7 +25,7 @@ take-bytes zero xs h = tt
 take-bytes (suc n) [] h = tt
 take-bytes (suc n) (x ∷ xs) h = (h 0, take-bytes n xs (λ i. h (suc i)))
 
--- two numbers of as many bytes are equal only where their bytes are
+-- two numbers of as many bytes are equal only if their bytes are
 same_bytes : (xs ys : List ℕ) → length xs ≡ length ys → AllBytes xs → AllBytes ys → little_from 0 (length xs) xs ≡ little_from 0 (length xs) ys → xs ≡ ys
 same_bytes [] [] len h k e = refl
 same_bytes [] (y ∷ ys) len h k e = absurd (omega (arith, len))

@@ -1,4 +1,4 @@
--- A text has one file at most, and one fault at most.
+-- A text has at most one file, and at most one error.
 use Rattle.std.proofs.Common.{◌≡◌, ℕ, ◌≤◌, ◌<◌, List, length, refl, sym, ◌∙◌, ap, arith}
 use Rattle.stream_files.specs.declared.packets.Packet.{Packet}
 use Rattle.stream_files.specs.declared.packets.TheConstants.{MAX_PACKETS}
@@ -13,21 +13,21 @@ same_file : (h h' : Head) (p p' : List Packet) (s s' : ℕ) → h ≡ h' → p �
     → (let file : Ivf = record { head = h; packets = p; spare = s } in let other : Ivf = record { head = h'; packets = p'; spare = s' } in file ≡ other)
 same_file h h' p p' s s' a b c = cc
 
--- a text has one file at most
+-- a text has at most one file
 pub one_file : (bytes : List ℕ) (file other : Ivf) → IsIvf bytes file → IsIvf bytes other → file ≡ other
 one_file bytes file other is is' =
     let walks = records-one (body bytes) file.packets is.rest other.packets is'.rest is.records is.over is'.records is'.over in
     let spare : file.spare ≡ other.spare = is.spare ∙ ap length walks.1 ∙ sym is'.spare in
     same_file file.head other.head file.packets other.packets file.spare other.spare (is.head ∙ sym is'.head) walks.0 spare
 
--- a file has not too many packets
+-- a file does not have too many packets
 not_too_many : (bytes : List ℕ) (file : Ivf) → IsIvf bytes file → ¬ HasTooMany (body bytes)
 not_too_many bytes file is many =
     let fewer : length many.0 ≤ length file.packets = records-longest (body bytes) file.packets is.rest many.0 many.1 is.records is.over many.2 in
     let more : MAX_PACKETS < length many.0 = many.3 in
     omega (arith, fewer, more, is.few)
 
--- a text that has a file is refused by want of memory alone
+-- the text of a file can only be refused as out of memory
 pub file_refused : (bytes : List ℕ) (file : Ivf) (fault : IvfFault) → IsIvf bytes file → IvfRefuses bytes fault → fault ≡ NoMemory
 file_refused bytes file Header is told = absurd (told is.header.0)
 file_refused bytes file Magic is told = absurd (told.1 is.header.1)
@@ -76,7 +76,7 @@ many_refused bytes HeaderLength a many told = absurd (told.3 a.3)
 many_refused bytes TooMany a many told = refl
 many_refused bytes NoMemory a many told = absurd (not_too_many bytes told.0 told.1 many)
 
--- a text is refused by one fault at most
+-- a text has at most one error
 pub one_fault : (bytes : List ℕ) (fault other : IvfFault) → IvfRefuses bytes fault → IvfRefuses bytes other → fault ≡ other
 one_fault bytes Header other told told' = sym (short_refused bytes other told told')
 one_fault bytes Magic other told told' = sym (magic_refused bytes other told.0 told.1 told')

@@ -1,4 +1,4 @@
--- The records of an IVF text, written out.
+-- The records of an IVF text, in full.
 use Rattle.std.proofs.Common.{◌≡◌, ℕ, zero, suc, ◌+◌, ◌^◌, ◌<◌, ◌≤◌, List, [], ◌∷◌, ◌++◌, length, take, drop, refl, sym, ap, ◌∙◌, subst, arith, append_assoc, length-append, length-drop, take-append-drop}
 use Rattle.std.proofs.lemmas.List.{take_at, drop_at, drop-drop, length-take-le}
 use Rattle.byteorder.specs.Endian.{little_number, little_bytes}
@@ -8,7 +8,7 @@ use Rattle.stream_files.specs.Ivf.{HasRecord, first_packet, behind_first, Record
 use Rattle.stream_files.specs.Texts.{IsBytes, record_text, records_text, PacketFits, PacketsFit}
 use Rattle.stream_files.proofs.Numbers.{little_bytes-number}
 
--- what four parts of a text say of the record at its front
+-- four parts of a text and the record at its front
 record_parts : (a b c d : List ℕ) (stamp : ℕ) → length a ≡ 4 → length b ≡ 8
     → little_number 4 (a ++ (b ++ (c ++ d))) ≡ length c → little_number 8 (b ++ (c ++ d)) ≡ stamp
     → HasRecord (a ++ (b ++ (c ++ d)))
@@ -26,7 +26,7 @@ record_parts a b c d stamp four eight size is_stamp =
     let behind : drop (little_number 4 text) (drop 12 text) ≡ d = rw (behind_head, size) (drop_at c d (length c) refl) in
     (omega (arith, long, four, eight, size), packet, behind)
 
--- a record and what stands behind it
+-- a record and the bytes after it
 record_front : (packet : Packet) (behind : List ℕ) → PacketFits packet
     → HasRecord (record_text packet ++ behind) × (packet ≡ first_packet (record_text packet ++ behind)) × (behind_first (record_text packet ++ behind) ≡ behind)
 record_front packet behind fits =
@@ -49,13 +49,13 @@ records_read (packet ∷ packets) rest fit =
     let P : List ℕ → Type 0 = λ text. HasRecord text × (packet ≡ first_packet text) × Records (behind_first text) packets rest in
     subst P (sym whole) (front.0, front.1, subst (λ t. Records t packets rest) (sym front.2) (records_read packets rest fit.1))
 
--- what stands behind bytes are bytes
+-- the rest of a list of bytes is bytes
 pub bytes-drop : (n : ℕ) (xs : List ℕ) → IsBytes xs → IsBytes (drop n xs)
 bytes-drop zero xs h = h
 bytes-drop (suc n) [] h = λ i. omega arith
 bytes-drop (suc n) (x ∷ xs) h = bytes-drop n xs (λ i. h (suc i))
 
--- a number of n bytes at a place
+-- a number of n bytes at an index
 pub field_at : (k n : ℕ) (bytes : List ℕ) → IsBytes bytes → k + n ≤ length bytes → drop k bytes ≡ little_bytes n (little_number n (drop k bytes)) ++ drop (k + n) bytes
 field_at k n bytes are long =
     let behind = drop k bytes in
@@ -69,7 +69,7 @@ joined_four text a b c d four twelve e f g =
     let whole : text ≡ a ++ (b ++ (c ++ d)) = cc in
     whole ∙ sym (append_assoc (a ++ b) c d ∙ append_assoc a b (c ++ d))
 
--- a record that is read is written so
+-- a record that is read has the written form
 record_spelled : (text : List ℕ) → IsBytes text → HasRecord text → (text ≡ record_text (first_packet text) ++ behind_first text) × PacketFits (first_packet text)
 record_spelled text are whole =
     let size = little_number 4 text in
@@ -85,7 +85,7 @@ record_spelled text are whole =
       record { size = omega (arith, long, small); stamp = early },
     )
 
--- records that are read are written so
+-- records that are read have the written form
 pub records_spelled : (text : List ℕ) (packets : List Packet) (rest : List ℕ) → IsBytes text → Records text packets rest → (text ≡ records_text packets ++ rest) × PacketsFit packets
 records_spelled text [] rest are read = (read, tt)
 records_spelled text (packet ∷ packets) rest are read =

@@ -4,11 +4,11 @@ use Rattle.byteorder.specs.Endian.{little_number}
 use Rattle.stream_files.specs.declared.packets.Packet.{Packet}
 use Rattle.stream_files.specs.Ivf.{HasRecord, first_packet, behind_first, Records}
 
--- a walk goes on
+-- a walk continues
 pub behind_first-shorter : (text : List ℕ) → HasRecord text → length (behind_first text) < length text
 behind_first-shorter text whole = omega (arith, length-drop (little_number 4 text) (drop 12 text), length-drop 12 text)
 
--- one record more
+-- one more record
 pub records_more : (text : List ℕ) (packets : List Packet) (rest : List ℕ) (packet : Packet) (behind : List ℕ)
     → Records text packets rest → HasRecord rest → packet ≡ first_packet rest → behind ≡ behind_first rest
     → Records text (packets ++ packet ∷ []) behind
@@ -18,7 +18,7 @@ records_more text [] rest packet behind so_far whole is_first is_behind =
 records_more text (p ∷ packets) rest packet behind so_far whole is_first is_behind =
     (so_far.0, so_far.1, records_more (behind_first text) packets rest packet behind so_far.2 whole is_first is_behind)
 
--- a walk that ended has met at least the records of any other
+-- a walk that ended has found at least the records of any other
 pub records-longest : (text : List ℕ) (packets : List Packet) (rest : List ℕ) (others : List Packet) (behind : List ℕ)
     → Records text packets rest → ¬ HasRecord rest → Records text others behind → length others ≤ length packets
 records-longest text packets rest [] behind here over there = omega arith
@@ -27,7 +27,7 @@ records-longest text (p ∷ packets) rest (q ∷ others) behind here over there 
     let ih : length others ≤ length packets = records-longest (behind_first text) packets rest others behind here.2 over there.2 in
     omega (arith, ih)
 
--- two walks that ended met the same records
+-- two walks that ended found the same records
 pub records-one : (text : List ℕ) (packets : List Packet) (rest : List ℕ) (others : List Packet) (behind : List ℕ)
     → Records text packets rest → ¬ HasRecord rest → Records text others behind → ¬ HasRecord behind → (packets ≡ others) × (rest ≡ behind)
 records-one text [] rest [] behind here over there done = (refl, sym here ∙ there)

@@ -1,4 +1,4 @@
--- What a writer gives of a head and packets is read as the same.
+-- A text that is written for a head and packets is read as the same.
 use Rattle.std.proofs.Common.{◌≡◌, ℕ, ◌+◌, ◌^◌, ◌<◌, ◌≤◌, List, [], ◌++◌, length, refl, sym, arith, append-nil}
 use Rattle.byteorder.specs.Endian.{little_bytes}
 use Rattle.stream_files.specs.declared.packets.Packet.{Packet}

@@ -1,4 +1,4 @@
--- The text of an IVF file: a header, the bytes skipped behind it, records, and a rest that begins with no whole
+-- The text of an IVF file: a header, unused bytes after it, records, and a rest that begins with no whole
 -- record. Numbers are little-endian.
 use Rattle.std.specs.Prelude.{◌≡◌, ℕ, ◌+◌, ◌<◌, ◌≤◌, List, [], ◌∷◌, length, take, drop, codes, Result, Ok, Err}
 use Rattle.byteorder.specs.Endian.{little_number}
@@ -9,7 +9,7 @@ use Rattle.stream_files.specs.declared.ivf.Ivf.{Ivf}
 use Rattle.stream_files.specs.declared.ivf.IvfFault.{IvfFault}
 use Rattle.stream_files.specs.declared.ivf.IvfFault.TheVariants.{Header, Magic, FourCc, HeaderLength, TooMany, NoMemory}
 
--- the fault's name
+-- the error's name
 abbrev pub ivf_fault_word : IvfFault → List ℕ
 ivf_fault_word Header = codes "Header"
 ivf_fault_word Magic = codes "Magic"
@@ -18,7 +18,7 @@ ivf_fault_word HeaderLength = codes "HeaderLength"
 ivf_fault_word TooMany = codes "TooMany"
 ivf_fault_word NoMemory = codes "NoMemory"
 
--- a whole record stands at the front: four bytes with its size, eight with its stamp, and size bytes
+-- a whole record at the front: four bytes with its size, eight with its time stamp, and `size` bytes
 abbrev pub HasRecord : List ℕ → Type 0
 HasRecord text = 12 + little_number 4 text ≤ length text
 
@@ -26,7 +26,7 @@ HasRecord text = 12 + little_number 4 text ≤ length text
 abbrev pub first_packet : List ℕ → Packet
 first_packet text = record { stamp = little_number 8 (drop 4 text); bytes = take (little_number 4 text) (drop 12 text) }
 
--- what stands behind the record at the front
+-- the bytes after the record at the front
 abbrev pub behind_first : List ℕ → List ℕ
 behind_first text = drop (little_number 4 text) (drop 12 text)
 
@@ -35,7 +35,7 @@ abbrev pub Records : List ℕ → List Packet → List ℕ → Type 0
 Records text [] rest = text ≡ rest
 Records text (packet ∷ packets) rest = HasRecord text × (packet ≡ first_packet text) × Records (behind_first text) packets rest
 
--- how long the header says that it is
+-- the length that the header gives for itself
 abbrev pub header_length : List ℕ → ℕ
 header_length bytes = little_number 2 (drop 6 bytes)
 
@@ -53,11 +53,11 @@ HasFourCc bytes = take 4 (drop 8 bytes) ≡ codes "VP80"
 abbrev pub HasLength : List ℕ → Type 0
 HasLength bytes = (32 ≤ header_length bytes) × (header_length bytes ≤ length bytes)
 
--- a header stands at the front
+-- the text begins with a header
 abbrev pub HasHeader : List ℕ → Type 0
 HasHeader bytes = HasFields bytes × HasMagic bytes × HasFourCc bytes × HasLength bytes
 
--- the fields of the header that are kept
+-- the fields of the header that are used
 abbrev pub head_of : List ℕ → Head
 head_of bytes = record {
   width = little_number 2 (drop 12 bytes);
@@ -66,11 +66,11 @@ head_of bytes = record {
   scale = little_number 4 (drop 20 bytes);
 }
 
--- what stands behind the header and the skipped bytes
+-- the bytes after the header and its unused bytes
 abbrev pub body : List ℕ → List ℕ
 body bytes = drop (header_length bytes) bytes
 
--- the bytes are the text of an IVF file with this head, these packets and so many spare bytes
+-- the bytes are the text of an IVF file with this head, these packets and this many trailing bytes
 pub record IsIvf (bytes : List ℕ) (file : Ivf) : Type 0 where
   pub header : HasHeader bytes
   pub head : file.head ≡ head_of bytes
@@ -80,11 +80,11 @@ pub record IsIvf (bytes : List ℕ) (file : Ivf) : Type 0 where
   pub spare : file.spare ≡ length rest
   pub few : length file.packets ≤ MAX_PACKETS
 
--- more whole records stand one behind the other than a file may have
+-- there are more whole records in sequence than a file may have
 abbrev pub HasTooMany : List ℕ → Type 0
 HasTooMany text = (packets : List Packet) × (rest : List ℕ) × Records text packets rest × (MAX_PACKETS < length packets)
 
--- what each fault says of the bytes: none before it holds, and it does
+-- what each error means for the bytes: none of the earlier errors holds, and this one does
 abbrev pub IvfRefuses : List ℕ → IvfFault → Type 0
 IvfRefuses bytes Header = ¬ HasFields bytes
 IvfRefuses bytes Magic = HasFields bytes × ¬ HasMagic bytes
@@ -93,12 +93,12 @@ IvfRefuses bytes HeaderLength = HasFields bytes × HasMagic bytes × HasFourCc b
 IvfRefuses bytes TooMany = HasHeader bytes × HasTooMany (body bytes)
 IvfRefuses bytes NoMemory = (file : Ivf) × IsIvf bytes file
 
--- what reading a file answers
+-- the result of reading a file
 abbrev pub IvfGives : List ℕ → Result Ivf IvfFault → Type 0
 IvfGives bytes (Ok file) = IsIvf bytes file
 IvfGives bytes (Err fault) = IvfRefuses bytes fault
 
--- so many whole records stand at the front, and no more
+-- the number of whole records at the front
 pub record IsRecordCount (text : List ℕ) (count : ℕ) : Type 0 where
   pub packets : List Packet
   pub rest : List ℕ

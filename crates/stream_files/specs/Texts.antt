@@ -1,4 +1,4 @@
--- The text of an IVF file, written out.
+-- The text of an IVF file, in full.
 use Rattle.std.specs.Prelude.{◌≡◌, ℕ, ◌+◌, ◌^◌, ◌<◌, ◌≤◌, List, [], ◌∷◌, ◌++◌, length, codes, slice_index}
 use Rattle.std.specs.List.{flat_map}
 use Rattle.byteorder.specs.Endian.{little_bytes}
@@ -12,28 +12,28 @@ use Rattle.stream_files.specs.Ivf.{HasRecord, IsIvf}
 abbrev pub IsBytes : List ℕ → Type 0
 IsBytes bytes = (i : ℕ) → slice_index bytes i < 256
 
--- the record of a packet: its size, its stamp and its bytes
+-- the record of a packet: its size, its time stamp and its bytes
 abbrev pub record_text : Packet → List ℕ
 record_text packet = little_bytes 4 (length packet.bytes) ++ little_bytes 8 packet.stamp ++ packet.bytes
 
--- the records of packets, one after another
+-- the records of packets in sequence
 abbrev pub records_text : List Packet → List ℕ
 records_text packets = flat_map record_text packets
 
--- the fields of a header of this version and this length, which tells this number of packets
+-- the fields of a header with this version, this length and this number of packets
 abbrev pub fields_text : ℕ → ℕ → Head → ℕ → List ℕ
 fields_text version len head count =
     codes "DKIF" ++ little_bytes 2 version ++ little_bytes 2 len ++ codes "VP80" ++ little_bytes 2 head.width ++ little_bytes 2 head.height ++ little_bytes 4 head.rate ++ little_bytes 4 head.scale ++ little_bytes 4 count
 
--- the header that a writer gives: version 0, length 32, the number of packets, and four unused bytes of 0
+-- the header as it is written: version 0, length 32, the number of packets, and four unused bytes of 0
 abbrev pub header_text : Head → ℕ → List ℕ
 header_text head count = fields_text 0 32 head count ++ little_bytes 4 0
 
--- the whole text that a writer gives of a head and packets
+-- the whole text that is written for a head and packets
 abbrev pub written_text : Head → List Packet → List ℕ
 written_text head packets = header_text head (length packets) ++ records_text packets
 
--- a packet has a record
+-- a packet fits a record
 pub record PacketFits (packet : Packet) : Type 0 where
   pub size : length packet.bytes < 2 ^ 32
   pub stamp : packet.stamp < 2 ^ 64
@@ -67,10 +67,10 @@ pub record IsIvfText (bytes : List ℕ) (file : Ivf) : Type 0 where
   pub spare : file.spare ≡ length rest
   pub few : length file.packets ≤ MAX_PACKETS
 
--- the file that has this head and these packets, and nothing behind them
+-- the file with this head, these packets and no trailing bytes
 abbrev pub file_of : Head → List Packet → Ivf
 file_of head packets = record { head = head; packets = packets; spare = 0 }
 
--- reading what a writer gave returns the same head, the same packets and no spare bytes
+-- reading what was written returns the same head, the same packets and no trailing bytes
 abbrev pub WrittenIsRead : Type 0
 WrittenIsRead = (head : Head) (packets : List Packet) → FieldsFit 0 32 head (length packets) → PacketsFit packets → length packets ≤ MAX_PACKETS → IsIvf (written_text head packets) (file_of head packets)

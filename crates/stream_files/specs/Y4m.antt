@@ -6,23 +6,23 @@ use Rattle.pixel_planes.specs.declared.pictures.Component.TheVariants.{Luma, Cb,
 use Rattle.stream_files.specs.declared.y4m.WriteFault.{WriteFault}
 use Rattle.stream_files.specs.declared.y4m.WriteFault.TheVariants.{Write}
 
--- the fault's name
+-- the error's name
 abbrev pub write_fault_word : WriteFault → List ℕ
 write_fault_word Write = codes "Write"
 
 abbrev pub fraction : ℕ → ℕ → List ℕ
 fraction rate scale = decimal rate ++ codes ":" ++ decimal scale
 
--- the frames a second as a fraction, or 30 where it is none
+-- the frame rate as a fraction, or 30 if it is not one
 abbrev pub rate_text : ℕ → ℕ → List ℕ
 rate_text rate scale = if rate == 0 || scale == 0 then codes "30:1" else fraction rate scale
 
--- a line of this size and this rate, and its newline
+-- a line with this size and this frame rate, and its newline
 abbrev pub line_of : ℕ → ℕ → List ℕ → List ℕ
 line_of width height rate =
     codes "YUV4MPEG2 W" ++ decimal width ++ codes " H" ++ decimal height ++ codes " F" ++ rate ++ codes " Ip C420jpeg" ++ 10 ∷ []
 
--- the line that a stream begins with
+-- the first line of a stream
 abbrev pub y4m_line : ℕ → ℕ → ℕ → ℕ → List ℕ
 y4m_line width height rate scale = line_of width height (rate_text rate scale)
 

@@ -1,4 +1,4 @@
-// IVF files, read.
+// Reads IVF files.
 ghost use Rattle.std.specs.Prelude.{◌≡◌, IfOk, IfErr, drop};
 ghost use Rattle.stream_files.specs.Ivf.{HasHeader, IvfGives, IvfRefuses, body, head_of};
 ghost use Rattle.stream_files.specs.Ivf.{ivf_fault_word};
@@ -9,31 +9,31 @@ use byteorder::{ByteOrder, LittleEndian};
 use std::alloc::Global;
 use thiserror::Error;
 
-/// Why bytes are not the text of an IVF file, in the order in which it is checked.
+/// Why bytes are not the text of an IVF file, in the order of the checks.
 #[derive(Clone, Copy, Debug, PartialEq, Eq, Error)]
 pub enum IvfFault {
-    /// The file is shorter than a header's 32 bytes.
+    /// The file is shorter than the 32 bytes of a header.
     #[error("the file is shorter than a header")]
     Header,
-    /// It does not begin with `DKIF`.
+    /// The file does not begin with `DKIF`.
     #[error("the file does not begin with DKIF")]
     Magic,
-    /// Its codec is not `VP80`.
+    /// The codec is not `VP80`.
     #[error("the file's codec is not VP80")]
     FourCc,
-    /// The header's length is under 32 or past the file's end.
+    /// The header's length is under 32 or past the end of the file.
     #[error("the header's length is under 32 or past the end")]
     HeaderLength,
-    /// More than `MAX_PACKETS` whole records stand in the file.
+    /// The file has more than `MAX_PACKETS` whole records.
     #[error("the file has too many packets")]
     TooMany,
-    /// There was no memory for the packets.
+    /// Out of memory for the packets.
     #[error("no memory for the packets")]
     NoMemory,
 }
 
 impl IvfFault {
-    /// The fault's name.
+    /// The error's name.
     pub const fn word(self) -> &'static str
         ensures { result.now ≡ ivf_fault_word self }
     {
@@ -48,7 +48,7 @@ impl IvfFault {
     }
 }
 
-/// What an IVF header says of the stream: the frames' size in samples, and `rate / scale` frames a
+/// The head of an IVF file: the frame size in samples, and the frame rate: `rate / scale` frames per
 /// second.
 #[derive(Clone, Copy, Debug, PartialEq, Eq)]
 pub struct Head {
@@ -58,7 +58,7 @@ pub struct Head {
     pub scale: u32,
 }
 
-/// An IVF file: what its header says, its packets, and how many bytes stand behind the last whole
+/// An IVF file: its head, its packets, and the number of trailing bytes after the last whole
 /// record.
 #[derive(Debug, Drop)]
 pub struct Ivf {
@@ -67,7 +67,7 @@ pub struct Ivf {
     pub spare: u64,
 }
 
-/// The length of a header's fields, and the least length that a header may tell.
+/// The length of a header's fields, which is also the least header length.
 const FIELDS: usize = 32;
 
 /// An IVF header with width 0, height 0, rate 30, scale 1 and no packets.
@@ -76,7 +76,7 @@ pub const EMPTY: [u8; 32] = [
     0, 0, 0, 0, 0, 0, 0, 0, 0,
 ];
 
-/// The head of a file, and what stands behind its header.
+/// The head of a file, and the bytes after its header.
 fn read_head(bytes: &[u8]) -> Result<(Head, &[u8]), IvfFault>
     ensures header { IfOk result (λ found. HasHeader bytes.now) }
     ensures head { IfOk result (λ found. found.0 ≡ head_of bytes.now) }
@@ -105,11 +105,11 @@ fn read_head(bytes: &[u8]) -> Result<(Head, &[u8]), IvfFault>
     Ok((head, &bytes[length..]))
 }
 
-/// The IVF file that the bytes are the text of.
+/// Reads an IVF file.
 ///
-/// The faults come in the order of [`IvfFault`], `NoMemory` only where none of the others holds.
-/// The version and the frame count that the header tells are not used, and the bytes of a header
-/// behind its first 32 are skipped. Each packet's bytes are in memory of their own.
+/// Errors come in the order of [`IvfFault`]; `NoMemory` only if none of the others holds. The header's
+/// version and frame count are ignored, and so are header bytes after the first 32. Each packet's bytes
+/// are copied into memory of their own.
 pub fn ivf_read(alloc: Global, bytes: &[u8]) -> Result<Ivf, IvfFault>
     ensures { IvfGives bytes.now result }
 {

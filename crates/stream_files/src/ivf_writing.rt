@@ -1,4 +1,4 @@
-// IVF files, written.
+// Writes IVF files.
 ghost use Rattle.std.specs.Prelude.{◌≡◌, ◌%◌, OnOk};
 ghost use Rattle.std.specs.Io.KnownBytes.{Appends};
 ghost use Rattle.stream_files.specs.Texts.{header_text, record_text};
@@ -8,7 +8,7 @@ use super::y4m::WriteFault;
 use byteorder::{LittleEndian, WriteBytesExt};
 use std::io::{self, Write};
 
-/// What a header begins with: its mark, version 0, its length of 32, and the codec.
+/// The start of a header: its mark, version 0, its length of 32, and the codec.
 const MARK: [u8; 12] = *b"DKIF\0\0\x20\0VP80";
 
 /// The low 32 bits of a size.
@@ -18,7 +18,7 @@ fn field_of(size: usize) -> u32
     (size % 4_294_967_296) as u32
 }
 
-/// Writes the fields of a header one after another.
+/// Writes the fields of a header in sequence.
 fn write_header<W: Write>(w: &mut W, head: Head, count: u32) -> io::Result<()>
     ensures { OnOk result (Appends (W.contents w.old) (W.contents w.new) (header_text head count)) }
 {
@@ -34,14 +34,14 @@ fn write_header<W: Write>(w: &mut W, head: Head, count: u32) -> io::Result<()>
 /// Writes the header of an IVF file of `count` packets: version 0, length 32, and zeros in its
 /// unused bytes.
 ///
-/// `Write` where the writer gives an error; nothing is told then of how much went out.
+/// `Write` if the writer returns an error; part of the header may have been written.
 pub fn ivf_start<W: Write>(w: &mut W, head: Head, count: u32) -> Result<(), WriteFault>
     ensures { OnOk result (Appends (W.contents w.old) (W.contents w.new) (header_text head count)) }
 {
     write_header(w, head, count).map_err(|_| WriteFault::Write)
 }
 
-/// Writes the size of a packet, its stamp and its bytes.
+/// Writes the size of a packet, its time stamp and its bytes.
 fn write_record<W: Write>(w: &mut W, stamp: u64, bytes: &[u8]) -> io::Result<()>
     ensures { OnOk result (Appends (W.contents w.old) (W.contents w.new)
         (record_text (record { stamp = stamp; bytes = bytes.now }))) }
@@ -51,10 +51,10 @@ fn write_record<W: Write>(w: &mut W, stamp: u64, bytes: &[u8]) -> io::Result<()>
     w.write_all(bytes)
 }
 
-/// Writes the record of a packet: its size in bytes, its time stamp, and its bytes. A packet of
-/// 4,294,967,296 bytes or more has no size that fits its field; no reader gives one.
+/// Writes the record of a packet: its size in bytes, its time stamp, and its bytes. The size of a packet of
+/// 4,294,967,296 bytes or more does not fit its field; no reader returns such a packet.
 ///
-/// `Write` where the writer gives an error; nothing is told then of how much went out.
+/// `Write` if the writer returns an error; part of the record may have been written.
 pub fn ivf_packet<W: Write>(w: &mut W, stamp: u64, bytes: &[u8]) -> Result<(), WriteFault>
     ensures { OnOk result (Appends (W.contents w.old) (W.contents w.new)
         (record_text (record { stamp = stamp; bytes = bytes.now }))) }

@@ -1,5 +1,5 @@
-//! The files that streams come from and go to: IVF read and written, Y4M written, and a reader's
-//! bytes up to a limit.
+//! Stream files: IVF read and written, Y4M written, and a reader's bytes up to a
+//! limit.
 #![tactic(auto)]
 
 mod ivf;

@@ -1,4 +1,4 @@
-// Packets and their bytes, as values.
+// Packets and their bytes as values.
 ghost use Rattle.std.specs.Prelude.{◌≡◌, IfOk, length, slice_get};
 ghost use Rattle.std.specs.Option.{option_copied};
 
@@ -6,10 +6,10 @@ use pixel_planes::NoMemory;
 use std::alloc::Global;
 use std::marker::Model;
 
-/// How many packets a file may have.
+/// The most packets that a file may have.
 pub const MAX_PACKETS: usize = 1_048_576;
 
-/// A packet's bytes, in memory of their own. A contract sees the list of the bytes.
+/// A packet's bytes, in memory of their own. A contract sees them as a list of bytes.
 #[derive(Debug, Drop)]
 pub struct Bytes {
     bytes: Vec<u8>,
@@ -40,14 +40,14 @@ impl Bytes {
         })
     }
 
-    /// The bytes.
+    /// The bytes as a slice.
     pub fn as_slice(&self) -> &[u8]
         ensures { result.now ≡ self.now }
     {
         self.bytes.as_slice()
     }
 
-    /// The list of the bytes.
+    /// The bytes as a list.
     pub fn into_vec(self) -> Vec<u8>
         ensures { result.items ≡ self }
     {
@@ -62,7 +62,7 @@ pub struct Packet {
     pub bytes: Bytes,
 }
 
-/// Packets in the order of the stream. A contract sees the list of them.
+/// Packets in the order of the stream. A contract sees them as a list.
 #[derive(Debug, Drop)]
 pub struct Packets {
     packets: Vec<Packet>,
@@ -85,28 +85,28 @@ impl Packets {
         Packets { packets }
     }
 
-    /// The packets.
+    /// The packets as a slice.
     pub fn as_slice(&self) -> &[Packet]
         ensures { result.now ≡ self.now }
     {
         self.packets.as_slice()
     }
 
-    /// How many packets there are.
+    /// The number of packets.
     pub fn len(&self) -> usize
         ensures { result ≡ length self.now }
     {
         self.packets.len()
     }
 
-    /// The packet at place `i`, counted from 0, or `None` behind the last.
+    /// The packet at index `i`, or `None` past the last.
     pub fn get(&self, i: usize) -> Option<&Packet>
         ensures { option_copied result ≡ slice_get self.now i }
     {
         self.packets.get(i)
     }
 
-    /// The list of the packets.
+    /// The packets as a list.
     pub fn into_vec(self) -> Vec<Packet>
         ensures { result.items ≡ self }
     {

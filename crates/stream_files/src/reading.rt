@@ -1,4 +1,4 @@
-// The bytes of a reader, up to a limit.
+// Reads the bytes of a reader, up to a limit.
 ghost use Rattle.std.specs.Prelude.{◌≡◌, ℕ, ◌+◌, ◌-◌, ◌<◌, ◌≤◌, ◌++◌, List, length};
 ghost use Rattle.std.specs.Prelude.{IfOk, OnOk, OnErr, IfErr, IfSome, vec_len};
 ghost use Rattle.std.specs.Io.KnownBytes.{Consumes, IsAtEnd};
@@ -8,22 +8,22 @@ use std::alloc::Global;
 use std::io::Read;
 use thiserror::Error;
 
-/// Why a reader's bytes were not read to their end.
+/// Why a reader was not read to its end.
 #[derive(Clone, Copy, Debug, PartialEq, Eq, Error)]
 pub enum ReadFault {
-    /// The reader gave an error.
+    /// The reader returned an error.
     #[error("the reader gave an error")]
     Read,
-    /// More bytes came than were allowed.
+    /// The reader has more bytes than allowed.
     #[error("there are more bytes than are allowed")]
     TooLong,
-    /// There was no memory for the bytes.
+    /// Out of memory for the bytes.
     #[error("no memory for the bytes")]
     NoMemory,
 }
 
 impl ReadFault {
-    /// The fault's name.
+    /// The error's name.
     pub const fn word(self) -> &'static str
         ensures { result.now ≡ read_fault_word self }
     {
@@ -35,11 +35,11 @@ impl ReadFault {
     }
 }
 
-/// How many bytes are asked of a reader at once.
+/// The number of bytes asked of a reader at a time.
 const PIECE: usize = 4096;
 
-/// Reads once into `piece`, and puts what came behind `all`: how many bytes came, 0 only at the
-/// reader's end. No more is asked than one byte past `limit`.
+/// Reads into `piece` once, and appends the bytes read to `all`. Returns their number, which is 0 only at the
+/// reader's end. Never asks for more than one byte past `limit`.
 fn read_piece<R: Read>(
     r: &mut R,
     piece: &mut [u8],
@@ -74,11 +74,11 @@ fn read_piece<R: Read>(
     Ok(count)
 }
 
-/// The bytes that a reader gives up to its end, where they are no more than `limit`.
+/// Reads all bytes of a reader, if there are at most `limit`.
 ///
-/// `Read` where the reader gives an error of any kind, `TooLong` where more than `limit` bytes
-/// come, `NoMemory` where there is no room for them; whichever is met first. It takes no more than
-/// `limit + 1` bytes of the reader.
+/// `Read` if the reader returns an error of any kind, `TooLong` if it has more than `limit` bytes,
+/// `NoMemory` if there is no memory for them; whichever comes first. At most `limit + 1` bytes are taken from
+/// the reader.
 pub fn read_all<R: Read>(alloc: Global, r: &mut R, limit: usize) -> Result<Vec<u8>, ReadFault>
     ensures within { IfOk result (λ all. vec_len all ≤ limit) }
     ensures whole { IfOk result (λ all. IfSome (R.remaining r.old) (λ left. all.items ≡ left)) }

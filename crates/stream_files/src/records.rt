@@ -9,10 +9,10 @@ use byteorder::{ByteOrder, LittleEndian};
 use pixel_planes::NoMemory;
 use std::alloc::Global;
 
-/// How many bytes stand in front of a record's packet: its size and its stamp.
+/// The number of bytes before a record's packet: its size and its time stamp.
 const RECORD_HEAD: usize = 12;
 
-/// A whole record at the front of a text, and what stands behind it.
+/// A whole record at the front of a text, and the bytes after it.
 #[derive(Clone, Copy)]
 struct Record<'a> {
     stamp: u64,
@@ -20,7 +20,7 @@ struct Record<'a> {
     behind: &'a [u8],
 }
 
-/// The record at the front, or `None` where no whole one stands there.
+/// The record at the front, or `None` if there is no whole one.
 fn first_record(text: &[u8]) -> Option<Record<'_>>
     ensures none { IfNone result (¬ HasRecord text.now) }
     ensures whole { IfSome result (λ first. HasRecord text.now) }
@@ -45,7 +45,7 @@ fn first_record(text: &[u8]) -> Option<Record<'_>>
     })
 }
 
-/// How many whole records stand at the front, or `None` where there are more than `MAX_PACKETS`.
+/// The number of whole records at the front, or `None` if there are more than `MAX_PACKETS`.
 pub(crate) fn count_records(text: &[u8]) -> Option<usize>
     ensures none { IfNone result (HasTooMany text.now) }
     ensures some { IfSome result (λ count. IsRecordCount text.now count) }
@@ -63,8 +63,8 @@ pub(crate) fn count_records(text: &[u8]) -> Option<usize>
     Some(count)
 }
 
-/// The packets of the whole records at the front, with room for `count` from the start, and what
-/// stands behind them.
+/// The packets of the whole records at the front, with room for `count` from the start, and the bytes
+/// after them.
 pub(crate) fn read_records(
     alloc: Global,
     text: &[u8],

@@ -4,7 +4,7 @@ use std::alloc::{AllocError, Global};
 use std::io::{self, ErrorKind, Read};
 use std::test::Fail;
 
-/// A reader that gives one byte, and then an error.
+/// A reader that returns one byte, and then an error.
 #[derive(Drop)]
 struct Breaking {
     gave: bool,
@@ -150,7 +150,7 @@ fn a_writer_without_room_refuses(rt: HostRuntime) -> Result<(), Fail> {
 /// A key packet of 16 by 16 samples with empty partitions.
 const KEY: [u8; 10] = [0x10, 0, 0, 0x9D, 1, 0x2A, 16, 0, 16, 0];
 
-/// The file of that packet alone, 30 frames a second.
+/// The file of only that packet, 30 frames per second.
 const KEY_FILE: [u8; 54] = [
     b'D', b'K', b'I', b'F', 0, 0, 32, 0, b'V', b'P', b'8', b'0', 16, 0, 16, 0, 30, 0, 0, 0, 1, 0,
     0, 0, 1, 0, 0, 0, 0, 0, 0, 0, //

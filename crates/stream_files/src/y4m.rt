@@ -1,4 +1,4 @@
-// YUV4MPEG2, written.
+// Writes YUV4MPEG2.
 ghost use Rattle.std.specs.Prelude.{◌≡◌, OnOk};
 ghost use Rattle.std.specs.Io.KnownBytes.{Appends};
 ghost use Rattle.pixel_planes.specs.Pictures.{shown_height, shown_plane};
@@ -11,13 +11,13 @@ use thiserror::Error;
 /// Why a text was not written.
 #[derive(Clone, Copy, Debug, PartialEq, Eq, Error)]
 pub enum WriteFault {
-    /// The writer gave an error.
+    /// The writer returned an error.
     #[error("the writer gave an error")]
     Write,
 }
 
 impl WriteFault {
-    /// The fault's name.
+    /// The error's name.
     pub const fn word(self) -> &'static str
         ensures { result.now ≡ write_fault_word self }
     {
@@ -27,7 +27,7 @@ impl WriteFault {
     }
 }
 
-/// Writes the first line, of a rate that is a fraction.
+/// Writes the first line, with a frame rate that is a fraction.
 fn write_line<W: Write>(
     w: &mut W,
     width: u16,
@@ -47,10 +47,10 @@ fn write_line<W: Write>(
     }
 }
 
-/// Writes the line that a stream of frames of `width` by `height` shown luma samples begins with,
-/// `rate / scale` frames a second: 30 where either of them is 0.
+/// Writes the first line of a stream of frames of `width` by `height` shown luma samples and
+/// `rate / scale` frames per second, or 30 if either of them is 0.
 ///
-/// `Write` where the writer gives an error; nothing is told then of how much went out.
+/// `Write` if the writer returns an error; part of the line may have been written.
 pub fn y4m_header<W: Write>(
     w: &mut W,
     width: u16,
@@ -68,7 +68,7 @@ pub fn y4m_header<W: Write>(
     }
 }
 
-/// How many rows of a component are shown.
+/// The number of shown rows of a component.
 fn row_count(picture: &Picture, component: Component) -> usize
     ensures { result ≡ shown_height picture.now component }
 {
@@ -79,7 +79,7 @@ fn row_count(picture: &Picture, component: Component) -> usize
     }
 }
 
-/// Writes the shown rows of a component, one after another.
+/// Writes the shown rows of a component in sequence.
 fn write_plane<W: Write>(
     w: &mut W,
     picture: &Picture,
@@ -96,9 +96,9 @@ fn write_plane<W: Write>(
 }
 
 /// Writes a frame: `FRAME`, a newline, and the shown Y, Cb and Cr samples by rows. The chroma
-/// planes have half the shown sides, rounded up.
+/// planes have half the shown width and height, rounded up.
 ///
-/// `Write` where the writer gives an error; nothing is told then of how much went out.
+/// `Write` if the writer returns an error; part of the frame may have been written.
 pub fn y4m_frame<W: Write>(w: &mut W, picture: &Picture) -> Result<(), WriteFault>
     ensures { OnOk result (Appends (W.contents w.old) (W.contents w.new) (frame_text picture.now)) }
 {

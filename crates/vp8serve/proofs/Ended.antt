@@ -1,4 +1,4 @@
--- Why the program ends, part by part.
+-- Why the program exits, part by part.
 use Rattle.std.proofs.Common.{◌≡◌, ℕ, List, Option, inl, inr, refl, sym}
 use Rattle.std.specs.Prelude.{codes}
 use Rattle.vp8serve.specs.declared.fault.Fault.{Fault}

@@ -1,4 +1,4 @@
--- A run whose writers are flushed behind it.
+-- A run whose writers are flushed after it.
 use Rattle.std.proofs.Common.{ℕ, List, Option}
 use Rattle.std.specs.Io.KnownBytes.{Keeps}
 use Rattle.std.proofs.KnownBytes.{Appends-kept}
@@ -6,7 +6,7 @@ use Rattle.vp8_tables.specs.Tables.{TableEntries}
 use Rattle.frame_session.specs.Answers.{Means, frames_of, replies_of}
 use Rattle.frame_session.specs.Sessions.{Now}
 
--- what was answered stays so where the writers keep their bytes
+-- the answers remain the same if the writers keep their bytes
 pub flushed : (tables : TableEntries) (bytes requests : List ℕ) (f f' f'' r r' r'' : Option (List ℕ)) (end : Now) → Means tables bytes requests f f' r r' end → Keeps f' f'' → Keeps r' r'' → Means tables bytes requests f f'' r r'' end
 flushed tables bytes requests f f' f'' r r' r'' end m kept kept' = record {
   file = m.file;

@@ -1,4 +1,4 @@
--- What the parts of a run leave.
+-- The results of the parts of a run.
 use Rattle.std.specs.Prelude.{◌≡◌, ◌≢◌, ◌⊎◌, Bool, false, ℕ, ◌<◌, ◌==◌, List, [], ◌∷◌, ◌++◌, length, Option, Some, IfSome, IsSome, codes, if◌then◌else◌}
 use Rattle.std.specs.Fmt.{decimal}
 use Rattle.std.specs.Io.KnownBytes.{Keeps}
@@ -18,19 +18,19 @@ use Rattle.vp8serve.specs.declared.fault.Fault.TheVariants.{CommandLine, CannotR
 abbrev pub limit : ℕ
 limit = 1073741824
 
--- why the bytes of a reader that is named so, which has these left, were not read
+-- why the bytes of a reader with this name, which has these bytes left, were not read
 abbrev pub IsReadFault : List ℕ → Option (List ℕ) → Fault → Type 0
 IsReadFault name left (CannotRead path) = path.now ≡ name
 IsReadFault name left (TooLong path) = (path.now ≡ name) × IfSome left (λ bytes. limit < length bytes)
 IsReadFault name left NoMemory = Unit {0}
 IsReadFault name left _ = ⊥
 
--- why the bytes of a text are no tables
+-- why the bytes of a text are not tables
 abbrev pub IsTableFault : List ℕ → Fault → Type 0
 IsTableFault bytes Tables = length bytes ≢ 3012
 IsTableFault bytes _ = ⊥
 
--- why the tables were not read from the file of this name: with no name nothing is read
+-- why the tables were not read from the file with this name: without a name nothing is read
 abbrev pub IsTablesFault : Option (List ℕ) → Fault → Type 0
 IsTablesFault named (CannotRead path) = named ≡ Some path.now
 IsTablesFault named (TooLong path) = named ≡ Some path.now
@@ -44,21 +44,21 @@ IsSaveFault CannotWrite = Unit {0}
 IsSaveFault NoMemory = Unit {0}
 IsSaveFault _ = ⊥
 
--- the requests were answered so, and the replies are these; of the frames it is not known where they went
+-- the requests were answered with these replies; it is not known where the frames went
 abbrev pub IsReplied : (tables : TableEntries) → (bytes requests : List ℕ) → (replies replies' : Option (List ℕ)) → Now → Type 0
 IsReplied tables bytes requests replies replies' end =
     (frames : Option (List ℕ)) × (frames' : Option (List ℕ)) × Means tables bytes requests frames frames' replies replies' end
 
--- the file of the packets that stand at the end
+-- the file of the packets at the end
 abbrev pub saved_text : Now → List ℕ
 saved_text end = written_text end.head (packets_of end.list)
 
--- what is told of the bytes that stood behind the last whole record: nothing where there are none
+-- the report of trailing bytes: nothing if there are none
 abbrev pub spare_text : ℕ → List ℕ
 spare_text spare = if spare == 0 then [] else codes "spare " ++ decimal spare ++ 10 ∷ []
 
--- what the words named was answered: these bytes stand for a stream that is not named, and what the input has left for
--- requests that are not named; without a file of tables they are those of RFC 6386
+-- the requests that the arguments name were answered: a stream that is not named has the bytes `unnamed`, requests that are not named are
+-- the rest of the input, and without a file of tables the tables are those of RFC 6386
 pub record IsServed (unnamed stream requests : List ℕ) (has_tables : Bool) (left replies replies' : Option (List ℕ)) : Type 0 where
   pub tables : TableEntries
   pub bytes : List ℕ
@@ -69,27 +69,27 @@ pub record IsServed (unnamed stream requests : List ℕ) (has_tables : Bool) (le
   pub input : requests ≡ codes "-" → IfSome left (λ bytes. lines ≡ bytes)
   pub rfc : has_tables ≡ false → tables ≡ rfc_entries
 
--- why the requests were not answered over the file that these bytes are: but for a writer's refusal, nothing was written
+-- why the requests were not answered over the file of these bytes: except for a writer's error, nothing was written
 abbrev pub IsRunFault : List ℕ → (frames frames' replies replies' : Option (List ℕ)) → Fault → Type 0
 IsRunFault bytes frames frames' replies replies' (Input fault) = IvfRefuses bytes fault × Keeps frames frames' × Keeps replies replies'
 IsRunFault bytes frames frames' replies replies' NoMemory = Keeps frames frames' × Keeps replies replies'
 IsRunFault bytes frames frames' replies replies' CannotWrite = Unit {0}
 IsRunFault bytes frames frames' replies replies' _ = ⊥
 
--- why the requests were not answered over the file that these bytes are, where it is not known where frames went: but
--- for a writer's refusal, no reply was written
+-- why the requests were not answered over the file of these bytes, if it is not known where frames went: except
+-- for a writer's error, no reply was written
 abbrev pub IsRefused : List ℕ → (replies replies' : Option (List ℕ)) → Fault → Type 0
 IsRefused bytes replies replies' (Input fault) = IvfRefuses bytes fault × Keeps replies replies'
 IsRefused bytes replies replies' NoMemory = Keeps replies replies'
 IsRefused bytes replies replies' CannotWrite = Unit {0}
 IsRefused bytes replies replies' _ = ⊥
 
--- a file of this name could not be read: the tables' or the stream's, and then no byte of the requests was read, or the requests'
+-- a file with this name could not be read: the tables' or the stream's, and then no byte of the requests was read, or the requests'
 abbrev pub IsUnread : (tables : Option (List ℕ)) → (stream requests : List ℕ) → (left left' : Option (List ℕ)) → List ℕ → Type 0
 IsUnread tables stream requests left left' name = ((tables ≡ Some name ⊎ stream ≡ name) × (left' ≡ left)) ⊎ (requests ≡ name)
 
--- why the program ends without an answer to all requests, in the order of its parts: an error in reading comes before the first reply, one of the
--- tables or the stream before the first byte of the requests is read, and one of the stream's text before the first reply
+-- why the program exits without an answer to all requests, in the order of its parts: a reading error comes before the first reply, a reading error of
+-- the tables or the stream before the first byte of the requests is read, and an error in the stream's bytes before the first reply
 abbrev pub IsEnded : (unnamed : List ℕ) → (tables : Option (List ℕ)) → (stream requests : List ℕ) → (left left' replies replies' : Option (List ℕ)) → Fault → Type 0
 IsEnded unnamed tables stream requests left left' replies replies' CommandLine = ⊥
 IsEnded unnamed tables stream requests left left' replies replies' (CannotRead path) = IsUnread tables stream requests left left' path.now × (replies' ≡ replies)
@@ -100,7 +100,7 @@ IsEnded unnamed tables stream requests left left' replies replies' (Input fault)
 IsEnded unnamed tables stream requests left left' replies replies' CannotWrite = Unit {0}
 IsEnded unnamed tables stream requests left left' replies replies' NoMemory = Unit {0}
 
--- a run's fault as the program's
+-- a run's error as the program's
 abbrev pub told_as : RunFault → Fault
 told_as (runs.Ivf fault) = Input fault
 told_as runs.Write = CannotWrite

@@ -1,9 +1,9 @@
--- The statuses that the program ends with.
+-- The program's exit statuses.
 use Rattle.std.specs.Prelude.{ℕ, Result, Ok, Err}
 use Rattle.vp8serve.specs.declared.fault.Fault.{Fault}
 use Rattle.vp8serve.specs.declared.fault.Fault.TheVariants.{CommandLine, CannotRead, TooLong, Tables, Input, CannotWrite, NoMemory}
 
--- a mistake on the command line is told by 2, every other fault by 1
+-- a mistake on the command line has status 2, every other error 1
 abbrev pub status_of : Fault → ℕ
 status_of CommandLine = 2
 status_of (CannotRead path) = 1

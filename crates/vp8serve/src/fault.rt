@@ -1,4 +1,4 @@
-// What ends the program early.
+// The errors that end the program early.
 ghost use Rattle.std.specs.Prelude.{◌≡◌, ◌≤◌};
 ghost use Rattle.vp8serve.specs.Endings.{told_as};
 ghost use Rattle.vp8serve.specs.Statuses.{status_of};
@@ -7,35 +7,35 @@ use frame_session::RunFault;
 use stream_files::IvfFault;
 use thiserror::Error;
 
-/// Why the program ends before all requests were answered. Its `Display` is the text that the user
-/// is shown behind the program's name. A path is the word that was given, `-` for standard input.
+/// Why the program exits before all requests were answered. Its `Display` is the text that the user
+/// sees after the program's name. A path is the argument as given, `-` for standard input.
 #[derive(Clone, Copy, Debug, PartialEq, Eq, Error)]
 pub enum Fault<'a> {
-    /// The words of the command line are not the program's.
+    /// The arguments are not the program's.
     #[error("command line")]
     CommandLine,
-    /// A file cannot be opened, or reading it gave an error.
+    /// A file cannot be opened, or reading it failed.
     #[error("cannot read {0}")]
     CannotRead(&'a str),
     /// A file has more bytes than are allowed.
     #[error("{0} is too long")]
     TooLong(&'a str),
-    /// The file of the tables has not as many bytes as they have entries.
+    /// The file of the tables does not have 3012 bytes.
     #[error("tables are not 3012 bytes")]
     Tables,
-    /// The bytes of the stream are no IVF file, or there was no memory for its packets.
+    /// The bytes of the stream are not an IVF file, or out of memory for its packets.
     #[error("input {word}", word = .0.word())]
     Input(IvfFault),
-    /// The file for the frames or for the packets cannot be made, or a writer gave an error.
+    /// The file for the frames or for the packets cannot be created, or a writer returned an error.
     #[error("cannot write")]
     CannotWrite,
-    /// There was no memory.
+    /// Out of memory.
     #[error("no memory")]
     NoMemory,
 }
 
 impl Fault<'_> {
-    /// The status that the program ends with: 2 for the command line, 1 for all else.
+    /// The program's exit status: 2 for the command line, 1 for all else.
     pub fn status(self) -> u8
         ensures { result ≡ status_of self.entry }
     {

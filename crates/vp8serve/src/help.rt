@@ -1,6 +1,6 @@
 // The texts of help.
 
-/// What the program does, with an example.
+/// The purpose of the program, with an example.
 pub const ABOUT: &str = "\
 Serves frames of a VP8 stream (IVF) as YUV4MPEG2, while you edit its packets.
 

@@ -12,7 +12,7 @@ use fault::Fault;
 use std::io::{BufWriter, Write};
 use std::process::ExitCode;
 
-/// Runs the program on the words that it was started with.
+/// Runs the program on its arguments.
 fn start<E: Write>(rt: &HostRuntime, errors: &mut E) -> Result<u8, Fault<'static>> {
     let words = words::given(rt)?;
     let mut output = BufWriter::new(rt.alloc(), rt.stdout()).map_err(|_| Fault::NoMemory)?;

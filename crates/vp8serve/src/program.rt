@@ -20,11 +20,11 @@ use std::rt::Files;
 use stream_files::EMPTY;
 use vp8_tables::Tables;
 
-/// How many bytes of frames or packets are gathered before they are written.
+/// The number of bytes of frames or packets that are buffered.
 const BYTES_AT_ONCE: usize = 65_536;
 
-/// Shows a fault to the user, and gives the status that it is told by. Where `errors` refuses the
-/// text, the status tells it alone.
+/// Shows an error to the user, and returns its exit status. If `errors` refuses the
+/// text, only the status reports it.
 pub fn tell<E: Write>(fault: Fault<'_>, errors: &mut E) -> u8
     ensures { result ≡ status_of fault.entry }
 {
@@ -32,7 +32,7 @@ pub fn tell<E: Write>(fault: Fault<'_>, errors: &mut E) -> u8
     fault.status()
 }
 
-/// Answers a command line that gave no words: help, where it was asked for.
+/// Answers arguments that could not be parsed: help, if it was asked for.
 fn help_or_fault<O: Write>(error: clap::Error, output: &mut O) -> Result<(), Fault<'static>>
     ensures help { kind_of error ≡ ErrorKind.DisplayHelp → IfErr result (λ fault. fault ≡ Fault.CannotWrite) }
     ensures memory { kind_of error ≡ ErrorKind.OutOfMemory → result ≡ Err Fault.NoMemory }
@@ -48,8 +48,8 @@ fn help_or_fault<O: Write>(error: clap::Error, output: &mut O) -> Result<(), Fau
     }
 }
 
-/// Runs the requests over the stream, and sees that all is written. Gives the session that stands
-/// behind them.
+/// Runs the requests over the stream, and flushes both writers. Returns the session after the last
+/// request.
 pub fn run_to<F: Write, P: Write>(
     alloc: Global,
     tables: Tables,
@@ -70,7 +70,7 @@ pub fn run_to<F: Write, P: Write>(
     Ok(session)
 }
 
-/// The same, with frames that go to the file at `path`, which is made now, or nowhere.
+/// The same, with frames that go to the file at `path`, which is created now, or nowhere.
 fn run_to_path<R: Files + AllocGlobal, P: Write>(
     rt: &R,
     tables: Tables,
@@ -112,7 +112,7 @@ fn run_to_path<R: Files + AllocGlobal, P: Write>(
     )
 }
 
-/// Writes the current packets through a buffer, of which nothing is left unwritten.
+/// Writes the current packets through a buffer, and flushes it.
 pub fn save_to<W: Write + Drop>(
     session: &Session,
     w: &mut BufWriter<W>,
@@ -125,7 +125,7 @@ pub fn save_to<W: Write + Drop>(
     w.flush().map_err(|_| Fault::CannotWrite)
 }
 
-/// The same to the file at `path`, which is made now, where one is named.
+/// The same to the file at `path`, which is created now, if one is given.
 fn save_to_path<R: Files + AllocGlobal>(
     rt: &R,
     session: &Session,
@@ -143,7 +143,7 @@ fn save_to_path<R: Files + AllocGlobal>(
     save_to(session, &mut saved)
 }
 
-/// Reports the number of trailing bytes in the stream, if there are any.
+/// Reports the number of trailing bytes of the stream, if there are any.
 fn tell_spare<E: Write>(session: &Session, errors: &mut E) -> io::Result<()>
     ensures { OnOk result (Appends (E.contents errors.old) (E.contents errors.new) (spare_text session.now.now.spare)) }
 {
@@ -154,7 +154,7 @@ fn tell_spare<E: Write>(session: &Session, errors: &mut E) -> io::Result<()>
     writeln!(errors, "spare {spare}")
 }
 
-/// Does what the command line's words ask for.
+/// Does what parsed arguments ask for.
 #[tactic(auto, using(crate::proofs::Ended::tables_ended, crate::proofs::Ended::stream_ended, crate::proofs::Ended::requests_ended, crate::proofs::Ended::run_ended, crate::proofs::Ended::save_ended))]
 fn answer<'a, R: Files + AllocGlobal, I: Read, O: Write, E: Write>(
     rt: &R,
@@ -202,7 +202,7 @@ fn answer_line<'a, R: Files + AllocGlobal, S: AsStr, I: Read, O: Write, E: Write
     }
 }
 
-/// The status of the program's answer; an error is shown to the user.
+/// The exit status of the program's result; an error is shown to the user.
 fn exit_status<E: Write>(answer: Result<(), Fault<'_>>, errors: &mut E) -> u8
     ensures { result ≡ exit_status answer.entry }
 {
@@ -212,14 +212,14 @@ fn exit_status<E: Write>(answer: Result<(), Fault<'_>>, errors: &mut E) -> u8
     }
 }
 
-/// Runs the program on a command line, whose first word is the program's name, and gives the status
-/// that it ends with: 0 where every request was answered, be it by a refusal, and for help; 2 for a
-/// mistake on the command line; 1 for every other fault.
+/// Runs the program on a command line, whose first argument is the program's name, and returns its exit
+/// status: 0 if every request was answered, also by a refusal, and for help; 2 for a
+/// mistake on the command line; 1 for every other error.
 ///
-/// All files are read whole, up to 1,073,741,824 bytes each, before the file for the frames is made;
-/// that for the packets is made once the last request was answered. Replies and help go to `output`;
-/// the text of a fault, and behind a run without a fault how many bytes stood behind the last whole
-/// record of the stream, where there are any, go to `errors`.
+/// All files are read whole, up to 1,073,741,824 bytes each, before the file for the frames is created;
+/// the file for the packets is created after the last request. Replies and help go to `output`;
+/// the text of an error, and after a run without one the number of trailing bytes of the stream, if
+/// there are any, go to `errors`.
 pub fn serve<R: Files + AllocGlobal, S: AsStr, I: Read, O: Write, E: Write>(
     rt: &R,
     words: &[S],

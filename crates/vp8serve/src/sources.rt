@@ -1,4 +1,4 @@
-// What the program reads.
+// The files that the program reads.
 ghost use Rattle.std.specs.Prelude.{◌≡◌, IfOk, IfErr, IfSome, Ok, codes, None, false, is_some, option_map};
 ghost use Rattle.vp8_tables.specs.Rfc.{rfc_entries};
 ghost use Rattle.vp8_tables.specs.Tables.{entries_of};
@@ -51,7 +51,7 @@ fn tables_of(bytes: &[u8]) -> Result<Tables, Fault<'static>>
     Tables::read(bytes).map_err(|_| Fault::Tables)
 }
 
-/// The tables of a file, or those of RFC 6386 where none is named.
+/// The tables of a file, or the tables of RFC 6386 if none is given.
 pub fn read_tables<'a, R: Files + AllocGlobal>(
     rt: &R,
     path: Option<&'a str>,
@@ -68,7 +68,7 @@ pub fn read_tables<'a, R: Files + AllocGlobal>(
     }
 }
 
-/// The bytes of the stream: those of a file with no packets where no file is named.
+/// The bytes of the stream: those of a file with no packets if no file is given.
 pub fn read_stream<'a, R: Files + AllocGlobal>(rt: &R, path: &'a str) -> Result<Vec<u8>, Fault<'a>>
     ensures empty { path.now ≡ codes "-" → IfOk result (λ all. all.items ≡ EMPTY) }
     ensures fault { IfErr result (IsReadFault path.now None) }
@@ -80,7 +80,7 @@ pub fn read_stream<'a, R: Files + AllocGlobal>(rt: &R, path: &'a str) -> Result<
     }
 }
 
-/// The request lines: those of `input` where no file is named.
+/// The request lines: those of `input` if no file is given.
 pub fn read_requests<'a, R: Files + AllocGlobal, I: Read>(
     rt: &R,
     path: &'a str,

@@ -7,7 +7,7 @@ use std::test::Fail;
 use stream_files::{EMPTY, IvfFault};
 use vp8_tables::Tables;
 
-/// What a run of the program leaves.
+/// The result of a run of the program.
 #[derive(Drop)]
 struct Ending {
     status: u8,
@@ -26,7 +26,7 @@ fn run_program(rt: &HostRuntime, words: &[&str], input: &str) -> Ending {
     }
 }
 
-/// A reader and a writer that give errors alone.
+/// A reader and a writer that only return errors.
 #[derive(Drop)]
 struct Broken {}
 
@@ -54,7 +54,7 @@ const ONE: [u8; 54] = [
     0x10, 0, 0, 0x9D, 0x01, 0x2A, 16, 0, 16, 0,
 ];
 
-/// A file of one 16x16 key frame whose residual the probabilities of tokens decide.
+/// A file of one 16x16 key frame whose residual depends on the token probabilities.
 const CODED: [u8; 62] = [
     b'D', b'K', b'I', b'F', 0, 0, 32, 0, b'V', b'P', b'8', b'0', 16, 0, 16, 0, 30, 0, 0, 0, 1, 0,
     0, 0, 1, 0, 0, 0, 0, 0, 0, 0, //
@@ -155,7 +155,7 @@ fn tells_each_fault(rt: HostRuntime) -> Result<(), Fail> {
     Ok(())
 }
 
-/// Of two faults the first in order is told: the command line, the tables, the stream, the requests,
+/// Of two errors the first in order is reported: the command line, the tables, the stream, the requests,
 /// the file for the frames, the run, the file for the packets.
 #[test]
 fn finds_faults_in_order(rt: HostRuntime) -> Result<(), Fail> {
@@ -304,7 +304,7 @@ fn serves_a_frame(rt: HostRuntime) -> Result<(), Fail> {
     Ok(())
 }
 
-/// The file for the frames is made once all is read, and is empty where no frame was served.
+/// The file for the frames is created once all is read, and is empty if no frame was served.
 #[test]
 fn makes_the_file_for_the_frames_last(rt: HostRuntime) -> Result<(), Fail> {
     fs::write(&rt, "last.y4m", "kept")?;
@@ -350,7 +350,7 @@ fn needs_no_words(rt: HostRuntime) {
     assert_eq!(rt; run.status, 0);
 }
 
-/// The packets behind the last request are saved: those of a file that is not edited are its own.
+/// The packets after the last request are saved: those of a file that is not edited are its own.
 #[test]
 fn saves_the_packets(rt: HostRuntime) -> Result<(), Fail> {
     fs::write(&rt, "saving.ivf", &ONE)?;
@@ -370,7 +370,7 @@ fn saves_the_packets(rt: HostRuntime) -> Result<(), Fail> {
     Ok(())
 }
 
-/// A save that fails comes behind the replies, and then nothing is told of spare bytes.
+/// A save that fails is reported after the replies, and then trailing bytes are not reported.
 #[test]
 fn tells_a_save_that_fails(rt: HostRuntime) -> Result<(), Fail> {
     fs::write(&rt, "unsaved.ivf", &ONE[..51])?;
@@ -398,7 +398,7 @@ fn takes_numbers_of_cached_states(rt: HostRuntime) -> Result<(), Fail> {
     Ok(())
 }
 
-/// What is written for the frame of `CODED` by tables that have one entry throughout.
+/// The frame of `CODED`, as written with tables whose entries are all the same.
 fn coded_frame(alloc: Global, entry: u8) -> Result<Vec<u8>, Fault<'static>> {
     let tables = Tables::read(&[entry; 3012]).map_err(|_| Fault::Tables)?;
     let mut frames = Vec::new(alloc);
@@ -415,7 +415,7 @@ fn coded_frame(alloc: Global, entry: u8) -> Result<Vec<u8>, Fault<'static>> {
     Ok(frames)
 }
 
-/// Tables of a file are used: two files give the frames by their tables, which differ.
+/// Tables of a file are used: two files make two different frames.
 #[test]
 fn uses_the_tables_of_a_file(rt: HostRuntime) -> Result<(), Fail> {
     fs::write(&rt, "coded.ivf", &CODED)?;

@@ -1,4 +1,4 @@
-// The words of the command line.
+// The arguments of the command line.
 ghost use Rattle.std.specs.Prelude.{◌≡◌, ◌≤◌, IfSome, None, codes};
 ghost use Rattle.clap.specs.Matches.{first_value, found_of};
 ghost use Rattle.vp8serve.specs.Capacities.{capacity_given};
@@ -11,31 +11,31 @@ use std::convert::AsStr;
 use std::env::{self, Env};
 use std::io::ErrorKind;
 
-/// The word that stands for no file, and that a missing word stands for.
+/// The argument for no file, which is also the default.
 pub const NO_FILE: &str = "-";
 
-/// How many decoded states a session may keep where the command line does not say.
+/// The default for the most cached states of a session.
 const CAPACITY: u16 = 32;
 
-/// What the command line names.
+/// The values of the arguments.
 #[derive(Clone, Copy)]
 pub struct Words<'a> {
-    /// The IVF file; `-` is one with no packets.
+    /// The IVF file; `-` for a stream with no packets.
     pub stream: &'a str,
-    /// The requests; `-` is standard input.
+    /// The requests; `-` for standard input.
     pub requests: &'a str,
-    /// Where the frames go; `-` drops them.
+    /// The file for the frames; `-` drops them.
     pub frames: &'a str,
-    /// How many decoded states may be kept, if it is told.
+    /// The most cached states, if given.
     pub cache: Option<u16>,
-    /// The file of the long tables, if one is named.
+    /// The file of the long tables, if given.
     pub tables: Option<&'a str>,
-    /// Where the packets go behind the run, if a file is named.
+    /// The file for the packets after the run, if given.
     pub saved: Option<&'a str>,
 }
 
 impl Words<'_> {
-    /// How many decoded states a session may keep: the number given, or 32. `None` where it is not 1
+    /// The most cached states of a session: the number given, or 32. `None` if it is not 1
     /// to 4,096.
     pub fn capacity(self) -> Option<u16>
         ensures given { result ≡ capacity_given self.entry.cache }
@@ -49,9 +49,9 @@ impl Words<'_> {
     }
 }
 
-/// The words that the program was started with, its name first.
+/// The program's arguments, its name first.
 ///
-/// `CommandLine` where one of them is not UTF-8.
+/// `CommandLine` if one of them is not UTF-8.
 pub fn given<R: Env + AllocGlobal>(rt: &R) -> Result<Vec<String>, Fault<'static>> {
     let words = match env::args(rt) {
         Ok(words) => words,
@@ -61,7 +61,7 @@ pub fn given<R: Env + AllocGlobal>(rt: &R) -> Result<Vec<String>, Fault<'static>
     words.collect(rt.alloc()).map_err(|_| Fault::NoMemory)
 }
 
-/// A word that may be left out.
+/// An optional argument.
 fn optional<'a>(alloc: Global, id: &'a str, help: &'a str) -> Arg<'a> {
     Arg::new(alloc, id).default_value(NO_FILE).help(help)
 }
@@ -71,7 +71,7 @@ fn option<'a>(alloc: Global, id: &'a str, value: &'a str, help: &'a str) -> Arg<
     Arg::new(alloc, id).long(id).value_name(value).help(help)
 }
 
-/// The word at an argument.
+/// The value of an argument.
 fn word_of<'a>(matches: &ArgMatches<'a>, id: &str) -> &'a str
     ensures given { IfSome (first_value (found_of matches.now) id.now) (λ word. result.now ≡ word) }
     ensures missing { first_value (found_of matches.now) id.now ≡ None → result.now ≡ codes "-" }
@@ -82,7 +82,7 @@ fn word_of<'a>(matches: &ArgMatches<'a>, id: &str) -> &'a str
     }
 }
 
-/// Reads the command line, whose first word is the program's name.
+/// Parses the command line, whose first argument is the program's name.
 pub fn parse<'a, S: AsStr>(alloc: Global, words: &'a [S]) -> Result<Words<'a>, clap::Error> {
     let cache = option(
         alloc,

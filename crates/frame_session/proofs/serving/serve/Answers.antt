@@ -1,11 +1,5 @@
-use Rattle.std.proofs.Common.{ℕ, List, Option, None, inr, ap}
-use Rattle.std.specs.Io.KnownBytes.{Appends}
+use Rattle.std.proofs.Common.{None, inr, ap}
 use Rattle.std.proofs.lemmas.Result.{on_ok_weaker}
-use Rattle.frame_session.specs.declared.lines.Line.TheVariants.{Unknown, Insert, Replace, Script, Count, Stats}
-use Rattle.frame_session.specs.declared.refusal.Refusal.TheVariants as refusals
-use Rattle.frame_session.specs.Replies.{refused_line, edit_line, count_line, stats_line}
-use Rattle.frame_session.specs.Sessions.{frame_count, packet_count}
-use Rattle.frame_session.specs.Answers.{Serves}
 use Rattle.frame_session.specs.Cached.{SessionValue}
 use Rattle.frame_session.proofs.Served.{serves_silent, serves_unknown, serves_inserted, serves_replaced, serves_deleted, serves_moved, serves_blanked, serves_held, serves_script, serves_count, serves_stats}
 use Rattle.frame_session.proofs.serving.serve.Goals as goal

@@ -1,13 +1,10 @@
-use Rattle.std.proofs.Common.{◌++◌, ◌⊎◌, inl, inr, List, ℕ, Option, None, subst}
-use Rattle.std.specs.Io.KnownBytes.{Appends, Keeps}
+use Rattle.std.proofs.Common.{inr, None}
+use Rattle.std.specs.Io.KnownBytes.{Appends}
 use Rattle.std.proofs.lemmas.Result.{on_ok_weaker}
-use Rattle.stream_files.specs.declared.ivf.Head.{Head}
-use Rattle.stream_files.specs.Y4m.{frame_text}
 use Rattle.frame_session.specs.declared.lines.Line.TheVariants.{Frame}
-use Rattle.frame_session.specs.Replies.{refused_line, served_line}
-use Rattle.frame_session.specs.Sessions.{head_due}
-use Rattle.frame_session.specs.Answers.{Serves, WritesFrameFirst, opening}
-use Rattle.frame_session.proofs.Served.{frame_and_reply, frame_or_no_reply, serves_frame, serves_refused}
+use Rattle.frame_session.specs.Replies.{refused_line}
+use Rattle.frame_session.specs.Answers.{Serves}
+use Rattle.frame_session.proofs.Served.{frame_and_reply, frame_or_no_reply, serves_refused}
 use Rattle.frame_session.proofs.serving.serve_frame.Goals as goal
 
 pub returns-in-Err-clause-serves : goal.returns-in-Err-clause-serves

@@ -1,4 +1,4 @@
-use Rattle.std.proofs.Common.{◌≡◌, ℕ, true, Ok, slice_get, rules, subst, sym}
+use Rattle.std.proofs.Common.{◌≡◌, true, Ok, slice_get, rules, subst, sym}
 use Rattle.state_cache.specs.Decoding.{outcomes}
 use Rattle.frame_session.specs.Cached.{SessionValue}
 use Rattle.frame_session.specs.Gives.{GivesFrame}
