@@ -4,6 +4,7 @@ ghost use Rattle.state_cache.specs.CostLaws.{UnsettledAreListed};
 ghost use Rattle.state_cache.specs.DecodingLaws.{BreaksAreNamed, EachHasOutcome, KeysBeginAnew};
 ghost use Rattle.state_cache.specs.EditLaws.{EditsKeepCoherence, EditsKeepIds, NextIdIsNotKept};
 ghost use Rattle.state_cache.specs.KeptViews.{CoherentIsKeptView};
+ghost use Rattle.state_cache.specs.WalkLaws.{NextIsUnique, WalksStepInOrder};
 
 use vp8_tables::Tables;
 
@@ -49,4 +50,15 @@ pub fn coherent_views_are_kept_views()
 /// The places of a walk that are not settled can be listed, where it is decided of each whether it is.
 pub fn unsettled_places_are_listed()
     ensures { UnsettledAreListed }
+{}
+
+/// There is one index to step first on the way to an index.
+pub fn next_is_unique()
+    ensures { NextIsUnique }
+{}
+
+/// A walk steps its indexes in ascending order, and changes the marks of these and of the index after
+/// the last one only.
+pub fn walks_step_in_order()
+    ensures { WalksStepInOrder }
 {}
