@@ -9,3 +9,4 @@ pub mod Walks
 pub mod KeptViews
 pub mod CostLaws
 pub mod WalkLaws
+pub mod Faults

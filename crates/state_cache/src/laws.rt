@@ -2,7 +2,7 @@
 
 ghost use Rattle.state_cache.specs.CostLaws.{UnsettledAreListed};
 ghost use Rattle.state_cache.specs.DecodingLaws.{BreaksAreNamed, EachHasOutcome, KeysBeginAnew};
-ghost use Rattle.state_cache.specs.EditLaws.{EditsKeepCoherence, EditsKeepIds, NextIdIsNotKept};
+ghost use Rattle.state_cache.specs.EditLaws.{EditsKeepCoherence, EditsKeepIds, LaterIdsAreNotKept, NextIdIsNotKept};
 ghost use Rattle.state_cache.specs.KeptViews.{CoherentIsKeptView};
 ghost use Rattle.state_cache.specs.WalkLaws.{NextIsUnique, WalksStepInOrder};
 
@@ -38,6 +38,11 @@ pub fn edits_keep_ids()
 /// gets.
 pub fn next_id_is_not_kept()
     ensures { NextIdIsNotKept }
+{}
+
+/// Nor is one kept for any later id, so that packets put in at the end have none.
+pub fn later_ids_are_not_kept()
+    ensures { LaterIdsAreNotKept }
 {}
 
 /// A view is coherent just where each kept outcome is what the steps give from the nearest kept one
