@@ -1,5 +1,5 @@
 -- What is kept is coherent with the packets behind an edit.
-use Rattle.std.proofs.Common.{◌≡◌, ℕ, zero, suc, ◌+◌, ◌≤◌, Bool, true, false, cond, List, [], ◌∷◌, ◌++◌, map, Option, Some, None, length, slice_get, slice_set, option_map, nat_eq, refl, sym, ap, subst, ◌∙◌, arith, add-one}
+use Rattle.std.proofs.Common.{◌≡◌, ℕ, zero, suc, ◌+◌, ◌≤◌, Bool, true, false, cond, List, [], ◌∷◌, ◌++◌, map, Option, Some, None, length, slice_get, slice_set, nat_eq, refl, sym, ap, subst, ◌∙◌, arith, add-one}
 use Rattle.std.specs.Cmp.{nat_eq_equiv}
 use Rattle.std.specs.List.{insert, remove}
 use Rattle.std.specs.Option.{option_map_or}
@@ -9,7 +9,7 @@ use Rattle.frame_header.specs.Tags.{has_key_tag}
 use Rattle.stream_files.specs.declared.packets.Packet.{Packet}
 use Rattle.packet_edits.specs.declared.entry.Entry.{Entry}
 use Rattle.packet_edits.specs.Edits.{moved, numbered}
-use Rattle.packet_edits.specs.Marks.{StoreValue, marked_at}
+use Rattle.packet_edits.specs.Marks.{StoreValue}
 use Rattle.state_cache.specs.declared.outcomes.Kept.{Kept}
 use Rattle.state_cache.specs.EditLaws.{EditsKeepCoherence, IsKeptWithout, IsMarked, IsWithout, after_push, behind_deletion, behind_insertion, behind_move, behind_replacement, id_at}
 use Rattle.state_cache.specs.Views.{Before, CoherentFrom, Drops, Fits, IsCoherent, Seen, View, entering, failed, known, leaving, seen, seens, seens_of, unknown}

@@ -24,3 +24,4 @@ pub mod Walked
 pub mod KeptView
 pub mod CostLaw
 pub mod WalkSteps
+pub mod Decided

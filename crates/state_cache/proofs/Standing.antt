@@ -1,5 +1,5 @@
 -- The ids for which outcomes are kept are of packets that stand, whatever is edited.
-use Rattle.std.proofs.Common.{◌≡◌, ℕ, zero, suc, ◌+◌, ◌<◌, ◌≤◌, ◌⊎◌, inl, inr, true, false, List, [], ◌∷◌, ◌++◌, Option, Some, None, is_some, slice_get, slice_set, option_map, IsSome, refl, sym, ap, subst, ◌∙◌, arith}
+use Rattle.std.proofs.Common.{◌≡◌, ℕ, zero, suc, ◌<◌, ◌≤◌, ◌⊎◌, inl, inr, false, List, [], ◌∷◌, ◌++◌, Option, Some, None, is_some, slice_get, slice_set, option_map, IsSome, refl, sym, ap, subst, ◌∙◌, arith}
 use Rattle.std.specs.List.{insert, remove}
 use Rattle.std.specs.Option.{option_map_or}
 use Rattle.stream_files.specs.declared.packets.Packet.{Packet}
@@ -7,7 +7,6 @@ use Rattle.packet_edits.specs.declared.entry.Entry.{Entry}
 use Rattle.packet_edits.specs.Edits.{Listing, deleted, inserted, numbered, pushed, replaced, with_move}
 use Rattle.packet_edits.specs.Laws.{HasOwnIds, HaveOwnIds}
 use Rattle.state_cache.specs.declared.outcomes.Kept.{Kept}
-use Rattle.state_cache.specs.Costs.{IsIdOf}
 use Rattle.state_cache.specs.EditLaws.{EditsKeepIds, IsKeptWithout, LaterIdsAreNotKept, NextIdIsNotKept, StandIn, id_at}
 use Rattle.state_cache.specs.Views.{View}
 

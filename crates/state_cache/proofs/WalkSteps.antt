@@ -1,13 +1,13 @@
 -- A walk: one step more, how it ends, and what it changes.
-use Rattle.std.proofs.Common.{◌≡◌, ℕ, zero, suc, ◌+◌, ◌<◌, ◌≤◌, ◌⊎◌, inl, inr, Bool, true, false, cond, ◌&&◌, List, [], ◌∷◌, length, slice_get, slice_set, refl, sym, ap, subst, ◌∙◌, arith}
+use Rattle.std.proofs.Common.{◌≡◌, ℕ, zero, suc, ◌+◌, ◌<◌, ◌≤◌, ◌⊎◌, inl, inr, Bool, true, false, ◌&&◌, List, [], ◌∷◌, slice_get, slice_set, refl, sym, ap, subst, ◌∙◌, arith}
 use Rattle.std.specs.Prelude.{min}
 use Rattle.vp8_tables.specs.Tables.{TableEntries}
-use Rattle.packet_edits.specs.Marks.{StoreValue, marked_at, unmarked_at}
+use Rattle.packet_edits.specs.Marks.{StoreValue, unmarked_at}
 use Rattle.state_cache.specs.Costs.{most_steps}
 use Rattle.state_cache.specs.Reaching.{Begins, CacheValue, IsNext, at_key, at_start, behind, passed_marks, view_of}
 use Rattle.state_cache.specs.Views.{Seen, View, is_cut, is_usable, key_at, seens}
 use Rattle.state_cache.specs.WalkLaws.{IsAmong, NextIsUnique, WalksStepInOrder}
-use Rattle.state_cache.specs.Walks.{Advances, Ends, IsTurned, IsWalk, IsWalkStep, Walks, arrives, is_refused}
+use Rattle.state_cache.specs.Walks.{Advances, IsTurned, IsWalk, IsWalkStep, Walks, arrives, is_refused}
 use Rattle.state_cache.proofs.Runs.{up_to_or_behind}
 
 -- a walk from a first index, as far as it has come

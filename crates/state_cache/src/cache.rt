@@ -227,12 +227,7 @@ impl Cache {
     }
 
     /// Steps the packet at `place`, and counts the step.
-    fn stepped(
-        &mut self,
-        tables: &Tables,
-        store: &Store,
-        place: usize,
-    ) -> Result<Kept, ReachFault>
+    fn stepped(&mut self, tables: &Tables, store: &Store, place: usize) -> Result<Kept, ReachFault>
         requires { place < length store.now.list.entries }
         ensures gives { StepGives tables.now (seens store.now) (view_of self.old) place result }
         ensures counted { self.new ≡ record self.old { decoded = min (self.old.decoded + 1) most_steps } }
@@ -357,11 +352,7 @@ fn outcome_at(place: usize, answer: Result<(State, Picture), StepFault>) -> Resu
 }
 
 /// The state from which the packet at `place` is stepped.
-fn state_before<'a>(
-    kept: &'a LruCache<u64, Kept>,
-    store: &Store,
-    place: usize,
-) -> Option<&'a State>
+fn state_before<'a>(kept: &'a LruCache<u64, Kept>, store: &Store, place: usize) -> Option<&'a State>
     requires { place < length store.now.list.entries }
     ensures { option_copied result ≡ state_from (seens store.now) (kept_in kept.now.entries) place }
 {

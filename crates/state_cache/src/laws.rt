@@ -52,7 +52,7 @@ pub fn coherent_views_are_kept_views()
     ensures { CoherentIsKeptView }
 {}
 
-/// The places of a walk that are not settled can be listed, where it is decided of each whether it is.
+/// The places of a walk that are not settled have a list.
 pub fn unsettled_places_are_listed()
     ensures { UnsettledAreListed }
 {}

@@ -1,7 +1,6 @@
 use Rattle.std.proofs.Common.{◌<◌, ◌≤◌, ◌∙◌, Err, length, refl, subst, sym, arith, rules}
 use Rattle.std.specs.Prelude.{is_ok}
 use Rattle.packet_edits.specs.Edits.{Listing}
-use Rattle.state_cache.specs.Costs.{most_steps}
 use Rattle.state_cache.specs.Reaching.{Reaches, view_of}
 use Rattle.state_cache.specs.Views.{seens}
 use Rattle.state_cache.proofs.Reached.{length_seens, reaches_answer, reaches_fault}

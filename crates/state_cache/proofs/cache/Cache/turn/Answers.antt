@@ -1,4 +1,4 @@
-use Rattle.std.proofs.Common.{◌≡◌, ◌∙◌, true, false, Ok, Err, ap, subst, sym}
+use Rattle.std.proofs.Common.{◌≡◌, true, false, Ok, ap, subst, sym}
 use Rattle.packet_edits.specs.Marks.{StoreValue}
 use Rattle.state_cache.specs.Reaching.{Begins, CacheValue, StepGives, view_of}
 use Rattle.state_cache.specs.Views.{IsCoherent, View, is_usable, seens}
