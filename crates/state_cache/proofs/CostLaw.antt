@@ -4,6 +4,7 @@ use Rattle.vp8_tables.specs.Tables.{TableEntries}
 use Rattle.state_cache.specs.CostLaws.{UnsettledAreListed}
 use Rattle.state_cache.specs.Costs.{AreUnsettled, IsSettled}
 use Rattle.state_cache.specs.Views.{Seen, View}
+use Rattle.state_cache.proofs.Decided.{settled_or_not}
 use Rattle.state_cache.proofs.Runs.{same_or_not, up_to_or_behind}
 
 no_place : (n p : ℕ) → slice_get [] n ≡ Some p → ⊥
@@ -76,4 +77,4 @@ module _ (tables : TableEntries) (xs : List Seen) (kept : View) (place : ℕ) wh
   listed decide (suc n) next e = on_case decide next (listed decide n (next + 1) (omega (arith, e))) (up_to_or_behind next place)
 
 pub unsettled_are_listed : UnsettledAreListed
-unsettled_are_listed tables xs kept next place decide = listed tables xs kept place decide (place + 1) next (omega arith)
+unsettled_are_listed tables xs kept next place = listed tables xs kept place (settled_or_not tables xs kept place) (place + 1) next (omega arith)

@@ -1,16 +1,17 @@
 -- What is kept is coherent with the packets behind an edit.
-use Rattle.std.proofs.Common.{◌≡◌, ℕ, zero, suc, ◌+◌, Bool, true, false, cond, List, [], ◌∷◌, Option, Some, None, length, slice_get, slice_set, option_map, nat_eq, refl, sym, ap, subst, ◌∙◌, arith, add-one}
+use Rattle.std.proofs.Common.{◌≡◌, ℕ, zero, suc, ◌+◌, ◌≤◌, Bool, true, false, cond, List, [], ◌∷◌, ◌++◌, map, Option, Some, None, length, slice_get, slice_set, nat_eq, refl, sym, ap, subst, ◌∙◌, arith, add-one}
 use Rattle.std.specs.Cmp.{nat_eq_equiv}
 use Rattle.std.specs.List.{insert, remove}
 use Rattle.std.specs.Option.{option_map_or}
 use Rattle.std.proofs.lemmas.Bool.{eqb-true}
 use Rattle.vp8_tables.specs.Tables.{TableEntries}
 use Rattle.frame_header.specs.Tags.{has_key_tag}
+use Rattle.stream_files.specs.declared.packets.Packet.{Packet}
 use Rattle.packet_edits.specs.declared.entry.Entry.{Entry}
-use Rattle.packet_edits.specs.Edits.{moved}
-use Rattle.packet_edits.specs.Marks.{StoreValue, marked_at}
+use Rattle.packet_edits.specs.Edits.{moved, numbered}
+use Rattle.packet_edits.specs.Marks.{StoreValue}
 use Rattle.state_cache.specs.declared.outcomes.Kept.{Kept}
-use Rattle.state_cache.specs.EditLaws.{EditsKeepCoherence, IsKeptWithout, IsMarked, IsWithout, behind_deletion, behind_insertion, behind_move, behind_replacement, id_at}
+use Rattle.state_cache.specs.EditLaws.{EditsKeepCoherence, IsKeptWithout, IsMarked, IsWithout, after_push, behind_deletion, behind_insertion, behind_move, behind_replacement, id_at}
 use Rattle.state_cache.specs.Views.{Before, CoherentFrom, Drops, Fits, IsCoherent, Seen, View, entering, failed, known, leaving, seen, seens, seens_of, unknown}
 use Rattle.state_cache.proofs.Known.{Below, drops_same, weaker}
 use Rattle.state_cache.proofs.Marked.{get_seen, mark_set, seens_set}
@@ -184,6 +185,25 @@ module _ (tables : TableEntries) where
       (inserted_coherent (known None) (seens_of es ms) at (seen e false) kept (none_fits (seen e false) kept none) f)
 
   -- the two cases of a place: no packet stands there, or one does
+  -- packets at the end, for which nothing is cached
+  pushed_new : (b : Before) (id : ℕ) (packets : List Packet) (kept : View) → ((n : ℕ) → id ≤ n → kept n ≡ None) → CoherentFrom tables b (seens_of (numbered id packets) (map (λ packet. false) packets)) kept
+  pushed_new b id [] kept none = tt
+  pushed_new b id (packet ∷ packets) kept none =
+      let e : Entry = record { id = id; stamp = packet.stamp; bytes = packet.bytes } in
+      let here : kept id ≡ None = none id (omega arith) in
+      (none_fits (seen e false) kept here b, pushed_new (leaving tables (entering b (seen e false)) packet.bytes (kept id)) (id + 1) packets kept (λ n up. none n (omega (arith, up))))
+
+  pushed_coherent : (b : Before) (es : List Entry) (ms : List Bool) (id : ℕ) (packets : List Packet) (kept : View) → length ms ≡ length es → ((n : ℕ) → id ≤ n → kept n ≡ None) → CoherentFrom tables b (seens_of es ms) kept
+      → CoherentFrom tables b (seens_of (es ++ numbered id packets) (ms ++ map (λ packet. false) packets)) kept
+  pushed_coherent b [] [] id packets kept marked none f = pushed_new b id packets kept none
+  pushed_coherent b [] (m ∷ ms) id packets kept marked none f = absurd (omega (arith, marked))
+  pushed_coherent b (e ∷ es) [] id packets kept marked none f = absurd (omega (arith, marked))
+  pushed_coherent b (e ∷ es) (m ∷ ms) id packets kept marked none f =
+      (f.0, pushed_coherent (leaving tables (entering b (seen e m)) e.bytes (kept e.id)) es ms id packets kept (omega (arith, marked)) none f.1)
+
+  push_coherent : (store : StoreValue) (kept : View) (packets : List Packet) → IsMarked store → ((id : ℕ) → store.list.next_id ≤ id → kept id ≡ None) → IsCoherent tables (seens store) kept → IsCoherent tables (seens (after_push packets store)) kept
+  push_coherent store kept packets marked none f = pushed_coherent (known None) store.list.entries store.marks store.list.next_id packets kept marked none f
+
   replacement_case : (es : List Entry) (ms : List Bool) (at id : ℕ) (bytes : List ℕ) (kept : View) (o : Option Entry) → length ms ≡ length es → slice_get es at ≡ o → kept id ≡ None → CoherentFrom tables (known None) (seens_of es ms) kept
       → CoherentFrom tables (known None) (seens_of (option_map_or (λ entry. slice_set es at (record entry { id = id; bytes = bytes })) o es) (slice_set (slice_set ms at false) (at + 1) true)) kept
   replacement_case es ms at id bytes kept (Some y) marked here none f =
@@ -271,4 +291,4 @@ module _ (tables : TableEntries) where
       move_case store.list.entries store.marks (slice_set (slice_set store.marks from true) (from + 1) true) from to kept (slice_get store.list.entries from) marked refl refl f
 
   pub coherence_kept : EditsKeepCoherence tables
-  coherence_kept = record { insertions = insertion_coherent; replacements = replacement_coherent; deletions = deletion_coherent; moves = move_coherent }
+  coherence_kept = record { pushes = push_coherent; insertions = insertion_coherent; replacements = replacement_coherent; deletions = deletion_coherent; moves = move_coherent }

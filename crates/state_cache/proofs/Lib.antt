@@ -23,3 +23,5 @@ pub mod Advanced
 pub mod Walked
 pub mod KeptView
 pub mod CostLaw
+pub mod WalkSteps
+pub mod Decided

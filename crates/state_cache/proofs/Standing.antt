@@ -1,13 +1,13 @@
 -- The ids for which outcomes are kept are of packets that stand, whatever is edited.
-use Rattle.std.proofs.Common.{◌≡◌, ℕ, zero, suc, ◌+◌, ◌<◌, ◌⊎◌, inl, inr, true, false, List, [], ◌∷◌, Option, Some, None, is_some, slice_get, slice_set, option_map, IsSome, refl, sym, ap, subst, ◌∙◌, arith}
+use Rattle.std.proofs.Common.{◌≡◌, ℕ, zero, suc, ◌<◌, ◌≤◌, ◌⊎◌, inl, inr, false, List, [], ◌∷◌, ◌++◌, Option, Some, None, is_some, slice_get, slice_set, option_map, IsSome, refl, sym, ap, subst, ◌∙◌, arith}
 use Rattle.std.specs.List.{insert, remove}
 use Rattle.std.specs.Option.{option_map_or}
+use Rattle.stream_files.specs.declared.packets.Packet.{Packet}
 use Rattle.packet_edits.specs.declared.entry.Entry.{Entry}
-use Rattle.packet_edits.specs.Edits.{Listing, deleted, inserted, replaced, with_move}
+use Rattle.packet_edits.specs.Edits.{Listing, deleted, inserted, numbered, pushed, replaced, with_move}
 use Rattle.packet_edits.specs.Laws.{HasOwnIds, HaveOwnIds}
 use Rattle.state_cache.specs.declared.outcomes.Kept.{Kept}
-use Rattle.state_cache.specs.Costs.{IsIdOf}
-use Rattle.state_cache.specs.EditLaws.{EditsKeepIds, IsKeptWithout, NextIdIsNotKept, StandIn, id_at}
+use Rattle.state_cache.specs.EditLaws.{EditsKeepIds, IsKeptWithout, LaterIdsAreNotKept, NextIdIsNotKept, StandIn, id_at}
 use Rattle.state_cache.specs.Views.{View}
 
 -- the id of one of these packets
@@ -75,7 +75,18 @@ put_back es to y id (inr a) = among_inserted es to y id a
 not_out : (id : ℕ) (new : View) (n : ℕ) → new n ≡ None → IsSome (new id) → id ≡ n → ⊥
 not_out id new n gone some same = let none : is_some (new id) ≡ false = ap (λ (k : ℕ). is_some (new k)) same ∙ ap is_some gone in cc
 
+-- packets at the end
+among_pushed : (es more : List Entry) (id : ℕ) → IsAmong id es → IsAmong id (es ++ more)
+among_pushed [] more id a = absurd a
+among_pushed (x ∷ es) more id (inl is) = inl is
+among_pushed (x ∷ es) more id (inr a) = inr (among_pushed es more id a)
+
 -- each edit
+push_ids : (list : Listing) (kept : View) (packets : List Packet) → StandIn list kept → StandIn (pushed packets list) kept
+push_ids list kept packets s id some =
+    let there = s id some in
+    at_among (list.entries ++ numbered list.next_id packets) id (among_pushed list.entries (numbered list.next_id packets) id (among_at list.entries there.0 id there.1))
+
 insertion_ids : (list : Listing) (kept : View) (at stamp : ℕ) (bytes : List ℕ) → StandIn list kept → StandIn (inserted at stamp bytes list) kept
 insertion_ids list kept at stamp bytes s id some =
     let e : Entry = record { id = list.next_id; stamp = stamp; bytes = bytes } in
@@ -117,7 +128,7 @@ move_ids : (list : Listing) (kept : View) (from to : ℕ) → StandIn list kept 
 move_ids list kept from to s = moved_ids list kept from to (slice_get list.entries from) refl s
 
 pub ids_kept : EditsKeepIds
-ids_kept = record { insertions = insertion_ids; replacements = replacement_ids; deletions = deletion_ids; moves = move_ids }
+ids_kept = record { pushes = push_ids; insertions = insertion_ids; replacements = replacement_ids; deletions = deletion_ids; moves = move_ids }
 
 -- an id among packets is below the next one
 among_below : (next : ℕ) (es : List Entry) (id : ℕ) → HaveOwnIds next es → IsAmong id es → id < next
@@ -125,12 +136,15 @@ among_below next [] id own a = absurd a
 among_below next (e ∷ es) id own (inl is) = let below : e.id < next = own.0 in omega (arith, below, is)
 among_below next (e ∷ es) id own (inr a) = among_below next es id own.2 a
 
-not_kept : (list : Listing) (kept : View) (o : Option Kept) → kept list.next_id ≡ o → HasOwnIds list → StandIn list kept → o ≡ None
-not_kept list kept None h own s = refl
-not_kept list kept (Some outcome) h own s =
-    let there = s list.next_id (ap is_some h) in
-    let below : list.next_id < list.next_id = among_below list.next_id list.entries list.next_id own (among_at list.entries there.0 list.next_id there.1) in
-    absurd (omega (arith, below))
+not_kept : (list : Listing) (kept : View) (id : ℕ) (o : Option Kept) → kept id ≡ o → HasOwnIds list → StandIn list kept → list.next_id ≤ id → o ≡ None
+not_kept list kept id None h own s late = refl
+not_kept list kept id (Some outcome) h own s late =
+    let there = s id (ap is_some h) in
+    let below : id < list.next_id = among_below list.next_id list.entries id own (among_at list.entries there.0 id there.1) in
+    absurd (omega (arith, below, late))
+
+pub later_not_kept : LaterIdsAreNotKept
+later_not_kept list kept id own s late = not_kept list kept id (kept id) refl own s late
 
 pub next_not_kept : NextIdIsNotKept
-next_not_kept list kept own s = not_kept list kept (kept list.next_id) refl own s
+next_not_kept list kept own s = later_not_kept list kept list.next_id own s (omega arith)

@@ -1,14 +1,18 @@
 -- What an edit of the packets leaves true of what is kept.
-use Rattle.std.specs.Prelude.{◌≡◌, ℕ, List, length, slice_get, Option, Some, None, option_map, IsSome}
+use Rattle.std.specs.Prelude.{◌≡◌, ℕ, ◌≤◌, List, length, slice_get, Option, Some, None, option_map, IsSome}
 use Rattle.vp8_tables.specs.Tables.{TableEntries}
+use Rattle.stream_files.specs.declared.packets.Packet.{Packet}
 use Rattle.packet_edits.specs.declared.entry.Entry.{Entry}
-use Rattle.packet_edits.specs.Edits.{Listing, deleted, inserted, replaced, with_move}
+use Rattle.packet_edits.specs.Edits.{Listing, deleted, inserted, pushed, replaced, with_move}
 use Rattle.packet_edits.specs.Laws.{HasOwnIds}
-use Rattle.packet_edits.specs.Marks.{StoreValue, marks_deleted, marks_inserted, marks_moved, marks_replaced}
+use Rattle.packet_edits.specs.Marks.{StoreValue, marks_deleted, marks_inserted, marks_moved, marks_pushed, marks_replaced}
 use Rattle.state_cache.specs.Costs.{IsIdOf}
 use Rattle.state_cache.specs.Views.{IsCoherent, View, seens}
 
 -- a store behind each edit that is accepted: its packets and its marks
+abbrev pub after_push : List Packet → StoreValue → StoreValue
+after_push packets store = record { list = pushed packets store.list; marks = marks_pushed packets store.marks }
+
 abbrev pub behind_insertion : ℕ → ℕ → List ℕ → StoreValue → StoreValue
 behind_insertion at stamp bytes store = record { list = inserted at stamp bytes store.list; marks = marks_inserted at store.marks }
 
@@ -47,6 +51,8 @@ IsKeptWithout None old new = (q : ℕ) → new q ≡ old q
 -- same view, behind a replacement and a deletion the view without the packet that left. A packet put in gets an id for
 -- which nothing is kept
 pub record EditsKeepCoherence (tables : TableEntries) : Type 0 where
+  pub pushes : (store : StoreValue) (kept : View) (packets : List Packet) → IsMarked store → ((id : ℕ) → store.list.next_id ≤ id → kept id ≡ None)
+      → IsCoherent tables (seens store) kept → IsCoherent tables (seens (after_push packets store)) kept
   pub insertions : (store : StoreValue) (kept : View) (at stamp : ℕ) (bytes : List ℕ) → IsMarked store → kept store.list.next_id ≡ None
       → IsCoherent tables (seens store) kept → IsCoherent tables (seens (behind_insertion at stamp bytes store)) kept
   pub replacements : (store : StoreValue) (old new : View) (at : ℕ) (bytes : List ℕ) → IsMarked store → old store.list.next_id ≡ None → IsKeptWithout (id_at store.list.entries at) old new
@@ -58,6 +64,7 @@ pub record EditsKeepCoherence (tables : TableEntries) : Type 0 where
 
 -- behind each edit each id for which an outcome is kept is still that of a packet that stands
 pub record EditsKeepIds : Type 0 where
+  pub pushes : (list : Listing) (kept : View) (packets : List Packet) → StandIn list kept → StandIn (pushed packets list) kept
   pub insertions : (list : Listing) (kept : View) (at stamp : ℕ) (bytes : List ℕ) → StandIn list kept → StandIn (inserted at stamp bytes list) kept
   pub replacements : (list : Listing) (old new : View) (at : ℕ) (bytes : List ℕ) → IsKeptWithout (id_at list.entries at) old new → StandIn list old → StandIn (replaced at bytes list) new
   pub deletions : (list : Listing) (old new : View) (at : ℕ) → IsKeptWithout (id_at list.entries at) old new → StandIn list old → StandIn (deleted at list) new
@@ -66,3 +73,7 @@ pub record EditsKeepIds : Type 0 where
 -- where each packet has an id of its own and outcomes are kept for packets that stand alone, none is kept for the next id
 abbrev pub NextIdIsNotKept : Type 0
 NextIdIsNotKept = (list : Listing) (kept : View) → HasOwnIds list → StandIn list kept → kept list.next_id ≡ None
+
+-- nor is one kept for any later id
+abbrev pub LaterIdsAreNotKept : Type 0
+LaterIdsAreNotKept = (list : Listing) (kept : View) (id : ℕ) → HasOwnIds list → StandIn list kept → list.next_id ≤ id → kept id ≡ None

@@ -8,3 +8,5 @@ pub mod EditLaws
 pub mod Walks
 pub mod KeptViews
 pub mod CostLaws
+pub mod WalkLaws
+pub mod Faults

@@ -1,9 +1,9 @@
 -- A walk of steps to a place: one turn, and where the walk goes on.
-use Rattle.std.specs.Prelude.{◌≡◌, ℕ, ◌+◌, ◌<◌, ◌≤◌, ◌&&◌, ◌⊎◌, Bool, true, false, cond, List, ◌∷◌, length, slice_get, Option, Some, is_none, IsSome}
+use Rattle.std.specs.Prelude.{◌≡◌, ℕ, ◌+◌, ◌<◌, ◌≤◌, ◌&&◌, ◌⊎◌, Bool, true, false, cond, min, List, [], ◌∷◌, length, slice_get, Option, Some, is_none, IsSome}
 use Rattle.vp8_tables.specs.Tables.{TableEntries}
 use Rattle.packet_edits.specs.Marks.{StoreValue}
 use Rattle.state_cache.specs.declared.outcomes.Kept.{Kept}
-use Rattle.state_cache.specs.Costs.{AreUnsettled, HasRoom, IsIdOf, IsOneRun, IsSettled}
+use Rattle.state_cache.specs.Costs.{AreUnsettled, HasRoom, IsIdOf, IsOneRun, IsSettled, most_steps}
 use Rattle.state_cache.specs.Reaching.{CacheValue, IsNext, Met, passed_marks, view_of}
 use Rattle.state_cache.specs.Views.{Drops, Seen, View, is_cut, kept_at, seens, with_kept}
 
@@ -58,3 +58,39 @@ pub record Advances (tables : TableEntries) (old : StoreValue) (before : CacheVa
       → (kept_at (seens new) (view_of after) p ≡ true) ⊎ ((further ≤ p) × (IsSettled tables (seens new) (view_of after) place p → ⊥))
   pub fewer : HasRoom old.list before next place → (places : List ℕ) → AreUnsettled tables (seens old) (view_of before) next place places
       → (rest : List ℕ) × (places ≡ next ∷ rest) × AreUnsettled tables (seens new) (view_of after) further place rest
+
+-- one step of a walk to `place`: the packet at `next` is stepped, its outcome is cached and its mark passed. The walk
+-- continues at `further`, which is the next index unless two runs were joined
+pub record IsWalkStep (old : StoreValue) (before : CacheValue) (place next : ℕ) (new : StoreValue) (after : CacheValue) (further : ℕ) : Type 0 where
+  pub joined : Bool
+  pub turned : IsTurned old before next joined new after
+  pub counted : after.decoded ≡ min (before.decoded + 1) most_steps
+  pub capacity : after.capacity ≡ before.capacity
+  pub number : length before.entries ≤ length after.entries
+  pub low : next ≤ place
+  pub later : next < further
+  pub onward : joined ≡ false → further ≡ next + 1
+  pub continues : IsNext (seens new) (view_of after) place further
+
+-- a walk to `place` that began at `first`: these indexes were stepped, the latest one first, and `next` is the index to step
+-- then
+abbrev pub Walks : StoreValue → CacheValue → ℕ → ℕ → List ℕ → StoreValue → CacheValue → ℕ → Type 0
+Walks old before place first [] new after next = (new ≡ old) × (after ≡ before) × (next ≡ first)
+Walks old before place first (last ∷ earlier) new after next =
+    (now : StoreValue) × ((cache : CacheValue) × (Walks old before place first earlier now cache last × IsWalkStep now cache place last new after next))
+
+-- how a walk ends: it arrives at its index, or a step is refused, which is counted and changes nothing else
+pub data Ends (place next : ℕ) (cache : CacheValue) (is_ok : Bool) (after : CacheValue) : Type 0 where
+  arrives : place < next → after ≡ cache → Ends place next cache is_ok after
+  is_refused : is_ok ≡ false → next ≤ place → after ≡ record cache { decoded = min (cache.decoded + 1) most_steps } → Ends place next cache is_ok after
+
+-- what reaching an index does: it walks there, one cached step after another. A step that is refused leaves the packets, the
+-- marks and the cached outcomes as they were before that step
+pub record IsWalk (old : StoreValue) (before : CacheValue) (place : ℕ) (is_ok : Bool) (new : StoreValue) (after : CacheValue) : Type 0 where
+  pub first : ℕ
+  pub is_first : IsNext (seens old) (view_of before) place first
+  pub stepped : List ℕ
+  pub next : ℕ
+  pub cache : CacheValue
+  pub walk : Walks old before place first stepped new cache next
+  pub ends : Ends place next cache is_ok after

@@ -1,16 +1,22 @@
-ghost use Rattle.std.specs.Prelude.{◌≡◌, ◌+◌, ◌^◌, ◌<◌, ◌≤◌, ◌&&◌, ℕ, [], cond, length, not, IfErr, IfOk, IfSome, None, OnErr, OnOk, Some, false, is_ok, min, option_copied, true};
+ghost use Rattle.std.specs.Prelude.{◌≡◌, ◌+◌, ◌^◌, ◌<◌, ◌≤◌, ◌&&◌, ℕ, [], cond, length, not, IfErr, IfOk, IfSome, None, OnErr, OnOk, Result, Some, false, is_ok, min, nat_eq, option_copied, true};
+ghost use Rattle.lru.specs.LruCache.{IsValid};
+ghost use Rattle.frame_header.specs.declared.cause.Cause.{Cause};
+ghost use Rattle.pixel_planes.specs.Pictures.{PictureSamples};
+ghost use Rattle.reference_frames.specs.Steps.{StepAnswers};
+ghost use Rattle.reference_frames.specs.States.{StateValue};
 ghost use Rattle.state_cache.specs.Costs.{Costs, cut_at, most_steps};
-ghost use Rattle.state_cache.specs.Reaching.{Begins, IsNext, KeptAnswers, Met, Reaches, StepGives, Tells, passed_marks, state_from, view_of};
+ghost use Rattle.state_cache.specs.Reaching.{Begins, GivesAt, IsNext, KeptAnswers, Met, Reaches, StepGives, Tells, passed_marks, state_from, view_of};
 ghost use Rattle.state_cache.specs.Searches.{looked, mark_at, next_of};
-ghost use Rattle.state_cache.specs.Walks.{Advances, IsBehindKept, IsPut, IsTurned, MeetsSame, entries_with};
-ghost use Rattle.state_cache.specs.Views.{Drops, IsCoherent, is_usable, kept_at, key_at, seens, with_kept};
+ghost use Rattle.state_cache.specs.Walks.{Advances, IsBehindKept, IsPut, IsTurned, IsWalk, IsWalkStep, MeetsSame, entries_with};
+ghost use Rattle.state_cache.specs.Views.{Drops, IsCoherent, is_usable, kept_at, kept_in, key_at, seens, with_kept};
 
+use crate::counter::Counter;
 use crate::outcomes::{Broken, Kept, ReachFault};
 use frame_header::has_key_tag;
 use lru::LruCache;
 use packet_edits::Store;
-use pixel_planes::NoMemory;
-use reference_frames::{State, StepFault, same_state, step};
+use pixel_planes::{NoMemory, Picture};
+use reference_frames::{State, StepFault, same_state};
 use std::alloc::Global;
 use std::marker::Model;
 use std::num::NonZeroUsize;
@@ -21,7 +27,7 @@ use vp8_tables::Tables;
 pub struct Cache {
     alloc: Global,
     kept: LruCache<u64, Kept>,
-    decoded: u64,
+    steps: Counter,
 }
 
 impl Model for Cache {
@@ -29,7 +35,7 @@ impl Model for Cache {
 
     ghost Value = { CacheValue };
 
-    ghost view = { λ c. record { entries = c.kept.entries; capacity = c.kept.cap; decoded = c.decoded } };
+    ghost view = { λ c. record { entries = c.kept.entries; capacity = c.kept.cap; decoded = c.steps } };
 }
 
 impl Cache {
@@ -47,7 +53,7 @@ impl Cache {
             Ok(kept) => Ok(Cache {
                 alloc,
                 kept,
-                decoded: 0,
+                steps: Counter::new(),
             }),
             Err(_) => Err(NoMemory),
         }
@@ -58,7 +64,17 @@ impl Cache {
         ensures value { result ≡ self.now.decoded }
         ensures most { result ≤ most_steps }
     {
-        self.decoded
+        self.steps.made()
+    }
+
+    /// Does nothing. It says that the capacity bounds the cached outcomes, and the greatest `u64` the
+    /// steps.
+    fn holds_few(&self)
+        ensures bounded { length self.now.entries ≤ self.now.capacity }
+        ensures most { self.now.decoded ≤ most_steps }
+    {
+        is_valid(&self.kept);
+        let _most = self.steps.made();
     }
 
     /// The outcome at `place`, a place that stands in the store: what decoding from the stream's start
@@ -83,8 +99,9 @@ impl Cache {
         ensures list { store.new.list ≡ store.old.list }
         ensures coherent { IsCoherent tables.now (seens store.new) (view_of self.new) }
         ensures costs { Costs tables.now store.old self.old place (is_ok result) store.new self.new }
+        ensures walks { IsWalk store.old self.old place (is_ok result) store.new self.new }
     {
-        let _count = self.decoded();
+        self.holds_few();
         let mut next = self.next_step(store, place);
         while next <= place {
             match self.advance(tables, store, place, next) {
@@ -101,7 +118,7 @@ impl Cache {
         ensures kept { KeptAnswers (seens store.now) (view_of self.now) place result }
         ensures bounded { length self.now.entries ≤ self.now.capacity }
     {
-        let _valid = self.kept.len();
+        self.holds_few();
         let id = store.id(place);
         let Some(kept) = self.kept.peek(&id) else {
             return Err(ReachFault::NoMemory);
@@ -133,8 +150,9 @@ impl Cache {
         ensures capacity { self.new.capacity ≡ self.old.capacity }
         ensures bounded { length self.new.entries ≤ self.new.capacity }
         ensures advances { IfOk result (λ further. Advances tables.now store.old self.old place next store.new self.new further) }
+        ensures walks { IfOk result (λ further. IsWalkStep store.old self.old place next store.new self.new further) }
     {
-        let _whole = store.len();
+        store.holds_few();
         let is_joined = match self.turn(tables, store, next) {
             Ok(is_joined) => is_joined,
             Err(fault) => return Err(fault),
@@ -164,9 +182,8 @@ impl Cache {
         ensures number { length self.old.entries ≤ length self.new.entries }
         ensures turned { IfOk result (λ joined. IsTurned store.old self.old place joined store.new self.new) }
     {
-        self.decoded = self.decoded.saturating_add(1);
-        let _whole = store.len();
-        let _valid = self.kept.len();
+        store.holds_few();
+        self.holds_few();
         let new = match self.stepped(tables, store, place) {
             Ok(new) => new,
             Err(fault) => return Err(fault),
@@ -184,7 +201,7 @@ impl Cache {
         requires kept { kept_at (seens store.now) (view_of self.now) first ≡ true }
         ensures { IsBehindKept (seens store.now) (view_of self.now) first place result }
     {
-        let _few = store.len();
+        store.holds_few();
         let mut last = first;
         let mut at = first + 1;
         while at <= place {
@@ -209,35 +226,15 @@ impl Cache {
         }
     }
 
-    /// The step of the packet at `place`.
-    fn stepped(&self, tables: &Tables, store: &Store, place: usize) -> Result<Kept, ReachFault>
+    /// Steps the packet at `place`, and counts the step.
+    fn stepped(&mut self, tables: &Tables, store: &Store, place: usize) -> Result<Kept, ReachFault>
         requires { place < length store.now.list.entries }
-        ensures { StepGives tables.now (seens store.now) (view_of self.now) place result }
+        ensures gives { StepGives tables.now (seens store.now) (view_of self.old) place result }
+        ensures counted { self.new ≡ record self.old { decoded = min (self.old.decoded + 1) most_steps } }
     {
-        let state = self.state(store, place);
-        match step(self.alloc, tables, state, store.packet(place)) {
-            Ok((state, picture)) => Ok(Kept { state, picture }),
-            Err(StepFault::Refused(cause)) => Err(ReachFault::Refused(Broken { place, cause })),
-            Err(StepFault::NoMemory) => Err(ReachFault::NoMemory),
-        }
-    }
-
-    /// The state from which the packet at `place` is stepped.
-    fn state(&self, store: &Store, place: usize) -> Option<&State>
-        requires { place < length store.now.list.entries }
-        ensures { option_copied result ≡ state_from (seens store.now) (view_of self.now) place }
-    {
-        if has_key(store, place) {
-            return None;
-        }
-        if place == 0 {
-            return None;
-        }
-        let id = store.id(place - 1);
-        match self.kept.peek(&id) {
-            Some(kept) => Some(&kept.state),
-            None => None,
-        }
+        let state = state_before(&self.kept, store, place);
+        let packet = store.packet(place);
+        outcome_at(place, self.steps.step(self.alloc, tables, state, packet))
     }
 
     /// Keeps an outcome, and says whether one with its state was kept there. Where memory is refused
@@ -253,7 +250,7 @@ impl Cache {
         ensures same { OnErr result (self.new ≡ self.old) }
         ensures rest { (self.new.capacity ≡ self.old.capacity) × (self.new.decoded ≡ self.old.decoded) }
     {
-        let _valid = self.kept.len();
+        is_valid(&self.kept);
         let has_met = self.meets(id, &new);
         match self.kept.put(id, new) {
             Ok(_) => Ok(has_met),
@@ -279,7 +276,7 @@ impl Cache {
         ensures bounded { length self.new.entries ≤ self.new.capacity }
         ensures rest { (self.new.capacity ≡ self.old.capacity) × (self.new.decoded ≡ self.old.decoded) }
     {
-        let _valid = self.kept.len();
+        is_valid(&self.kept);
         self.kept.pop(&id);
     }
 
@@ -320,7 +317,7 @@ impl Cache {
         requires { place < length store.now.list.entries }
         ensures { IsNext (seens store.now) (view_of self.now) place result }
     {
-        let _few = store.len();
+        store.holds_few();
         let mut found = None;
         let mut at = place + 1;
         while at > 0 {
@@ -332,6 +329,43 @@ impl Cache {
             }
         }
         next_behind(found, at)
+    }
+}
+
+/// Does nothing. It says that a map has no id twice and no more outcomes than its capacity, which is
+/// not 0.
+fn is_valid(kept: &LruCache<u64, Kept>)
+    ensures { IsValid nat_eq kept.now }
+{
+    let _few = kept.len();
+}
+
+/// The answer of a step at `place`, as an outcome of its packet.
+fn outcome_at(place: usize, answer: Result<(State, Picture), StepFault>) -> Result<Kept, ReachFault>
+    ensures { (want : Result (StateValue × PictureSamples) Cause) → StepAnswers want answer → GivesAt place want result }
+{
+    match answer {
+        Ok((state, picture)) => Ok(Kept { state, picture }),
+        Err(StepFault::Refused(cause)) => Err(ReachFault::Refused(Broken { place, cause })),
+        Err(StepFault::NoMemory) => Err(ReachFault::NoMemory),
+    }
+}
+
+/// The state from which the packet at `place` is stepped.
+fn state_before<'a>(kept: &'a LruCache<u64, Kept>, store: &Store, place: usize) -> Option<&'a State>
+    requires { place < length store.now.list.entries }
+    ensures { option_copied result ≡ state_from (seens store.now) (kept_in kept.now.entries) place }
+{
+    if has_key(store, place) {
+        return None;
+    }
+    if place == 0 {
+        return None;
+    }
+    let id = store.id(place - 1);
+    match kept.peek(&id) {
+        Some(kept) => Some(&kept.state),
+        None => None,
     }
 }
 

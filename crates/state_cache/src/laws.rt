@@ -2,8 +2,9 @@
 
 ghost use Rattle.state_cache.specs.CostLaws.{UnsettledAreListed};
 ghost use Rattle.state_cache.specs.DecodingLaws.{BreaksAreNamed, EachHasOutcome, KeysBeginAnew};
-ghost use Rattle.state_cache.specs.EditLaws.{EditsKeepCoherence, EditsKeepIds, NextIdIsNotKept};
+ghost use Rattle.state_cache.specs.EditLaws.{EditsKeepCoherence, EditsKeepIds, LaterIdsAreNotKept, NextIdIsNotKept};
 ghost use Rattle.state_cache.specs.KeptViews.{CoherentIsKeptView};
+ghost use Rattle.state_cache.specs.WalkLaws.{NextIsUnique, WalksStepInOrder};
 
 use vp8_tables::Tables;
 
@@ -39,6 +40,11 @@ pub fn next_id_is_not_kept()
     ensures { NextIdIsNotKept }
 {}
 
+/// Nor is one kept for any later id, so that packets put in at the end have none.
+pub fn later_ids_are_not_kept()
+    ensures { LaterIdsAreNotKept }
+{}
+
 /// A view is coherent just where each kept outcome is what the steps give from the nearest kept one
 /// before it in its run, and, with none kept before it, from none, where its run begins at a key tag
 /// or at place 0 with no mark.
@@ -46,7 +52,18 @@ pub fn coherent_views_are_kept_views()
     ensures { CoherentIsKeptView }
 {}
 
-/// The places of a walk that are not settled can be listed, where it is decided of each whether it is.
+/// The places of a walk that are not settled have a list.
 pub fn unsettled_places_are_listed()
     ensures { UnsettledAreListed }
+{}
+
+/// There is one index to step first on the way to an index.
+pub fn next_is_unique()
+    ensures { NextIsUnique }
+{}
+
+/// A walk steps its indexes in ascending order, and changes the marks of these and of the index after
+/// the last one only.
+pub fn walks_step_in_order()
+    ensures { WalksStepInOrder }
 {}

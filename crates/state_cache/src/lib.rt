@@ -3,6 +3,7 @@
 #![tactic(auto)]
 
 mod cache;
+mod counter;
 pub mod laws;
 mod outcomes;
 

@@ -1,22 +1,22 @@
 use Rattle.std.proofs.Common.{◌<◌, ◌≤◌, ◌∙◌, Err, length, refl, subst, sym, arith, rules}
 use Rattle.std.specs.Prelude.{is_ok}
 use Rattle.packet_edits.specs.Edits.{Listing}
-use Rattle.state_cache.specs.Costs.{most_steps}
 use Rattle.state_cache.specs.Reaching.{Reaches, view_of}
 use Rattle.state_cache.specs.Views.{seens}
 use Rattle.state_cache.proofs.Reached.{length_seens, reaches_answer, reaches_fault}
 use Rattle.state_cache.proofs.Settled.{first_unsettled}
 use Rattle.state_cache.proofs.Walked.{walk_begins, walk_ends, walk_more, walk_refused}
+use Rattle.state_cache.proofs.WalkSteps.{walk_arrives, walk_refused as refused_walk, walking_begins, walking_more}
 use Rattle.state_cache.proofs.cache.Cache.reach.Goals as goal
 
 pub loop-next-init : goal.loop-next-init
 loop-next-init c =
-    let small : c.args.self.now.decoded ≤ most_steps = subst (λ n. n ≤ most_steps) c.decoded-count.ensures.value c.decoded-count.ensures.most in
     record {
       list = refl;
       coherent = c.requires.coherent;
       next = c.next_step-next.ensures;
-      so_far = walk_begins c.args.tables.now c.args.store.now c.args.self.now c.args.place c.next_step-next.result c.next_step-next.ensures small;
+      so_far = walk_begins c.args.tables.now c.args.store.now c.args.self.now c.args.place c.next_step-next.result c.next_step-next.ensures c.holds_few.ensures.most;
+      walk = walking_begins c.args.store.now c.args.self.now c.args.place c.next_step-next.result c.next_step-next.ensures;
     }
 
 pub loop-next-preserved : goal.loop-next-preserved
@@ -29,6 +29,7 @@ loop-next-preserved c =
       next = c.in-Ok.ensures.advances.first;
       so_far = walk_more c.args.tables.now c.args.store.now c.loop-next.store c.args.self.now c.loop-next.self c.args.place c.loop-next.next inv.so_far low inv.list c.advance.new.store c.advance.new.self c.in-Ok.further c.in-Ok.ensures.advances
           c.advance.ensures.counted c.advance.ensures.capacity c.advance.ensures.list;
+      walk = walking_more c.args.store.now c.loop-next.store c.advance.new.store c.args.self.now c.loop-next.self c.advance.new.self c.args.place c.loop-next.next c.in-Ok.further inv.walk c.in-Ok.ensures.walks;
     }
 
 pub returns-in-Err-clause-reaches : goal.returns-in-Err-clause-reaches
@@ -62,3 +63,13 @@ returns-clause-costs c =
     let inv = c.loop-next.invariant in
     let up : c.args.place < c.loop-next.next = search (rules, arith) in
     walk_ends c.args.tables.now c.args.store.now c.loop-next.store c.args.self.now c.loop-next.self c.args.place c.loop-next.next inv.so_far inv.next up c.answer.ensures.bounded (is_ok c.answer.result)
+
+pub returns-in-Err-clause-walks : goal.returns-in-Err-clause-walks
+returns-in-Err-clause-walks c =
+    refused_walk c.args.store.now c.loop-next.store c.advance.new.store c.args.self.now c.loop-next.self c.advance.new.self c.args.place c.loop-next.next c.loop-next.invariant.walk (search (rules, arith)) c.in-Err.ensures.refused.0 c.in-Err.ensures.refused.1
+    c.advance.ensures.capacity c.advance.ensures.counted
+
+pub returns-clause-walks : goal.returns-clause-walks
+returns-clause-walks c =
+    let up : c.args.place < c.loop-next.next = search (rules, arith) in
+    walk_arrives c.args.store.now c.loop-next.store c.args.self.now c.loop-next.self c.args.place c.loop-next.next (is_ok c.answer.result) c.loop-next.invariant.walk up

@@ -2,6 +2,7 @@ use Rattle.std.proofs.Common.{◌≡◌, ◌+◌, ◌-◌}
 use Rattle.state_cache.specs.Reaching.{IsNext, view_of}
 use Rattle.state_cache.specs.Views.{IsCoherent, seens}
 use Rattle.state_cache.proofs.Walked.{SoFar}
+use Rattle.state_cache.proofs.WalkSteps.{Walking}
 use Rattle.state_cache.proofs.cache.Cache.reach.Given as goal
 
 abbrev pub invariant-loop-next : goal.invariant-loop-next
@@ -10,6 +11,7 @@ invariant-loop-next l = record {
   coherent : IsCoherent l.tables (seens l.store) (view_of l.self);
   next : IsNext (seens l.store) (view_of l.self) l.place l.next;
   so_far : SoFar l.tables l.fn.store l.fn.self l.place l.store l.self l.next;
+  walk : Walking l.fn.store l.fn.self l.place l.store l.self l.next;
 }
 
 abbrev pub decreases-loop-next : goal.decreases-loop-next

@@ -1,0 +1,58 @@
+//! Steps of decoding, and how many were made.
+ghost use Rattle.std.specs.Prelude.{◌≡◌, ◌+◌, ◌≤◌, min};
+ghost use Rattle.std.specs.Option.{option_copied};
+ghost use Rattle.reference_frames.specs.Steps.{StepAnswers, step_of};
+ghost use Rattle.state_cache.specs.Costs.{most_steps};
+
+use pixel_planes::Picture;
+use reference_frames::{State, StepFault, step};
+use std::alloc::Global;
+use std::marker::Model;
+use vp8_tables::Tables;
+
+/// The number of steps of decoding that were made, at most 18,446,744,073,709,551,615. Its `step` is
+/// the only call of this crate that decodes a packet, so each step is counted.
+#[derive(Drop)]
+pub struct Counter {
+    made: u64,
+}
+
+impl Model for Counter {
+    ghost use Rattle.std.specs.Prelude.{ℕ};
+
+    ghost Value = { ℕ };
+
+    ghost view = { λ c. c.made };
+}
+
+impl Counter {
+    /// No step was made yet.
+    pub fn new() -> Counter
+        ensures { result ≡ 0 }
+    {
+        Counter { made: 0 }
+    }
+
+    /// How many steps were made.
+    pub fn made(&self) -> u64
+        ensures value { result ≡ self.now }
+        ensures most { result ≤ most_steps }
+    {
+        self.made
+    }
+
+    /// One step, as `reference_frames::step` makes it. It is counted, whatever it answers.
+    pub fn step(
+        &mut self,
+        alloc: Global,
+        tables: &Tables,
+        state: Option<&State>,
+        packet: &[u8],
+    ) -> Result<(State, Picture), StepFault>
+        ensures counted { self.new ≡ min (self.old + 1) most_steps }
+        ensures answers { StepAnswers (step_of tables.now (option_copied state.entry) packet.now) result }
+    {
+        self.made = self.made.saturating_add(1);
+        step(alloc, tables, state, packet)
+    }
+}
