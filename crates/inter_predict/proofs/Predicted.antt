@@ -114,7 +114,7 @@ whole_is kind p x y right below left top samples stride width height column row 
     there ∙ sym (whole_sample kind p (x +ℤ pos column) (y +ℤ pos row) right below no_right no_below byte')
 
 -- two places further on in 64 bits
-two_further : (place : ℤ) → IsNear place → to_z w64 (of_z w64 (to_z w64 (of_z w64 place) +ℤ pos 2)) ≡ place +ℤ pos 2
+pub two_further : (place : ℤ) → IsNear place → to_z w64 (of_z w64 (to_z w64 (of_z w64 place) +ℤ pos 2)) ≡ place +ℤ pos 2
 two_further place near = omega (arith, ints)
 
 -- a block that is copied from a window at the whole samples

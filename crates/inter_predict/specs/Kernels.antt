@@ -24,6 +24,10 @@ pub record IsTaps (t : Taps) : Type 0 where
 abbrev pub IsNear : ℤ → Type 0
 IsNear place = (neg_ℤ (pos 4294967296) ≤ℤ place) × (place ≤ℤ pos 4294967296)
 
+-- a coordinate as far as prediction reaches: past every side of a plane
+abbrev pub IsReached : ℤ → Type 0
+IsReached place = (neg_ℤ (pos 1099511627776) ≤ℤ place) × (place ≤ℤ pos 1099511627776)
+
 -- what taps make of six samples `step` places apart
 abbrev pub tapped_at : Taps → List ℕ → ℕ → ℕ → ℕ
 tapped_at t samples step place = tapped t (λ k. slice_index samples (place + k * step))
