@@ -1,5 +1,6 @@
 pub mod FilterLaws
 pub mod HeldLanes
+pub mod FarPieces
 pub mod Predicted
 pub mod StripRows
 pub mod TappedLanes

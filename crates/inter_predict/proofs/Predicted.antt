@@ -1,7 +1,7 @@
 -- What the kernels make of a window is what the definition says.
 use Rattle.std.specs.Prelude.{slice_index}
 use Rattle.std.specs.Int.{int_shr}
-use Rattle.std.proofs.Common.{◌≡◌, inl, inr, ℕ, zero-add, ◌+◌, ◌*◌, ◌<◌, List, ℤ, pos, negsuc, ◌+ℤ◌, ◌-ℤ◌, ◌≤ℤ◌, ap, subst, sym, ◌∙◌, arith, to_z, of_z, w32, w64, FitsSigned}
+use Rattle.std.proofs.Common.{◌≡◌, inl, inr, ℕ, zero-add, ◌+◌, ◌*◌, ◌<◌, List, ℤ, pos, negsuc, ◌+ℤ◌, ◌-ℤ◌, ◌≤ℤ◌, refl, ap, subst, sym, ◌∙◌, arith, to_z, of_z, w32, w64, FitsSigned}
 use Rattle.std.proofs.lemmas.Int.{ints, to_z-of_z}
 use Rattle.pixel_planes.specs.Samples.{Samples}
 use Rattle.pixel_planes.specs.ReferenceSamples.{reference_sample, IsWindow}
@@ -9,13 +9,9 @@ use Rattle.inter_predict.specs.declared.kinds.Kind.{Kind}
 use Rattle.inter_predict.specs.declared.taps.Taps.{Taps}
 use Rattle.inter_predict.specs.InterSample.{whole_part, fraction, between, across, inter_sample, predicted}
 use Rattle.inter_predict.specs.Blocks.{IsBlockIn}
-use Rattle.inter_predict.specs.Kernels.{IsStrip, IsNear, tapped, tapped_twice}
+use Rattle.inter_predict.specs.Kernels.{AreTapsOf, IsStrip, IsNear, Predicts, along, between_in, tapped_at, tapped_twice}
 use Rattle.inter_predict.proofs.FilterLaws.{at_place, between_byte}
-use Rattle.inter_predict.proofs.Twice.{tapped_same}
-
--- the taps make the sample that lies a fraction of eighths behind a place
-abbrev pub Interpolates : Taps → Kind → ℕ → Type 0
-Interpolates taps kind eighths = (line : ℤ → ℕ) (place : ℤ) → between kind eighths line place ≡ tapped taps (λ k. line ((place -ℤ pos 2) +ℤ pos k))
+use Rattle.inter_predict.proofs.Twice.{same_strip, tapped_same}
 
 -- where a tap stands
 tap_place : (x whole left : ℤ) (column i : ℕ) → left ≡ (x +ℤ whole) -ℤ pos 2 → (((x +ℤ pos column) +ℤ whole) -ℤ pos 2) +ℤ pos i ≡ left +ℤ pos (column + i)
@@ -23,7 +19,7 @@ tap_place x whole left column i same = omega (arith, ints)
 
 -- a sample of a window that begins at the first taps
 pub predicted_is : (kind : Kind) (p : Samples) (x y right below left top : ℤ) (across_taps down_taps : Taps) (samples : List ℕ) (stride width height column row : ℕ)
-    → Interpolates across_taps kind (fraction right) → Interpolates down_taps kind (fraction below) → left ≡ (x +ℤ whole_part right) -ℤ pos 2 → top ≡ (y +ℤ whole_part below) -ℤ pos 2
+    → AreTapsOf across_taps kind (fraction right) → AreTapsOf down_taps kind (fraction below) → left ≡ (x +ℤ whole_part right) -ℤ pos 2 → top ≡ (y +ℤ whole_part below) -ℤ pos 2
     → IsWindow p left top (width + 5) (height + 5) samples stride → column < width → row < height → tapped_twice across_taps down_taps samples stride column row ≡ predicted kind p x y right below column row
 unfolding inter_sample
 predicted_is kind p x y right below left top across_taps down_taps samples stride width height column row is_across is_down left_is top_is window inside within =
@@ -38,6 +34,22 @@ predicted_is kind p x y right below left top across_taps down_taps samples strid
     ∙ ap (reference_sample p (left +ℤ pos (column + i))) (tap_place y (whole_part below) top row j top_is)
     ∙ sym (window.each (column + i) (row + j) (omega arith) (omega arith))
     ∙ ap (slice_index samples) place)))
+
+-- what taps make of a line is the sample between
+pub between_is : (taps : Taps) (kind : Kind) (eighths : ℕ) (samples : List ℕ) (start step : ℕ) → AreTapsOf taps kind eighths → tapped_at taps samples step start ≡ between kind eighths (along samples start step) (pos 2)
+between_is taps kind eighths samples start step are =
+    tapped_same taps _ _ (λ k less. ap (λ (i : ℕ). slice_index samples (start + i * step)) (sym (zero-add k))) ∙ sym (are (along samples start step) (pos 2))
+
+pub strip_between : (taps : Taps) (samples : List ℕ) (start stride step first width height out_stride : ℕ) (old new : List ℕ) → IsStrip (λ column row. tapped_at taps samples step (start + row * stride + column)) first width height out_stride old new
+    → (kind : Kind) (eighths : ℕ) → AreTapsOf taps kind eighths → IsStrip (between_in kind eighths samples start stride step) first width height out_stride old new
+strip_between taps samples start stride step first width height out_stride old new strip kind eighths are =
+    same_strip _ (between_in kind eighths samples start stride step) first width height out_stride old new strip (λ column row inside within. between_is taps kind eighths samples (start + row * stride + column) step are)
+
+-- what taps make across and down of a window are the inter samples
+pub strip_predicts : (across down : Taps) (samples : List ℕ) (stride first columns height out_stride : ℕ) (old new : List ℕ) → IsStrip (λ column row. tapped_twice across down samples stride (first + column) row) first columns height out_stride old new → Predicts across down samples stride first columns height out_stride old new
+strip_predicts across down samples stride first columns height out_stride old new strip = λ kind p x y right below input.
+    same_strip _ (λ column row. predicted kind p x y right below (first + column) row) first columns height out_stride old new strip
+    (λ column row inside within. predicted_is kind p x y right below _ _ across down samples stride (first + columns) height (first + column) row input.across_is input.down_is refl refl input.window (omega arith) within)
 
 -- a strip from the first column on is a block
 pub block_of_strip : (one other : ℕ → ℕ → ℕ) (width height stride : ℕ) (old new : List ℕ) → IsStrip one 0 width height stride old new → ((column row : ℕ) → column < width → row < height → one column row ≡ other column row) → IsBlockIn other width height stride old new
@@ -63,14 +75,14 @@ near_fits place near = omega (arith, ints)
 
 -- a block that the kernels make of a window at the first taps
 pub block_is : (kind : Kind) (p : Samples) (x y right below left top : ℤ) (eighths_right eighths_below : ℕ) (across_taps down_taps : Taps) (samples : List ℕ) (stride width height out_stride : ℕ) (old new : List ℕ)
-    → Interpolates across_taps kind eighths_right → Interpolates down_taps kind eighths_below → eighths_right ≡ fraction (to_z w32 (of_z w32 right)) → eighths_below ≡ fraction (to_z w32 (of_z w32 below))
+    → AreTapsOf across_taps kind eighths_right → AreTapsOf down_taps kind eighths_below → eighths_right ≡ fraction (to_z w32 (of_z w32 right)) → eighths_below ≡ fraction (to_z w32 (of_z w32 below))
     → FitsSigned w32 x → FitsSigned w32 y → FitsSigned w32 right → FitsSigned w32 below → left ≡ (to_z w32 (of_z w32 x) +ℤ whole_part (to_z w32 (of_z w32 right))) -ℤ pos 2 → top ≡ (to_z w32 (of_z w32 y) +ℤ whole_part (to_z w32 (of_z w32 below))) -ℤ pos 2 → IsNear left → IsNear top
     → IsWindow p (to_z w64 (of_z w64 left)) (to_z w64 (of_z w64 top)) (width + 5) (height + 5) samples stride → IsStrip (tapped_twice across_taps down_taps samples stride) 0 width height out_stride old new → IsBlockIn (predicted kind p x y right below) width height out_stride old new
 block_is kind p x y right below left top eighths_right eighths_below across_taps down_taps samples stride width height out_stride old new is_across is_down right_is below_is x_fits y_fits right_fits below_fits left_is top_is left_near top_near window strip =
     let right_same = to_z-of_z w32 right right_fits in
     let below_same = to_z-of_z w32 below below_fits in
-    let across_is : Interpolates across_taps kind (fraction right) = subst (λ (f : ℕ). Interpolates across_taps kind f) (right_is ∙ ap fraction right_same) is_across in
-    let down_is : Interpolates down_taps kind (fraction below) = subst (λ (f : ℕ). Interpolates down_taps kind f) (below_is ∙ ap fraction below_same) is_down in
+    let across_is : AreTapsOf across_taps kind (fraction right) = subst (λ (f : ℕ). AreTapsOf across_taps kind f) (right_is ∙ ap fraction right_same) is_across in
+    let down_is : AreTapsOf down_taps kind (fraction below) = subst (λ (f : ℕ). AreTapsOf down_taps kind f) (below_is ∙ ap fraction below_same) is_down in
     let left_there : left ≡ (x +ℤ whole_part right) -ℤ pos 2 = left_is ∙ ap (λ (z : ℤ). (z +ℤ whole_part (to_z w32 (of_z w32 right))) -ℤ pos 2) (to_z-of_z w32 x x_fits) ∙ ap (λ (z : ℤ). (x +ℤ whole_part z) -ℤ pos 2) right_same in
     let top_there : top ≡ (y +ℤ whole_part below) -ℤ pos 2 = top_is ∙ ap (λ (z : ℤ). (z +ℤ whole_part (to_z w32 (of_z w32 below))) -ℤ pos 2) (to_z-of_z w32 y y_fits) ∙ ap (λ (z : ℤ). (y +ℤ whole_part z) -ℤ pos 2) below_same in
     let at_left : IsWindow p left (to_z w64 (of_z w64 top)) (width + 5) (height + 5) samples stride = subst (λ (z : ℤ). IsWindow p z (to_z w64 (of_z w64 top)) (width + 5) (height + 5) samples stride) (near_fits left left_near) window in
@@ -102,7 +114,7 @@ whole_is kind p x y right below left top samples stride width height column row 
     there ∙ sym (whole_sample kind p (x +ℤ pos column) (y +ℤ pos row) right below no_right no_below byte')
 
 -- two places further on in 64 bits
-two_further : (place : ℤ) → IsNear place → to_z w64 (of_z w64 (to_z w64 (of_z w64 place) +ℤ pos 2)) ≡ place +ℤ pos 2
+pub two_further : (place : ℤ) → IsNear place → to_z w64 (of_z w64 (to_z w64 (of_z w64 place) +ℤ pos 2)) ≡ place +ℤ pos 2
 two_further place near = omega (arith, ints)
 
 -- a block that is copied from a window at the whole samples

@@ -1,5 +1,9 @@
 -- The sums of inter prediction as they are worked out: what is added and what is taken away apart, so that no number is below 0.
-use Rattle.std.specs.Prelude.{◌≡◌, ◌⊎◌, ℕ, ◌+◌, ◌-◌, ◌*◌, ◌/◌, ◌<◌, ◌≤◌, min, List, length, slice_index, ℤ, pos, neg_ℤ, ◌≤ℤ◌}
+use Rattle.std.specs.Prelude.{◌≡◌, ◌⊎◌, ℕ, ◌+◌, ◌-◌, ◌*◌, ◌/◌, ◌<◌, ◌≤◌, min, List, length, slice_index, ℤ, pos, neg_ℤ, negsuc, ◌+ℤ◌, ◌-ℤ◌, ◌≤ℤ◌}
+use Rattle.pixel_planes.specs.Samples.{Samples}
+use Rattle.pixel_planes.specs.ReferenceSamples.{IsWindow}
+use Rattle.inter_predict.specs.InterSample.{between, fraction, predicted, whole_part}
+use Rattle.inter_predict.specs.declared.kinds.Kind.{Kind}
 use Rattle.inter_predict.specs.declared.taps.Taps.{Taps}
 
 -- six numbers as taps
@@ -20,6 +24,10 @@ pub record IsTaps (t : Taps) : Type 0 where
 abbrev pub IsNear : ℤ → Type 0
 IsNear place = (neg_ℤ (pos 4294967296) ≤ℤ place) × (place ≤ℤ pos 4294967296)
 
+-- a coordinate as far as prediction reaches: past every side of a plane
+abbrev pub IsReached : ℤ → Type 0
+IsReached place = (neg_ℤ (pos 1099511627776) ≤ℤ place) × (place ≤ℤ pos 1099511627776)
+
 -- what taps make of six samples `step` places apart
 abbrev pub tapped_at : Taps → List ℕ → ℕ → ℕ → ℕ
 tapped_at t samples step place = tapped t (λ k. slice_index samples (place + k * step))
@@ -33,3 +41,28 @@ pub record IsStrip (sample : ℕ → ℕ → ℕ) (first width height stride : �
   pub whole : length new ≡ length old
   pub each : (column row : ℕ) → column < width → row < height → slice_index new (row * stride + (first + column)) ≡ sample column row
   pub others : (column row : ℕ) → column < stride → (column < first) ⊎ ((first + width ≤ column) ⊎ (height ≤ row)) → slice_index new (row * stride + column) ≡ slice_index old (row * stride + column)
+
+-- these are the taps of a filter: they make the sample that is this many eighths after a position of any line
+abbrev pub AreTapsOf : Taps → Kind → ℕ → Type 0
+AreTapsOf taps kind eighths = (line : ℤ → ℕ) (place : ℤ) → between kind eighths line place ≡ tapped taps (λ k. line ((place -ℤ pos 2) +ℤ pos k))
+
+-- the line of samples `step` apart, the first at `start`
+abbrev pub along : List ℕ → ℕ → ℕ → ℤ → ℕ
+along samples start step (pos k) = slice_index samples (start + k * step)
+along samples start step (negsuc k) = 0
+
+-- the sample between those of a line, at each column and row of a strip: the third of the six that the taps read is the sample at its position
+abbrev pub between_in : Kind → ℕ → List ℕ → ℕ → ℕ → ℕ → ℕ → ℕ → ℕ
+between_in kind eighths samples start stride step column row = between kind eighths (along samples (start + row * stride + column) step) (pos 2)
+
+-- what a kernel reads to predict a block of this width and height at (x, y) by a vector: the window of reference samples that begins two columns and two rows before the whole samples that the vector leads to, and the taps of both filters
+pub record IsInput (kind : Kind) (p : Samples) (x y right below : ℤ) (width height : ℕ) (across down : Taps) (samples : List ℕ) (stride : ℕ) : Type 0 where
+  pub across_is : AreTapsOf across kind (fraction right)
+  pub down_is : AreTapsOf down kind (fraction below)
+  pub window : IsWindow p ((x +ℤ whole_part right) -ℤ pos 2) ((y +ℤ whole_part below) -ℤ pos 2) (width + 5) (height + 5) samples stride
+
+-- from such input, of any plane, position and vector, the strip of these columns holds the block's inter samples
+abbrev pub Predicts : Taps → Taps → List ℕ → ℕ → ℕ → ℕ → ℕ → ℕ → List ℕ → List ℕ → Type 0
+Predicts across down samples stride first columns height out_stride old new =
+    (kind : Kind) (p : Samples) (x y right below : ℤ) → IsInput kind p x y right below (first + columns) height across down samples stride →
+    IsStrip (λ column row. predicted kind p x y right below (first + column) row) first columns height out_stride old new

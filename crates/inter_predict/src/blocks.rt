@@ -3,11 +3,10 @@ ghost use Rattle.inter_predict.specs.InterSample.{whole_part, fraction as fracti
 ghost use Rattle.inter_predict.specs.Blocks.{IsBlockIn};
 ghost use Rattle.inter_predict.specs.Kernels.{IsNear};
 
-use crate::gathering::{GATHERED_STRIDE, gather};
 use crate::kinds::Kind;
+use crate::pieces::{block_at, in_rows};
 use crate::strips::{copy, strip};
 use crate::taps::Taps;
-use crate::windows::predict;
 use pixel_planes::Plane;
 
 /// The eighths of a sample that a vector leads behind a whole one, 0 to 7.
@@ -29,12 +28,12 @@ fn first_tap(place: i32, eighths: i32) -> i64
     i64::from(place) + i64::from(eighths >> 3) - 2
 }
 
-/// Predicts a block of `width` by `height` samples, 1 to 16 each, from a reference plane into `out`,
-/// row by row (RFC 6386, section 18).
+/// Predicts a block of `width` by `height` samples from a reference plane into `out`, row by row
+/// (RFC 6386, section 18).
 ///
-/// The block stands at column `x` of row `y`; the vector is how far to the right and how far down of
-/// that its samples are taken from, in eighths of a sample. Both may be any numbers: outside the
-/// plane its edges go on.
+/// The block begins at column `x` of row `y`; the vector is how far to the right and how far down of
+/// that its samples are taken from, in eighths of a sample. All may be any numbers: outside the plane
+/// its edges go on. A block of at most 16 by 16 samples is made at once, a larger one in pieces.
 #[inline]
 pub fn block(
     plane: &Plane,
@@ -46,12 +45,36 @@ pub fn block(
     height: usize,
     out: &mut [u8],
 )
-    requires wide { (0 < width) × (width ≤ 16) }
-    requires high { (0 < height) × (height ≤ 16) }
-    requires out { length out.old ≡ width * height }
+    requires { length out.old ≡ width * height }
     ensures { IsBlockIn (predicted kind plane.now.shown x y vector.0 vector.1) width height width out.old out.new }
 {
-    block_in(plane, x, y, vector, kind, width, height, out, width);
+    if 0 < width && width <= 16 && 0 < height && height <= 16 {
+        block_in(plane, x, y, vector, kind, width, height, out, width);
+    } else {
+        large(plane, x, y, vector, kind, width, height, out);
+    }
+}
+
+/// Does what `block` does, in pieces.
+#[cold]
+#[inline(never)]
+fn large(
+    plane: &Plane,
+    x: i32,
+    y: i32,
+    vector: (i32, i32),
+    kind: Kind,
+    width: usize,
+    height: usize,
+    out: &mut [u8],
+)
+    requires { length out.old ≡ width * height }
+    ensures { IsBlockIn (predicted kind plane.now.shown x y vector.0 vector.1) width height width out.old out.new }
+{
+    let (right, below) = (fraction(vector.0), fraction(vector.1));
+    let column = first_tap(x, vector.0) + 2;
+    let row = first_tap(y, vector.1) + 2;
+    in_rows(plane, column, row, kind, right, below, width, height, out);
 }
 
 /// Does what `block` does, into rows `stride` samples apart: at least the width, and at most 65,536.
@@ -187,32 +210,9 @@ fn any_columns(
     ensures { IsBlockIn (predicted kind plane.now.shown x y vector.0 vector.1) width height stride out.old out.new }
 {
     let (right, below) = (fraction(vector.0), fraction(vector.1));
-    let (across, down) = (Taps::of(kind, right), Taps::of(kind, below));
-    let left = first_tap(x, vector.0);
-    let top = first_tap(y, vector.1);
-    if let Some(window) = plane.window(left, top, width + 5, height + 5) {
-        predict(
-            window.samples,
-            window.stride,
-            across,
-            down,
-            width,
-            height,
-            out,
-            stride,
-        );
-    } else {
-        let mut gathered = [0; 441];
-        gather(plane, left, top, width + 5, height + 5, &mut gathered);
-        predict(
-            &gathered,
-            GATHERED_STRIDE,
-            across,
-            down,
-            width,
-            height,
-            out,
-            stride,
-        );
-    }
+    let column = first_tap(x, vector.0) + 2;
+    let row = first_tap(y, vector.1) + 2;
+    block_at(
+        plane, column, row, kind, right, below, width, height, out, stride,
+    );
 }

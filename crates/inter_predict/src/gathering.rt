@@ -1,6 +1,6 @@
 //! Windows that are gathered sample by sample, where a plane has none.
 ghost use Rattle.std.specs.Prelude.{◌≡◌, ℕ, ◌+◌, ◌*◌, ◌<◌, ◌≤◌, length, slice_index, pos, neg_ℤ, ◌+ℤ◌, ◌≤ℤ◌};
-ghost use Rattle.inter_predict.specs.Kernels.{IsNear};
+ghost use Rattle.inter_predict.specs.Kernels.{IsReached};
 ghost use Rattle.pixel_planes.specs.ReferenceSamples.{reference_sample, IsWindow};
 
 use pixel_planes::Plane;
@@ -11,7 +11,7 @@ pub const GATHERED_STRIDE: usize = 21;
 
 /// Writes the reference samples from (`x`, `y`) to the right into `out` from `start` on.
 fn gather_row(plane: &Plane, x: i64, y: i64, width: usize, out: &mut [u8], start: usize)
-    requires near { IsNear x }
+    requires near { IsReached x }
     requires wide { width ≤ 21 }
     requires room { (start ≤ 65536) × (start + width ≤ length out.old) }
     ensures before { (place : ℕ) → place < start → slice_index out.new place ≡ slice_index out.old place }
@@ -24,7 +24,7 @@ fn gather_row(plane: &Plane, x: i64, y: i64, width: usize, out: &mut [u8], start
 
 /// Gathers the reference samples of `width` columns and `height` rows from (`x`, `y`) on.
 pub fn gather(plane: &Plane, x: i64, y: i64, width: usize, height: usize, out: &mut [u8])
-    requires near { IsNear x × IsNear y }
+    requires near { IsReached x × IsReached y }
     requires sides { (0 < width) × (width ≤ 21) × (0 < height) × (height ≤ 21) }
     requires room { length out.old ≡ 441 }
     ensures { IsWindow plane.now.shown x y width height out.new 21 }

@@ -1,6 +1,8 @@
-ghost use Rattle.std.specs.Prelude.{◌≡◌, ℕ, ◌+◌, ◌-◌, ◌*◌, ◌/◌, ◌<◌, ◌≤◌, length, min, map, slice_index};
+ghost use Rattle.std.specs.Prelude.{◌≡◌, ℕ, ◌+◌, ◌-◌, ◌*◌, ◌/◌, ◌<◌, ◌≤◌, length, min, map, slice_index, pos};
 ghost use Rattle.std.specs.Simd.Lanes.{zip2};
-ghost use Rattle.inter_predict.specs.Kernels.{IsTaps, tapped_at};
+ghost use Rattle.inter_predict.specs.InterSample.{between};
+ghost use Rattle.inter_predict.specs.declared.kinds.Kind.{Kind};
+ghost use Rattle.inter_predict.specs.Kernels.{AreTapsOf, IsTaps, along, tapped_at};
 
 use crate::taps::Taps;
 use std::simd::Simd;
@@ -34,7 +36,8 @@ pub fn tapped<const N: usize>(samples: &[u8], start: usize, step: usize, taps: T
     requires step { step ≤ 65536 }
     requires room { start + 5 * step + N ≤ length samples.now }
     requires small { IsTaps taps }
-    ensures { (lane : ℕ) → lane < N → slice_index result lane ≡ tapped_at taps samples.now step (start + lane) }
+    ensures taps { (lane : ℕ) → lane < N → slice_index result lane ≡ tapped_at taps samples.now step (start + lane) }
+    ensures between { (kind : Kind) (eighths lane : ℕ) → AreTapsOf taps kind eighths → lane < N → slice_index result lane ≡ between kind eighths (along samples.now (start + lane) step) (pos 2) }
 {
     let a = Simd::<u8, N>::from_slice(&samples[start..]).cast::<u16>();
     let b = Simd::<u8, N>::from_slice(&samples[start + step..]).cast::<u16>();

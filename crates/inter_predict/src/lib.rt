@@ -7,6 +7,7 @@ mod kinds;
 mod lanes;
 pub mod laws;
 mod passes;
+mod pieces;
 mod strips;
 mod taps;
 #[cfg(test)]

@@ -1,5 +1,6 @@
 ghost use Rattle.std.specs.Prelude.{◌≡◌, ℕ, ◌+◌, ◌-◌, ◌*◌, ◌<◌, ◌≤◌, length, slice_index};
-ghost use Rattle.inter_predict.specs.Kernels.{IsTaps, IsStrip, tapped_at};
+ghost use Rattle.inter_predict.specs.Kernels.{AreTapsOf, IsTaps, IsStrip, between_in, tapped_at};
+ghost use Rattle.inter_predict.specs.declared.kinds.Kind.{Kind};
 
 use crate::lanes::tapped;
 use crate::taps::Taps;
@@ -28,7 +29,8 @@ fn pass_by<const N: usize>(
     requires out { (height - 1) * out_stride + (first + N) ≤ length out.old }
     requires inside { first + N ≤ out_stride }
     requires small { IsTaps taps }
-    ensures { IsStrip (λ column row. tapped_at taps samples.now step (start + row * stride + column)) first N height out_stride out.old out.new }
+    ensures taps { IsStrip (λ column row. tapped_at taps samples.now step (start + row * stride + column)) first N height out_stride out.old out.new }
+    ensures between { (kind : Kind) (eighths : ℕ) → AreTapsOf taps kind eighths → IsStrip (between_in kind eighths samples.now start stride step) first N height out_stride out.old out.new }
 {
     for row in 0..height {
         tapped::<N>(samples, start + row * stride, step, taps).copy_to_slice(
@@ -57,7 +59,8 @@ pub fn pass<const N: usize>(
     requires out { (height - 1) * out_stride + (first + N) ≤ length out.old }
     requires inside { first + N ≤ out_stride }
     requires small { IsTaps taps }
-    ensures { IsStrip (λ column row. tapped_at taps samples.now step (start + row * stride + column)) first N height out_stride out.old out.new }
+    ensures taps { IsStrip (λ column row. tapped_at taps samples.now step (start + row * stride + column)) first N height out_stride out.old out.new }
+    ensures between { (kind : Kind) (eighths : ℕ) → AreTapsOf taps kind eighths → IsStrip (between_in kind eighths samples.now start stride step) first N height out_stride out.old out.new }
 {
     if taps.a == 0 && taps.f == 0 {
         if taps.b == 0 && taps.e == 0 {

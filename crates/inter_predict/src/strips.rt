@@ -1,5 +1,5 @@
 ghost use Rattle.std.specs.Prelude.{◌≡◌, ℕ, ◌+◌, ◌-◌, ◌*◌, ◌<◌, ◌≤◌, length, slice_index};
-ghost use Rattle.inter_predict.specs.Kernels.{IsTaps, IsStrip, tapped_twice};
+ghost use Rattle.inter_predict.specs.Kernels.{IsTaps, IsStrip, Predicts, tapped_twice};
 
 use crate::passes::pass;
 use crate::taps::Taps;
@@ -55,7 +55,8 @@ pub fn strip<const N: usize, const M: usize>(
     requires inside { (first ≤ 16) × (first + N ≤ out_stride) × (first + N + 5 ≤ stride) }
     requires across { IsTaps across }
     requires down { IsTaps down }
-    ensures { IsStrip (λ column row. tapped_twice across down samples.now stride (first + column) row) first N height out_stride out.old out.new }
+    ensures taps { IsStrip (λ column row. tapped_twice across down samples.now stride (first + column) row) first N height out_stride out.old out.new }
+    ensures samples { Predicts across down samples.now stride first N height out_stride out.old out.new }
 {
     match (across.are_whole(), down.are_whole()) {
         (true, true) => {

@@ -216,3 +216,32 @@ fn rows_are_as_worked_by_hand(rt: HostRuntime) -> Result<(), Fail> {
     }
     Ok(())
 }
+
+/// Blocks of more than 16 columns or rows are made in pieces, and those without samples are empty.
+#[test]
+fn large_blocks_are_as_read_plainly(rt: HostRuntime) -> Result<(), Fail> {
+    let picture = picture(rt.alloc(), 32)?;
+    let plane = picture.luma();
+    for (width, height) in [(40, 21), (21, 40), (840, 1), (1, 840)] {
+        let mut out = [7; 840];
+        block(
+            plane,
+            -5,
+            30,
+            (13, -21),
+            Kind::SixTap,
+            width,
+            height,
+            &mut out,
+        );
+        for (index, sample) in out.iter().enumerate() {
+            let (column, row) = (index % width, index / width);
+            let (x, y) = (-5 + column as i64, 30 + row as i64);
+            let expected = predicted(plane, x, y, (13, -21), Kind::SixTap);
+            assert_eq!(rt; *sample, expected, "{width} {column} {row}");
+        }
+    }
+    block(plane, 3, 4, (5, 6), Kind::Bilinear, 0, 9, &mut []);
+    block(plane, 3, 4, (5, 6), Kind::Bilinear, 9, 0, &mut []);
+    Ok(())
+}

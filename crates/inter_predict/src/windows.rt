@@ -1,5 +1,5 @@
 ghost use Rattle.std.specs.Prelude.{◌≡◌, ℕ, ◌+◌, ◌-◌, ◌*◌, ◌/◌, ◌<◌, ◌≤◌, length};
-ghost use Rattle.inter_predict.specs.Kernels.{IsTaps, IsStrip, tapped_twice};
+ghost use Rattle.inter_predict.specs.Kernels.{IsTaps, IsStrip, Predicts, tapped_twice};
 
 use crate::strips::strip;
 use crate::taps::Taps;
@@ -22,7 +22,8 @@ fn in_fours(
     requires out { (height - 1) * out_stride + width ≤ length out.old }
     requires across { IsTaps across }
     requires down { IsTaps down }
-    ensures { IsStrip (tapped_twice across down samples.now stride) 0 (width / 4 * 4) height out_stride out.old out.new }
+    ensures taps { IsStrip (tapped_twice across down samples.now stride) 0 (width / 4 * 4) height out_stride out.old out.new }
+    ensures samples { Predicts across down samples.now stride 0 (width / 4 * 4) height out_stride out.old out.new }
 {
     for four in 0..width / 4 {
         strip::<4, 84>(
@@ -57,7 +58,8 @@ fn in_ones(
     requires out { (height - 1) * out_stride + width ≤ length out.old }
     requires across { IsTaps across }
     requires down { IsTaps down }
-    ensures { IsStrip (λ column row. tapped_twice across down samples.now stride (first + column) row) first (width - first) height out_stride out.old out.new }
+    ensures taps { IsStrip (λ column row. tapped_twice across down samples.now stride (first + column) row) first (width - first) height out_stride out.old out.new }
+    ensures samples { Predicts across down samples.now stride first (width - first) height out_stride out.old out.new }
 {
     for column in first..width {
         strip::<1, 21>(
@@ -88,7 +90,8 @@ pub fn predict(
     requires out { (height - 1) * out_stride + width ≤ length out.old }
     requires across { IsTaps across }
     requires down { IsTaps down }
-    ensures { IsStrip (tapped_twice across down samples.now stride) 0 width height out_stride out.old out.new }
+    ensures taps { IsStrip (tapped_twice across down samples.now stride) 0 width height out_stride out.old out.new }
+    ensures samples { Predicts across down samples.now stride 0 width height out_stride out.old out.new }
 {
     in_fours(
         samples, stride, across, down, width, height, out, out_stride,

@@ -5,8 +5,8 @@ ghost use Rattle.reference_frames.specs.States.{HasMap, HaveOneSize};
 
 use crate::frames::{decoded_picture, macroblocks};
 use crate::references::References;
-use crate::step_fault::StepFault;
 use crate::states::State;
+use crate::step_fault::StepFault;
 use frame_header::{Header, read_header};
 use mode_parser::read_modes;
 use pixel_planes::{NoMemory, Picture};

@@ -6,10 +6,11 @@ use Rattle.reference_frames.proofs.steps.decode.Goals as goal
 
 pub new-requires : goal.new-requires
 new-requires c = (
-    has_map c.args.packet.now c.args.header.now (option_copied c.args.before) _ c.size_of-width.result.0 c.size_of-width.result.1 c.macroblocks-columns.result c.macroblocks-rows.result c.in_ok-modes.modes.records c.in_ok-picture.picture (record { context = c.args.header.now.context_after; segment_map = c.into_segment_map-segment_map.result.items; references = c.in_ok-references.references })
-    c.size_of-width.ensures.width c.size_of-width.ensures.height c.in_ok-picture.ensures c.in_ok-references.ensures c.macroblocks-columns.ensures.value c.macroblocks-rows.ensures.value (ap (λ (map : List ℕ). length map) c.into_segment_map-segment_map.ensures ∙ c.in_ok-modes.ensures.segments),
-    have_one_size c.args.packet.now c.args.header.now (option_copied c.args.before) _ c.size_of-width.result.0 c.size_of-width.result.1 c.in_ok-modes.modes.records c.in_ok-picture.picture c.in_ok-references.references
-    c.size_of-width.ensures.width c.size_of-width.ensures.height c.in_ok-picture.ensures c.in_ok-references.ensures c.references_before-references.ensures.one_size)
+  has_map c.args.packet.now c.args.header.now (option_copied c.args.before) _ c.size_of-width.result.0 c.size_of-width.result.1 c.macroblocks-columns.result c.macroblocks-rows.result c.in_ok-modes.modes.records c.in_ok-picture.picture (record { context = c.args.header.now.context_after; segment_map = c.into_segment_map-segment_map.result.items; references = c.in_ok-references.references })
+      c.size_of-width.ensures.width c.size_of-width.ensures.height c.in_ok-picture.ensures c.in_ok-references.ensures c.macroblocks-columns.ensures.value c.macroblocks-rows.ensures.value (ap (λ (map : List ℕ). length map) c.into_segment_map-segment_map.ensures ∙ c.in_ok-modes.ensures.segments),
+  have_one_size c.args.packet.now c.args.header.now (option_copied c.args.before) _ c.size_of-width.result.0 c.size_of-width.result.1 c.in_ok-modes.modes.records c.in_ok-picture.picture c.in_ok-references.references
+      c.size_of-width.ensures.width c.size_of-width.ensures.height c.in_ok-picture.ensures c.in_ok-references.ensures c.references_before-references.ensures.one_size,
+)
 
 pub returns : goal.returns
 returns c =
