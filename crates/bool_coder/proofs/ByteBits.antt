@@ -4,7 +4,7 @@ use Rattle.std.proofs.lemmas.Nat.{shr-shr, shl-shr}
 use Rattle.bool_coder.specs.Reader.{bits_of, bit_string}
 use Rattle.bool_coder.specs.CodeText.{bytes_of, padding}
 
--- a front and what follows it
+-- a front and the rest after it
 pub both : {a b : ℕ} {xs ys : List ℕ} → a ≡ b → xs ≡ ys → a ∷ xs ≡ b ∷ ys
 both p q = cc
 
@@ -18,7 +18,7 @@ bits_of-append (suc high) low n =
     let here : n / 2 ^ low / 2 ^ high ≡ n / 2 ^ (high + low) = shr-shr n low high ∙ ap (λ (k : ℕ). n / 2 ^ k) place in
     rw one_more (both (ap (λ (m : ℕ). m % 2) here) (bits_of-append high low n))
 
--- a byte has the low eight bits
+-- a byte is its low eight bits
 byte_bits : (m : ℕ) → bits_of 8 (m % 256) ≡ bits_of 8 m
 byte_bits m =
     both (omega arith) (both (omega arith) (both (omega arith) (both (omega arith) (both (omega arith) (both (omega arith) (both (omega arith) (both (omega arith) refl)))))))
@@ -31,7 +31,7 @@ bit_string-bytes_of (suc count) n =
     let front : bits_of 8 (n / 2 ^ (8 * count) % 256) ++ bit_string (bytes_of count n) ≡ bits_of 8 (n / 2 ^ (8 * count)) ++ bit_string (bytes_of count n) = ap (λ (xs : List ℕ). xs ++ bit_string (bytes_of count n)) (byte_bits (n / 2 ^ (8 * count))) in
     rw eight_more (front ∙ ap (λ (xs : List ℕ). bits_of 8 (n / 2 ^ (8 * count)) ++ xs) (bit_string-bytes_of count n) ∙ bits_of-append 8 (8 * count) n)
 
--- what was shifted in from below is zeros
+-- the bits shifted in from below are zeros
 bits_of-shifted : (count n : ℕ) → bits_of count (n * 2 ^ count) ≡ replicate count 0
 bits_of-shifted zero n = refl
 bits_of-shifted (suc count) n =

@@ -23,7 +23,7 @@ run-settled (ask prob zeros ones) r probable some =
     let range : 2 ≤ (uncut_read prob r).1.range = uncut_read-range prob r (omega (arith, probable.0)) some in
     rw here (branch-settled (uncut_read prob r).0 zeros ones (uncut_read prob r).1 (run-settled zeros (uncut_read prob r).1 probable.1 range) (run-settled ones (uncut_read prob r).1 probable.2 range))
 
--- a chain and what the others read is a chain of reads
+-- a reading that a chain computes is a chain of reads
 pub of-chain : {A : Type 0} (reading : Reading A) (c : Chain A) → HasProbabilities c → ((r : Reader) → reading r ≡ run read c r) → IsChain reading
 of-chain reading c probable same = record {
   chain = c;
@@ -71,7 +71,7 @@ bind-chain {first = first} {next = next} one later =
     of-chain (first >>= next) (chained one.chain (λ x. (later x).chain)) (chained-probable one.chain (λ x. (later x).chain) one.probable (λ x. (later x).probable))
     (λ r. (rw (one.same r, run-chained one.chain (λ x. (later x).chain) r) ((later (run read one.chain r).0).same (run read one.chain r).1)))
 
--- either of two, by what is known
+-- either of two readings, by a test
 pub if-chain : {A : Type 0} {yes no : Reading A} (test : Bool) → IsChain yes → IsChain no → IsChain (if test then yes else no)
 if-chain true one other = one
 if-chain false one other = other
@@ -106,7 +106,7 @@ pub leaf-chain : (tree : List ℤ) (probs : List ℕ) → AreProbabilities probs
 unfolding leaf
 leaf-chain tree probs small = leaf_below-chain _ tree probs 0 small
 
--- what closes most definitions: the steps of a `do`, an `if` and the numbers
+-- the lemmas that prove most definitions: the steps of a `do`, an `if` and the numbers
 pub ruleset chains = (bind-chain, if-chain, give-chain, flag-chain, literal-chain, signed-chain)
 
 -- a fixed list of bytes

@@ -29,7 +29,7 @@ leading-count range some most =
     let pos : 0 < 2 ^ (7 - j) = pow_pos (7 - j) in
     (omega (arith, top.1), rw count (omega arith), rw count (omega arith), rw count (omega arith))
 
--- a renewal doubles at once
+-- a renewal doubles all at a time
 pub code_renewed-shifted : (fuel count : ℕ) (c : Code) → count ≤ fuel → 128 ≤ c.range * 2 ^ count → c.range * 2 ^ count ≤ 255 → code_renewed fuel c ≡ record { low = c.low * 2 ^ count; range = c.range * 2 ^ count; shifts = c.shifts + count }
 code_renewed-shifted zero zero c enough least most =
     code_renewed-zero c ∙ code_same _ _ _ _ _ _ (omega arith) (omega arith) (omega arith)
@@ -45,7 +45,7 @@ code_renewed-shifted (suc fuel) (suc count) c enough least most =
     let small : c.range < 128 = omega (arith, most') in
     code_renewed-small fuel c small ∙ code_renewed-shifted fuel count (code_doubled c) (omega arith) (omega (arith, least')) (omega (arith, most')) ∙ code_same _ _ _ _ _ _ (rw power (omega arith)) (rw power (omega arith)) (omega arith)
 
--- what stands once the part of the range is chosen
+-- the state after the part of the range is chosen
 pub record IsNarrowed (bit : Bool) (prob : ℕ) (before : Code) (low : Low) (range : ℕ) : Type 0 where
   pub same : code_of low range ≡ narrowed bit prob before
   pub some : 1 ≤ range
@@ -70,7 +70,7 @@ IsNarrowed-zero prob low range probable large most inside tail =
     let part : split_of prob range < range = split_of-inside prob range probable large in
     record { same = refl; some = omega arith; most = omega arith; tail = tail; inside = omega arith }
 
--- and what stands behind the bit
+-- and the state after the bit
 pub IsNarrowed-written : (bit : Bool) (prob : ℕ) (before : Code) (low low' : Low) (range count : ℕ) → IsNarrowed bit prob before low range → count ≤ 7 → 128 ≤ range * 2 ^ count → range * 2 ^ count ≤ 255 → value_of low' ≡ value_of low * 2 ^ count → doublings_of low' ≡ doublings_of low + count → code_of low' (range * 2 ^ count) ≡ written bit prob before
 unfolding written
 IsNarrowed-written bit prob before low low' range count standing few least most value doublings =

@@ -8,7 +8,7 @@ use Rattle.bool_coder.specs.Reader.{Reader, read}
 use Rattle.bool_coder.specs.Trees.{is_entry, are_entries, is_tree, is_node, leaf_below, leaf}
 use Rattle.bool_coder.proofs.Literals.{from_bool-le_one}
 
--- what the test of a tree says
+-- the facts of the test of a tree
 pub record Tree (tree : List ℤ) (probs : List ℕ) : Type 0 where
   pub some : 2 ≤ length tree
   pub even : length tree % 2 ≡ 0
@@ -35,7 +35,7 @@ tree_of tree probs is =
       entries = λ k below. (let base : 0 + k ≡ k = omega arith in rw base at (are_entries-at (length tree) 0 tree last.1 k below));
     }
 
--- a node is the place of a pair
+-- a node is the index of a pair
 pub record Node (tree : List ℤ) (place : ℕ) : Type 0 where
   pub even : place % 2 ≡ 0
   pub inside : place + 1 < length tree
@@ -65,7 +65,7 @@ pub is_node-node : (entry : ℤ) → le_z entry (pos 0) ≡ false → is_node en
 is_node-node (pos node) leads = grind (arith, nat_tests)
 is_node-node (negsuc value) leads = absurd (cc)
 
--- the walk stands at a node, from where it leads to the leaf that is asked for
+-- the walk is at a node, from which it leads to the leaf of the tree
 pub record StandsAt (tree : List ℤ) (probs : List ℕ) (start r : Reader) (place : ℕ) : Type 0 where
   pub node : Node tree place
   pub fuel : ℕ
@@ -129,7 +129,7 @@ either : (b : Bool) → (b ≡ true) ⊎ (b ≡ false)
 either true = inl refl
 either false = inr refl
 
--- a walk from a node is over before a fuel that reaches the tree's end is used up
+-- a walk from a node ends before a fuel that reaches the tree's end is used up
 pub leaf_below-more : (tree : List ℤ) (probs : List ℕ) → Tree tree probs → (fuel more place : ℕ) (r : Reader) → Node tree place → length tree ≤ place + fuel → leaf_below (fuel + more) tree probs place r ≡ leaf_below fuel tree probs place r
 leaf_below-more tree probs facts zero more place r node enough = absurd (omega arith)
 leaf_below-more tree probs facts (suc fuel) more place r node enough =

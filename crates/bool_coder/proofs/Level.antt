@@ -25,7 +25,7 @@ next-before zero [] = refl
 next-before zero (bit ∷ rest) = refl
 next-before (suc more) rest = refl
 
--- it gives the same bits
+-- it has the same bits
 after-trimmed : (rest : List ℕ) → after_bit (trimmed rest) ≡ trimmed (after_bit rest)
 after-trimmed [] = ap after_bit trimmed-none ∙ sym trimmed-none
 after-trimmed (bit ∷ rest) = rw (trimmed-bit bit rest) (after-before bit (trimmed rest))
@@ -46,7 +46,7 @@ renewed-level zero r = refl
 renewed-level (suc more) r =
     elim (cases_lt r.range 128) [ inl small ↦ rw (lt-ltb r.range 128 small) (ap (renewed more) (doubled-level r) ∙ renewed-level more (doubled r)) | inr large ↦ rw (le-ltb r.range 128 large) refl ]
 
--- a bit of a level reader is that of the reader, and leaves a level one again
+-- a bit of a level reader is the bit of the reader, and leaves a level one again
 told : (prob : ℕ) (r : Reader) (bit : Bool) → Rattle.std.specs.Prelude.nat_le (split_of prob r.range) r.d ≡ bit → read prob (level r) ≡ ((read prob r).0, level (read prob r).1)
 unfolding read
 told prob r true is = rw is (ap (λ (s : Reader). (true, s)) (renewed-level 7 (record r { d = r.d - split_of prob r.range; range = r.range - split_of prob r.range })))

@@ -29,7 +29,7 @@ pub from_bool-le_one : (bit : Bool) → from_bool bit ≤ 1
 from_bool-le_one false = omega arith
 from_bool-le_one true = omega arith
 
--- and so it leaves a number of `i` bits one of `i + 1`
+-- so it turns a number of `i` bits into one of `i + 1`
 pub with_bit-small : (i value : ℕ) (bit : Bool) → value < 2 ^ i → 2 * value + from_bool bit < 2 ^ (i + 1)
 with_bit-small i value bit small =
     let power : 2 ^ (i + 1) ≡ 2 ^ i * 2 = rw add-one (pow-suc 2 i) in

@@ -7,7 +7,7 @@ use Rattle.bool_coder.specs.CodeText.{bytes_of}
 use Rattle.bool_coder.specs.Low.{number_of}
 use Rattle.bool_coder.proofs.ByteBits.{both}
 
--- a byte more is eight places more
+-- one more byte is eight more bits
 pub pow-byte : (count : ℕ) → 2 ^ (8 * suc count) ≡ 2 ^ (8 * count) * 256
 pow-byte count =
     let places : 8 * suc count ≡ 8 * count + 8 = omega arith in rw places (pow-add 2 (8 * count) 8)
@@ -22,7 +22,7 @@ number_of-set (first ∷ bytes) (suc i) rest byte placed =
     let len : length (set bytes i byte) ≡ length bytes = length-set bytes i byte in
     rw len (omega (arith, later))
 
--- a byte more at the end
+-- one more byte at the end
 pub number_of-push : (bytes : List ℕ) (byte : ℕ) → number_of (bytes ++ byte ∷ []) ≡ number_of bytes * 256 + byte
 number_of-push [] byte = omega arith
 number_of-push (first ∷ bytes) byte =
@@ -30,7 +30,7 @@ number_of-push (first ∷ bytes) byte =
     let len : length (bytes ++ byte ∷ []) ≡ suc (length bytes) = length-append bytes (byte ∷ []) ∙ omega arith in
     rw (len, pow-byte (length bytes)) (omega (arith, later))
 
--- what the bytes leave out
+-- the part that the bytes leave out
 pub number_of-small : (bytes : List ℕ) → ((k : ℕ) → get_or bytes k 0 < 256) → number_of bytes < 2 ^ (8 * length bytes)
 number_of-small [] small = omega arith
 number_of-small (first ∷ bytes) small =
@@ -38,7 +38,7 @@ number_of-small (first ∷ bytes) small =
     let here : first < 256 = small 0 in
     rw (pow-byte (length bytes)) (mul-add-lt first (2 ^ (8 * length bytes)) (number_of bytes) 256 here later)
 
--- what stands above the low bytes does not change them
+-- bits above the low bytes do not change them
 bytes_of-above : (count n a : ℕ) → bytes_of count (a * 2 ^ (8 * count) + n) ≡ bytes_of count n
 bytes_of-above zero n a = refl
 bytes_of-above (suc count) n a =
@@ -46,7 +46,7 @@ bytes_of-above (suc count) n a =
     let over : (256 * a * 2 ^ (8 * count) + n) / 2 ^ (8 * count) ≡ 256 * a + n / 2 ^ (8 * count) = mul-add-div_right (pow_pos (8 * count)) (256 * a) n in
     rw more (both (rw over (omega arith)) (bytes_of-above count n (256 * a)))
 
--- the bytes of the number that bytes write are those bytes
+-- the bytes of the number that bytes represent are those bytes
 pub bytes_of-number_of : (bytes : List ℕ) → ((k : ℕ) → get_or bytes k 0 < 256) → bytes_of (length bytes) (number_of bytes) ≡ bytes
 bytes_of-number_of [] small = refl
 bytes_of-number_of (first ∷ bytes) small =
@@ -88,7 +88,7 @@ Carries-end bytes end before carry some =
     let carried = carry.carried in
     omega (arith, write, carried)
 
--- a carry leaves the tail for the bytes
+-- a carry goes from the tail to the bytes
 pub carried-value : (number tail top : ℕ) → top ≤ tail → (number + 1) * top + (tail - top) ≡ number * top + tail
 carried-value number tail top over = omega arith
 
@@ -112,7 +112,7 @@ shifted-value number tail shifts count =
     let places : 8 + (shifts + count) ≡ 8 + shifts + count = omega arith in
     rw (places, pow-add 2 (8 + shifts) count) (omega arith)
 
--- where the tail's first byte goes to the bytes
+-- the tail's first byte goes to the bytes
 pub moved-value : (number tail width : ℕ) → (number * 256 + tail / 2 ^ width) * 2 ^ width + tail % 2 ^ width ≡ number * 2 ^ (width + 8) + tail
 moved-value number tail width =
     let power : 2 ^ (width + 8) ≡ 2 ^ width * 256 = pow-add 2 width 8 in
@@ -131,7 +131,7 @@ carried-tail tail shifts amount fits small =
     let fits' = rw power at fits in
     rw power (omega (arith, fits'))
 
--- and only where the bytes have room for it
+-- and only if the bytes have room for it
 pub carried-inside : (number tail shifts len amount : ℕ) → 2 ^ (8 + shifts) ≤ tail + amount → number * 2 ^ (8 + shifts) + tail + amount < 2 ^ (8 + (8 * len + shifts)) → number + 1 < 2 ^ (8 * len)
 carried-inside number tail shifts len amount over inside =
     let places : 8 + (8 * len + shifts) ≡ 8 * len + (8 + shifts) = omega arith in
@@ -139,7 +139,7 @@ carried-inside number tail shifts len amount over inside =
     let inside' : number * 2 ^ (8 + shifts) + (tail + amount) < 2 ^ (8 * len) * 2 ^ (8 + shifts) = (let small = rw power at inside in omega (arith, small)) in
     carried-room number (tail + amount) (2 ^ (8 + shifts)) (2 ^ (8 * len)) over inside'
 
--- the tail's first byte, where it has one to give
+-- the tail's first byte, if it has a byte to move
 pub moved-byte : (tail shifts count : ℕ) → tail < 2 ^ (8 + shifts) → shifts ≤ 7 → count ≤ 7 → 8 ≤ shifts + count → tail * 2 ^ count % 4294967296 / 2 ^ (8 + (shifts + count - 8)) < 256
 moved-byte tail shifts count fits few some over =
     let kept = shifted-tail tail shifts count fits few some in
@@ -147,7 +147,7 @@ moved-byte tail shifts count fits few some over =
     let below : tail * 2 ^ count < 2 ^ (8 + (8 + (shifts + count - 8))) = rw places at kept.1 in
     rw kept.0 (shr_below (tail * 2 ^ count) 8 (8 + (shifts + count - 8)) below)
 
--- a number and its tail, shifted, where the tail's first byte goes to the bytes
+-- a number and its tail, shifted, if the tail's first byte goes to the bytes
 pub moved-shifted : (bytes bytes' : List ℕ) (tail shifts count : ℕ) → tail < 2 ^ (8 + shifts) → shifts ≤ 7 → count ≤ 7 → 8 ≤ shifts + count → bytes' ≡ bytes ++ tail * 2 ^ count % 4294967296 / 2 ^ (8 + (shifts + count - 8)) ∷ [] → number_of bytes' * 2 ^ (8 + (shifts + count - 8)) + tail * 2 ^ count % 4294967296 % (1 * 2 ^ (8 + (shifts + count - 8)) % 4294967296) ≡ (number_of bytes * 2 ^ (8 + shifts) + tail) * 2 ^ count
 moved-shifted bytes bytes' tail shifts count fits few some over pushed =
     let kept : tail * 2 ^ count % 4294967296 ≡ tail * 2 ^ count = (shifted-tail tail shifts count fits few some).0 in

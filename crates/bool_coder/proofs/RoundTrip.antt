@@ -11,11 +11,11 @@ use Rattle.bool_coder.specs.CodeText.{Code, no_code, code_doubled, code_renewed,
 use Rattle.bool_coder.proofs.ByteBits.{both, bit_string-bytes_of}
 use Rattle.bool_coder.proofs.Level.{bits_read-level}
 
--- the reader that has `value` in its window and in the `left` bits behind it
+-- the reader that has `value` in its window and in the `left` bits after it
 abbrev pub reader_at : ℕ → ℕ → ℕ → Reader
 reader_at value left range = record { rest = bits_of left value; d = value / 2 ^ left; range = range }
 
--- a reader stands where the encoder stood with this code, over the number `whole` of 8 + `places` bits
+-- a reader is in step with an encoder with this code, over the number `whole` of 8 + `places` bits
 pub record StandsAt (c : Code) (whole places : ℕ) (r : Reader) : Type 0 where
   pub left : ℕ
   pub shifted : left + c.shifts ≡ places
@@ -99,7 +99,7 @@ renewed-back (suc fuel) c whole places s standing =
           (s, here, reader_renewed-large fuel s large'))
     ]
 
--- what stands above the low bits does not change them
+-- bits above the low bits do not change them
 bits_of-above : (left n a : ℕ) → bits_of left (a * 2 ^ left + n) ≡ bits_of left n
 bits_of-above zero n a = refl
 bits_of-above (suc left) n a =
@@ -112,7 +112,7 @@ pub split_of-inside : (prob range : ℕ) → prob ≤ 255 → 128 ≤ range → 
 split_of-inside prob range probable large =
     let most : (range - 1) * prob ≤ (range - 1) * 255 = mul-le-mul_left (range - 1) probable in omega arith
 
--- what the window tells, and the reader before its renewal
+-- the bit that the window decides, and the reader before its renewal
 abbrev told : ℕ → Reader → Bool
 told prob r = nat_le (split_of prob r.range) r.d
 
@@ -211,7 +211,7 @@ StandsAt-started whole count r standing =
     let here : r ≡ reader_at whole (8 * count) 255 = standing.same ∙ rw (none, places) refl in
     here ∙ reader_same _ _ _ _ 255 (sym (bit_string-bytes_of count whole)) (omega arith)
 
--- what is written is read back from a text that its whole bytes count
+-- the written bits are read back from a text of this many whole bytes
 text-read : (pairs : List (Bool × ℕ)) (c : Code) (pad count : ℕ) → all_written pairs no_code ≡ c → All (λ p. p.1 ≤ 255) pairs → pad + c.shifts ≡ 8 * count → bits_read read (map (λ p. p.1) pairs) (started (bytes_of (suc count) (c.low * 2 ^ pad))) ≡ map (λ p. p.0) pairs
 text-read pairs c pad count is probable places =
     let large = all_written-range pairs no_code probable (omega arith) (omega arith) in
@@ -224,7 +224,7 @@ text-read pairs c pad count is probable places =
     let start : back.0 ≡ text_start (bytes_of (suc count) whole) = StandsAt-started whole count back.0 back.1 in
     bits_read-level (map (λ p. p.1) pairs) (text_start (bytes_of (suc count) whole)) ∙ rw (← start) back.2
 
--- what is written is read back
+-- the written bits are read back
 pub code_text-read : (pairs : List (Bool × ℕ)) → All (λ p. p.1 ≤ 255) pairs → bits_read read (map (λ p. p.1) pairs) (started (code_text pairs)) ≡ map (λ p. p.0) pairs
 code_text-read pairs probable =
     let shifts = (all_written pairs no_code).shifts in

@@ -4,7 +4,7 @@ use Rattle.std.proofs.Math.Nat.{pow-suc, pow-le-pow_right, mul-le-mul_right}
 use Rattle.std.proofs.lemmas.Bool.{cases_lt}
 use Rattle.std.proofs.lemmas.Nat.{leading_top, pow-add, pow_pos}
 
--- a range of 1 to 255 stands between two powers, the highest of which is 2 ^ 7
+-- a range of 1 to 255 is between two powers, the highest of which is 2 ^ 7
 pub record Top (range : ℕ) : Type 0 where
   pub top : ℕ
   pub zeros : count_leading_zeros 32 range + suc top ≡ 32

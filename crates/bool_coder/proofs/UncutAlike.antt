@@ -51,14 +51,14 @@ read-held_one prob r reached inside =
     let same : record { rest = r.rest; d = min r.d r.range - split_of prob r.range; range = r.range - split_of prob r.range } ≡ held start = reader_same _ _ _ _ (omega arith) in
     rw (le-leb _ _ held_reached, le-leb _ _ reached) (ap (λ s. (true, s)) (ap (renewed 7) same ∙ renewed-held 7 start))
 
--- one bit: the same bit, and the same reader but for the window
+-- one bit: the same bit, and the same reader except for the window
 pub read-held : (prob : ℕ) (r : Reader) → prob ≤ 255 → 2 ≤ r.range → read prob (held r) ≡ ((uncut_read prob r).0, held (uncut_read prob r).1)
 unfolding read uncut_read
 read-held prob r probable some =
     let inside : split_of prob r.range < r.range = split_of-below prob r.range probable some in
     elim (cases_lt r.d (split_of prob r.range)) [ inl below ↦ read-held_zero prob r below inside | inr reached ↦ read-held_one prob r reached inside ]
 
--- the reader behind a bit has a range again
+-- the reader after a bit has a range again
 pub uncut_read-range : (prob : ℕ) (r : Reader) → prob ≤ 255 → 2 ≤ r.range → 2 ≤ (uncut_read prob r).1.range
 unfolding uncut_read
 uncut_read-range prob r probable some =
@@ -78,7 +78,7 @@ read-settled prob r probable some = read-level prob (held r) ∙ ap (λ (s : Boo
 pub bits_read-settled : (probs : List ℕ) (r : Reader) → ((k : ℕ) → get_or probs k 0 ≤ 255) → 2 ≤ r.range → bits_read read probs (settled r) ≡ bits_read uncut_read probs r
 bits_read-settled probs r probable some = bits_read-level probs (held r) ∙ bits_read-held probs r probable some
 
--- the window at the start is one byte, which the range holds
+-- the window at the start is one byte, which is within the range
 start-held : (bytes : List ℕ) → ((k : ℕ) → get_or bytes k 0 ≤ 255) → held (text_start bytes) ≡ text_start bytes
 start-held [] small = refl
 start-held (byte ∷ bytes) small = reader_same _ _ _ _ (let fits : byte ≤ 255 = small 0 in omega arith)

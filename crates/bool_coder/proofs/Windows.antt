@@ -8,7 +8,7 @@ use Rattle.bool_coder.specs.Window.{reader_of, doublings}
 use Rattle.bool_coder.proofs.Level.{level-padded, read-level}
 use Rattle.bool_coder.proofs.Renewal.{renewed_large, renewed_small, split_of-small}
 
--- the bits that are left and d decide a reader of a range
+-- the bits that are left and d determine a reader of a range
 reader_same : (range : ℕ) (rest rest' : List ℕ) (d d' : ℕ) → rest ≡ rest' → d ≡ d' → ◌≡◌ {A = Reader} (record { rest = rest; d = d; range = range }) (record { rest = rest'; d = d'; range = range })
 reader_same range rest rest' d d' same_rest same_d =
     ap (λ (bits : List ℕ). record { rest = bits; d = d; range = range }) same_rest ∙ ap (λ (n : ℕ). record { rest = rest'; d = n; range = range }) same_d
@@ -22,7 +22,7 @@ doublings-suc : (count : ℕ) (r : Reader) → doublings (suc count) r ≡ doubl
 unfolding doublings
 doublings-suc count r = refl
 
--- it renews a range where it leaves one of 128 to 255
+-- it renews a range if it leaves one of 128 to 255
 pub renewed-doublings : (fuel count : ℕ) (r : Reader) → count ≤ fuel → 128 ≤ r.range * 2 ^ count → r.range * 2 ^ count < 256 → renewed fuel r ≡ doublings count r
 renewed-doublings fuel zero r enough large small = renewed_large fuel r (omega arith) ∙ sym (doublings-zero r)
 renewed-doublings zero (suc count) r enough large small = absurd (omega arith)
@@ -36,7 +36,7 @@ renewed-doublings (suc fuel) (suc count) r enough large small =
     let next_small : 2 * r.range * 2 ^ count < 256 = omega (arith, rw power at small) in
     renewed_small fuel r (omega arith) ∙ renewed-doublings fuel count (doubled r) (omega arith) next_large next_small ∙ sym (doublings-suc count r)
 
--- what is above the low bits changes none of them, and counts in d
+-- the part above the low bits changes none of them, and counts in d
 div-above : (left low above : ℕ) → (low + above * 2 ^ left) / 2 ^ left ≡ low / 2 ^ left + above
 div-above left low above = add-mul-div_right low above (pow_pos left)
 
@@ -66,7 +66,7 @@ doublings-window (suc count) left value bytes range =
     let product : range * 2 ^ suc count ≡ 2 * range * 2 ^ count = rw power (omega arith) in
     rw (next, product) (doublings-suc count (reader_of value (suc (count + left)) bytes range) ∙ ap (doublings count) (doubled-window value (count + left) bytes range) ∙ doublings-window count left value bytes (2 * range))
 
--- a byte behind the low bits
+-- a byte after the low bits
 div-byte : (left value byte : ℕ) → byte < 256 → (value * 256 + byte) / 2 ^ (left + 8) ≡ value / 2 ^ left
 div-byte left value byte fits =
     let quotient : (value * 256 + byte) / 2 ^ 8 ≡ value = omega arith in
@@ -85,7 +85,7 @@ pub reader_of-byte : (value left byte : ℕ) (bytes : List ℕ) (range : ℕ) �
 reader_of-byte value left byte bytes range fits =
     reader_same _ _ _ _ _ (rw (bits_of-byte left value byte fits) (append_assoc (bits_of left value) (bits_of 8 byte) (bit_string bytes))) (rw (div-byte left value byte fits) refl)
 
--- d held at the range
+-- d clamped to the range
 held-low : (low above left : ℕ) (bytes : List ℕ) (range : ℕ) → range ≤ low / 2 ^ left → reader_of low left bytes range ≡ reader_of (low + above * 2 ^ left) left bytes range
 held-low low above left bytes range reached =
     reader_same _ _ _ _ _ (ap (λ bits. bits ++ bit_string bytes) (sym (bits_of-above left low above))) (rw (div-above left low above) (omega arith))
@@ -100,7 +100,7 @@ reader_of-held value left bytes range reached =
     let quotient : low / 2 ^ left + above ≡ value / 2 ^ left = sym (div-above left low above) ∙ ap (λ (n : ℕ). n / 2 ^ left) number in
     held-low low above left bytes range (omega arith) ∙ ap (λ (n : ℕ). reader_of n left bytes range) number
 
--- a whole shift behind the bit that d tells; d reaches the split where the window's value does
+-- a whole shift after the bit that d decides; d reaches the split when the window's value does
 split_reached : (prob range value left : ℕ) → split_of prob range * 2 ^ left ≤ value → split_of prob range ≤ value / 2 ^ left
 split_reached prob range value left reached =
     let power : 0 < 2 ^ left = pow_pos left in (le-div_iff_mul-le power).1 reached
@@ -132,7 +132,7 @@ read-window_zero prob range value left count bytes probable large most below few
     let same : record { rest = bits_of left value ++ bit_string bytes; d = min (value / 2 ^ left) range; range = split } ≡ reader_of value left bytes split = reader_same _ _ _ _ _ refl (omega arith) in
     rw (lt-leb _ _ here) (ap (λ s. (false, s)) (ap (renewed 7) same ∙ renewed-doublings 7 count (reader_of value left bytes split) few enough small))
 
--- what the code keeps above the low bits is not cut off
+-- the part that the code stores above the low bits is not cut off
 above-fits : (value left above : ℕ) → above ≤ value / 2 ^ left → value < 2 ^ 64 → above * 2 ^ left % 2 ^ 64 ≡ above * 2 ^ left
 above-fits value left above inside fits =
     let whole : value / 2 ^ left * 2 ^ left ≤ value = div-mul-le_self value (2 ^ left) in
@@ -159,7 +159,7 @@ pub small-small : (value left range : ℕ) → value / 2 ^ left ≤ range → ra
 small-small value left range below most =
     let cut : value - 0 * 2 ^ left < 2 ^ (left + 8) = small_above value left (value / 2 ^ left) 0 (omega arith) (omega arith) in omega arith
 
--- a byte more leaves room for the next
+-- one more byte leaves room for the next
 pub take-small : (value left byte : ℕ) → value < 2 ^ (left + 8) → byte < 256 → 256 * value + byte < 2 ^ (left + 8 + 8)
 take-small value left byte small fits =
     let power : 2 ^ (left + 8 + 8) ≡ 2 ^ (left + 8) * 2 ^ 8 = pow-add 2 (left + 8) 8 in omega arith

@@ -2,7 +2,7 @@ use Rattle.std.specs.Prelude.{ℕ, ◌+◌, ◌*◌, zero, suc, Bool, ℤ, pos, 
 use Rattle.std.specs.Int.{from_bool}
 use Rattle.bool_coder.specs.Reader.{Reader, read}
 
--- a reading gives a value and the reader behind it
+-- a reading returns a value and the reader after it
 abbrev pub Reading : Type 0 → Type 0
 Reading A = Reader → A × Reader
 
@@ -11,7 +11,7 @@ infixl 10 ◌>>=◌
 abbrev pub ◌>>=◌ : {A B : Type 0} → Reading A → (A → Reading B) → Reading B
 first >>= next = λ r. next (first r).0 (first r).1
 
--- a value that reads nothing
+-- a value, without reading anything
 abbrev pub give : {A : Type 0} → A → Reading A
 give x = λ r. (x, r)
 
@@ -19,7 +19,7 @@ give x = λ r. (x, r)
 abbrev pub flag : Reading Bool
 flag = read 128
 
--- the number whose bits stand behind those of `value`
+-- the number whose bits follow those of `value`
 unfoldable pub more_bits : ℕ → ℕ → Reading ℕ
 more_bits zero value = give value
 more_bits (suc count) value = do
@@ -30,7 +30,7 @@ more_bits (suc count) value = do
 unfoldable pub literal : ℕ → Reading ℕ
 literal count = more_bits count 0
 
--- S(n): a flag, and where it is set a magnitude of n bits and a sign, where 1 is minus; an absent number is 0 (RFC 6386, section 9.3)
+-- S(n): a flag, and if it is set a magnitude of n bits and a sign, where 1 is minus; an absent number is 0 (RFC 6386, section 9.3)
 unfoldable pub signed : ℕ → Reading ℤ
 signed count = do
   is_present ← flag

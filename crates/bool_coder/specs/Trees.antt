@@ -3,10 +3,10 @@ use Rattle.std.specs.Int.{from_bool}
 use Rattle.bool_coder.specs.Reader.{read}
 use Rattle.bool_coder.specs.Reading.{Reading, ◌>>=◌, give}
 
--- A tree is a list of pairs of entries, and a node is the place of a pair. An entry above 0 is a later node, another is a
--- leaf with its negative as the value (RFC 6386, section 8.1).
+-- A tree is a list of pairs of entries, and a node is the index of a pair. An entry above 0 is a later node, any other is
+-- a leaf, stored as its negative (RFC 6386, section 8.1).
 
--- an entry of a tree of a size, at a place, is a leaf or a later node
+-- an entry at an index of a tree of this size is a leaf or a later node
 abbrev pub is_entry : ℕ → ℕ → ℤ → Bool
 is_entry size place (pos node) = nat_eq node 0 || (nat_eq (node % 2) 0 && nat_lt place node && nat_lt node size)
 is_entry size place (negsuc value) = true
@@ -19,12 +19,12 @@ are_entries size place (entry ∷ rest) = is_entry size place entry && are_entri
 abbrev pub is_tree : List ℤ → List ℕ → Bool
 is_tree tree probs = nat_le 2 (length tree) && nat_eq (length tree % 2) 0 && nat_le (length tree) (2 * length probs) && are_entries (length tree) 0 tree
 
--- whether an entry leads on
+-- whether an entry is a node
 abbrev pub is_node : ℤ → Bool
 is_node (pos entry) = nat_lt 0 entry
 is_node (negsuc value) = false
 
--- the leaf below a node, to which one bit after another leads; nodes rise, so a tree's length bounds their number
+-- the leaf below a node, reached bit by bit; nodes increase, so the tree's length bounds their number
 unfoldable pub leaf_below : ℕ → List ℤ → List ℕ → ℕ → Reading ℕ
 leaf_below zero tree probs node = give 0
 leaf_below (suc more) tree probs node = do

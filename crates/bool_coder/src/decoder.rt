@@ -8,7 +8,7 @@ ghost use Rattle.bool_coder.specs.Trees.{is_tree, leaf};
 use crate::window::Window;
 use std::marker::Model;
 
-/// A decoder of the bits of one partition (RFC 6386, section 7). Zeros stand behind its last byte,
+/// A decoder of the bits of one partition (RFC 6386, section 7). Zeros follow its last byte,
 /// without end.
 #[derive(Drop)]
 pub struct Decoder<'a> {
@@ -39,8 +39,7 @@ impl<'a> Decoder<'a> {
         }
     }
 
-    /// A decoder that stands where this one does. A loop that reads through a copy of its own keeps
-    /// it in registers.
+    /// A copy of this decoder. A loop that reads through its own copy keeps it in registers.
     #[inline]
     pub fn copied(&self) -> Decoder<'a>
         ensures { result ≡ self.now }
@@ -93,8 +92,8 @@ impl<'a> Decoder<'a> {
         value
     }
 
-    /// A flagged number: a flag, and where it is set a magnitude of `count` bits, at most 15, and a
-    /// sign, where 1 is minus; else 0 (RFC 6386, section 9.3).
+    /// A flagged number: a flag, and if it is set a magnitude of `count` bits, at most 15, and a
+    /// sign, which is 1 for minus; otherwise 0 (RFC 6386, section 9.3).
     #[tactic(auto, unfolding(crate::specs::Reading::signed))]
     pub fn signed(&mut self, count: u32) -> i16
         requires { count ≤ 15 }
@@ -108,9 +107,9 @@ impl<'a> Decoder<'a> {
         if self.flag() { -magnitude } else { magnitude }
     }
 
-    /// The leaf of a tree to which one bit at each node leads (RFC 6386, section 8.1). A tree is a
-    /// list of pairs of entries, of which an entry above 0 is the place of a later pair and another
-    /// is a leaf with its negative as the value; `probs` has a probability for each pair.
+    /// The leaf of a tree, reached by reading one bit at each node (RFC 6386, section 8.1). A tree
+    /// is a list of pairs of entries. An entry above 0 is the index of a later pair, any other is a
+    /// leaf, stored as its negative; `probs` has a probability for each pair.
     pub fn tree(&mut self, tree: &[i8], probs: &[u8]) -> u8
         requires { IsTrue (is_tree tree.now probs.now) }
         ensures { leaf tree.now probs.now self.old ≡ (result, self.new) }
@@ -127,7 +126,7 @@ impl<'a> Decoder<'a> {
     }
 }
 
-/// By how many bits a range of 1 to 255 is shifted to be 128 or more.
+/// The number of bits by which a range of 1 to 255 is shifted to be 128 or more.
 #[inline]
 fn shift_of(range: u32) -> u32
     requires some { 1 ≤ range }

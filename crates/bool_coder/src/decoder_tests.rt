@@ -1,8 +1,8 @@
 use crate::Decoder;
 use std::test::Fail;
 
-/// The reader of RFC 6386, section 7.3, a bit at a time. Its d is not held at the range: it
-/// stops at the largest number, which is far above every range.
+/// The reader of RFC 6386, section 7.3, a bit at a time. Its d is not clamped to the range: it
+/// stops at the largest `u32`, which is far above every range.
 #[derive(Drop)]
 struct PlainReader<'a> {
     bytes: &'a [u8],
@@ -121,7 +121,7 @@ fn reads_written_bits(rt: HostRuntime) {
 
 const STEPS: [i8; 6] = [0, 2, -1, 4, -2, -3];
 
-/// A leaf at probabilities that the caller has, as a frame's header gives them.
+/// A leaf read with probabilities from the caller, as a frame's header has them.
 fn step_of(text: &[u8], probs: [u8; 3]) -> u8 {
     Decoder::new(text).tree(&STEPS, &probs)
 }

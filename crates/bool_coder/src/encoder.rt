@@ -8,7 +8,7 @@ use crate::NoMemory;
 use std::alloc::Global;
 use std::marker::Model;
 
-/// Adds one to the number that the bytes write, most significant first.
+/// Adds one to the number that the bytes represent, most significant first.
 fn add_one(bytes: &mut [u8])
     requires { number_of bytes.old + 1 < 2 ^ (8 * length bytes.old) }
     ensures { number_of bytes.new ≡ number_of bytes.old + 1 }
@@ -21,12 +21,13 @@ fn add_one(bytes: &mut [u8])
     bytes[end - 1] += 1;
 }
 
-// Says of a byte list what its type says: proofs take it from the call.
+// States the bound of each byte, which its type has, as a fact that proofs take from the call.
 fn bytes_fit(bytes: &[u8])
     ensures { (place : ℕ) → slice_index bytes.now place < 256 }
 {}
 
-/// The number low of an encoder: whole bytes, and behind them a tail of 8 + `shifts` bits.
+/// The number low of an encoder (`bottom` in RFC 6386): whole bytes, followed by a tail of 8 +
+/// `shifts` bits.
 #[derive(Drop)]
 struct Low {
     bytes: Vec<u8>,
@@ -35,7 +36,7 @@ struct Low {
 }
 
 impl Low {
-    /// Adds at most 255 to it, where the sum has no bit more than it has.
+    /// Adds at most 255 to it, if the sum has no more bits than it has.
     fn add(&mut self, amount: u32)
         requires tail { HasTail self.old }
         requires small { amount ≤ 255 }
@@ -54,7 +55,7 @@ impl Low {
         }
     }
 
-    /// Doubles it `count` times, at most 7; the bytes have room for one more.
+    /// Doubles it `count` times, at most 7; the bytes have capacity for one more.
     fn double(&mut self, count: u32)
         requires tail { HasTail self.old }
         requires few { count ≤ 7 }
@@ -76,7 +77,7 @@ impl Low {
 
 /// A writer of one partition (RFC 6386, section 7).
 ///
-/// A contract sees the code of what was written.
+/// Contracts see the code of the bits written so far.
 #[derive(Drop)]
 pub struct Encoder {
     low: Low,
@@ -96,7 +97,7 @@ impl Model for Encoder {
 }
 
 impl Encoder {
-    /// An encoder that has written nothing; it grows nothing yet.
+    /// An encoder that has written nothing; it allocates nothing yet.
     pub fn new(alloc: Global) -> Encoder
         ensures { result ≡ no_code }
     {
@@ -112,7 +113,7 @@ impl Encoder {
 
     /// Writes one bit that is 0 with a probability of `prob` in 256.
     ///
-    /// `NoMemory` where a growth is refused; the encoder is as it was then.
+    /// `NoMemory` if an allocation is refused; the encoder is then unchanged.
     pub fn bit(&mut self, bit: bool, prob: u8) -> Result<(), NoMemory>
         ensures value { OnOk result (self.new ≡ written bit prob self.old) }
         ensures unchanged { OnErr result (self.new ≡ self.old) }
@@ -131,10 +132,10 @@ impl Encoder {
         Ok(())
     }
 
-    /// The bytes of what was written: the code's number, most significant bit first, and zero bits up
-    /// to a whole byte.
+    /// The bytes of the bits written: the code's number, most significant bit first, and zero bits
+    /// up to a whole byte.
     ///
-    /// `NoMemory` where a growth is refused; the encoder is given up then.
+    /// `NoMemory` if an allocation is refused; the encoder is then dropped.
     pub fn finish(self) -> Result<Vec<u8>, NoMemory>
         ensures { IfOk result (λ bytes. bytes.items ≡ text_of self) }
     {
@@ -192,7 +193,7 @@ mod tests {
         Ok(())
     }
 
-    // Steps of a linear congruential generator, whose high bits are taken.
+    // Steps of a linear congruential generator, of which the high bits are used.
     fn next(state: u32) -> u32 {
         state.wrapping_mul(1_664_525).wrapping_add(1_013_904_223)
     }
@@ -225,8 +226,8 @@ mod tests {
         Ok(())
     }
 
-    // The bits of a text that begins 80 00 00 00 00: low stays under that number, at 7F FF FF FF FF,
-    // until the bit that passes it.
+    // The bits of a text that begins 80 00 00 00 00: low stays below that number, at 7F FF FF FF
+    // FF, until the bit that passes it.
     #[test]
     fn carries_run_through_full_bytes(rt: HostRuntime) -> Result<(), Fail> {
         let mut read = Decoder::new(&[0x80, 0, 0, 0, 0, 1]);

@@ -1,4 +1,4 @@
-//! Laws that show that the definitions mean what they are to mean.
+//! Laws that show that the definitions have their intended meaning.
 
 ghost use Rattle.std.specs.Prelude.{◌≡◌, ◌<◌, ◌≤◌, ◌+◌, ℕ, length, pos, negsuc, neg_ℤ, true, false, [], ◌∷◌, replicate, IsTrue};
 ghost use Rattle.bool_coder.specs.Chains.{Chain, HasProbabilities, IsChain, and_then, run};
@@ -8,10 +8,10 @@ ghost use Rattle.bool_coder.specs.Trees.{is_tree, leaf_below, leaf};
 ghost use Rattle.bool_coder.specs.Uncut.{uncut_read, settled, bits_read};
 ghost use Rattle.bool_coder.specs.Worked.{steps};
 
-/// The reader of a decoder, whose window is held at the range and whose bits end with the last 1,
-/// reads the same bits as one that is not held and has the whole bit string, for every byte text
-/// and all probabilities (RFC 6386, section 7). So does each single read, which leaves a settled
-/// reader again: what is folded from reads is the same with either.
+/// The reader of a decoder, whose window is clamped to the range and whose bits end with the last
+/// 1, reads the same bits as RFC 6386's reader, which is not clamped and has the whole bit string,
+/// for every byte text and all probabilities (RFC 6386, section 7). Each single read does too, and
+/// leaves a settled reader again, so every fold over reads has the same result with either.
 pub fn uncut_reads_alike(bytes: &[u8], probs: &[u8])
     ensures bits { bits_read read probs.now (started bytes.now) ≡ bits_read uncut_read probs.now (text_start bytes.now) }
     ensures start { settled (text_start bytes.now) ≡ started bytes.now }
@@ -19,21 +19,21 @@ pub fn uncut_reads_alike(bytes: &[u8], probs: &[u8])
     ensures range { (prob : ℕ) → (r : Reader) → prob ≤ 255 → 2 ≤ r.range → 2 ≤ (uncut_read prob r).1.range }
 {}
 
-/// Every chain of reads gives the same value by either reader, for every byte text; the two readers
-/// after it again differ by no more than that one is settled.
+/// Every chain of reads returns the same value with either reader, for every byte text. Afterwards
+/// the decoder's reader is again the settled form of RFC 6386's.
 pub fn chains_read_alike<T>(bytes: &[u8])
     ensures value { (chain : Chain T) → HasProbabilities chain → (run read chain (started bytes.now)).0 ≡ (run uncut_read chain (text_start bytes.now)).0 }
     ensures reader { (chain : Chain T) → HasProbabilities chain → (r : Reader) → 2 ≤ r.range → run read chain (settled r) ≡ ((run uncut_read chain r).0, settled (run uncut_read chain r).1) }
 {}
 
-/// A value, a bit, and one chain of reads after another are chains of reads.
+/// A value, a bit, and one chain of reads followed by another are chains of reads.
 pub fn chains_are_composed<T, U>()
     ensures value { (value : T) → IsChain (give value) }
     ensures bit { (prob : ℕ) → prob < 256 → IsChain (read prob) }
     ensures next { (first : Reading T) (next : T → Reading U) → IsChain first → ((value : T) → IsChain (next value)) → IsChain (and_then first next) }
 {}
 
-/// Flags, numbers and leaves are chains of reads, so RFC 6386's reader reads the same.
+/// Flags, numbers and leaves are chains of reads, so RFC 6386's reader reads the same values.
 pub fn numbers_are_chains(tree: &[i8], probs: &[u8])
     ensures flag { IsChain flag }
     ensures literal { (count : ℕ) → IsChain (literal count) }
@@ -41,8 +41,8 @@ pub fn numbers_are_chains(tree: &[i8], probs: &[u8])
     ensures leaf { IsChain (leaf tree.now probs.now) }
 {}
 
-/// What a reader gives of texts that an encoder wrote, and of one that holds the window at the
-/// range for good.
+/// The bits that a reader returns for texts that an encoder wrote, and for one whose window stays
+/// clamped to the range.
 pub fn worked_bits()
     ensures mixed { bits_read read (replicate 3 128) (started (0x9F ∷ 0xC0 ∷ [])) ≡ true ∷ false ∷ true ∷ [] }
     ensures zeros { bits_read read (replicate 20 128) (started []) ≡ replicate 20 false }
@@ -51,8 +51,8 @@ pub fn worked_bits()
     ensures likely { bits_read read (replicate 20 255) (started (replicate 4 255)) ≡ replicate 20 true }
 {}
 
-/// Numbers at the start of texts whose even bits are 1, 0, 1, then 1, 1, 0, then 1 for good, and 0
-/// for good.
+/// Numbers at the start of texts whose bits at even odds are 1, 0, 1; then 1, 1, 0; then 1 forever;
+/// and 0 forever.
 pub fn worked_numbers()
     ensures literal { (literal 3 (started (0x9F ∷ 0xC0 ∷ []))).0 ≡ 5 }
     ensures plus { (signed 1 (started (0xC0 ∷ []))).0 ≡ pos 1 }
@@ -60,8 +60,9 @@ pub fn worked_numbers()
     ensures absent { (signed 7 (started [])).0 ≡ pos 0 }
 {}
 
-/// The leaves of a tree, whose bit strings are 0, 10, 110 and 111, and lists that are no trees: one
-/// without a probability for each pair, one that leads to its own pair, and one with an odd node.
+/// The leaves of a tree, whose bit strings are 0, 10, 110 and 111, and lists that are not trees:
+/// one without a probability for each pair, one that leads to its own pair, and one with an odd
+/// node.
 pub fn worked_leaves()
     ensures first { (leaf steps (128 ∷ 128 ∷ 128 ∷ []) (started [])).0 ≡ 0 }
     ensures second { (leaf steps (128 ∷ 128 ∷ 128 ∷ []) (started (0x9F ∷ 0xC0 ∷ []))).0 ≡ 1 }
@@ -73,8 +74,8 @@ pub fn worked_leaves()
     ensures odd { is_tree (pos 0 ∷ pos 1 ∷ []) (128 ∷ []) ≡ false }
 {}
 
-/// A walk down a tree ends at a leaf: bits beyond those that the tree's length allows are never
-/// read.
+/// A walk down a tree ends at a leaf: bits beyond the number that the tree's length allows are
+/// never read.
 pub fn leaves_are_reached(tree: &[i8], probs: &[u8])
     requires { IsTrue (is_tree tree.now probs.now) }
     ensures { (more : ℕ) → (r : Reader) → leaf_below (length tree.now + more) tree.now probs.now 0 r ≡ leaf tree.now probs.now r }

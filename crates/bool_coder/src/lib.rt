@@ -11,5 +11,5 @@ mod window;
 
 pub use decoder::Decoder;
 pub use encoder::Encoder;
-/// The refusal of a block of memory.
+/// An allocation was refused.
 pub use std::alloc::AllocError as NoMemory;

@@ -1,4 +1,4 @@
-//! Laws of the code text: what it is, and that a reader of it gives the bits back.
+//! Laws of the code text: its form, and that a reader of it returns the bits.
 
 ghost use Rattle.std.specs.Prelude.{◌≡◌, ℕ, ◌+◌, ◌^◌, ◌<◌, ◌≤◌, Bool, true, false, List, [], ◌∷◌, ◌++◌, map, replicate, All};
 ghost use Rattle.bool_coder.specs.Reader.{bits_of, bit_string, started, read};
@@ -11,7 +11,7 @@ pub fn round_trip()
     ensures { (pairs : List (Bool × ℕ)) → All (λ p. p.1 ≤ 255) pairs → bits_read read (map (λ p. p.1) pairs) (started (code_text pairs)) ≡ map (λ p. p.0) pairs }
 {}
 
-/// The number of a code has no more bits than its text gives it: eight, and one for each shift.
+/// The number of a code has no more bits than its text: eight, and one for each shift.
 pub fn low_fits()
     ensures { (pairs : List (Bool × ℕ)) → All (λ p. p.1 ≤ 255) pairs → (all_written pairs no_code).low < 2 ^ ((all_written pairs no_code).shifts + 8) }
 {}
@@ -22,7 +22,7 @@ pub fn text_bits()
     ensures { (c : Code) → bit_string (text_of c) ≡ bits_of (c.shifts + 8) c.low ++ replicate (padding c.shifts) 0 }
 {}
 
-/// The texts of no bits, of one bit and of three, worked by hand.
+/// The texts of no bits, of one bit and of three, worked out manually.
 pub fn worked_texts()
     ensures none { code_text [] ≡ 0x00 ∷ [] }
     ensures one { code_text ((true, 128) ∷ []) ≡ 0x80 ∷ 0x00 ∷ [] }

@@ -4,11 +4,11 @@ ghost use Rattle.std.specs.Prelude.{◌≡◌, ◌+◌, ◌-◌, ◌*◌, ◌<�
 ghost use Rattle.bool_coder.specs.Reader.{text_start, level};
 ghost use Rattle.bool_coder.specs.Window.{reader_of};
 
-/// What a decoder has in hand of its bytes: a number whose low `left` bits are not yet read and
-/// whose higher bits are the d of RFC 6386, section 7.3, and the bytes behind them.
+/// A number whose low `left` bits are not read yet and whose higher bits are the d (`value`) of RFC
+/// 6386, section 7.3, and the bytes that follow it.
 ///
-/// Once d has reached the range it stays there, and every bit is 1. Nothing on the way through the
-/// bits changes that, so d is cut to the range in `hold` alone, before bytes come in.
+/// Once d has reached the range it stays there, and every bit is 1. Reading bits does not change
+/// that, so d is clamped to the range only in `hold`, before bytes are loaded.
 #[derive(Clone, Copy)]
 pub struct Window<'a> {
     pub bytes: &'a [u8],
@@ -36,7 +36,7 @@ impl<'a> Window<'a> {
         }
     }
 
-    /// Takes in bytes where fewer than 7 bits are unread, the most by which a bit shifts the range.
+    /// Loads bytes if fewer than 7 bits are unread, the most by which a bit shifts the range.
     #[inline]
     pub fn ready(&mut self, range: u32)
         requires range { range ≤ 255 }
@@ -50,8 +50,8 @@ impl<'a> Window<'a> {
         }
     }
 
-    /// Takes in bytes. It stands apart from `ready` so that room for what `refilled` gives is cleared
-    /// only where bytes come in, and not before each bit.
+    /// Loads bytes. It is separate from `ready`, so the stack space for the result of `refilled` is
+    /// cleared only when bytes are loaded, and not before each bit.
     #[inline(always)]
     fn refill(&mut self, range: u32)
         requires range { range ≤ 255 }
@@ -63,8 +63,8 @@ impl<'a> Window<'a> {
         *self = self.refilled(range);
     }
 
-    /// This window with at least 7 unread bits, with zeros behind the last byte. It is taken and
-    /// given by value, so that what reads bits one after another keeps it in registers.
+    /// This window with at least 7 unread bits, with zeros after the last byte. It is passed and
+    /// returned by value, so a loop that reads bits keeps it in registers.
     #[cold]
     #[inline(never)]
     fn refilled(self, range: u32) -> Window<'a>
@@ -84,7 +84,7 @@ impl<'a> Window<'a> {
         window
     }
 
-    /// Cuts d to the range, which leaves room above it.
+    /// Clamps d to the range, which leaves room above it.
     fn hold(&mut self, range: u32)
         requires range { range ≤ 255 }
         requires room { self.old.left ≤ 56 }
@@ -99,7 +99,7 @@ impl<'a> Window<'a> {
         }
     }
 
-    /// Takes in bytes as long as the window has room for them, six at once where it can.
+    /// Loads bytes as long as the window has room for them, six at a time if it can.
     fn pull(&mut self)
         requires small { self.old.value < 2 ^ (self.old.left + 8) }
         requires room { self.old.left ≤ 56 }
@@ -121,7 +121,7 @@ impl<'a> Window<'a> {
         }
     }
 
-    /// Takes in the first byte, behind which `rest` stands.
+    /// Loads the first byte, which `rest` follows.
     fn take(&mut self, first: u8, rest: &'a [u8])
         requires next { self.old.bytes.now ≡ first ∷ rest.now }
         requires small { self.old.value < 2 ^ (self.old.left + 8) }
@@ -135,7 +135,7 @@ impl<'a> Window<'a> {
         self.left += 8;
     }
 
-    /// Takes in the first six bytes, behind which `rest` stands.
+    /// Loads the first six bytes, which `rest` follows.
     fn take_six(&mut self, first: [u8; 6], rest: &'a [u8])
         requires next { self.old.bytes.now ≡ first ++ rest.now }
         requires small { self.old.value < 2 ^ (self.old.left + 8) }
