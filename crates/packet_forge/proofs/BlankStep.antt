@@ -22,6 +22,7 @@ use Rattle.pixel_planes.proofs.Rows.{row_fits}
 use Rattle.loop_filter.specs.Frames.{filtered_planes}
 use Rattle.reference_frames.proofs.Flat.{IsPlane}
 use Rattle.reference_frames.specs.FrameTokens.{TokenState, tokens_start, residual_at}
+use Rattle.reference_frames.proofs.Tagged.{key_has_bytes}
 use Rattle.reference_frames.specs.Steps.{decoded_picture, frame_modes, decoded, step_of}
 use Rattle.reference_frames.specs.Unfiltered.{unfiltered}
 use Rattle.reference_frames.specs.declared.references.References.{References}
@@ -189,7 +190,7 @@ grey_decoded tables packet width height end reader wide high =
 
 step_ok : (tables : TableEntries) (state : Option State) (packet : List ℕ) (header : Header) → header_of tables (option_map (λ s. s.context) state) packet ≡ Ok header → has_key_tag packet ≡ true → step_of tables state packet ≡ Ok (decoded tables packet header None)
 unfolding step_of
-step_ok tables state packet header is key = rw (is, key) refl
+step_ok tables state packet header is key = rw (key_has_bytes packet key, is, key) refl
 
 blank_modes : (tables : TableEntries) (width height end : ℕ) (reader s : Reader) → Reads (macroblock_pairs (λ place. blank_macroblock) (macroblocks width * macroblocks height)) reader s → (frame_modes tables (blank_header_of tables width height end reader) None).records ≡ replicate (macroblocks width * macroblocks height) grey_mode
 blank_modes tables width height end reader s reads =

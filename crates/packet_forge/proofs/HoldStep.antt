@@ -1,6 +1,6 @@
 -- The step of a hold packet.
 use Rattle.std.specs.Prelude.{Result, Ok, replicate, nat_le, nat_lt, IsOkAnd}
-use Rattle.std.proofs.Common.{◌≡◌, ℕ, ◌+◌, ◌*◌, ◌/◌, ◌%◌, ◌<◌, ◌≤◌, Bool, true, false, List, [], ◌∷◌, ◌++◌, Some, length, refl, ap, sym, subst, ◌∙◌, arith}
+use Rattle.std.proofs.Common.{◌≡◌, ℕ, ◌+◌, ◌*◌, ◌/◌, ◌%◌, ◌<◌, ◌≤◌, ◌==◌, Bool, true, false, List, [], ◌∷◌, ◌++◌, Some, length, refl, ap, sym, subst, ◌∙◌, arith}
 use Rattle.std.specs.List.{All, list_all}
 use Rattle.std.proofs.lemmas.Bool.{and_parts, leb-true}
 use Rattle.std.proofs.lemmas.List.Elements.{All-nil, All-cons, All-append}
@@ -17,6 +17,7 @@ use Rattle.pixel_planes.specs.Pictures.{PictureSamples, macroblocks}
 use Rattle.loop_filter.specs.Frames.{filtered_planes}
 use Rattle.reference_frames.proofs.Flat.{IsPlane}
 use Rattle.reference_frames.specs.FrameTokens.{TokenState, tokens_start, residual_at}
+use Rattle.reference_frames.proofs.Tagged.{tagged_has_bytes}
 use Rattle.reference_frames.specs.Steps.{decoded_picture, frame_modes, decoded, step_of}
 use Rattle.reference_frames.specs.Unfiltered.{unfiltered}
 use Rattle.reference_frames.specs.declared.references.References.{References}
@@ -132,9 +133,9 @@ is_ready state has =
 
 -- ---- the step
 
-later_ok : (tables : TableEntries) (state : State) (packet : List ℕ) (header : Header) → header_of tables (Some state.context) packet ≡ Ok header → has_key_tag packet ≡ false → step_of tables (Some state) packet ≡ Ok (decoded tables packet header (Some state))
+later_ok : (tables : TableEntries) (state : State) (packet : List ℕ) (header : Header) → header_of tables (Some state.context) packet ≡ Ok header → has_key_tag packet ≡ false → (length packet == 0) ≡ false → step_of tables (Some state) packet ≡ Ok (decoded tables packet header (Some state))
 unfolding step_of
-later_ok tables state packet header is key = rw (is, key) refl
+later_ok tables state packet header is key bytes = rw (bytes, is, key) refl
 
 held_modes : (tables : TableEntries) (state : State) (end : ℕ) (reader s : Reader) → 0 < macroblocks state.references.last.width → Reads (macroblock_pairs (hold_macroblock (macroblocks state.references.last.width)) (macroblocks state.references.last.width * macroblocks state.references.last.height)) reader s →
     (frame_modes tables (hold_header_of state.context end reader) (Some state)).records ≡ replicate (macroblocks state.references.last.width * macroblocks state.references.last.height) hold_mode
@@ -159,7 +160,7 @@ hold_step tables state updates vectors ready small =
     let shown : is_shown packet ≡ true = rw tag refl in
     let header = header_of-hold tables state.context first reads.front reads.header small reads.first reads.second updates.0 in
     let value : Header = hold_header_of state.context (3 + length first) reads.header in
-    let step : step_of tables (Some state) packet ≡ Ok (decoded tables packet value (Some state)) = later_ok tables state packet value header key in
+    let step : step_of tables (Some state) packet ≡ Ok (decoded tables packet value (Some state)) = later_ok tables state packet value header key (tagged_has_bytes packet (shown_tag false (length first)) tag) in
     let modes = held_modes tables state (3 + length first) reads.header reads.end (omega (arith, ready.wide.0)) reads.macroblocks in
     let picture : (decoded tables packet value (Some state)).1 ≡ state.references.last =
     ap (λ (ms : List MbMode). decoded_picture packet value (Some state.references) width height ms) modes ∙ held_decoded packet state (3 + length first) reads.header ready in

@@ -10,5 +10,6 @@ pub mod MacroblockOrder
 pub mod Flat
 pub mod FlatFrames
 pub mod Behind
+pub mod Tagged
 pub mod PutRows
 pub mod PlacedInPlanes

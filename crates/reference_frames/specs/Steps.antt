@@ -1,9 +1,10 @@
 -- One step of decoding: tables, a state or none, and a packet give a state and a picture, or a cause
 -- (RFC 6386, section 9).
-use Rattle.std.specs.Prelude.{ℕ, List, Option, Some, None, Result, Ok, Err, ◌≡◌, if◌then◌else◌}
+use Rattle.std.specs.Prelude.{ℕ, ◌==◌, List, length, Option, Some, None, Result, Ok, Err, ◌≡◌, if◌then◌else◌}
 use Rattle.std.specs.Option.{option_map}
 use Rattle.vp8_tables.specs.Tables.{TableEntries}
 use Rattle.frame_header.specs.declared.cause.Cause.{Cause}
+use Rattle.frame_header.specs.declared.cause.Cause.TheVariants.{NoKeyFrame}
 use Rattle.frame_header.specs.declared.header.Header.{Header}
 use Rattle.frame_header.specs.Header.{header_of}
 use Rattle.frame_header.specs.Tags.{has_key_tag}
@@ -73,9 +74,18 @@ abbrev pub decoded_by : TableEntries → List ℕ → Option State → Result He
 decoded_by tables packet state (Ok header) = Ok (decoded tables packet header (state_before packet state))
 decoded_by tables packet state (Err cause) = Err cause
 
+-- a packet of no bytes drops a frame: the state stays and its last reference is shown; with no state there is no picture to show
+abbrev pub repeated : Option State → Result (State × PictureSamples) Cause
+repeated None = Err NoKeyFrame
+repeated (Some state) = Ok (state, state.references.last)
+
+-- the step of a packet with bytes
+abbrev pub coded_step : TableEntries → Option State → List ℕ → Result (State × PictureSamples) Cause
+coded_step tables state packet = decoded_by tables packet state (header_of tables (option_map (λ s. s.context) state) packet)
+
 -- the step
 unfoldable pub step_of : TableEntries → Option State → List ℕ → Result (State × PictureSamples) Cause
-step_of tables state packet = decoded_by tables packet state (header_of tables (option_map (λ s. s.context) state) packet)
+step_of tables state packet = if length packet == 0 then repeated state else coded_step tables state packet
 
 -- the answer is the step's, or that there was no memory
 abbrev pub StepAnswers : Result (State × PictureSamples) Cause → Result (State × PictureSamples) StepFault → Type 0

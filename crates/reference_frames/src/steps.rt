@@ -1,13 +1,13 @@
 ghost use Rattle.std.specs.Prelude.{◌≡◌, false, ◌+◌, ◌<◌, ◌≤◌, ◌*◌, length, All, IfOk, IsTrue, IsSome};
 ghost use Rattle.std.specs.Option.{option_copied, option_map, ForSome};
-ghost use Rattle.reference_frames.specs.Steps.{StepAnswers, decoded, height_of, references_before, references_behind, step_of, width_of};
+ghost use Rattle.reference_frames.specs.Steps.{StepAnswers, coded_step, decoded, height_of, references_before, references_behind, repeated, step_of, width_of};
 ghost use Rattle.reference_frames.specs.States.{HasMap, HaveOneSize};
 
 use crate::frames::{decoded_picture, macroblocks};
 use crate::references::References;
 use crate::states::State;
 use crate::step_fault::StepFault;
-use frame_header::{Header, read_header};
+use frame_header::{Cause, Header, read_header};
 use mode_parser::read_modes;
 use pixel_planes::{NoMemory, Picture};
 use std::alloc::Global;
@@ -96,20 +96,38 @@ fn decode(
     Ok((state, picture))
 }
 
-/// One step of decoding (RFC 6386, section 9): the state behind `packet` and its picture, from the
-/// state before it, or from none.
+/// The same state again, and the picture of its last reference. It takes no memory; `NoMemory` if one of
+/// its parts is shared as often as can be counted.
+fn shown_again(state: &State) -> Result<(State, Picture), NoMemory>
+    ensures { IfOk result (λ d. d ≡ (state.now, state.now.references.last)) }
+{
+    let last = state.references().last.again()?;
+    Ok((state.again()?, last))
+}
+
+/// A packet of no bytes drops a frame: the state stays and its last reference is shown.
 ///
-/// `Refused` with the first cause against the packet; `NoMemory` where the modes, the readers of the
-/// token partitions, the flags between macroblocks, a plane, a shared block or one more share of a
-/// plane find no room.
-#[tactic(auto, unfolding(crate::specs::Steps::step_of))]
-pub fn step(
+/// `Refused` with `NoKeyFrame` if there is no state.
+fn repeat(state: Option<&State>) -> Result<(State, Picture), StepFault>
+    ensures { StepAnswers (repeated (option_copied state.entry)) result }
+{
+    let Some(state) = state else {
+        return Err(StepFault::Refused(Cause::NoKeyFrame));
+    };
+    match shown_again(state) {
+        Ok(shown) => Ok(shown),
+        Err(_) => Err(StepFault::NoMemory),
+    }
+}
+
+/// The step of a packet with bytes: its header, and the frame after it.
+fn step_coded(
     alloc: Global,
     tables: &Tables,
     state: Option<&State>,
     packet: &[u8],
 ) -> Result<(State, Picture), StepFault>
-    ensures { StepAnswers (step_of tables.now (option_copied state.entry) packet.now) result }
+    ensures { StepAnswers (coded_step tables.now (option_copied state.entry) packet.now) result }
 {
     let context = match state {
         Some(state) => Some(state.context()),
@@ -124,4 +142,26 @@ pub fn step(
         Ok(decoded) => Ok(decoded),
         Err(_) => Err(StepFault::NoMemory),
     }
+}
+
+/// One step of decoding (RFC 6386, section 9): the state after `packet` and its picture, from the
+/// state before it, or from none. A packet of no bytes leaves the state as it is and shows its last
+/// reference.
+///
+/// `Refused` with the first cause against the packet; `NoMemory` if memory runs out for the modes, the
+/// readers of the token partitions, the flags between macroblocks, a plane, a shared block or one more
+/// share of a plane.
+#[tactic(auto, unfolding(crate::specs::Steps::step_of))]
+pub fn step(
+    alloc: Global,
+    tables: &Tables,
+    state: Option<&State>,
+    packet: &[u8],
+) -> Result<(State, Picture), StepFault>
+    ensures { StepAnswers (step_of tables.now (option_copied state.entry) packet.now) result }
+{
+    if packet.is_empty() {
+        return repeat(state);
+    }
+    step_coded(alloc, tables, state, packet)
 }

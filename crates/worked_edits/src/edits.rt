@@ -43,7 +43,7 @@ fn from_nothing(rt: HostRuntime) -> Result<(), Fail> {
     let requests =
         b"insert 0 0 -\nframe 0\nreplace 0 1000009D012A10001000\nframe 0\ndelete 1\nstats\n";
     let ran = run_over(rt.alloc(), &EMPTY, requests);
-    let before = b"ok 1\nrefused packet 0 ShortPacket\nok 1\nserved 0\nrefused Place\n";
+    let before = b"ok 1\nrefused packet 0 NoKeyFrame\nok 1\nserved 0\nrefused Place\n";
     let stats = ran.replies.as_slice().strip_prefix(before);
     assert!(rt; stats.is_some_and(tells_steps), "at {:?}", ran.replies);
     Ok(())

@@ -62,7 +62,7 @@ fn token_partitions(rt: HostRuntime) -> Result<(), Fail> {
 fn a_broken_stream(rt: HostRuntime) -> Result<(), Fail> {
     let ran = run_packets(
         rt.alloc(),
-        &[KEY, &[0x11, 0], INTER, KEY, &[]],
+        &[KEY, &[0x11, 0], INTER, KEY, &[0x11]],
         b"frame 0\nframe 1\nframe 2\nframe 3\nframe 4\n",
     )?;
     let replies =

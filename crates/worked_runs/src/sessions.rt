@@ -21,7 +21,7 @@ fn shows_key(picture: &Picture) -> bool {
 // fails here, as in each run.
 #[test]
 fn a_session_gives_pictures(rt: HostRuntime) -> Result<(), Fail> {
-    let text = ivf_of(rt.alloc(), &[INTER, KEY, &[], WIDE_KEY])?;
+    let text = ivf_of(rt.alloc(), &[INTER, KEY, &[0x11], WIDE_KEY])?;
     let file = ivf_read(rt.alloc(), text.as_slice())?;
     assert_eq!(rt; file.packets.len(), 4);
     let mut session = Session::new(rt.alloc(), Tables::flat(), 1, file)?;

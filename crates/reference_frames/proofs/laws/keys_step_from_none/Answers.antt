@@ -8,6 +8,7 @@ use Rattle.frame_header.specs.declared.cause.Cause.{Cause}
 use Rattle.frame_header.specs.declared.header.Header.{Header}
 use Rattle.reference_frames.specs.Steps.{decoded_by, step_of}
 use Rattle.reference_frames.specs.declared.states.State.{State}
+use Rattle.reference_frames.proofs.Tagged.{key_has_bytes}
 use Rattle.reference_frames.proofs.laws.keys_step_from_none.Goals as goal
 
 -- behind a key tag it does not matter which state stood before
@@ -17,5 +18,5 @@ begins_anew tables packet state (Ok header) tagged = rw tagged refl
 
 pub returns : goal.returns
 unfolding step_of
-returns c = λ tables state packet tagged.
-    ap (decoded_by tables packet state) (c.keys_take_no_context.ensures tables (option_map (λ s. s.context) state) packet tagged) ∙ begins_anew tables packet state (header_of tables None packet) tagged
+returns c = λ tables state packet tagged. rw (key_has_bytes packet tagged)
+    (ap (decoded_by tables packet state) (c.keys_take_no_context.ensures tables (option_map (λ s. s.context) state) packet tagged) ∙ begins_anew tables packet state (header_of tables None packet) tagged)
