@@ -77,7 +77,9 @@ impl Picture {
             mut cb,
             mut cr,
         } = planes;
-        let _sides = (luma.width(), cb.width(), cr.width());
+        luma.holds_whole();
+        cb.holds_whole();
+        cr.holds_whole();
         luma.refill();
         cb.refill();
         cr.refill();
@@ -88,6 +90,14 @@ impl Picture {
             cb: Rc::new(alloc, cb)?,
             cr: Rc::new(alloc, cr)?,
         })
+    }
+
+    /// Does nothing. It says that the picture is whole: three whole planes of its coded size, and shown sides
+    /// of 1 to 16,383 samples.
+    pub fn holds_whole(&self)
+        ensures { IsWholePicture self.now }
+    {
+        let _width = self.width;
     }
 
     /// The shown width in luma samples, 1 to 16,383.

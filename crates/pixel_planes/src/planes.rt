@@ -93,6 +93,14 @@ impl Plane {
         })
     }
 
+    /// Does nothing. It says that the plane is whole: a sample for each column and row, and sides of 1 to
+    /// 16,384 samples.
+    pub(crate) fn holds_whole(&self)
+        ensures { IsWhole self.now.shown }
+    {
+        let _width = self.width();
+    }
+
     /// The number of samples in a row, 1 to 16,384.
     pub fn width(&self) -> usize
         ensures value { result ≡ self.now.shown.width }
