@@ -1,6 +1,7 @@
 //! The state that a session keeps between requests: packets with their marks, and a cache that is
 //! coherent with them.
 ghost use Rattle.std.specs.Prelude.{◌≡◌, ◌<◌, ◌≤◌, OnErr, is_ok, length, slice_get};
+ghost use Rattle.packet_edits.specs.Laws.{HasOwnIds};
 ghost use Rattle.packet_edits.specs.Shown.{stream_of};
 ghost use Rattle.state_cache.specs.Costs.{Costs};
 ghost use Rattle.state_cache.specs.Decoding.{outcomes};
@@ -81,6 +82,15 @@ fn drop_left(cache: &mut Cache, left: Option<u64>)
     }
 }
 
+/// A fact for proofs: a list has at most 1,048,576 packets, each with a mark and an id of its own.
+pub(crate) fn list_is_well_formed(list: &Store)
+    ensures few { length list.now.list.entries ≤ 1048576 }
+    ensures marks { length list.now.marks ≡ length list.now.list.entries }
+    ensures own_ids { HasOwnIds list.now.list }
+{
+    let _count = list.len();
+}
+
 /// Makes an edit, drops the cached outcome of a packet that it removes, and returns the new number of
 /// packets. A refused edit changes nothing.
 pub(crate) fn edit_kept(
@@ -103,7 +113,7 @@ pub(crate) fn edit_kept(
     edits_keep_coherence(tables);
     edits_keep_ids();
     next_id_is_not_kept();
-    let _standing = list.len();
+    list_is_well_formed(list);
     let left = leaving(list, &edit);
     let count = make_edit(alloc, tables, list, edit)?;
     drop_left(cache, left);

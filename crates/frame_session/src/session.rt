@@ -11,7 +11,7 @@ ghost use Rattle.frame_session.specs.declared.edit.Edit.TheVariants.{Insert, Rep
 
 use crate::edit::Edit;
 use crate::hex_text::Hex;
-use crate::keeping::{edit_kept, picture_at};
+use crate::keeping::{edit_kept, list_is_well_formed, picture_at};
 use crate::refusal::Refusal;
 use crate::size::Size;
 use packet_edits::Store;
@@ -86,7 +86,7 @@ impl Session {
         ensures value { result ≡ shown_count self.now.now }
         ensures few { result ≤ 1048576 }
     {
-        let _standing = self.list.len();
+        list_is_well_formed(&self.list);
         self.list.frames() as u64
     }
 

@@ -1,6 +1,6 @@
 //! Makes the planes of a cropped and of a faded picture.
 ghost use Rattle.std.specs.Prelude.{◌≡◌, ◌<◌, ◌≤◌, true, IfOk};
-ghost use Rattle.pixel_planes.specs.Pictures.{side_of};
+ghost use Rattle.pixel_planes.specs.Pictures.{IsWholePicture, side_of};
 ghost use Rattle.script_nodes.specs.Shown.{is_inside, place_of, black, cut_to, faded_to, shown_in};
 ghost use Rattle.script_nodes.specs.Planes.{block_side, IsCodedPlane, HasRows};
 
@@ -71,6 +71,13 @@ fn blank(
     )
 }
 
+/// A fact for proofs: a picture has whole planes of its size.
+fn picture_is_whole(picture: &Picture)
+    ensures { IsWholePicture picture.now }
+{
+    let _width = picture.width();
+}
+
 /// A component of an area inside a picture.
 pub(crate) fn cut_plane(
     alloc: Global,
@@ -83,7 +90,7 @@ pub(crate) fn cut_plane(
     requires high { (0 < area.now.height) × (area.now.height ≤ 16383) }
     ensures { IfOk result (HasRows component area.now.width area.now.height ((cut_to area.now (shown_in picture.now)).sample component) (side_of component area.now.height)) }
 {
-    let _ = picture.width();
+    picture_is_whole(picture);
     let mut plane = blank(alloc, component, area.width as usize, area.height as usize)?;
     let left = place_of(component, area.x as usize);
     let top = place_of(component, area.y as usize);

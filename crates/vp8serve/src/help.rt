@@ -20,29 +20,30 @@ To watch frames as they are served, with the replies in a file:
 pub const GRAMMAR: &str = "\
 Requests, a line each; the reply goes to standard output:
   frame N               write frame N to OUT          served N
-  insert AT STAMP HEX   put in a packet               ok K (K packets stand)
-  replace AT HEX        give a packet other bytes     ok K
-  delete AT             take a packet out             ok K
-  move FROM TO          take one out, put it in at TO ok K
-  blank AT W H          put in a grey W x H key frame ok K
-  hold AT               put in a repeat of the frame  ok K
+  insert AT STAMP HEX   insert a packet               ok K (K packets now)
+  replace AT HEX        replace a packet's bytes      ok K
+  delete AT             remove a packet               ok K
+  move FROM TO          remove one, insert it at TO   ok K
+  blank AT W H          insert a grey W x H key frame ok K
+  hold AT               insert a repeat of the frame  ok K
   script TEXT           edit the frames, see below    ok K
   count                                               packets K frames F
   stats                                               decoded D (packets so far)
 Packets and frames are numbered from 0. STAMP is a packet's time stamp, HEX its
 bytes as hexadecimal digits, or `-` for none. Empty lines and lines that begin
 with # have no reply.
-A request that is refused changes nothing; the reply says why:
+A refused request changes nothing; the reply gives the reason:
   refused Line | Place | Full | Spent | Size | TooLarge | NoMemory
   refused Syntax | Nodes | Reference | Number             (script)
   refused NoSuchFrame | CropOutside | SizeDiffers         (frame)
   refused packet J CAUSE    packet J cannot be decoded    (frame)
 
-Scripts: `-` for none, or nodes parted by `;`. Node 0 is the stream; the others
-are numbered from 1, and the last one is served. A and B are earlier nodes:
-  trim A FIRST COUNT            COUNT frames of A from FIRST on
+Scripts: `-` for none, or nodes separated by `;`. Node 0 is the stream; the
+others are numbered from 1, and the last one is served. A and B are earlier
+nodes:
+  trim A FIRST COUNT            COUNT frames of A, starting at FIRST
   splice A B                    A's frames, then B's
   crop A X Y W H                W x H samples from column X, row Y (both even)
   fade A FIRST COUNT FROM TO    mix with black: weight FROM/256 before FIRST,
-                                TO/256 from FIRST+COUNT on, a ramp between
+                                TO/256 after COUNT frames, a ramp between
 Example: script trim 0 0 50; fade 1 25 25 256 0";

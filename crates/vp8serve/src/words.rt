@@ -88,31 +88,31 @@ pub fn parse<'a, S: AsStr>(alloc: Global, words: &'a [S]) -> Result<Words<'a>, c
         alloc,
         "cache",
         "N",
-        "How many decoded frames are kept, 1 to 4096 [default: 32]",
+        "The most decoded frames to cache, 1 to 4096 [default: 32]",
     )
     .value_parser(clap::value_parser!(u16).range(1..=4096));
     let tables = option(
         alloc,
         "tables",
         "FILE",
-        "File of 3012 bytes to use in place of RFC 6386's long tables",
+        "File of 3012 bytes to use instead of RFC 6386's long tables",
     );
     let saved = option(
         alloc,
         "save",
         "FILE",
-        "IVF file that the packets go to after the last request",
+        "IVF file for the packets after the last request",
     );
     let command = Command::new(alloc, "vp8serve")
         .about(ABOUT)
         .after_help(GRAMMAR)
-        .arg(optional(alloc, "IN", "IVF file; `-` is one with no packets"))?
+        .arg(optional(alloc, "IN", "IVF file; `-` for a stream with no packets"))?
         .arg(optional(
             alloc,
             "REQUESTS",
-            "File of request lines; `-` is standard input",
+            "File of request lines; `-` for standard input",
         ))?
-        .arg(optional(alloc, "OUT", "File that the frames go to; `-` drops them"))?
+        .arg(optional(alloc, "OUT", "YUV4MPEG2 file for the frames; `-` drops them"))?
         .arg(cache)?
         .arg(tables)?
         .arg(saved)?;

@@ -10,4 +10,4 @@ pub returns-clause-sound : goal.returns-clause-sound
 returns-clause-sound c =
     let without = subst (λ (o : Option ℕ). CacheWithout o c.args.cache.now c.drop_left.new.cache) c.leaving-left.ensures c.drop_left.ensures.without in
     answered_sound c.args.tables.now c.edits_keep_coherence.ensures c.edits_keep_ids.ensures c.next_id_is_not_kept.ensures c.args.edit c.args.list.now c.make_edit.new.list c.args.cache.now c.drop_left.new.cache (Ok c.in_ok-count.count)
-    (c.len-standing.ensures.marks ∙ c.len-standing.ensures.value) c.len-standing.ensures.own_ids c.in_ok-count.ensures.after c.in_ok-count.ensures.marks c.requires without c.drop_left.ensures.bounded
+    c.list_is_well_formed.ensures.marks c.list_is_well_formed.ensures.own_ids c.in_ok-count.ensures.after c.in_ok-count.ensures.marks c.requires without c.drop_left.ensures.bounded
