@@ -1,0 +1,71 @@
+#!/usr/bin/env python3
+"""Runs the commands of docs/cookbook.md (or of the files named) as they stand, in order, in one bash and one new
+folder, and compares their output with the lines after `#`. A player is replaced by `cat`."""
+
+import os
+import pathlib
+import subprocess
+import sys
+import tempfile
+
+TOP = pathlib.Path(__file__).resolve().parent.parent
+
+
+def blocks(text):
+    """The indented lines of a text, each command with the output that is wanted after it."""
+    found = []
+    for line in text.splitlines():
+        if not line.startswith("    "):
+            continue
+        line = line[4:]
+        if line.startswith("# "):
+            found[-1][1].append(line[2:])
+        elif found and (not complete(found[-1][0]) or line.startswith((" ", "}"))):
+            found[-1][0] += "\n" + line
+        else:
+            found.append([line, []])
+    return found
+
+
+def complete(command):
+    """Whether bash reads this as whole commands."""
+    return subprocess.run(["bash", "-n", "-c", command], capture_output=True).returncode == 0
+
+
+def run(path, folder):
+    wrong = 0
+    commands = blocks(path.read_text(encoding="utf-8"))
+    script = "".join(f"{command}\necho '--end--' \n" for command, _ in commands)
+    env = dict(os.environ, PATH=f"{folder}/bin:{TOP}/crates/vp8serve/out:{os.environ['PATH']}")
+    ran = subprocess.run(["bash", "-c", script], cwd=folder, env=env, capture_output=True, text=True, stdin=subprocess.DEVNULL)
+    outputs = ran.stdout.split("--end--\n")
+    for (command, wanted), output in zip(commands, outputs):
+        lines = output.splitlines()
+        if wanted and lines != wanted:
+            wrong += 1
+            print(f"{path.name}: {command}\n  printed {lines}\n  and not {wanted}")
+    if len(outputs) != len(commands) + 1:
+        wrong += 1
+        print(f"{path.name}: only {len(outputs) - 1} of {len(commands)} commands ended")
+    print(f"{path.name}: {len(commands)} commands, {wrong} differ")
+    if ran.stderr:
+        print(ran.stderr, end="")
+    return wrong
+
+
+def main():
+    paths = [pathlib.Path(name) for name in sys.argv[1:]] or [TOP / "docs/cookbook.md"]
+    wrong = 0
+    for path in paths:
+        with tempfile.TemporaryDirectory() as folder:
+            os.mkdir(f"{folder}/bin")
+            for player in ("ffplay", "mpv"):
+                stub = pathlib.Path(folder, "bin", player)
+                stub.write_text("#!/bin/sh\ncat > /dev/null\n")
+                stub.chmod(0o755)
+            wrong += run(path, folder)
+    return 1 if wrong else 0
+
+
+if __name__ == "__main__":
+    sys.exit(main())
