@@ -1,4 +1,4 @@
--- A packet without a key tag gives back what it does not refresh.
+-- A packet without a key tag restores the probabilities that it does not refresh.
 use Rattle.std.proofs.Common.{◌≡◌, ℕ, Bool, false, List, Some, Result, IfOk, refl}
 use Rattle.vp8_tables.specs.Tables.{TableEntries}
 use Rattle.frame_header.specs.Tags.{has_key_tag}

@@ -37,7 +37,7 @@ header_of-key tables before packet tagged =
     let begun_from_none : first_context tables (has_key_tag packet) None ≡ default_context tables = first_context-default tables None (has_key_tag packet) tagged in
     rw (start_by-key before packet (tag_of packet) tagged, begun, begun_from_none) refl
 
--- what holds of each answer of the next step holds of the answer of both
+-- a fact of each answer of the next step holds of the answer of both
 pub IfOk-then : {A B : Type 0} (P : B → Type 0) (first : Result A Cause) (next : A → Result B Cause) → ((x : A) → IfOk (next x) P) → IfOk (first >>= next) P
 IfOk-then P (Ok x) next each = each x
 IfOk-then P (Err cause) next each = tt

@@ -7,7 +7,7 @@ use Rattle.frame_header.specs.Places.{sizes_at, places_of, is_past, token_places
 use Rattle.frame_header.specs.declared.places.Place.{Place}
 use Rattle.frame_header.specs.declared.cause.Cause.TheVariants.{TokenSizes, TokenPartition}
 
--- the partitions from the k-th on, of which `last` have a size
+-- the partitions starting at the k-th, of which `last` have a size
 abbrev pub places_from : List ℕ → ℕ → ℕ → ℕ → ℕ → List Place
 places_from packet at last k start = places_of start (sizes_at (last - k) (at + 3 * k) packet) (length packet)
 
@@ -19,7 +19,7 @@ all_places packet at last = places_of (at + 3 * last) (sizes_at last at packet) 
 abbrev pub IsInside : List ℕ → Place → Type 0
 IsInside packet place = place.start + place.length ≤ length packet
 
--- k partitions are placed, none runs past the end, and the next begins at `start`
+-- k partitions are located, none runs past the end, and the next begins at `start`
 pub record ArePlaced (packet : List ℕ) (at last k start : ℕ) (done : List Place) : Type 0 where
   pub counted : length done ≡ k
   pub room : start ≤ length packet
@@ -40,7 +40,7 @@ ArePlaced-none packet at last room =
       first = ap (λ places. position_from (is_past (length packet)) 0 places) same;
     }
 
--- the next partition, where one with a size is left
+-- the next partition, if one with a size is left
 pub places_from-next : (packet : List ℕ) (at last k start : ℕ) → k < last → places_from packet at last k start ≡ record { start = start; length = number_at packet (at + 3 * k) } ∷ places_from packet at last (k + 1) (start + number_at packet (at + 3 * k))
 places_from-next packet at last k start below =
     let one_more : last - k ≡ suc (last - (k + 1)) = omega arith in

@@ -27,6 +27,6 @@ default_context tables = record {
   sign_biases = record { golden = false; altref = false };
 }
 
--- the context with which a frame begins: a key frame's is the default one, any other takes over that before it
+-- the context with which a frame begins: a key frame's is the default one, any other inherits the context before it
 abbrev pub first_context : TableEntries → Bool → Option Context → Context
 first_context tables is_key before = if is_key then default_context tables else unwrap_or before (default_context tables)

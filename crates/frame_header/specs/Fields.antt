@@ -8,7 +8,7 @@ use Rattle.frame_header.specs.declared.fields.Filter.{Filter}
 use Rattle.frame_header.specs.declared.fields.Colors.{Colors}
 use Rattle.frame_header.specs.declared.fields.Fields.{Fields}
 
--- four flagged numbers, where an absent one is 0
+-- four flagged numbers; an absent one is 0
 unfoldable pub four_signed : ℕ → Reading (List ℤ)
 four_signed count = do
   first ← signed count
@@ -24,7 +24,7 @@ colors = do
   clamping ← flag
   give (record { color_space = space; clamping_type = clamping })
 
--- segment mode, quantizers and levels; what is absent is 0 (RFC 6386, section 9.3)
+-- segment mode, quantizers and levels; an absent one is 0 (RFC 6386, section 9.3)
 unfoldable pub segment_data : Reading Segments
 segment_data = do
   absolute ← flag
@@ -32,7 +32,7 @@ segment_data = do
   levels ← four_signed 6
   give (record { is_absolute = absolute; quantizers = quantizers; levels = levels })
 
--- a probability of the segment map's tree, 255 where absent (RFC 6386, section 9.3)
+-- a probability of the segment map's tree, 255 if absent (RFC 6386, section 9.3)
 unfoldable pub map_probability : Reading ℕ
 map_probability = do
   is_present ← flag
@@ -45,7 +45,7 @@ map_probabilities = do
   third ← map_probability
   give (first ∷ second ∷ third ∷ [])
 
--- what is updated of the segments, and the segment data behind it (RFC 6386, section 9.3)
+-- the updates of the segments, and the segment data after them (RFC 6386, section 9.3)
 unfoldable pub segment_updates : Segments → Reading (Segmentation × Segments)
 segment_updates before = do
   map ← flag
@@ -68,7 +68,7 @@ filter = do
   sharpness ← literal 3
   give (record { is_simple = simple; level = level; sharpness = sharpness })
 
--- a change of the level: a flag, and where it is set a magnitude and a sign, where 1 is minus; an absent one stays (RFC 6386, section 9.4)
+-- a change of the level: a flag, and if it is set a magnitude and a sign, 1 for minus; an absent one remains (RFC 6386, section 9.4)
 unfoldable pub delta : ℤ → Reading ℤ
 delta before = do
   is_updated ← flag
@@ -85,7 +85,7 @@ four_deltas before = do
   fourth ← delta (slice_index_or before 3 (pos 0))
   give (first ∷ second ∷ third ∷ fourth ∷ [])
 
--- the changes of the level by reference and mode; where none is updated, all stay (RFC 6386, section 9.4)
+-- the changes of the level by reference and mode; if none is updated, all remain (RFC 6386, section 9.4)
 unfoldable pub deltas : FilterDeltas → Reading FilterDeltas
 deltas before = do
   is_updated ← flag
@@ -94,7 +94,7 @@ deltas before = do
     mode ← four_deltas before.mode
     give (record { reference = reference; mode = mode })) else give before
 
--- whether the level is adjusted, and the changes behind it (RFC 6386, section 9.4)
+-- whether the level is adjusted, and the changes after it (RFC 6386, section 9.4)
 unfoldable pub adjustment : FilterDeltas → Reading (Bool × FilterDeltas)
 adjustment before = do
   is_enabled ← flag
@@ -108,7 +108,7 @@ partition_count = do
   log2 ← literal 2
   give (2 ^ log2)
 
--- the fields of the first partition, in order, up to the number of token partitions, and the context with what they change of it (RFC 6386, section 19.2)
+-- the fields of the first partition, in order, up to the number of token partitions, and the context with their changes (RFC 6386, section 19.2)
 unfoldable pub fields : Bool → Context → Reading (Fields × Context)
 fields is_key before = do
   color ← (if is_key then colors else give (record { color_space = false; clamping_type = false }))

@@ -17,20 +17,20 @@ use Rattle.frame_header.specs.declared.start.Start.{Start}
 use Rattle.frame_header.specs.declared.trailing_fields.TrailingFields.{TrailingFields}
 use Rattle.frame_header.specs.declared.header.Header.{Header}
 
--- one step, then the next; the first cause stands
+-- one step, then the next; the first cause wins
 infixl 10 ◌>>=◌
 abbrev pub ◌>>=◌ : {A B : Type 0} → Result A Cause → (A → Result B Cause) → Result B Cause
 Ok x >>= next = next x
 Err cause >>= next = Err cause
 
--- the place behind the first partition, which stands behind the tag (RFC 6386, section 9.1)
+-- the position after the first partition, which follows the tag (RFC 6386, section 9.1)
 abbrev pub first_end : Start → List ℕ → Result ℕ Cause
 first_end start packet =
     if nat_lt (length packet - start.place) start.tag.first_partition then Err FirstPartition
     else Ok (start.place + start.tag.first_partition)
 
--- the context that a frame leaves for the next: its own, but where refresh_entropy is 0 with the four sets of
--- probabilities that stood when that was read (RFC 6386, section 19.2)
+-- the context that a frame leaves for the next: its own, but if refresh_entropy is 0 with the four sets of probabilities
+-- from before that bit was read (RFC 6386, section 19.2)
 abbrev pub context_left : Context → TrailingFields → Context → Context
 context_left before trailing context = if trailing.refreshes_entropy then context else record context { probabilities = before.probabilities }
 
@@ -57,9 +57,9 @@ header_in start (fields, before) partitions ((trailing, context), reader) = reco
   reader = reader;
 }
 
--- the header of a frame behind its start, with the context that it begins with, or the first cause against it: the
--- first partition and its fields up to the number of token partitions, those partitions, and the fields behind
--- (RFC 6386, sections 9.2 to 9.11)
+-- the header of a frame after its start, with the context that it begins with, or the first cause against it: the first
+-- partition and its fields up to the number of token partitions, those partitions, and the fields after (RFC 6386, sections
+-- 9.2 to 9.11)
 abbrev pub header_behind : TableEntries → Context → List ℕ → Start → Result Header Cause
 header_behind tables context packet start = do
   end ← first_end start packet
@@ -67,7 +67,7 @@ header_behind tables context packet start = do
   partitions ← token_places packet end read.0.0.partition_count
   Ok (header_in start read.0 partitions (trailing_fields start.tag.key tables.updates read.0.1 read.1))
 
--- the header of a packet behind a context or none, or the first cause against it (RFC 6386, sections 9 and 19)
+-- the header of a packet after a context or none, or the first cause against it (RFC 6386, sections 9 and 19)
 unfoldable pub header_of : TableEntries → Option Context → List ℕ → Result Header Cause
 header_of tables before packet = do
   start ← start_of before packet

@@ -7,7 +7,7 @@ use Rattle.frame_header.specs.Contexts.{default_probabilities}
 use Rattle.frame_header.specs.Header.{header_of}
 use Rattle.frame_header.specs.References.{all_refreshed}
 
--- the header of a packet with a key tag is the same behind every context as behind none
+-- the header of a packet with a key tag is the same after every context as after none
 abbrev pub KeysTakeNoContext : Type 0
 KeysTakeNoContext = (tables : TableEntries) (before : Option Context) (packet : List ℕ) → has_key_tag packet ≡ true → header_of tables before packet ≡ header_of tables None packet
 

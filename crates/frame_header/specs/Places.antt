@@ -6,7 +6,7 @@ use Rattle.frame_header.specs.declared.cause.Cause.{Cause}
 use Rattle.frame_header.specs.declared.cause.Cause.TheVariants.{TokenSizes, TokenPartition}
 use Rattle.frame_header.specs.declared.places.Place.{Place}
 
--- the numbers of three bytes that stand one after another from a place on
+-- the numbers of three bytes each, one after another starting at an index
 abbrev pub sizes_at : ℕ → ℕ → List ℕ → List ℕ
 sizes_at zero at packet = []
 sizes_at (suc more) at packet = number_at packet at ∷ sizes_at more (at + 3) packet
@@ -25,7 +25,7 @@ abbrev pub unless_past : Option ℕ → List Place → Result (ArrayVec Place) C
 unless_past None places = Ok (record { items = places })
 unless_past (Some k) places = Err (TokenPartition k)
 
--- the places of the token partitions: the sizes of all but the last stand before them (RFC 6386, section 9.5)
+-- the positions of the token partitions: the sizes of all but the last precede them (RFC 6386, section 9.5)
 unfoldable pub token_places : List ℕ → ℕ → ℕ → Result (ArrayVec Place) Cause
 token_places packet at count =
     let first = at + 3 * (count - 1) in

@@ -7,7 +7,7 @@ use Rattle.frame_header.specs.declared.context.Context.{Context}
 use Rattle.frame_header.specs.declared.start.Start.{Start}
 use Rattle.frame_header.specs.declared.tag_fields.Tag.{Tag}
 
--- a key frame's start, or the first cause against what stands behind its tag (RFC 6386, section 9.1)
+-- a key frame's start, or the first cause against the bytes after its tag (RFC 6386, section 9.1)
 abbrev pub key_start : Tag → List ℕ → Result Start Cause
 key_start tag packet =
     if not (has_start_code packet) then Err StartCode else
@@ -25,6 +25,6 @@ tagged_start tag before packet =
     if nat_lt 3 tag.version then Err Version else
     if tag.key then key_start tag packet else later_start tag before
 
--- the start of a frame: its tag, where its first partition begins and its size
+-- the start of a frame: its tag, the index of its first partition, and its size
 abbrev pub start_of : Option Context → List ℕ → Result Start Cause
 start_of before packet = option_map_or (λ tag. tagged_start tag before packet) (tag_of packet) (Err ShortPacket)

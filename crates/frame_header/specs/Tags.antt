@@ -2,7 +2,7 @@ use Rattle.std.specs.Prelude.{ℕ, ◌+◌, ◌*◌, ◌/◌, ◌%◌, Bool, tru
 use Rattle.std.specs.Option.{option_map_or}
 use Rattle.frame_header.specs.declared.tag_fields.Tag.{Tag}
 
--- the number of three bytes from a place on, least significant first
+-- the number in three bytes starting at an index, least significant first
 abbrev pub number_at : List ℕ → ℕ → ℕ
 number_at bytes at = slice_index bytes at + 256 * slice_index bytes (at + 1) + 65536 * slice_index bytes (at + 2)
 
@@ -19,15 +19,15 @@ tag_of packet = if nat_le 3 (length packet) then Some (tag_in (number_at packet 
 abbrev pub has_key_tag : List ℕ → Bool
 has_key_tag packet = option_map_or (λ tag. tag.key) (tag_of packet) false
 
--- a packet that has a place among the frames: one whose tag has the show bit, or that has no tag
+-- a packet that is shown as a frame: one whose tag has the show bit, or that has no tag
 abbrev pub is_shown : List ℕ → Bool
 is_shown packet = option_map_or (λ tag. tag.shown) (tag_of packet) true
 
--- the start code behind a key tag (RFC 6386, section 9.1)
+-- the start code after a key tag (RFC 6386, section 9.1)
 abbrev pub has_start_code : List ℕ → Bool
 has_start_code packet = slice_index packet 3 == 0x9D && slice_index packet 4 == 0x01 && slice_index packet 5 == 0x2A
 
--- the 14 bits of a size behind the start code; the two above them are the scale (RFC 6386, section 9.1)
+-- the 14 bits of a size after the start code; the two above them are the scale (RFC 6386, section 9.1)
 abbrev pub width_of : List ℕ → ℕ
 width_of packet = (slice_index packet 6 + 256 * slice_index packet 7) % 16384
 

@@ -1,4 +1,4 @@
--- The fields behind the number of token partitions.
+-- The fields after the number of token partitions.
 use Rattle.std.specs.Prelude.{ℕ, Bool, Option, Some, None, List, if◌then◌else◌}
 use Rattle.bool_coder.specs.Reader.{read}
 use Rattle.bool_coder.specs.Reading.{Reading, ◌>>=◌, give, flag, literal, signed}
@@ -22,13 +22,13 @@ quantizers = do
   uv_ac ← signed 4
   give (record { y_ac_index = y_ac; y_dc_delta = y_dc; y2_dc_delta = y2_dc; y2_ac_delta = y2_ac; uv_dc_delta = uv_dc; uv_ac_delta = uv_ac })
 
--- a probability: a new one where a bit read with its update probability is set, else the one before (RFC 6386, section 13.4)
+-- a probability: a new one if a bit read with its update probability is set, else the one before (RFC 6386, section 13.4)
 unfoldable pub updated : ℕ → ℕ → Reading ℕ
 updated update before = do
   is_updated ← read update
   if is_updated then literal 8 else give before
 
--- the probability that a macroblock is not skipped, where some may be (RFC 6386, section 9.11)
+-- the probability that a macroblock is not skipped, if some may be (RFC 6386, section 9.11)
 unfoldable pub skip_probability : Reading (Option ℕ)
 skip_probability = do
   may_skip ← flag
@@ -40,7 +40,7 @@ skip_probability = do
 abbrev pub behind_skip : Bool → Probabilities → Reading (ReferenceProbabilities × Probabilities)
 behind_skip is_key before = if is_key then give (no_reference_probabilities, before) else inter_fields before
 
--- the fields in order, and the context with what they change of it (RFC 6386, section 19.2)
+-- the fields in order, and the context with their changes (RFC 6386, section 19.2)
 unfoldable pub trailing_fields : Bool → List ℕ → Context → Reading (TrailingFields × Context)
 trailing_fields is_key updates before = do
   quantizers ← quantizers

@@ -1,8 +1,8 @@
 use Rattle.std.specs.Prelude.{ℕ, zero, suc, List, slice_index, slice_set}
 use Rattle.bool_coder.specs.Reading.{Reading, ◌>>=◌, give}
 
--- the probabilities where so many of them, in index order, had their update, which is read by a way that takes the
--- probability of the update and the one before (RFC 6386, sections 13.4 and 17.2)
+-- the probabilities after so many of them, in index order, had their update, which is read by a function of the probability
+-- of the update and the one before (RFC 6386, sections 13.4 and 17.2)
 unfoldable pub first_updated : (ℕ → ℕ → Reading ℕ) → ℕ → List ℕ → List ℕ → Reading (List ℕ)
 first_updated way zero updates before = give before
 first_updated way (suc place) updates before = do

@@ -11,7 +11,7 @@ use Rattle.frame_header.specs.declared.context.Context.{Context}
 use Rattle.frame_header.specs.declared.fields.Fields.{Fields}
 use Rattle.frame_header.specs.declared.header.Header.{Header}
 
--- what stands behind the tag of a key frame of 16 by 16 samples
+-- the bytes after the tag of a key frame of 16 by 16 samples
 abbrev pub behind_tag : List ℕ
 behind_tag = 0x9D ∷ 0x01 ∷ 0x2A ∷ 0x10 ∷ 0 ∷ 0x10 ∷ 0 ∷ []
 
@@ -32,7 +32,7 @@ fields_written = record {
   partition_count = 4;
 }
 
--- the context that it was made of, behind the default one
+-- the context that it was made of, after the default one
 abbrev pub context_written : TableEntries → Context
 context_written tables = record (default_context tables) {
   segments = record {
@@ -50,7 +50,7 @@ context_written tables = record (default_context tables) {
 abbrev pub worked_tables : TableEntries
 worked_tables = record { coefficients = replicate 1056 128; updates = replicate 1056 255; key_subs = [] }
 
--- the fields behind the number of token partitions
+-- the fields after the number of token partitions
 abbrev pub trailing_written : TrailingFields
 trailing_written = record {
   quantizers = record { y_ac_index = 53; y_dc_delta = negsuc 2; y2_dc_delta = pos 0; y2_ac_delta = pos 15; uv_dc_delta = negsuc 14; uv_ac_delta = pos 7 };
@@ -60,13 +60,13 @@ trailing_written = record {
   reference_probabilities = no_reference_probabilities;
 }
 
--- the context behind them, of which the second and the last coefficient probability are new
+-- the context after them, of which the second and the last coefficient probability are new
 abbrev pub trailing_context : Context
 trailing_context =
     let before = context_written worked_tables in
     record before { probabilities = record before.probabilities { coefficients = slice_set (slice_set (replicate 1056 128) 1 200) 1055 3 } }
 
--- what is read behind the number of token partitions
+-- the bits read after the number of token partitions
 abbrev pub trailing_read : TrailingFields × Context
 trailing_read =
     let read = fields true (default_context worked_tables) (started written_fields) in
@@ -86,7 +86,7 @@ key_frame_context =
     let before = default_context worked_tables in
     record before { probabilities = record before.probabilities { coefficients = slice_set (replicate 1056 128) 0 7 } }
 
--- the header that it was made of, but for the reader behind it
+-- the header that it was made of, except the reader after it
 abbrev pub IsKeyFrameWritten : Header → Type 0
 IsKeyFrameWritten header =
     (header.width ≡ 16) × (header.height ≡ 16) × (header.is_shown ≡ true) × (header.colors ≡ record { color_space = true; clamping_type = false })

@@ -8,7 +8,7 @@ use Rattle.frame_header.specs.declared.header.Header.{Header}
 use Rattle.frame_header.specs.declared.references.Reference.TheVariants.{Golden, Altref}
 
 -- a packet whose first partition sets fields of each kind, as an encoder of its own wrote it for the update probability 255
--- of coefficients; one token partition of two bytes stands behind it
+-- of coefficients; one token partition of two bytes follows it
 abbrev pub inter_packet : List ℕ
 inter_packet =
     0x41 ∷ 0x03 ∷ 0x00 ∷ 0x40 ∷ 0x5A ∷ 0x2C ∷ 0x24 ∷ 0x82 ∷ 0xA2 ∷ 0x70 ∷ 0xA9 ∷ 0xFC ∷ 0x09 ∷ 0x00 ∷ 0x82 ∷ 0x4E ∷ 0xB8 ∷ 0x6C ∷ 0x43 ∷ 0xB6 ∷ 0xED ∷
@@ -18,7 +18,7 @@ inter_packet =
 abbrev pub inter_before : Context
 inter_before = record (default_context worked_tables) { sign_biases = record { golden = false; altref = true } }
 
--- its context, where it keeps its probabilities to itself
+-- its context, if it does not refresh its probabilities
 abbrev pub inter_left : Context
 inter_left = record inter_before {
   deltas = record {
@@ -40,7 +40,7 @@ inter_context = record inter_left {
   };
 }
 
--- the header that it was made of, but for the reader behind it
+-- the header that it was made of, except the reader after it
 abbrev pub IsInterWritten : Header → Type 0
 IsInterWritten header =
     (header.is_key ≡ false) × (header.is_shown ≡ false) × (header.filter ≡ record { is_simple = true; level = 0; sharpness = 2 }) × (header.adjusts_level ≡ true)

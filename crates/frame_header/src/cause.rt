@@ -12,7 +12,7 @@ pub enum Cause {
     /// The version is above 3.
     #[error("the version of the packet is not known")]
     Version,
-    /// The start code does not stand behind a key tag.
+    /// The start code does not follow a key tag.
     #[error("the start code of the key frame is wrong")]
     StartCode,
     /// The width or the height of a key frame is 0.
@@ -21,10 +21,10 @@ pub enum Cause {
     /// The packet has no key tag, and no key frame came before it.
     #[error("no key frame stands before the packet")]
     NoKeyFrame,
-    /// The first partition is longer than what stands behind the tag.
+    /// The first partition is longer than the bytes after the tag.
     #[error("the first partition runs past the end of the packet")]
     FirstPartition,
-    /// The sizes of the token partitions do not fit behind the first partition.
+    /// The sizes of the token partitions do not fit after the first partition.
     #[error("the sizes of the token partitions run past the end of the packet")]
     TokenSizes,
     /// This token partition, counted from 0, is the first that runs past the end.
@@ -33,7 +33,7 @@ pub enum Cause {
 }
 
 impl Cause {
-    /// The name of the cause; that of `TokenPartition` is without its number.
+    /// The name of the cause; for `TokenPartition` without its number.
     pub fn word(self) -> &'static str
         ensures { result.now ≡ cause_word self }
     {

@@ -6,11 +6,11 @@ use vp8_tables::{
     DEFAULT_UV_PROBABILITIES, DEFAULT_VECTOR_PROBABILITIES, DEFAULT_Y_PROBABILITIES, Tables,
 };
 
-/// Segment mode and data (RFC 6386, section 9.3): `is_absolute` says that the values stand for
-/// themselves, else they are added to those of the frame.
+/// Segment mode and data (RFC 6386, section 9.3): `is_absolute` says that the values replace the
+/// frame's, else they are added to them.
 #[derive(Clone, Copy, Debug, PartialEq, Eq)]
 pub struct Segments {
-    /// The values replace those of the frame.
+    /// The values replace the frame's.
     pub is_absolute: bool,
     /// The quantizer of each segment, -127 to 127.
     pub quantizers: [i8; 4],
@@ -30,13 +30,13 @@ pub struct FilterDeltas {
 /// The probabilities that frames change (RFC 6386, sections 13.5, 16.2 and 17.2).
 #[derive(Clone, Copy, Debug, PartialEq, Eq)]
 pub struct Probabilities {
-    /// Those of the token nodes, of 4 kinds, 8 bands, 3 contexts and 11 nodes in index order.
+    /// For the token nodes, of 4 kinds, 8 bands, 3 contexts and 11 nodes in index order.
     pub coefficients: [u8; 1056],
-    /// Those of a vector's row, then of its column.
+    /// For a vector's row, then for its column.
     pub vectors: [[u8; 19]; 2],
-    /// Those of the luma mode tree of frames that are no key frames.
+    /// For the luma mode tree of inter frames.
     pub y_modes: [u8; 4],
-    /// Those of the chroma mode tree of such frames.
+    /// For the chroma mode tree of inter frames.
     pub uv_modes: [u8; 3],
 }
 
@@ -49,7 +49,7 @@ pub struct SignBiases {
     pub altref: bool,
 }
 
-/// What a frame takes over from the frames before it.
+/// The fields that a frame inherits from the frames before it.
 #[derive(Clone, Copy, Debug, PartialEq, Eq)]
 pub struct Context {
     /// The four sets of probabilities.
@@ -89,7 +89,7 @@ fn default_context(tables: &Tables) -> Context
     }
 }
 
-/// The context with which a frame begins: the default one of a key frame, else that before it.
+/// The context with which a frame begins: the default one for a key frame, else the one before it.
 pub(crate) fn first_context(tables: &Tables, is_key: bool, before: Option<&Context>) -> Context
     ensures { result ≡ first_context tables.now is_key (option_copied before.entry) }
 {

@@ -8,7 +8,7 @@ ghost use Rattle.frame_header.specs.Fields.{four_signed, delta, four_deltas, col
 use crate::context::{Context, FilterDeltas, Segments};
 use bool_coder::Decoder;
 
-/// What a frame says of its segments (RFC 6386, section 9.3).
+/// The segment fields of a frame (RFC 6386, section 9.3).
 #[derive(Clone, Copy, Debug, PartialEq, Eq)]
 pub struct Segmentation {
     /// Segments are in use.
@@ -17,7 +17,7 @@ pub struct Segmentation {
     pub updates_map: bool,
     /// The frame has new segment data.
     pub updates_data: bool,
-    /// The probabilities of the map's tree; 255 where absent.
+    /// The probabilities of the map's tree; 255 if absent.
     pub map_probabilities: [u8; 3],
 }
 
@@ -41,7 +41,7 @@ pub struct Colors {
     pub clamping_type: bool,
 }
 
-/// The fields that are read before the places of the token partitions are known.
+/// The fields that are read before the token partitions are located.
 #[derive(Clone, Copy)]
 pub(crate) struct Fields {
     pub(crate) colors: Colors,
@@ -222,7 +222,7 @@ fn read_partition_count(reader: &mut Decoder) -> usize
 }
 
 /// The fields of the first partition up to the number of token partitions, for a key frame or
-/// another, with what they change of the context with which the frame begins.
+/// another, with their changes of the context with which the frame begins.
 #[tactic(auto, unfolding(crate::specs::Fields::fields))]
 pub(crate) fn read_fields(reader: &mut Decoder, is_key: bool, context: &mut Context) -> Fields
     ensures read { fields is_key context.old reader.old ≡ ((result, context.new), reader.new) }

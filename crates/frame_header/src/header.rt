@@ -30,7 +30,7 @@ pub struct Header<'a> {
     pub height: u16,
     /// The color space and clamping bits.
     pub colors: Colors,
-    /// What the frame says of its segments.
+    /// The segment fields.
     pub segmentation: Segmentation,
     /// The kind and strength of the loop filter.
     pub filter: Filter,
@@ -38,26 +38,26 @@ pub struct Header<'a> {
     pub adjusts_level: bool,
     /// The quantizer index and its changes.
     pub quantizers: Quantizers,
-    /// What the frame does to the references behind it.
+    /// How the frame updates the references for the frames after it.
     pub references: ReferenceUpdates,
-    /// The probabilities of the frame are kept for the next one.
+    /// The probabilities of the frame are saved for the next one (`refresh_entropy_probs`).
     pub refreshes_entropy: bool,
-    /// The probability that a macroblock is not skipped; `None` where none is.
+    /// The probability that a macroblock is not skipped; `None` if none is.
     pub skip_probability: Option<u8>,
     /// The probabilities of a macroblock's reference; each 0 on a key frame.
     pub reference_probabilities: ReferenceProbabilities,
-    /// The places of the 1 to 8 token partitions in the packet.
+    /// The positions of the 1 to 8 token partitions in the packet.
     pub partitions: ArrayVec<Place, 8>,
     /// The context for this frame.
     pub context: Context,
-    /// The context that the frame leaves for the next: its own, but where it does not refresh them
-    /// with the probabilities that stood before it.
+    /// The context that the frame leaves for the next: its own, but with the probabilities before
+    /// it if it does not refresh them.
     pub context_after: Context,
-    /// The reader of the first partition behind these fields.
+    /// The reader of the first partition after these fields.
     pub reader: Decoder<'a>,
 }
 
-/// The place behind the first partition; `FirstPartition` where the packet ends before it.
+/// The position after the first partition; `FirstPartition` if the packet ends before it.
 fn first_end(start: &Start, packet: &[u8]) -> Result<usize, Cause>
     requires { start.now.place ≤ length packet.now }
     ensures value { result ≡ first_end start.now packet.now }
@@ -71,7 +71,7 @@ fn first_end(start: &Start, packet: &[u8]) -> Result<usize, Cause>
     Ok(start.place + size)
 }
 
-/// The header of a packet behind a context, or none where no key frame came before. An `Err` is
+/// The header of a packet after a context, or after none if no key frame came before. An `Err` is
 /// the first cause, in the order of `Cause`, whose condition holds.
 #[tactic(auto, unfolding(crate::specs::Header::header_of))]
 pub fn read_header<'a>(

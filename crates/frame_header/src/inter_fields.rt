@@ -1,5 +1,5 @@
-//! The fields that only frames that are no key frames have behind the probability of skipping
-//! (RFC 6386, sections 9.10, 16.2 and 17.2).
+//! The fields after the probability of skipping, which only inter frames have (RFC 6386, sections
+//! 9.10, 16.2 and 17.2).
 
 ghost use Rattle.std.specs.Prelude.{◌≡◌};
 ghost use Rattle.frame_header.specs.Updates.{first_updated};
@@ -13,11 +13,11 @@ use vp8_tables::VECTOR_UPDATE_PROBABILITIES;
 /// each 0 on a key frame.
 #[derive(Clone, Copy, Debug, PartialEq, Eq)]
 pub struct ReferenceProbabilities {
-    /// The probability of a 0, for intra prediction, where 1 is inter prediction (prob_intra).
+    /// The probability of a 0, for intra prediction; 1 is inter prediction (prob_intra).
     pub inter: u8,
-    /// The probability of a 0, for the last frame, where 1 is golden or altref (prob_last).
+    /// The probability of a 0, for the last frame; 1 is golden or altref (prob_last).
     pub last: u8,
-    /// The probability of a 0, for the golden frame, where 1 is altref (prob_gf).
+    /// The probability of a 0, for the golden frame; 1 is altref (prob_gf).
     pub golden: u8,
 }
 
@@ -62,7 +62,7 @@ fn read_uv_modes(reader: &mut Decoder, before: [u8; 3]) -> [u8; 3]
     [first, second, third]
 }
 
-/// A probability of a vector behind its update, of which `update` is the probability.
+/// A probability of a vector after its update, whose probability is `update`.
 #[inline]
 #[tactic(auto, unfolding(crate::specs::InterFields::vector_probability))]
 fn read_vector_probability(reader: &mut Decoder, update: u8, before: u8) -> u8
@@ -75,7 +75,7 @@ fn read_vector_probability(reader: &mut Decoder, update: u8, before: u8) -> u8
     if half == 0 { 1 } else { 2 * half }
 }
 
-/// The probabilities of one component of a vector behind their updates.
+/// The probabilities of one component of a vector after their updates.
 fn read_component(reader: &mut Decoder, updates: &[u8; 19], probabilities: [u8; 19]) -> [u8; 19]
     ensures { first_updated vector_probability 19 updates.now probabilities reader.old ≡ (result, reader.new) }
 {
@@ -97,7 +97,8 @@ fn read_vectors(reader: &mut Decoder, before: [[u8; 19]; 2]) -> [[u8; 19]; 2]
     [row, column]
 }
 
-/// The probabilities of the references, and those of modes and vectors with their updates.
+/// The probabilities of the references, and the probabilities of modes and vectors with their
+/// updates.
 #[tactic(auto, unfolding(crate::specs::InterFields::inter_fields))]
 pub(crate) fn read_inter_fields(
     reader: &mut Decoder,

@@ -1,4 +1,4 @@
-//! Laws that show that the definitions mean what they are to mean.
+//! Laws over the definitions: examples and properties.
 
 ghost use Rattle.std.specs.Prelude.{◌≡◌, Bool, true, [], ◌∷◌, ◌++◌, None, Some, Err, IsOkAnd};
 ghost use Rattle.bool_coder.specs.Chains.{IsChain, and_then};
@@ -40,7 +40,7 @@ pub fn worked_key_frame()
     ensures { IsOkAnd (header_of worked_tables None key_frame_packet) IsKeyFrameWritten }
 {}
 
-/// A frame that is no key frame is read to the end of its header.
+/// An inter frame is read to the end of its header.
 pub fn worked_inter_frame()
     ensures { IsOkAnd (header_of worked_tables (Some inter_before) inter_packet) IsInterWritten }
 {}
@@ -73,7 +73,7 @@ pub fn keys_refresh_all()
     ensures { KeysRefreshAll }
 {}
 
-/// Where a frame that is no key frame does not refresh them, the probabilities before it come back.
+/// If an inter frame does not refresh them, the probabilities before it are restored.
 pub fn probabilities_come_back()
     ensures { ProbabilitiesComeBack }
 {}

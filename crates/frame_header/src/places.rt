@@ -5,16 +5,16 @@ use crate::cause::Cause;
 use crate::tags::number_at;
 use arrayvec::ArrayVec;
 
-/// Where a partition stands in its packet, in bytes.
+/// The position of a partition in its packet, in bytes.
 #[derive(Clone, Copy, Debug, Default, PartialEq, Eq)]
 pub struct Place {
-    /// The place of its first byte.
+    /// The index of its first byte.
     pub start: usize,
     /// How many bytes it has.
     pub length: usize,
 }
 
-/// The places of the `count` token partitions, 1 to 8, whose sizes stand from `at` on.
+/// The positions of the `count` token partitions, 1 to 8, whose sizes start at index `at`.
 pub(crate) fn token_places(
     packet: &[u8],
     at: usize,

@@ -1,4 +1,5 @@
-//! What a frame does to the references behind it (RFC 6386, sections 9.7, 9.8 and 19.2).
+//! How a frame updates the references for the frames after it (RFC 6386, sections 9.7, 9.8 and
+//! 19.2).
 
 ghost use Rattle.std.specs.Prelude.{◌≡◌};
 ghost use Rattle.frame_header.specs.References.{all_refreshed, golden_copy, altref_copy, inter_refreshes, refreshes};
@@ -6,7 +7,7 @@ ghost use Rattle.frame_header.specs.References.{all_refreshed, golden_copy, altr
 use crate::context::SignBiases;
 use bool_coder::Decoder;
 
-/// A picture kept from the frames before (RFC 6386, section 9.7).
+/// A picture of an earlier frame (RFC 6386, section 9.7).
 #[derive(Clone, Copy, Debug, PartialEq, Eq)]
 pub enum Reference {
     /// The frame before, unless that did not refresh it.
@@ -17,8 +18,9 @@ pub enum Reference {
     Altref,
 }
 
-/// What a frame does to the references behind it (RFC 6386, sections 9.7 and 9.8): altref is copied
-/// first, then golden, and then come the refreshes. A key frame refreshes all three.
+/// How a frame updates the references for the frames after it (RFC 6386, sections 9.7 and 9.8):
+/// altref is copied first, then golden, and then the refreshes are done. A key frame refreshes all
+/// three.
 #[derive(Clone, Copy, Debug, PartialEq, Eq)]
 pub struct ReferenceUpdates {
     /// The frame becomes the last frame.
@@ -27,20 +29,20 @@ pub struct ReferenceUpdates {
     pub refreshes_golden: bool,
     /// The frame becomes the altref frame.
     pub refreshes_altref: bool,
-    /// Which reference golden becomes a copy of, where it is not refreshed: last or altref.
+    /// Which reference golden becomes a copy of if it is not refreshed: last or altref.
     pub golden_copy: Option<Reference>,
-    /// Which reference altref becomes a copy of, where it is not refreshed: last or golden.
+    /// Which reference altref becomes a copy of if it is not refreshed: last or golden.
     pub altref_copy: Option<Reference>,
 }
 
-/// What of a frame is kept for the next ones: its picture and its probabilities.
+/// The parts of a frame that are saved for the next ones: its picture and its probabilities.
 #[derive(Clone, Copy)]
 pub(crate) struct Refreshes {
     pub(crate) references: ReferenceUpdates,
     pub(crate) refreshes_entropy: bool,
 }
 
-/// What a key frame does to the references: it becomes each of them.
+/// How a key frame updates the references: it becomes each of them.
 fn all_refreshed() -> ReferenceUpdates
     ensures { result ≡ all_refreshed }
 {
@@ -106,7 +108,7 @@ fn read_inter_refreshes(reader: &mut Decoder, biases: &mut SignBiases) -> Refres
     }
 }
 
-/// What is kept of a key frame or another, and the sign biases, of which a key frame has none.
+/// The parts of a frame that are saved, and the sign biases; a key frame has no sign biases.
 #[tactic(auto, unfolding(crate::specs::References::refreshes))]
 pub(crate) fn read_refreshes(
     reader: &mut Decoder,

@@ -8,7 +8,7 @@ use crate::context::Context;
 use crate::tag_fields::Tag;
 use crate::tags::{has_start_code, size_of, tag};
 
-/// What is known of a frame before its first partition.
+/// The facts about a frame before its first partition is read.
 #[derive(Clone, Copy)]
 pub(crate) struct Start {
     pub(crate) tag: Tag,
@@ -57,7 +57,7 @@ fn later_start(tag: Tag, context: Option<&Context>) -> Result<Start, Cause>
     })
 }
 
-/// What is known of a frame before its first partition, or the first of the causes from
+/// The facts about a frame before its first partition is read, or the first of the causes from
 /// `ShortPacket` to `NoKeyFrame`.
 pub(crate) fn start_of(context: Option<&Context>, packet: &[u8]) -> Result<Start, Cause>
     ensures value { result ≡ start_of (option_copied context.entry) packet.now }

@@ -3,7 +3,7 @@ ghost use Rattle.frame_header.specs.Tags.{number_at, tag_of, has_key_tag, is_sho
 
 use crate::tag_fields::Tag;
 
-/// The number of three bytes from `at` on, least significant first.
+/// The number in three bytes starting at index `at`, least significant first.
 pub(crate) fn number_at(bytes: &[u8], at: usize) -> u32
     requires { at + 3 ≤ length bytes.now }
     ensures value { result ≡ number_at bytes.now at }
@@ -12,7 +12,7 @@ pub(crate) fn number_at(bytes: &[u8], at: usize) -> u32
     bytes[at] as u32 + 256 * bytes[at + 1] as u32 + 65536 * bytes[at + 2] as u32
 }
 
-/// The tag of a packet; `None` where it has fewer than 3 bytes.
+/// The tag of a packet; `None` if it has fewer than 3 bytes.
 pub fn tag(packet: &[u8]) -> Option<Tag>
     ensures { result ≡ tag_of packet.now }
 {
@@ -42,7 +42,7 @@ pub fn is_shown(packet: &[u8]) -> bool
     tag(packet).is_none_or(|tag| tag.shown)
 }
 
-/// Whether the start code of a key frame stands behind the tag (RFC 6386, section 9.1).
+/// Whether the start code of a key frame follows the tag (RFC 6386, section 9.1).
 pub(crate) fn has_start_code(packet: &[u8]) -> bool
     requires { 10 ≤ length packet.now }
     ensures { result ≡ has_start_code packet.now }

@@ -1,5 +1,5 @@
-//! The fields of the first partition behind the number of token partitions
-//! (RFC 6386, sections 9.6 to 9.11 and 19.2).
+//! The fields of the first partition after the number of token partitions (RFC 6386, sections 9.6
+//! to 9.11 and 19.2).
 
 ghost use Rattle.std.specs.Prelude.{◌≡◌};
 ghost use Rattle.frame_header.specs.Updates.{first_updated};
@@ -12,11 +12,11 @@ use crate::inter_fields::{ReferenceProbabilities, read_inter_fields};
 use crate::references::{ReferenceUpdates, read_refreshes};
 use bool_coder::Decoder;
 
-/// The quantizer index and what is added to it for each kind of coefficient
-/// (RFC 6386, section 9.6). Each change is -15 to 15.
+/// The quantizer index and the change added to it for each kind of coefficient (RFC 6386, section
+/// 9.6). Each change is -15 to 15.
 #[derive(Clone, Copy, Debug, PartialEq, Eq)]
 pub struct Quantizers {
-    /// The index itself, 0 to 127, which is that of luma AC.
+    /// The index itself, 0 to 127, which is the index of luma AC.
     pub y_ac_index: u8,
     /// The change for luma DC.
     pub y_dc_delta: i8,
@@ -30,7 +30,7 @@ pub struct Quantizers {
     pub uv_ac_delta: i8,
 }
 
-/// The fields behind the number of token partitions.
+/// The fields after the number of token partitions.
 #[derive(Clone, Copy)]
 pub(crate) struct TrailingFields {
     pub(crate) quantizers: Quantizers,
@@ -60,7 +60,7 @@ fn read_quantizers(reader: &mut Decoder) -> Quantizers
     }
 }
 
-/// A probability behind its update, of which `update` is the probability.
+/// A probability after its update, whose probability is `update`.
 #[inline]
 #[tactic(auto, unfolding(crate::specs::TrailingFields::updated))]
 fn read_updated(reader: &mut Decoder, update: u8, before: u8) -> u8
@@ -106,7 +106,7 @@ fn no_reference_probabilities() -> ReferenceProbabilities
     }
 }
 
-/// The fields behind the probability of skipping, of which a key frame has none.
+/// The fields after the probability of skipping, which a key frame does not have.
 fn read_behind_skip(
     reader: &mut Decoder,
     is_key: bool,
@@ -121,8 +121,8 @@ fn read_behind_skip(
     }
 }
 
-/// The fields behind the number of token partitions, of a key frame or another, with what they
-/// change of its context; `updates` has the probability of each update of a coefficient's.
+/// The fields after the number of token partitions, of a key frame or another, with their changes
+/// of its context; `updates` has the probability of each update of a coefficient's probability.
 #[tactic(auto, unfolding(crate::specs::TrailingFields::trailing_fields))]
 pub(crate) fn read_trailing_fields(
     reader: &mut Decoder,

@@ -54,7 +54,7 @@ inter_same kind p x y x' y' right below right_less below_less wide high =
     ap (λ (c : ℕ). sample_at p c (held_place p.height row)) (beside i six')
     ∙ ap (λ (r : ℕ). sample_at p (held_place p.width (((x' +ℤ whole_part (pos right)) -ℤ pos 2) +ℤ pos i)) r) (under j six)))
 
--- a piece begins where its first sample is, or past the side as that does
+-- a piece begins at its first sample, or past the side as that sample is
 alike_piece : (side first k : ℕ) (x from : ℤ) → IsWithin 5000000000 x → from ≡ x +ℤ pos (min first (side + 8589934592)) → AreAlike side (from +ℤ pos k) (x +ℤ pos (first + k))
 alike_piece side first k x from within from_is = λ i six.
     elim (cases_lt first (side + 8589934592)) [
@@ -99,7 +99,7 @@ fraction_small : (z : ℤ) → fraction z < 8
 fraction_small (pos n) = omega arith
 fraction_small (negsuc n) = omega arith
 
--- where a piece begins, in 64 bits
+-- the start of a piece, in 64 bits
 pub begun : (x offset : ℤ) (n side own : ℕ) → IsWithin 5000000000 x → own ≤ 16384 → side ≡ own → offset ≡ pos (min n (side + 8589934592)) → to_z w64 (of_z w64 (to_z w64 (of_z w64 x) +ℤ to_z w64 (of_z w64 offset))) ≡ to_z w64 (of_z w64 x) +ℤ pos (min n (own + 8589934592))
 begun x offset n side own within small same offset_is = omega (arith, ints)
 
@@ -124,7 +124,7 @@ whole_apart kind p x y right below x' y' right' below' column row x_is y_is righ
     ∙ ap (λ (a : ℤ). by (fraction below) (fraction right) a ((y' +ℤ pos row) +ℤ pos (below' / 8))) along_x
     ∙ ap (λ (b : ℤ). by (fraction below) (fraction right) ((x +ℤ pos column) +ℤ whole_part right) b) along_y
 
--- where the whole samples begin that a vector leads to
+-- the position of the whole samples that a vector points to
 pub whole_there : (place eighths first : ℤ) → FitsSigned w32 place → FitsSigned w32 eighths → first ≡ (to_z w32 (of_z w32 place) +ℤ whole_part (to_z w32 (of_z w32 eighths))) -ℤ pos 2 → IsNear first → to_z w64 (of_z w64 (to_z w64 (of_z w64 first) +ℤ pos 2)) ≡ place +ℤ whole_part eighths
 whole_there place eighths first place_fits eighths_fits first_is near =
     let back : (z : ℤ) → (z -ℤ pos 2) +ℤ pos 2 ≡ z = λ (z : ℤ). omega (arith, ints) in
@@ -132,7 +132,7 @@ whole_there place eighths first place_fits eighths_fits first_is near =
     ∙ ap (λ (z : ℤ). z +ℤ whole_part (to_z w32 (of_z w32 eighths))) (to_z-of_z w32 place place_fits)
     ∙ ap (λ (z : ℤ). place +ℤ whole_part z) (to_z-of_z w32 eighths eighths_fits)
 
--- a block whose samples are given in another way
+-- the same block by another function of column and row
 pub same_block : (one other : ℕ → ℕ → ℕ) (width height stride : ℕ) (old new : List ℕ) → IsBlockIn one width height stride old new → ((column row : ℕ) → one column row ≡ other column row) → IsBlockIn other width height stride old new
 same_block one other width height stride old new block same = record { whole = block.whole; each = λ column row inside below. block.each column row inside below ∙ same column row; others = block.others }
 
@@ -144,7 +144,7 @@ block_apart kind p x y right below left top right' below' width height stride ol
     same_block _ (predicted kind p x y right below) width height stride old new block (λ column row.
     whole_apart kind p x y right below _ _ right' below' column row (whole_there x right left x_fits right_fits left_is left_near) (whole_there y below top y_fits below_fits top_is top_near) (right_is ∙ ap fraction (to_z-of_z w32 right right_fits)) (below_is ∙ ap fraction (to_z-of_z w32 below below_fits)))
 
--- the samples beside a block that is all of them
+-- no samples are next to a block that is the whole list
 pub none_beside : (width height column row : ℕ) (old new : List ℕ) → length new ≡ length old → length old ≡ width * height → height ≤ row → slice_index new (row * width + column) ≡ slice_index old (row * width + column)
 none_beside width height column row old new same long under =
     let past : width * height ≤ row * width + column = let le : height * width ≤ row * width = mul-le-mul_right width under in omega (arith, le, mul_comm width height) in

@@ -1,4 +1,4 @@
--- What the filters come to.
+-- Properties of the filters.
 use Rattle.std.specs.Prelude.{slice_index_or}
 use Rattle.std.proofs.Common.{◌≡◌, ℕ, suc, ◌+◌, ◌-◌, ◌*◌, ◌<◌, [], ℤ, pos, negsuc, ◌+ℤ◌, ◌-ℤ◌, ◌*ℤ◌, refl, ap, subst, sym, ◌∙◌, ◌/◌, ◌%◌, arith}
 use Rattle.std.proofs.lemmas.Int.{ints}
@@ -30,7 +30,7 @@ pub keeps_one_value : KeepsOneValue
 keeps_one_value SixTap eighths value place less byte = six_between eighths less (λ k. value) place ∙ six_level value eighths less byte
 keeps_one_value Bilinear eighths value place less byte = two_between eighths less (λ k. value) place ∙ two_level value eighths less byte
 
--- no eighths behind a place lies the sample there
+-- zero eighths after a position the sample between is the sample there
 pub at_place : (kind : Kind) (line : ℤ → ℕ) (place : ℤ) → line place < 256 → between kind 0 line place ≡ line place
 at_place SixTap line place byte =
     let there : (place -ℤ pos 2) +ℤ pos 2 ≡ place = omega (arith, ints) in
@@ -48,7 +48,7 @@ eight_eighths (negsuc n) =
     let r : 7 - (n * 8 + 7) % 8 ≡ 0 = omega arith in
     rw e (ap negsuc d, r)
 
--- what is found is a sample
+-- the filtered number is a sample
 held_byte : (z : ℤ) → held z < 256
 held_byte (pos n) = omega arith
 held_byte (negsuc n) = omega arith

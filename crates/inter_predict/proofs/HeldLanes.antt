@@ -1,33 +1,33 @@
--- Lanes of 16 bits that are held within bounds.
+-- Lanes of 16 bits that are clamped.
 use Rattle.std.specs.Prelude.{min, replicate}
 use Rattle.std.proofs.Common.{◌≡◌, ℕ, ◌+◌, ◌-◌, ◌<◌, ◌/◌, ◌%◌, ◌^◌, Bool, true, false, cond, ltb, leb, List, [], ◌∷◌, map, length, refl, ap, ◌∙◌, arith, w8, w16, Fits}
 use lib.Lanes.{Each1, zip2, sel_l}
 use Rattle.std.proofs.lemmas.Bool.Decides.{nat_tests}
 
--- two lists that begin alike and go on alike
+-- two lists with equal heads and equal tails
 pub same_lanes : (x y : ℕ) (xs ys : List ℕ) → x ≡ y → xs ≡ ys → x ∷ xs ≡ y ∷ ys
 same_lanes x y xs ys first rest = ap (λ (z : ℕ). z ∷ xs) first ∙ ap (λ (l : List ℕ). y ∷ l) rest
 
--- the top bit of a mask tells what was compared
+-- the top bit of a mask is the result of the comparison
 mask_tells : (b : Bool) → leb 32768 (cond b 65535 0) ≡ b
 mask_tells true = refl
 mask_tells false = refl
 
--- one lane of a rest that is held at 0
+-- one lane of a difference that is clamped at 0
 held_rest : (a b : ℕ) → a < 65536 → b < 65536 → (cond (leb 32768 (cond (ltb a b) 65535 0)) b a + (65536 - b)) % 65536 ≡ a - b
 held_rest a b small small' = rw mask_tells (grind (arith, nat_tests))
 
--- all lanes of rests that are held at 0
+-- all lanes of differences that are clamped at 0
 pub held_rests : (xs ys : List ℕ) → Each1 (Fits w16) xs → Each1 (Fits w16) ys → zip2 (λ a b. (a + (65536 - b)) % 65536) (sel_l (map (λ m. leb 32768 m) (zip2 (λ a b. cond (ltb a b) 65535 0) xs ys)) ys xs) ys ≡ zip2 (λ a b. a - b) xs ys
 held_rests [] ys fits fits' = refl
 held_rests (x ∷ xs) [] fits fits' = refl
 held_rests (x ∷ xs) (y ∷ ys) fits fits' = same_lanes _ _ _ _ (held_rest x y fits.0.fits fits'.0.fits) (held_rests xs ys fits.1 fits'.1)
 
--- one lane of 128ths, shifted and held at 255
+-- one lane of 128ths, shifted and clamped at 255
 held_sample : (a : ℕ) → cond (leb 32768 (cond (ltb (a / 128) 255) 65535 0)) (a / 128) 255 ≡ min (a / 128) 255
 held_sample a = rw mask_tells (grind (arith, nat_tests))
 
--- lanes of 128ths, shifted and held at 255
+-- lanes of 128ths, shifted and clamped at 255
 abbrev pub shifted_lanes : ℕ → List ℕ → List ℕ
 shifted_lanes n xs = zip2 (λ a b. a / 2 ^ b) xs (replicate n 7)
 

@@ -1,4 +1,4 @@
--- What the kernels make of a window is what the definition says.
+-- The kernels return the definition's samples of a window.
 use Rattle.std.specs.Prelude.{slice_index}
 use Rattle.std.specs.Int.{int_shr}
 use Rattle.std.proofs.Common.{◌≡◌, inl, inr, ℕ, zero-add, ◌+◌, ◌*◌, ◌<◌, List, ℤ, pos, negsuc, ◌+ℤ◌, ◌-ℤ◌, ◌≤ℤ◌, refl, ap, subst, sym, ◌∙◌, arith, to_z, of_z, w32, w64, FitsSigned}
@@ -13,7 +13,7 @@ use Rattle.inter_predict.specs.Kernels.{AreTapsOf, IsStrip, IsNear, Predicts, al
 use Rattle.inter_predict.proofs.FilterLaws.{at_place, between_byte}
 use Rattle.inter_predict.proofs.Twice.{same_strip, tapped_same}
 
--- where a tap stands
+-- the position of a tap
 tap_place : (x whole left : ℤ) (column i : ℕ) → left ≡ (x +ℤ whole) -ℤ pos 2 → (((x +ℤ pos column) +ℤ whole) -ℤ pos 2) +ℤ pos i ≡ left +ℤ pos (column + i)
 tap_place x whole left column i same = omega (arith, ints)
 
@@ -35,7 +35,7 @@ predicted_is kind p x y right below left top across_taps down_taps samples strid
     ∙ sym (window.each (column + i) (row + j) (omega arith) (omega arith))
     ∙ ap (slice_index samples) place)))
 
--- what taps make of a line is the sample between
+-- the taps of a line return the sample between
 pub between_is : (taps : Taps) (kind : Kind) (eighths : ℕ) (samples : List ℕ) (start step : ℕ) → AreTapsOf taps kind eighths → tapped_at taps samples step start ≡ between kind eighths (along samples start step) (pos 2)
 between_is taps kind eighths samples start step are =
     tapped_same taps _ _ (λ k less. ap (λ (i : ℕ). slice_index samples (start + i * step)) (sym (zero-add k))) ∙ sym (are (along samples start step) (pos 2))
@@ -45,7 +45,7 @@ pub strip_between : (taps : Taps) (samples : List ℕ) (start stride step first 
 strip_between taps samples start stride step first width height out_stride old new strip kind eighths are =
     same_strip _ (between_in kind eighths samples start stride step) first width height out_stride old new strip (λ column row inside within. between_is taps kind eighths samples (start + row * stride + column) step are)
 
--- what taps make across and down of a window are the inter samples
+-- taps across and down a window return the inter samples
 pub strip_predicts : (across down : Taps) (samples : List ℕ) (stride first columns height out_stride : ℕ) (old new : List ℕ) → IsStrip (λ column row. tapped_twice across down samples stride (first + column) row) first columns height out_stride old new → Predicts across down samples stride first columns height out_stride old new
 strip_predicts across down samples stride first columns height out_stride old new strip = λ kind p x y right below input.
     same_strip _ (λ column row. predicted kind p x y right below (first + column) row) first columns height out_stride old new strip
@@ -90,7 +90,7 @@ block_is kind p x y right below left top eighths_right eighths_below across_taps
     block_of_strip (tapped_twice across_taps down_taps samples stride) (predicted kind p x y right below) width height out_stride old new strip
     (λ column row inside within. predicted_is kind p x y right below left top across_taps down_taps samples stride width height column row across_is down_is left_there top_there at_top inside within)
 
--- no eighths behind whole samples lies the sample there
+-- zero eighths after whole samples the inter sample is the sample there
 whole_sample : (kind : Kind) (p : Samples) (x y right below : ℤ) → fraction right ≡ 0 → fraction below ≡ 0 → reference_sample p (x +ℤ whole_part right) (y +ℤ whole_part below) < 256
     → inter_sample kind p x y right below ≡ reference_sample p (x +ℤ whole_part right) (y +ℤ whole_part below)
 unfolding inter_sample
@@ -99,7 +99,7 @@ whole_sample kind p x y right below no_right no_below byte =
     let line : across kind p x right (y +ℤ whole_part below) ≡ reference_sample p (x +ℤ whole_part right) (y +ℤ whole_part below) = rw no_right (at_place kind (λ column. reference_sample p column (y +ℤ whole_part below)) (x +ℤ whole_part right) byte) in
     down ∙ line
 
--- where a whole sample stands
+-- the position of a whole sample
 whole_place : (x whole left : ℤ) (column : ℕ) → left ≡ (x +ℤ whole) -ℤ pos 2 → (left +ℤ pos 2) +ℤ pos column ≡ (x +ℤ pos column) +ℤ whole
 whole_place x whole left column same = omega (arith, ints)
 
@@ -113,7 +113,7 @@ whole_is kind p x y right below left top samples stride width height column row 
     let byte' : reference_sample p ((x +ℤ pos column) +ℤ whole_part right) ((y +ℤ pos row) +ℤ whole_part below) < 256 = let P : ℕ → Type 0 = λ (k : ℕ). k < 256 in subst P there byte in
     there ∙ sym (whole_sample kind p (x +ℤ pos column) (y +ℤ pos row) right below no_right no_below byte')
 
--- two places further on in 64 bits
+-- two positions further in 64 bits
 pub two_further : (place : ℤ) → IsNear place → to_z w64 (of_z w64 (to_z w64 (of_z w64 place) +ℤ pos 2)) ≡ place +ℤ pos 2
 two_further place near = omega (arith, ints)
 

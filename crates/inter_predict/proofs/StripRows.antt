@@ -17,12 +17,12 @@ earlier_row stride row n less =
 pub no_rows : (sample : ℕ → ℕ → ℕ) (first width stride : ℕ) (old : List ℕ) → IsStrip sample first width 0 stride old old
 no_rows sample first width stride old = record { whole = refl; each = λ column row inside below. absurd (omega arith); others = λ column row inside beside. refl }
 
--- where nothing is written
+-- an index that is not written
 kept : (i : ℕ) (xs ys : List ℕ) (p : ℕ) → (p < i) ⊎ (i + length ys ≤ p) → slice_index (put_chunk i xs ys) p ≡ slice_index xs p
 kept i xs ys p (inl before) = get_or-put_chunk_below i xs ys p 0 before
 kept i xs ys p (inr behind) = get_or-put_chunk_above i xs ys p 0 behind
 
--- a place beside what is written of row n stands before it or behind it
+-- an index outside the written part of row n is before it or after it
 beside_row : (first width n stride column row : ℕ) → first + width ≤ stride → column < stride → (column < first) ⊎ ((first + width ≤ column) ⊎ (n + 1 ≤ row)) → (row * stride + column < n * stride + first) ⊎ (n * stride + first + width ≤ row * stride + column)
 beside_row first width n stride column row fits inside beside =
     elim (cases_lt row n) [
@@ -41,7 +41,7 @@ beside_row first width n stride column row fits inside beside =
       ]
     ]
 
--- a place beside the first n + 1 rows stands beside the first n
+-- an index outside the first n + 1 rows is outside the first n
 beside_before : (first width n column row : ℕ) → (column < first) ⊎ ((first + width ≤ column) ⊎ (n + 1 ≤ row)) → (column < first) ⊎ ((first + width ≤ column) ⊎ (n ≤ row))
 beside_before first width n column row (inl left) = inl left
 beside_before first width n column row (inr (inl right)) = inr (inl right)
@@ -65,7 +65,7 @@ row_put sample first width n stride old now line before fits room long right =
       others = λ column row inside beside. kept (n * stride + first) now line (row * stride + column) (rw long (beside_row first width n stride column row fits inside beside)) ∙ before.others column row inside (beside_before first width n column row beside);
     }
 
--- a row stands no further down than the last
+-- a row is no further down than the last
 pub upper_row : (stride row n : ℕ) → row < n → row * stride ≤ (n - 1) * stride
 upper_row stride row n less = mul-le-mul_right stride (omega arith)
 
@@ -73,7 +73,7 @@ upper_row stride row n less = mul-le-mul_right stride (omega arith)
 pub no_columns : (sample : ℕ → ℕ → ℕ) (first height stride : ℕ) (old : List ℕ) → IsStrip sample first 0 height stride old old
 no_columns sample first height stride old = record { whole = refl; each = λ column row inside below. absurd (omega arith); others = λ column row inside beside. refl }
 
--- what stands beside both strips stands beside each
+-- an index outside both strips is outside each
 beside_left : (first width total height column row : ℕ) → width ≤ total → (column < first) ⊎ ((first + total ≤ column) ⊎ (height ≤ row)) → (column < first) ⊎ ((first + width ≤ column) ⊎ (height ≤ row))
 beside_left first width total height column row le (inl before) = inl before
 beside_left first width total height column row le (inr (inl behind)) = inr (inl (omega arith))

@@ -11,7 +11,7 @@ use Rattle.inter_predict.specs.declared.taps.Taps.{Taps}
 use Rattle.inter_predict.specs.declared.taps.TheConstants.{SIX_TAPS, TWO_TAPS}
 use Rattle.inter_predict.specs.Kernels.{IsTaps, taps_of, tapped}
 
--- what holds at 0 to 7 holds below 8
+-- a fact at 0 to 7 holds below 8
 pub below_eight : (P : ℕ → Type 0) → P 0 → P 1 → P 2 → P 3 → P 4 → P 5 → P 6 → P 7 → (k : ℕ) → k < 8 → P k
 below_eight P at0 at1 at2 at3 at4 at5 at6 at7 zero less = at0
 below_eight P at0 at1 at2 at3 at4 at5 at6 at7 (suc zero) less = at1
@@ -23,7 +23,7 @@ below_eight P at0 at1 at2 at3 at4 at5 at6 at7 (suc (suc (suc (suc (suc (suc zero
 below_eight P at0 at1 at2 at3 at4 at5 at6 at7 (suc (suc (suc (suc (suc (suc (suc zero))))))) less = at7
 below_eight P at0 at1 at2 at3 at4 at5 at6 at7 (suc (suc (suc (suc (suc (suc (suc (suc k)))))))) less = absurd (omega arith)
 
--- a rounded sum, shifted and held
+-- a rounded sum, shifted and clamped
 shifted : (sum : ℤ) (added taken : ℕ) → sum +ℤ pos taken ≡ pos (added + 64) → held (int_shr sum 7) ≡ min ((added + 64 - taken) / 128) 255
 shifted (pos n) added taken same = let e : n ≡ added + 64 - taken = omega (arith, ints) in rw (← e) refl
 shifted (negsuc n) added taken same = let e : added + 64 - taken ≡ 0 = omega (arith, ints) in rw e refl
@@ -73,7 +73,7 @@ six_small fraction less =
     (record { added = lit≤ tt; taken = lit≤ tt; alone = λ whole. absurd (omega arith) })
     fraction less
 
--- and make what the filter makes
+-- and return the filter's sample
 six_signed : (fraction : ℕ) → fraction < 8 → slice_index_or SIX_TAP_FILTERS fraction [] ≡ signed (six_taps fraction)
 six_signed fraction less = below_eight (λ f. slice_index_or SIX_TAP_FILTERS f [] ≡ signed (six_taps f)) refl refl refl refl refl refl refl refl fraction less
 
@@ -95,7 +95,7 @@ two_small fraction less =
     (record { added = lit≤ tt; taken = lit≤ tt; alone = λ whole. absurd (omega arith) })
     fraction less
 
--- the two taps of a bilinear filter stand third and fourth among six
+-- the two taps of a bilinear filter are the third and fourth of six
 abbrev two_only : ℕ → ℕ → Taps
 two_only c d = record { a = 0; b = 0; c = c; d = d; e = 0; f = 0 }
 

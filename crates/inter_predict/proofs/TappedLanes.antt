@@ -1,4 +1,4 @@
--- What taps make of samples side by side.
+-- Filters of adjacent samples.
 use Rattle.std.specs.Prelude.{min, replicate, slice_index}
 use Rattle.std.specs.List.{range_with_len}
 use Rattle.std.proofs.Common.{◌≡◌, ℕ, ◌+◌, ◌-◌, ◌<◌, ◌≤◌, ◌*◌, ◌/◌, ◌%◌, List, [], ◌∷◌, map, get_or, length, refl, ap, subst, ◌∙◌, arith}
@@ -16,7 +16,7 @@ times n xs tap = zip2 (λ a b. a * b % 65536) (map (λ (a : ℕ). a) xs) (replic
 abbrev pub plus : List ℕ → List ℕ → List ℕ
 plus xs ys = zip2 (λ a b. (a + b) % 65536) xs ys
 
--- what the kernel makes of six vectors
+-- the kernel's result for six vectors
 abbrev pub lanes_of : ℕ → Taps → List ℕ → List ℕ → List ℕ → List ℕ → List ℕ → List ℕ → List ℕ
 lanes_of n t as1 bs cs ds es fs =
     map (λ lane. min (lane / 128) 255)
@@ -53,7 +53,7 @@ lane_is t s small bytes =
     let taken : (s 1 * t.b + s 4 * t.e) % 65536 ≡ s 1 * t.b + s 4 * t.e = omega (arith, small.taken) in
     rw (a.0, b.0, c.0, d.0, e.0, f.0, sum2, sum3, sum4, sum5, taken) refl
 
--- six vectors that are given lane by lane
+-- six vectors by a function of lane
 kernel_lanes : (t : Taps) (at : ℕ → ℕ → ℕ) (vs : List ℕ) → lanes_of (length vs) t (map (λ v. at v 0) vs) (map (λ v. at v 1) vs) (map (λ v. at v 2) vs) (map (λ v. at v 3) vs) (map (λ v. at v 4) vs) (map (λ v. at v 5) vs) ≡ map (λ v. lane_of t (at v)) vs
 kernel_lanes t at [] = refl
 kernel_lanes t at (v ∷ vs) = ap (λ (l : List ℕ). lane_of t (at v) ∷ l) (kernel_lanes t at vs)

@@ -12,33 +12,33 @@ use Rattle.inter_predict.specs.declared.kinds.Kind.TheVariants.{SixTap, Bilinear
 abbrev pub whole_part : ℤ → ℤ
 whole_part eighths = int_shr eighths 3
 
--- the eighths behind them, 0 to 7
+-- the remaining eighths, 0 to 7
 abbrev pub fraction : ℤ → ℕ
 fraction (pos n) = n % 8
 fraction (negsuc n) = 7 - n % 8
 
--- the sum of each tap times the sample that it stands at
+-- the sum of each tap times its sample
 abbrev pub weighed : List ℤ → (ℕ → ℕ) → ℤ
 weighed [] samples = pos 0
 weighed (tap ∷ taps) samples = (tap *ℤ pos (samples 0)) +ℤ weighed taps (λ k. samples (k + 1))
 
--- the sample that taps in 128ths make of those that they stand at: rounded, and held within 0 to 255 (section 18.3)
+-- the filtered sample: taps in 128ths times their samples, rounded, and clamped to 0..255 (section 18.3)
 unfoldable pub filtered : List ℤ → (ℕ → ℕ) → ℕ
 filtered taps samples = held (int_shr (weighed taps samples +ℤ pos 64) 7)
 
--- the sample that lies a fraction of eighths behind a place of a line of samples: six taps stand from two places before it on, two taps from it on (section 18.3)
+-- the sample a fraction of eighths after a position on a line of samples: six taps start two samples before the position, two taps at the position (section 18.3)
 unfoldable pub between : Kind → ℕ → (ℤ → ℕ) → ℤ → ℕ
 between SixTap fraction line place = filtered (slice_index_or SIX_TAP_FILTERS fraction []) (λ k. line ((place -ℤ pos 2) +ℤ pos k))
 between Bilinear fraction line place = filtered (map pos (slice_index_or BILINEAR_FILTERS fraction [])) (λ k. line (place +ℤ pos k))
 
--- the sample in a column of a row that lies a number of eighths to the right of a place
+-- the sample of a row a number of eighths to the right of a position
 abbrev pub across : Kind → Samples → ℤ → ℤ → ℤ → ℕ
 across kind p x right row = between kind (fraction right) (λ column. reference_sample p column row) (x +ℤ whole_part right)
 
--- the sample that a vector, in eighths to the right and below, predicts at column x of row y: found across, and of these down
+-- the sample that a vector, in eighths to the right and below, predicts at column x of row y: filtered across, and then down
 unfoldable pub inter_sample : Kind → Samples → ℤ → ℤ → ℤ → ℤ → ℕ
 inter_sample kind p x y right below = between kind (fraction below) (across kind p x right) (y +ℤ whole_part below)
 
--- the sample that it predicts in a column of a row of a block at (x, y)
+-- the sample that a vector predicts in a column of a row of a block at (x, y)
 abbrev pub predicted : Kind → Samples → ℤ → ℤ → ℤ → ℤ → ℕ → ℕ → ℕ
 predicted kind p x y right below column row = inter_sample kind p (x +ℤ pos column) (y +ℤ pos row) right below

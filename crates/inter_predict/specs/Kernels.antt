@@ -1,4 +1,4 @@
--- The sums of inter prediction as they are worked out: what is added and what is taken away apart, so that no number is below 0.
+-- The sums of inter prediction as the code computes them: positive and negative products are summed separately, so no number is below 0.
 use Rattle.std.specs.Prelude.{◌≡◌, ◌⊎◌, ℕ, ◌+◌, ◌-◌, ◌*◌, ◌/◌, ◌<◌, ◌≤◌, min, List, length, slice_index, ℤ, pos, neg_ℤ, negsuc, ◌+ℤ◌, ◌-ℤ◌, ◌≤ℤ◌}
 use Rattle.pixel_planes.specs.Samples.{Samples}
 use Rattle.pixel_planes.specs.ReferenceSamples.{IsWindow}
@@ -10,17 +10,17 @@ use Rattle.inter_predict.specs.declared.taps.Taps.{Taps}
 abbrev pub taps_of : List ℕ → Taps
 taps_of row = record { a = slice_index row 0; b = slice_index row 1; c = slice_index row 2; d = slice_index row 3; e = slice_index row 4; f = slice_index row 5 }
 
--- the sample that taps make of six samples
+-- the sample that taps return for six samples
 unfoldable pub tapped : Taps → (ℕ → ℕ) → ℕ
 tapped t samples = min ((samples 0 * t.a + samples 2 * t.c + samples 3 * t.d + samples 5 * t.f + 64 - (samples 1 * t.b + samples 4 * t.e)) / 128) 255
 
--- the taps are so small that sums of samples stay within 16 bits, and where the third is 128 no other counts
+-- the taps are so small that sums of samples stay within 16 bits, and if the third is 128 the others are 0
 pub record IsTaps (t : Taps) : Type 0 where
   pub added : t.a + t.c + t.d + t.f ≤ 160
   pub taken : t.b + t.e ≤ 32
   pub alone : t.c ≡ 128 → (t.a ≡ 0) × (t.b ≡ 0) × (t.d ≡ 0) × (t.e ≡ 0) × (t.f ≡ 0)
 
--- a coordinate that leaves room for those beside it in 64 bits
+-- a coordinate whose neighbours fit in 64 bits too
 abbrev pub IsNear : ℤ → Type 0
 IsNear place = (neg_ℤ (pos 4294967296) ≤ℤ place) × (place ≤ℤ pos 4294967296)
 
@@ -28,15 +28,15 @@ IsNear place = (neg_ℤ (pos 4294967296) ≤ℤ place) × (place ≤ℤ pos 4294
 abbrev pub IsReached : ℤ → Type 0
 IsReached place = (neg_ℤ (pos 1099511627776) ≤ℤ place) × (place ≤ℤ pos 1099511627776)
 
--- what taps make of six samples `step` places apart
+-- the sample that taps return for six samples `step` apart
 abbrev pub tapped_at : Taps → List ℕ → ℕ → ℕ → ℕ
 tapped_at t samples step place = tapped t (λ k. slice_index samples (place + k * step))
 
--- what taps make of six samples of a column, each of which taps make of six samples of a row, in rows `stride` samples apart
+-- the sample that taps return for six samples of a column, each of which taps return for six samples of a row, in rows `stride` samples apart
 abbrev pub tapped_twice : Taps → Taps → List ℕ → ℕ → ℕ → ℕ → ℕ
 tapped_twice across down samples stride column row = tapped down (λ j. tapped_at across samples 1 ((row + j) * stride + column))
 
--- the strip of `width` columns from column `first` on, in `height` rows `stride` samples apart, holds in each column of each row what `sample` gives for them, and every other sample is as in `old`
+-- the strip of `width` columns that starts at column `first`, in `height` rows `stride` samples apart, holds in each column of each row the sample that `sample` returns, and every other sample is as in `old`
 pub record IsStrip (sample : ℕ → ℕ → ℕ) (first width height stride : ℕ) (old new : List ℕ) : Type 0 where
   pub whole : length new ≡ length old
   pub each : (column row : ℕ) → column < width → row < height → slice_index new (row * stride + (first + column)) ≡ sample column row
@@ -55,7 +55,7 @@ along samples start step (negsuc k) = 0
 abbrev pub between_in : Kind → ℕ → List ℕ → ℕ → ℕ → ℕ → ℕ → ℕ → ℕ
 between_in kind eighths samples start stride step column row = between kind eighths (along samples (start + row * stride + column) step) (pos 2)
 
--- what a kernel reads to predict a block of this width and height at (x, y) by a vector: the window of reference samples that begins two columns and two rows before the whole samples that the vector leads to, and the taps of both filters
+-- the input of a kernel that predicts a block of this width and height at (x, y) by a vector: the window of reference samples that begins two columns and two rows before the whole samples that the vector points to, and the taps of both filters
 pub record IsInput (kind : Kind) (p : Samples) (x y right below : ℤ) (width height : ℕ) (across down : Taps) (samples : List ℕ) (stride : ℕ) : Type 0 where
   pub across_is : AreTapsOf across kind (fraction right)
   pub down_is : AreTapsOf down kind (fraction below)

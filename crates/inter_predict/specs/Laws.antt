@@ -1,4 +1,4 @@
--- What the filters come to (RFC 6386, section 18.3).
+-- Properties of the filters (RFC 6386, section 18.3).
 use Rattle.std.specs.Prelude.{◌≡◌, ℕ, ◌<◌, List, [], ◌∷◌, ◌++◌, slice_index, slice_index_or, ℤ, pos, negsuc, ◌+ℤ◌, ◌*ℤ◌}
 use Rattle.vp8_tables.specs.declared.filters.TheConstants.{SIX_TAP_FILTERS}
 use Rattle.pixel_planes.specs.Samples.{Samples}

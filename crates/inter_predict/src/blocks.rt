@@ -9,7 +9,7 @@ use crate::strips::{copy, strip};
 use crate::taps::Taps;
 use pixel_planes::Plane;
 
-/// The eighths of a sample that a vector leads behind a whole one, 0 to 7.
+/// The eighths of a sample by which a vector points past a whole one, 0 to 7.
 #[inline]
 fn fraction(eighths: i32) -> usize
     ensures value { result ≡ fraction_of eighths }
@@ -18,8 +18,8 @@ fn fraction(eighths: i32) -> usize
     eighths.rem_euclid(8) as usize
 }
 
-/// Where the first tap stands for a block at `place`: two samples before the whole one that the
-/// vector leads to.
+/// The position of the first tap for a block at `place`: two samples before the whole one that the
+/// vector points to.
 #[inline]
 fn first_tap(place: i32, eighths: i32) -> i64
     ensures value { result ≡ (place +ℤ whole_part eighths) -ℤ pos 2 }
@@ -31,9 +31,10 @@ fn first_tap(place: i32, eighths: i32) -> i64
 /// Predicts a block of `width` by `height` samples from a reference plane into `out`, row by row
 /// (RFC 6386, section 18).
 ///
-/// The block begins at column `x` of row `y`; the vector is how far to the right and how far down of
-/// that its samples are taken from, in eighths of a sample. All may be any numbers: outside the plane
-/// its edges go on. A block of at most 16 by 16 samples is made at once, a larger one in pieces.
+/// The block begins at column `x` of row `y`; the vector is how far to the right and how far down
+/// of that its samples are taken from, in eighths of a sample. All may be any numbers: outside the
+/// plane its edges repeat. A block of at most 16 by 16 samples is predicted in one piece, a larger
+/// one in several.
 #[inline]
 pub fn block(
     plane: &Plane,
@@ -55,7 +56,7 @@ pub fn block(
     }
 }
 
-/// Does what `block` does, in pieces.
+/// Does the same as `block`, in pieces.
 #[cold]
 #[inline(never)]
 fn large(
@@ -77,9 +78,11 @@ fn large(
     in_rows(plane, column, row, kind, right, below, width, height, out);
 }
 
-/// Does what `block` does, into rows `stride` samples apart: at least the width, and at most 65,536.
+/// Does the same as `block`, into rows `stride` samples apart: at least the width, and at most
+/// 65,536.
 ///
-/// The block begins with the first sample of `out`; samples beside it and below it stay as they are.
+/// The block begins with the first sample of `out`; samples next to it and below it stay as they
+/// are.
 #[inline]
 pub fn block_in(
     plane: &Plane,
@@ -106,7 +109,7 @@ pub fn block_in(
     }
 }
 
-/// Does what `block_in` does for a block of `N` columns. `M` is 21 times `N`.
+/// Does the same as `block_in` for a block of `N` columns. `M` is 21 times `N`.
 #[inline]
 fn columns<const N: usize, const M: usize>(
     plane: &Plane,
@@ -131,7 +134,7 @@ fn columns<const N: usize, const M: usize>(
     }
 }
 
-/// Does what `columns` does where the vector leads to whole samples: nothing beside them is read.
+/// Does the same as `columns` if the vector points to whole samples: no other samples are read.
 #[inline(never)]
 fn copied<const N: usize>(
     plane: &Plane,
@@ -159,7 +162,7 @@ fn copied<const N: usize>(
     }
 }
 
-/// Does what `columns` does, by the filters.
+/// Does the same as `columns`, by the filters.
 #[inline(never)]
 fn filtered<const N: usize, const M: usize>(
     plane: &Plane,
@@ -189,7 +192,7 @@ fn filtered<const N: usize, const M: usize>(
     }
 }
 
-/// Does what `block_in` does, for any width and also where the plane's border has no such window.
+/// Does the same as `block_in`, for any width, and also if the plane's border has no such window.
 #[cold]
 #[inline(never)]
 fn any_columns(

@@ -1,4 +1,4 @@
-//! Windows that are gathered sample by sample, where a plane has none.
+//! Windows that are gathered sample by sample, for planes that have none.
 ghost use Rattle.std.specs.Prelude.{◌≡◌, ℕ, ◌+◌, ◌*◌, ◌<◌, ◌≤◌, length, slice_index, pos, neg_ℤ, ◌+ℤ◌, ◌≤ℤ◌};
 ghost use Rattle.inter_predict.specs.Kernels.{IsReached};
 ghost use Rattle.pixel_planes.specs.ReferenceSamples.{reference_sample, IsWindow};
@@ -6,10 +6,10 @@ ghost use Rattle.pixel_planes.specs.ReferenceSamples.{reference_sample, IsWindow
 use pixel_planes::Plane;
 
 /// How many samples apart the rows of a gathered window are: 16 samples, and the two before and the
-/// three behind them that taps stand at.
+/// three after them that the taps read.
 pub const GATHERED_STRIDE: usize = 21;
 
-/// Writes the reference samples from (`x`, `y`) to the right into `out` from `start` on.
+/// Writes the reference samples from (`x`, `y`) to the right into `out`, starting at index `start`.
 fn gather_row(plane: &Plane, x: i64, y: i64, width: usize, out: &mut [u8], start: usize)
     requires near { IsReached x }
     requires wide { width ≤ 21 }
@@ -22,7 +22,7 @@ fn gather_row(plane: &Plane, x: i64, y: i64, width: usize, out: &mut [u8], start
     }
 }
 
-/// Gathers the reference samples of `width` columns and `height` rows from (`x`, `y`) on.
+/// Gathers the reference samples of `width` columns and `height` rows, starting at (`x`, `y`).
 pub fn gather(plane: &Plane, x: i64, y: i64, width: usize, height: usize, out: &mut [u8])
     requires near { IsReached x × IsReached y }
     requires sides { (0 < width) × (width ≤ 21) × (0 < height) × (height ≤ 21) }

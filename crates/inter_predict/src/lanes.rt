@@ -8,7 +8,7 @@ use crate::taps::Taps;
 use std::simd::Simd;
 use std::simd::prelude::*;
 
-/// The lanes of `added` less those of `taken`, held at 0.
+/// The lanes of `added` less the lanes of `taken`, clamped at 0.
 #[inline(always)]
 fn held_rests<const N: usize>(added: Simd<u16, N>, taken: Simd<u16, N>) -> Simd<u16, N>
     ensures { result ≡ zip2 (λ a b. a - b) added.entry taken.entry }
@@ -16,7 +16,7 @@ fn held_rests<const N: usize>(added: Simd<u16, N>, taken: Simd<u16, N>) -> Simd<
     added.saturating_sub(taken)
 }
 
-/// The whole numbers in lanes of 128ths, held at 255.
+/// The whole numbers in lanes of 128ths, clamped at 255.
 #[inline(always)]
 fn held_samples<const N: usize>(lanes: Simd<u16, N>) -> Simd<u8, N>
     ensures { result ≡ map (λ lane. min (lane / 128) 255) lanes.entry }
@@ -26,8 +26,7 @@ fn held_samples<const N: usize>(lanes: Simd<u16, N>) -> Simd<u8, N>
         .cast::<u8>()
 }
 
-/// What taps make of `N` samples side by side from `start` on, each of the six samples that the
-/// taps stand at `step` places behind the last.
+/// Filters `N` adjacent samples, starting at index `start`: each from six samples, `step` apart.
 ///
 /// Sums stay below 65,536: at most 160 times 255, and 64, are added.
 #[inline(always)]

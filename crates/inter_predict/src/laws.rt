@@ -1,11 +1,11 @@
-//! Laws that show that the definitions mean what they are to mean.
+//! Laws over the definitions: examples and properties.
 
 ghost use Rattle.std.specs.Prelude.{◌≡◌, [], ◌∷◌, pos, negsuc};
 ghost use Rattle.inter_predict.specs.InterSample.{whole_part, fraction, between, inter_sample};
 ghost use Rattle.inter_predict.specs.Laws.{TapsAddUp, KeepsOneValue, CopiesWhole, line_of, worked_plane};
 ghost use Rattle.inter_predict.specs.declared.kinds.Kind.TheVariants.{SixTap, Bilinear};
 
-/// The taps of each filter add up to 128, so that samples of one value stay as they are, and a whole
+/// The taps of each filter add up to 128, so samples of one value stay as they are, and a whole
 /// vector copies (RFC 6386, section 18.3).
 pub fn filters_keep_what_is_level()
     ensures add_up { TapsAddUp }

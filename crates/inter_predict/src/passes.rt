@@ -5,11 +5,11 @@ ghost use Rattle.inter_predict.specs.declared.kinds.Kind.{Kind};
 use crate::lanes::tapped;
 use crate::taps::Taps;
 
-/// Writes what taps make of `height` rows of `N` samples into the strip of `out` from column `first`
-/// on, whose rows are `out_stride` samples apart.
+/// Filters `height` rows of `N` samples into the strip of `out` that starts at column `first`,
+/// whose rows are `out_stride` samples apart.
 ///
-/// The first tap of the first sample stands at `start`, that of the next row `stride` places behind
-/// it, and the taps stand `step` places apart.
+/// The first tap of the first sample reads index `start`, the first tap of the next row the index
+/// `stride` after it, and the taps read indices `step` apart.
 #[inline(always)]
 fn pass_by<const N: usize>(
     samples: &[u8],
@@ -39,7 +39,7 @@ fn pass_by<const N: usize>(
     }
 }
 
-/// Does what `pass_by` does, without the products of taps that are 0.
+/// Does the same as `pass_by`, without the products of taps that are 0.
 #[inline]
 pub fn pass<const N: usize>(
     samples: &[u8],

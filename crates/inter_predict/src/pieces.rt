@@ -1,4 +1,4 @@
-//! Blocks at whole samples, of any size, also where a plane has no window.
+//! Blocks at whole samples, of any size, also if a plane has no window.
 
 ghost use Rattle.std.specs.Prelude.{◌≡◌, ℕ, ◌+◌, ◌-◌, ◌*◌, ◌<◌, ◌≤◌, length, min, slice_index, pos};
 ghost use Rattle.vp8_tables.specs.Bounds.{IsWithin};
@@ -11,8 +11,8 @@ use crate::taps::Taps;
 use crate::windows::predict;
 use pixel_planes::Plane;
 
-/// Predicts a block of 1 to 16 columns and rows at the whole samples from column `x` of row `y` on;
-/// `right` and `below` are eighths of a sample.
+/// Predicts a block of 1 to 16 columns and rows at the whole samples that start at column `x` of
+/// row `y`; `right` and `below` are eighths of a sample.
 pub fn block_at(
     plane: &Plane,
     x: i64,
@@ -46,7 +46,7 @@ pub fn block_at(
     }
 }
 
-/// Predicts 1 to 16 samples of a row into `out`, from `start` on.
+/// Predicts 1 to 16 samples of a row into `out`, starting at index `start`.
 fn piece(
     plane: &Plane,
     x: i64,
@@ -72,8 +72,8 @@ fn piece(
     }
 }
 
-/// How far a piece begins after the first sample of its block: `count` samples, or fewer once every
-/// sample is past the plane's last one.
+/// How far after the first sample of its block a piece begins: `count` samples, or fewer if all its
+/// samples are past the plane's last one.
 fn offset(count: usize, side: usize) -> i64
     requires { side ≤ 16384 }
     ensures { result ≡ pos (min count (side + 8589934592)) }
@@ -81,7 +81,7 @@ fn offset(count: usize, side: usize) -> i64
     count.min(side + 8_589_934_592) as i64
 }
 
-/// Predicts a row of samples into `out`, from `start` on, in pieces of 16.
+/// Predicts a row of samples into `out`, starting at index `start`, in pieces of 16.
 fn row_in_pieces(
     plane: &Plane,
     x: i64,

@@ -5,8 +5,8 @@ use crate::passes::pass;
 use crate::taps::Taps;
 use std::simd::Simd;
 
-/// Copies `height` rows of `N` samples, the first from `start` on and each further one `stride`
-/// places behind the last, into the strip of `out` from column `first` on.
+/// Copies `height` rows of `N` samples, the first starting at index `start` and each further one
+/// `stride` after the last, into the strip of `out` that starts at column `first`.
 #[inline]
 pub fn copy<const N: usize>(
     samples: &[u8],
@@ -32,10 +32,10 @@ pub fn copy<const N: usize>(
     }
 }
 
-/// Predicts the `N` columns from `first` on of a block of `height` rows.
+/// Predicts `N` columns, starting at column `first`, of a block of `height` rows.
 ///
-/// `samples` are those that the taps stand at: they begin two columns and two rows before the block,
-/// and their rows are `stride` samples apart. `M` is 21 times `N`.
+/// `samples` are the window that the taps read: it begins two columns and two rows before the
+/// block, and its rows are `stride` samples apart. `M` is 21 times `N`.
 #[inline(always)]
 pub fn strip<const N: usize, const M: usize>(
     samples: &[u8],

@@ -4,10 +4,10 @@ ghost use Rattle.inter_predict.specs.Kernels.{IsTaps, tapped, taps_of};
 
 use crate::kinds::Kind;
 
-/// The taps of a filter at the samples from two before a place to three behind it.
+/// The taps of a filter, for the six samples from two before a position to three after it.
 ///
-/// They are kept without signs: what `b` and `e` make of their samples is taken away, and all else
-/// is added (RFC 6386, section 18.3).
+/// They are stored without signs: the products of `b` and `e` are subtracted, and all others are
+/// added (RFC 6386, section 18.3).
 #[derive(Clone, Copy)]
 pub struct Taps {
     pub a: u16,
@@ -43,7 +43,7 @@ const TWO_TAPS: [[u16; 6]; 8] = [
 ];
 
 impl Taps {
-    /// The taps for a fraction of eighths: those of `SIX_TAP_FILTERS` or `BILINEAR_FILTERS`.
+    /// The taps for a fraction of eighths, from `SIX_TAP_FILTERS` or `BILINEAR_FILTERS`.
     #[inline]
     pub fn of(kind: Kind, eighths: usize) -> Taps
         requires { eighths < 8 }

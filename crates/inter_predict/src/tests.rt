@@ -5,7 +5,7 @@ use pixel_planes::{NoMemory, Picture, Plane, Planes};
 use std::alloc::Global;
 use std::test::Fail;
 
-/// The taps of RFC 6386, section 18.3, from two samples before a place to three behind it.
+/// The taps of RFC 6386, section 18.3, from two samples before a position to three after it.
 const SIX_TAPS: [[i64; 6]; 8] = [
     [0, 0, 128, 0, 0, 0],
     [0, -6, 123, 12, -1, 0],
@@ -143,7 +143,7 @@ fn all_widths_are_as_read_plainly(rt: HostRuntime) -> Result<(), Fail> {
     Ok(())
 }
 
-/// Where the border is too narrow, or nothing of it stands, the block is the same.
+/// If the border is too narrow, or out of date, the block is the same.
 #[test]
 fn blocks_do_not_depend_on_the_border(rt: HostRuntime) -> Result<(), Fail> {
     let bordered = picture(rt.alloc(), 32)?;
@@ -162,7 +162,8 @@ fn blocks_do_not_depend_on_the_border(rt: HostRuntime) -> Result<(), Fail> {
     Ok(())
 }
 
-/// A plane whose rows were written and not shared yet has no border: its samples are read one by one.
+/// A plane whose rows were written and not shared yet has no border: its samples are read one at a
+/// time.
 #[test]
 fn a_plane_being_written_is_read(rt: HostRuntime) -> Result<(), Fail> {
     let mut plane = Plane::make(rt.alloc(), 16, 16, 9)?;
@@ -200,8 +201,8 @@ fn plane_of(alloc: Global, width: usize, height: usize, samples: &[u8]) -> Resul
     Ok(plane)
 }
 
-/// Half a sample to the right: 64 * 255 / 128 = 127.5 is rounded up, -13 * 255 / 128 is held at 0 and
-/// 154 * 255 / 128 at 255.
+/// Half a sample to the right: 64 * 255 / 128 = 127.5 is rounded up, -13 * 255 / 128 is clamped at
+/// 0 and 154 * 255 / 128 at 255.
 #[test]
 fn rows_are_as_worked_by_hand(rt: HostRuntime) -> Result<(), Fail> {
     for (row, sample) in [

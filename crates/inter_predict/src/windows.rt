@@ -4,7 +4,7 @@ ghost use Rattle.inter_predict.specs.Kernels.{IsTaps, IsStrip, Predicts, tapped_
 use crate::strips::strip;
 use crate::taps::Taps;
 
-/// Predicts the columns of a block that strips of four fit in.
+/// Predicts as many columns of a block as strips of four fit in.
 fn in_fours(
     samples: &[u8],
     stride: usize,
@@ -39,7 +39,7 @@ fn in_fours(
     }
 }
 
-/// Predicts the columns of a block from `first` on, one by one.
+/// Predicts the columns of a block, starting at column `first`, one at a time.
 fn in_ones(
     samples: &[u8],
     stride: usize,
@@ -70,8 +70,8 @@ fn in_ones(
 
 /// Predicts a block of `width` by `height` samples into the start of `out`.
 ///
-/// `samples` are those that the taps stand at: they begin two columns and two rows before the block,
-/// and their rows are `stride` samples apart.
+/// `samples` are the window that the taps read: it begins two columns and two rows before the
+/// block, and its rows are `stride` samples apart.
 #[inline]
 pub fn predict(
     samples: &[u8],

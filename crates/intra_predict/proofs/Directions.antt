@@ -4,7 +4,7 @@ use Rattle.intra_predict.specs.declared.modes.SubMode.TheVariants.{Ve, He, Ld, R
 use Rattle.intra_predict.specs.SubSample.{sub_sample, three_from, edge_at, above_at}
 use Rattle.intra_predict.specs.SubLaws.{GoesRight, GoesLeft}
 
--- what holds at 0 and 1, or at 0 to 2, holds below the next number
+-- a fact at 0 and 1, or at 0 to 2, holds below the next number
 below_two : (P : ℕ → Type 0) → P 0 → P 1 → (k : ℕ) → k < 2 → P k
 below_two P at0 at1 zero less = at0
 below_two P at0 at1 (suc zero) less = at1

@@ -1,43 +1,59 @@
--- Sums and rests of samples in lanes.
+-- Sums and differences of samples in lanes.
 use Rattle.std.specs.Prelude.{min, length, replicate}
-use Rattle.std.proofs.Common.{◌≡◌, ℕ, ◌+◌, ◌-◌, ◌<◌, ◌≤◌, ◌*◌, ◌%◌, Bool, true, false, cond, ltb, leb, List, [], ◌∷◌, map, refl, ap, ◌∙◌, arith, w8, Fits}
+use Rattle.std.proofs.Common.{◌≡◌, ℕ, ◌+◌, ◌-◌, ◌<◌, ◌≤◌, ◌*◌, ◌%◌, Bool, true, false, cond, ltb, leb, List, [], ◌∷◌, map, inl, inr, pos, negsuc, ◌-ℤ◌, refl, ap, sym, ◌∙◌, arith, w8, Fits}
 use lib.Lanes.{Each1, zip2, sel_l, fold_l}
 use Rattle.std.proofs.lemmas.Bool.Decides.{nat_tests}
+use Rattle.std.proofs.lemmas.Bool.{cases_lt}
+use Rattle.std.proofs.lemmas.Int.{ints}
+use Rattle.vp8_tables.specs.Bounds.{held}
 use Rattle.intra_predict.specs.Means.{gradient}
 
--- two lists that begin alike and go on alike
+-- two lists with equal heads and equal tails
 same_lanes : (x y : ℕ) (xs ys : List ℕ) → x ≡ y → xs ≡ ys → x ∷ xs ≡ y ∷ ys
 same_lanes x y xs ys first rest = ap (λ (z : ℕ). z ∷ xs) first ∙ ap (λ (l : List ℕ). y ∷ l) rest
 
--- the top bit of a mask tells what was compared
+-- the top bit of a mask is the result of the comparison
 mask_tells : (b : Bool) → leb 128 (cond b 255 0) ≡ b
 mask_tells true = refl
 mask_tells false = refl
 
--- one lane of a sum that is held at 255
+-- one lane of a sum that is clamped at 255
 held_sum : (a b : ℕ) → a < 256 → (a + cond (leb 128 (cond (ltb b (255 - a)) 255 0)) b (255 - a)) % 256 ≡ min (a + b) 255
 held_sum a b small = rw mask_tells (grind (arith, nat_tests))
 
--- one lane of a rest that is held at 0
+-- one lane of a difference that is clamped at 0
 held_rest : (a b : ℕ) → a < 256 → b < 256 → (cond (leb 128 (cond (ltb a b) 255 0)) b a + (256 - b)) % 256 ≡ a - b
 held_rest a b small small' = rw mask_tells (grind (arith, nat_tests))
 
--- all lanes of sums that are held at 255
+-- all lanes of sums that are clamped at 255
 pub held_sums : (xs ys : List ℕ) → Each1 (Fits w8) xs → zip2 (λ a b. (a + b) % 256) xs (sel_l (map (λ m. leb 128 m) (zip2 (λ b n. cond (ltb b n) 255 0) ys (map (λ a. 255 - a) xs))) ys (map (λ a. 255 - a) xs)) ≡ zip2 (λ a b. min (a + b) 255) xs ys
 held_sums [] ys fits = refl
 held_sums (x ∷ xs) [] fits = refl
 held_sums (x ∷ xs) (y ∷ ys) fits = same_lanes _ _ _ _ (held_sum x y fits.0.fits) (held_sums xs ys fits.1)
 
--- all lanes of rests that are held at 0
+-- all lanes of differences that are clamped at 0
 pub held_rests : (xs ys : List ℕ) → Each1 (Fits w8) xs → Each1 (Fits w8) ys → zip2 (λ a b. (a + (256 - b)) % 256) (sel_l (map (λ m. leb 128 m) (zip2 (λ a b. cond (ltb a b) 255 0) xs ys)) ys xs) ys ≡ zip2 (λ a b. a - b) xs ys
 held_rests [] ys fits fits' = refl
 held_rests (x ∷ xs) [] fits fits' = refl
 held_rests (x ∷ xs) (y ∷ ys) fits fits' = same_lanes _ _ _ _ (held_rest x y fits.0.fits fits'.0.fits) (held_rests xs ys fits.1 fits'.1)
 
+-- a difference of natural numbers, clamped
+held_difference : (n c : ℕ) → held (pos n -ℤ pos c) ≡ min (n - c) 255
+held_difference n c =
+    elim (cases_lt n c) [
+      | inl below ↦
+          let less : pos n -ℤ pos c ≡ negsuc (c - n - 1) = omega (arith, ints) in
+          let none : 0 ≡ min (n - c) 255 = omega arith in
+          ap held less ∙ none
+      | inr above ↦
+          let more : pos n -ℤ pos c ≡ pos (n - c) = omega (arith, ints) in
+          ap held more
+    ]
+
 -- a sample to the left that is moved by the difference above it
 moved : (left above corner : ℕ) → left < 256 → min (left + (above - corner)) 255 - (corner - above) ≡ gradient left above corner
 unfolding gradient
-moved left above corner small = grind (arith, nat_tests)
+moved left above corner small = let same : min (left + (above - corner)) 255 - (corner - above) ≡ min (left + above - corner) 255 = grind (arith, nat_tests) in same ∙ sym (held_difference (left + above) corner)
 
 -- a row of them
 pub moved_row : (left corner : ℕ) (above : List ℕ) → left < 256

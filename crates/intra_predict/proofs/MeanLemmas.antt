@@ -32,7 +32,7 @@ mean_of_eight above left a b eight four a_is b_is =
     let some : length (take 4 above) ≡ 4 = length-take-le 4 above (omega arith) in
     sym (mean_of-both 4 (take 4 above) left some four (omega arith) ∙ rw (← a_is, ← b_is) refl)
 
--- the mean where there are no samples
+-- the mean of no samples
 pub mean_of-none : mean_of [] ≡ 128
 unfolding mean_of
 mean_of-none = refl

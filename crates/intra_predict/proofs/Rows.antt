@@ -7,12 +7,12 @@ use Rattle.std.proofs.lemmas.Bool.{cases_lt}
 use Rattle.std.proofs.lemmas.Simd.{length-put_chunk, get_or-put_chunk_below, get_or-put_chunk_at}
 use Rattle.intra_predict.specs.Blocks.{IsBlock}
 
--- the first n rows are those of the block
+-- the first n rows are the block's
 pub record HasRows (side : ℕ) (sample : ℕ → ℕ → ℕ) (n : ℕ) (samples : List ℕ) : Type 0 where
   pub whole : length samples ≡ side * side
   pub each : (column row : ℕ) → column < side → row < n → slice_index samples (row * side + column) ≡ sample column row
 
--- a place in an earlier row stands before this row
+-- an index in an earlier row is before this row
 before_row : (side column row n : ℕ) → column < side → row < n → row * side + column < n * side
 before_row side column row n inside earlier = grind (arith, mul-le-mul_left)
 

@@ -4,11 +4,11 @@ use Rattle.intra_predict.specs.declared.modes.SubMode.{SubMode}
 use Rattle.intra_predict.specs.declared.modes.SubMode.TheVariants.{Dc, Tm, Ve, He, Ld, Rd, Vr, Vl, Hd, Hu}
 use Rattle.intra_predict.specs.Means.{mean_of, mean_of_two, mean_of_three, gradient}
 
--- the sample of the left side in this row; below it the last one stands again
+-- the sample of the left side in this row; below it the last one repeats
 abbrev pub left_at : List ℕ → ℕ → ℕ
 left_at left row = slice_index left (min row 3)
 
--- the sample above this column, of which there are eight; behind them the last one stands again
+-- the sample above this column, of which there are eight; after them the last one repeats
 abbrev pub above_at : List ℕ → ℕ → ℕ
 above_at above column = slice_index above (min column 7)
 
@@ -16,11 +16,11 @@ above_at above column = slice_index above (min column 7)
 abbrev pub edge_at : List ℕ → ℕ → List ℕ → ℕ → ℕ
 edge_at left corner above k = if nat_lt k 4 then slice_index left (3 - k) else (if k == 4 then corner else above_at above (k - 5))
 
--- the mean of the two samples that stand from place k on
+-- the mean of the two samples starting at index k
 abbrev pub two_from : (ℕ → ℕ) → ℕ → ℕ
 two_from samples k = mean_of_two (samples k) (samples (k + 1))
 
--- the mean of the three samples that stand from place k on
+-- the mean of the three samples starting at index k
 abbrev pub three_from : (ℕ → ℕ) → ℕ → ℕ
 three_from samples k = mean_of_three (samples k) (samples (k + 1)) (samples (k + 2))
 

@@ -17,12 +17,12 @@ abbrev pub inside : Option (List ℕ) → List ℕ
 inside None = []
 inside (Some samples) = samples
 
--- the sample above a column; where the side is above the frame, 127
+-- the sample above a column; 127 if the side is above the frame
 abbrev pub above_at : Option (List ℕ) → ℕ → ℕ
 above_at None column = above_frame
 above_at (Some above) column = slice_index above column
 
--- the sample to the left of a row; where the side is to the left of the frame, 129
+-- the sample to the left of a row; 129 if the side is to the left of the frame
 abbrev pub left_at : Option (List ℕ) → ℕ → ℕ
 left_at None row = left_of_frame
 left_at (Some left) row = slice_index left row

@@ -44,7 +44,7 @@ pub fn fill_columns<const N: usize>(left: Simd<u8, N>, out: &mut [u8])
     }
 }
 
-/// The lanes of both added, held at 255.
+/// The lanes of both added, clamped at 255.
 #[inline]
 fn held_sums<const N: usize>(first: Simd<u8, N>, second: Simd<u8, N>) -> Simd<u8, N>
     ensures { result ≡ zip2 (λ a b. min (a + b) 255) first.entry second.entry }
@@ -52,7 +52,7 @@ fn held_sums<const N: usize>(first: Simd<u8, N>, second: Simd<u8, N>) -> Simd<u8
     first.saturating_add(second)
 }
 
-/// The lanes of `first` less those of `second`, held at 0.
+/// The lanes of `first` less the lanes of `second`, clamped at 0.
 #[inline]
 fn held_rests<const N: usize>(first: Simd<u8, N>, second: Simd<u8, N>) -> Simd<u8, N>
     ensures { result ≡ zip2 (λ a b. a - b) first.entry second.entry }
@@ -62,8 +62,8 @@ fn held_rests<const N: usize>(first: Simd<u8, N>, second: Simd<u8, N>) -> Simd<u
 
 /// Sets each sample of a block of `N` by `N` samples to its gradient.
 ///
-/// What stands above lies `more` above the corner, or `less` below it, and a row differs from the
-/// sample to its left by just that: no sum needs more than 8 bits.
+/// The samples above are `more` above the corner, or `less` below it, and a row differs from the
+/// sample to its left by exactly that: no sum needs more than 8 bits.
 #[inline]
 pub fn fill_gradients<const N: usize>(
     above: Simd<u8, N>,

@@ -1,4 +1,4 @@
-//! Laws that show that the definitions mean what they are to mean.
+//! Laws over the definitions: examples and properties.
 
 ghost use Rattle.std.specs.Prelude.{◌≡◌, ℕ, List, [], ◌∷◌, replicate};
 ghost use Rattle.intra_predict.specs.SubLaws.{GoesRight, GoesLeft, worked_row};
@@ -6,7 +6,7 @@ ghost use Rattle.intra_predict.specs.WholeSample.{whole_sample};
 ghost use Rattle.intra_predict.specs.declared.modes.SubMode.TheVariants.{Dc, Tm, Ve, He, Ld, Rd, Vr, Vl, Hd, Hu};
 ghost use Rattle.intra_predict.specs.declared.modes.WholeMode.TheVariants.{Dc as WholeDc, V, H, Tm as WholeTm};
 
-/// Each mode of a sub block that has a direction goes on along it: straight down, straight to the
+/// Each mode of a sub block that has a direction continues along it: straight down, straight to the
 /// right, or at 45, 27 or 63 degrees (RFC 6386, section 12.3).
 pub fn modes_go_on()
     ensures vertical { GoesRight Ve 0 1 }

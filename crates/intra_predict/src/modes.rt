@@ -10,7 +10,7 @@ pub enum WholeMode {
     V,
     /// `H_PRED`: each column is the column to the left of the block.
     H,
-    /// `TM_PRED`: the differences along the row above go on from the column to the left.
+    /// `TM_PRED`: the differences along the row above continue from the column to the left.
     Tm,
 }
 
@@ -21,23 +21,23 @@ pub enum WholeMode {
 pub enum SubMode {
     /// `B_DC_PRED`: each sample is the mean of the samples above and to the left.
     Dc,
-    /// `B_TM_PRED`: the differences along the row above go on from the column to the left.
+    /// `B_TM_PRED`: the differences along the row above continue from the column to the left.
     Tm,
     /// `B_VE_PRED`: each row is the smoothed row above.
     Ve,
     /// `B_HE_PRED`: each column is the smoothed column to the left.
     He,
-    /// `B_LD_PRED`: the row above goes on left and down, at 45 degrees.
+    /// `B_LD_PRED`: the row above continues left and down, at 45 degrees.
     Ld,
-    /// `B_RD_PRED`: the edge goes on right and down, at 45 degrees.
+    /// `B_RD_PRED`: the edge continues right and down, at 45 degrees.
     Rd,
-    /// `B_VR_PRED`: the edge goes on down and a little right.
+    /// `B_VR_PRED`: the edge continues down and a little right.
     Vr,
-    /// `B_VL_PRED`: the row above goes on down and a little left.
+    /// `B_VL_PRED`: the row above continues down and a little left.
     Vl,
-    /// `B_HD_PRED`: the edge goes on right and a little down.
+    /// `B_HD_PRED`: the edge continues right and a little down.
     Hd,
-    /// `B_HU_PRED`: the column to the left goes on right and a little up.
+    /// `B_HU_PRED`: the column to the left continues right and a little up.
     Hu,
 }
 

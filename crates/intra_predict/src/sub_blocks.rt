@@ -10,7 +10,7 @@ use std::simd::u8x4;
 /// Predicts a sub block of 4 by 4 samples from the samples round it (RFC 6386, section 12.3).
 ///
 /// `left` is the column to its left from the top, `corner` the sample above that column, and
-/// `above` the row above it, of which four samples stand further right. The result is four rows of
+/// `above` the row above it, four of whose samples are further right. The result is four rows of
 /// four samples.
 #[inline]
 pub fn sub(mode: SubMode, left: [u8; 4], corner: u8, above: [u8; 8]) -> [u8; 16]
@@ -189,7 +189,7 @@ fn horizontal_down(left: [u8; 4], corner: u8, above: [u8; 8]) -> [u8; 16]
     ]
 }
 
-/// `B_HU_PRED`: behind the lowest sample to the left, that sample goes on.
+/// `B_HU_PRED`: past the lowest sample to the left, that sample repeats.
 fn horizontal_up(left: [u8; 4]) -> [u8; 16]
     ensures { (corner : ℕ) (above : List ℕ) → IsBlock 4 (sub_sample SubMode.Hu left corner above) result }
 {

@@ -1,15 +1,15 @@
 use super::*;
 
-/// What stands to the left of the worked sub blocks (L0 to L3).
+/// The samples to the left of the worked sub blocks (L0 to L3).
 const LEFT: [u8; 4] = [7, 20, 4, 100];
 
-/// What stands above the left side of the worked sub blocks (P).
+/// The sample above the left side of the worked sub blocks (P).
 const CORNER: u8 = 40;
 
-/// What stands above the worked sub blocks (A0 to A7).
+/// The samples above the worked sub blocks (A0 to A7).
 const ABOVE: [u8; 8] = [60, 13, 90, 200, 31, 8, 5, 251];
 
-/// Sub blocks by hand from the formulas of RFC 6386, section 12.3.
+/// Sub blocks worked manually from the formulas of RFC 6386, section 12.3.
 ///
 /// The edge from L3 up over P to A3 is 100, 4, 20, 7, 40, 60, 13, 90, 200, and 31, 8, 5, 251 follow.
 /// Its means of two are (100 + 4 + 1) / 2 = 52, (4 + 20 + 1) / 2 = 12, (20 + 7 + 1) / 2 = 14,
@@ -24,7 +24,7 @@ const ABOVE: [u8; 8] = [60, 13, 90, 200, 31, 8, 5, 251];
 fn sub_blocks_are_as_worked_by_hand(rt: HostRuntime) {
     // DC: (60 + 13 + 90 + 200 + 7 + 20 + 4 + 100 + 4) / 8 = 62.
     let mean = [62; 16];
-    // TM: left + above - 40; 20 + 13 - 40 = -7, 7 + 13 - 40 and 4 + 13 - 40 are held at 0, and
+    // TM: left + above - 40; 20 + 13 - 40 = -7, 7 + 13 - 40 and 4 + 13 - 40 are clamped at 0, and
     // 100 + 200 - 40 = 260 at 255.
     let true_motion = [
         27, 0, 57, 167, 40, 0, 70, 180, 24, 0, 54, 164, 120, 73, 150, 255,
@@ -79,7 +79,7 @@ fn vertical_sub_block_repeats_the_row_above(rt: HostRuntime) {
     assert_eq!(rt; sub(SubMode::Ve, [1, 2, 3, 4], 10, above), block);
 }
 
-/// The means of two and three of 10, 20, 30, 40 by turns; behind them 40 stands.
+/// The means of two and three of 10, 20, 30, 40 in turn; after them 40 repeats.
 #[test]
 fn horizontal_up_sub_block_ends_in_the_last_sample(rt: HostRuntime) {
     let block = [
@@ -103,10 +103,10 @@ fn sub_modes_are_numbered(rt: HostRuntime) {
     assert_eq!(rt; (SubMode::Hd as u8, SubMode::Hu as u8), (8, 9));
 }
 
-/// What stands above the worked chroma blocks: its sum is 360.
+/// The samples above the worked chroma blocks: its sum is 360.
 const ROW: [u8; 8] = [10, 20, 30, 40, 50, 60, 70, 80];
 
-/// What stands to the left of the worked chroma blocks: its sum is 80.
+/// The samples to the left of the worked chroma blocks: its sum is 80.
 const COLUMN: [u8; 8] = [3, 5, 7, 9, 11, 13, 15, 17];
 
 /// A chroma block between these sides.
@@ -118,7 +118,7 @@ fn chroma(mode: WholeMode, above: bool, left: bool, corner: u8) -> [u8; 64] {
     block
 }
 
-/// The first and the last row of chroma blocks, by hand from RFC 6386, section 12.2.
+/// The first and the last row of chroma blocks, worked manually from RFC 6386, section 12.2.
 #[test]
 fn chroma_blocks_are_as_worked_by_hand(rt: HostRuntime) {
     for (mode, above, left, corner, first, last) in [
@@ -163,7 +163,8 @@ fn chroma_blocks_are_as_worked_by_hand(rt: HostRuntime) {
 #[test]
 fn luma_blocks_are_as_worked_by_hand(rt: HostRuntime) {
     for (mode, corner, value) in [
-        // (16 * 200 + 16 * 101 + 16) / 32 = 151; 101 + 200 - 46 = 255; 101 + 200 - 20 = 281 is held.
+        // (16 * 200 + 16 * 101 + 16) / 32 = 151; 101 + 200 - 46 = 255; 101 + 200 - 20 = 281 is
+        // clamped.
         (WholeMode::Dc, 0, 151),
         (WholeMode::V, 0, 200),
         (WholeMode::H, 0, 101),

@@ -8,17 +8,17 @@ use crate::lanes::{fill_columns, fill_gradients, fill_rows, sum_of};
 use crate::modes::{BlockSize, WholeMode};
 use std::simd::Simd;
 
-/// What stands above a block that has nothing of the frame above it, in each column.
+/// The samples above a block at the top of the frame.
 const ABOVE_FRAME: u8 = 127;
 
-/// What stands to the left of a block that has nothing of the frame to its left, in each row.
+/// The samples to the left of a block at the left edge of the frame.
 const LEFT_OF_FRAME: u8 = 129;
 
 /// Predicts a whole block from the samples round it into `out` (RFC 6386, section 12.2).
 ///
 /// `above` is the row above the block and `left` the column to its left from the top, as many
-/// samples as the block has in a row; `None` stands for a side outside the frame. `corner` is the
-/// sample above the left column. `out` is the block, row by row.
+/// samples as the block has in a row; `None` is a side outside the frame. `corner` is the sample
+/// above the left column. `out` is the block, row by row.
 #[inline]
 pub fn whole(
     mode: WholeMode,

@@ -63,7 +63,7 @@ pub vector_mode-leaf : (counts nodes : List ℕ) (number : ℕ) (r s : Reader) �
 unfolding vector_mode leaf
 vector_mode-leaf counts nodes number r s are told = let there = rw are at told in rw there refl
 
--- a record with a reference behind those before it, by the parts from which the code makes it
+-- a record with a reference, appended to those before it, by the parts from which the code makes it
 pub referenced_mode-appended : (is_skipped : Bool) (header : Header) (segment : ℕ) (place : MbPlace) (above left above_left : Option MbMode) (before : List MbMode) (from : Reference) (near : Near) (mode : VectorMode) (vectors : List MotionVector) (r s t u : Reader) → which_reference header.reference_probabilities r ≡ (from, s) → near ≡ near_of above left above_left from header.context.sign_biases place → vector_mode near.counts s ≡ (mode, t) → vectors_by mode near header.context.probabilities.vectors above left t ≡ (vectors, u) → appended segment before (referenced_mode is_skipped header place above left above_left) r ≡ (before ++ record { segment = segment; is_skipped = is_skipped; y_mode = Inter from mode; sub_modes = no_sub_modes; uv_mode = Dc; vectors = vectors } ∷ [], u)
 unfolding referenced_mode
 referenced_mode-appended is_skipped header segment place above left above_left before from near mode vectors r s t u is_from is_near is_mode are_vectors = rw (is_from, ← is_near, is_mode, are_vectors) refl

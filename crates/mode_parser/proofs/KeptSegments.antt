@@ -11,7 +11,7 @@ use Rattle.mode_parser.specs.declared.records.MbMode.{MbMode}
 use Rattle.mode_parser.specs.Segments.{kept_segment, segment_at}
 use Rattle.mode_parser.specs.FrameModes.{mode_at, first_modes}
 
--- the segment that a macroblock has without being told
+-- the segment of a macroblock that is not read
 abbrev untold : Header → Option (List ℕ) → ℕ → ℕ
 untold header before place = if header.segmentation.is_enabled then kept_segment header.is_key before place else 0
 

@@ -1,4 +1,4 @@
--- The vectors that are listed, as the code holds them
+-- The vectors of `near_mvs`, as the code stores them
 use Rattle.std.proofs.Common.{◌≡◌, ◌≢◌, ℕ, zero, suc, ◌+◌, ◌<◌, ◌≤◌, Bool, true, false, List, [], ◌∷◌, length, set, refl, ap, sym, subst, ◌∙◌, arith}
 use Rattle.std.specs.Prelude.{slice_index, Option, Some, None, slice_index_or, ◌==◌, ◌&&◌}
 use Rattle.std.specs.Int.{from_bool}
@@ -13,7 +13,7 @@ use Rattle.mode_parser.specs.declared.neighbours.Weighted.{Weighted}
 use Rattle.mode_parser.specs.NearVectors.{Listing, no_listing, listed_with, with_vector, vector_of, with_mode, with_neighbour, listed_at, first_in}
 use Rattle.mode_parser.specs.Neighbours.{listed_to, listing_to, listed_weight, weight_in, ThirdWeighs, AreListed}
 
--- a write behind the first n vectors, or before them, leaves them
+-- a write after the first n vectors, or before them, leaves them
 pub listed_to-below : (vectors : List MotionVector) (weights : List ℕ) (i : ℕ) (vector : MotionVector) (weight n : ℕ) → n < i → listed_to (set vectors i vector) (set weights i weight) n ≡ listed_to vectors weights n
 listed_to-below vectors weights i vector weight zero below = refl
 listed_to-below vectors weights i vector weight (suc n) below =
@@ -64,7 +64,7 @@ pub counted-new : (vectors : List MotionVector) (weights : List ℕ) (n next : �
 counted-new vectors weights n next vector weight is_next is_zero other inside within =
     rw is_next (counted-next vectors weights n vector weight is_zero other (rw is_next at inside) (rw is_next at within))
 
--- the first and the second vector that are listed
+-- the first and the second vector
 pub first-is : (vectors : List MotionVector) (weights : List ℕ) (newest : ℕ) (again : Bool) → newest ≤ 3 → AreListed vectors weights newest → again ≡ (newest == 3 && is_same (slice_index_or vectors 3 zero_vector) (slice_index_or vectors 1 zero_vector)) →
     record { vector = slice_index_or vectors 1 zero_vector; weight = slice_index weights 1 + from_bool again } ≡ first_in (listed_to vectors weights newest)
 first-is vectors weights zero again most are is_again = rw (is_again, are.no_vector 1 (omega arith), are.no_weight 1 (omega arith)) refl
@@ -104,7 +104,7 @@ pub with_neighbour-weight : (biases : SignBiases) (reference : Reference) (befor
 with_neighbour-weight biases reference before None weight = omega arith
 with_neighbour-weight biases reference before (Some macroblock) weight = mode-weight biases reference before macroblock.y_mode (vector_of macroblock) weight
 
--- a third vector weighs what the neighbour weighs that has it
+-- a third vector has its neighbour's weight
 newest-third : (newest : Weighted) (older : List Weighted) (vector : MotionVector) (weight : ℕ) (is_newest : Bool) → is_same vector newest.vector ≡ is_newest → length (newest ∷ older) < 3 → ThirdWeighs weight (listed_with (newest ∷ older) vector weight)
 newest-third newest older vector weight true same few = rw same (λ three. absurd (omega (arith, three, few)))
 newest-third newest older vector weight false same few = rw same (λ _. refl)

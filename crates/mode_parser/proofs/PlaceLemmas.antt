@@ -1,4 +1,4 @@
--- The place behind one in raster order
+-- The next index in raster order
 use Rattle.std.proofs.Common.{◌≡◌, ℕ, ◌+◌, ◌*◌, ◌/◌, ◌%◌, ◌<◌, ◌≤◌, refl, ap, sym, ◌∙◌, arith}
 use Rattle.mode_parser.specs.declared.nearby.MbPlace.{MbPlace}
 use Rattle.mode_parser.specs.FrameModes.{place_of}

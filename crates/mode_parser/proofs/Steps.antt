@@ -24,7 +24,7 @@ first_sub_modes-suc : (n : ℕ) (tables : TableEntries) (above left : Option MbM
 unfolding first_sub_modes
 first_sub_modes-suc n tables above left before mode start r s done told = rw (done, told) refl
 
--- the modes read so far stand at the front of an array
+-- the modes read so far are at the front of an array
 pub first_sub_modes-more : (n : ℕ) (tables : TableEntries) (above left : Option MbMode) (modes : List SubMode) (mode : SubMode) (start r s : Reader) → n < length modes → first_sub_modes n tables above left start ≡ (take n modes, r) → key_sub_mode tables (mode_above above (take n modes) n) (mode_left left (take n modes) n) r ≡ (mode, s) → first_sub_modes (n + 1) tables above left start ≡ (take (n + 1) (set modes n mode), s)
 first_sub_modes-more n tables above left modes mode start r s below done told =
     rw (take_more_set modes n mode below, add-one) (first_sub_modes-suc n tables above left (take n modes) mode start r s done told)

@@ -1,4 +1,4 @@
--- What a reader with only zeros before it gives
+-- The result of a reader with only zeros before it
 use Rattle.std.proofs.Common.{◌≡◌, ◌∙◌, ℕ, zero, suc, Bool, true, false, List, [], ◌∷◌, replicate, refl, arith}
 use Rattle.std.specs.Prelude.{nat_le, nat_lt, ◌==◌, Option, Some, None, slice_index, if◌then◌else◌}
 use Rattle.std.specs.List.{list_all}
@@ -60,7 +60,7 @@ read-zeros prob r zeros =
 read-false : (prob : ℕ) (r : Reader) → ReadsZeros r → read prob r ≡ (false, (read prob r).1)
 read-false prob r zeros = rw (← (read-zeros prob r zeros).same) refl
 
--- a walk that the first bit ends gives that leaf
+-- a walk that the first bit ends returns that leaf
 gives : {A : Type 0} (told : A × Reader) (value : A) (r : Reader) → told ≡ (value, r) → ReadsZeros r → Gives told value
 gives told value r is zeros = rw is (record { same = refl; zeros = zeros })
 

@@ -1,4 +1,4 @@
--- How the code puts a record behind those before it.
+-- How the code appends a record to those before it.
 use Rattle.std.specs.Prelude.{ℕ, Bool, Option, List, [], ◌∷◌, ◌++◌, length}
 use Rattle.bool_coder.specs.Reading.{Reading, ◌>>=◌, give}
 use Rattle.vp8_tables.specs.Tables.{TableEntries}
@@ -9,25 +9,25 @@ use Rattle.mode_parser.specs.Records.{key_mode}
 use Rattle.mode_parser.specs.InterRecords.{referenced_mode, inter_mode}
 use Rattle.mode_parser.specs.FrameModes.{record_above, record_left, record_above_left, mode_at}
 
--- records with one more behind them, which is read, but for its segment
+-- records with one more appended, which is read, except its segment
 abbrev pub appended : ℕ → List MbMode → Reading MbMode → Reading (List MbMode)
 appended segment before rest = do
   mode ← rest
   give (before ++ record mode { segment = segment } ∷ [])
 
--- the first records of a frame with the next one behind them
+-- the first records of a frame with the next one appended
 abbrev pub one_more : TableEntries → Header → ℕ → ℕ → Option (List ℕ) → List MbMode → Reading (List MbMode)
 one_more tables header columns rows map before = do
   mode ← mode_at tables header columns rows map (length before) before
   give (before ++ mode ∷ [])
 
--- the record of a macroblock of a key frame at the place behind these
+-- the record of a macroblock of a key frame at the index after these
 abbrev pub key_mode_at : TableEntries → Option ℕ → MbPlace → List MbMode → Reading MbMode
 key_mode_at tables skip_probability place before =
     let here = length before in
     key_mode tables skip_probability (record_above before place.columns here) (record_left before place.columns here)
 
--- the record of a macroblock with a reference, and of one of an inter frame, at the place behind these
+-- the record of a macroblock with a reference, and of one of an inter frame, at the index after these
 abbrev pub referenced_mode_at : Bool → Header → MbPlace → List MbMode → Reading MbMode
 referenced_mode_at is_skipped header place before =
     let here = length before in

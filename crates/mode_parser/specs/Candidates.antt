@@ -1,4 +1,4 @@
--- How the code holds the vectors from which a macroblock has its own.
+-- How the code stores the vectors from which a macroblock's own are predicted.
 use Rattle.std.specs.Prelude.{ℕ, ◌≤◌, Bool, List, [], ◌∷◌}
 use Rattle.intra_predict.specs.declared.modes.WholeMode.TheVariants.{Dc}
 use Rattle.frame_header.specs.declared.references.Reference.{Reference}
@@ -12,7 +12,7 @@ use Rattle.mode_parser.specs.Vectors.{MotionVector}
 use Rattle.mode_parser.specs.Records.{no_sub_modes}
 use Rattle.mode_parser.specs.NearVectors.{near_in}
 
--- the near vectors of a macroblock at a place that has these
+-- the near vectors of a macroblock at a position, by its candidates
 abbrev pub near_by : MbPlace → Candidates → Near
 near_by place found = near_in place found.zeros found.nearest found.near found.split
 

@@ -8,12 +8,12 @@ abbrev pub quarter_of : ℤ → ℤ
 quarter_of (pos n) = pos ((n + 2) / 4)
 quarter_of (negsuc n) = neg_ℤ (pos ((suc n + 2) / 4))
 
--- a number of eighths without the low three bits, in two's complement: whole samples, rounded down
+-- a number of eighths without the low three bits, in two's complement: rounded down to whole samples
 abbrev pub whole_of : ℤ → ℤ
 whole_of eighths = int_shr eighths 3 *ℤ pos 8
 
--- a component of a chroma vector in eighths of a chroma sample, from the sum of those of four luma vectors in quarters of a
--- luma sample; version 3 has whole samples alone
+-- a component of a chroma vector in eighths of a chroma sample, from the sum of four luma vectors' components in quarters of
+-- a luma sample; version 3 has whole samples only
 abbrev pub chroma_component : ℤ → ℕ → ℤ
 chroma_component sum version = if version == 3 then whole_of (quarter_of sum) else quarter_of sum
 

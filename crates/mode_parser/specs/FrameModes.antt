@@ -9,7 +9,7 @@ use Rattle.mode_parser.specs.Records.{key_mode}
 use Rattle.mode_parser.specs.InterRecords.{inter_mode}
 use Rattle.mode_parser.specs.Segments.{segment_at, map_behind}
 
--- the records above and to the left of a place, among those before it in a frame of so many columns
+-- the records above and to the left of an index, among those before it in a frame of so many columns
 abbrev pub record_above : List MbMode → ℕ → ℕ → Option MbMode
 record_above before columns place = if nat_lt place columns then None else slice_get before (place - columns)
 
@@ -22,7 +22,7 @@ record_above_left before columns place = if nat_lt place columns || place % colu
 abbrev pub place_of : ℕ → ℕ → ℕ → MbPlace
 place_of columns rows place = record { column = place % columns; row = place / columns; columns = columns; rows = rows }
 
--- the record at a place below and to the right of those before it, but for its segment, in a frame of either kind
+-- the record at the index after those before it, except its segment, in a frame of either kind
 abbrev pub prediction_at : TableEntries → Header → ℕ → ℕ → ℕ → List MbMode → Reading MbMode
 prediction_at tables header columns rows place before =
     let above = record_above before columns place in
@@ -30,7 +30,7 @@ prediction_at tables header columns rows place before =
     if header.is_key then key_mode tables header.skip_probability above left
     else inter_mode header (place_of columns rows place) above left (record_above_left before columns place)
 
--- the record at a place, behind a segment map: its segment, and then the rest (section 19.3)
+-- the record at an index, after a segment map: its segment, and then the rest (section 19.3)
 unfoldable pub mode_at : TableEntries → Header → ℕ → ℕ → Option (List ℕ) → ℕ → List MbMode → Reading MbMode
 mode_at tables header columns rows map place before = do
   segment ← segment_at header map place
@@ -45,12 +45,12 @@ first_modes (suc place) tables header columns rows map = do
   mode ← mode_at tables header columns rows map place before
   give (before ++ mode ∷ [])
 
--- the records of a frame, and the segment of each macroblock behind it
+-- the records of a frame, and the segment of each macroblock after it
 pub record FrameModes : Type 0 where
   pub records : List MbMode
   pub segment_map : List ℕ
 
--- the modes of a frame of so many macroblocks each way, behind a segment map (section 19.3)
+-- the modes of a frame of so many macroblocks each way, after a segment map (section 19.3)
 abbrev pub modes_of : TableEntries → Header → ℕ → ℕ → Option (List ℕ) → FrameModes
 modes_of tables header columns rows before =
     let records = (first_modes (columns * rows) tables header columns rows before header.reader).0 in

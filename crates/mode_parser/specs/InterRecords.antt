@@ -51,8 +51,8 @@ which_reference probabilities = do
     is_altref ← read probabilities.golden
     give (if is_altref then Altref else Golden)) else give Last
 
--- vector modes in the order of the leaves of their tree, and the probabilities of that tree: each stands in the row of what
--- is counted for it (section 16.3)
+-- vector modes in the order of the leaves of their tree, and the probabilities of that tree: each is in the row of its count
+-- (section 16.3)
 abbrev pub vector_modes : List VectorMode
 vector_modes = Zero ∷ Nearest ∷ NearMode ∷ New ∷ Split ∷ []
 
@@ -134,7 +134,7 @@ vectors_by New near probabilities above left = do
   give (replicate 16 (sum_of near.best more))
 vectors_by Split near probabilities above left = split_vectors probabilities near.best above left
 
--- the record of a macroblock without a reference, and of one with a reference, behind the bit that says which it is
+-- the record of a macroblock without a reference, and of one with a reference, after the bit that says which it is
 unfoldable pub intra_mode : Bool → Probabilities → Reading MbMode
 intra_mode is_skipped probabilities = do
   y_mode ← inter_y_mode probabilities.y_modes
@@ -150,7 +150,7 @@ referenced_mode is_skipped header place above left above_left = do
   vectors ← vectors_by mode near header.context.probabilities.vectors above left
   give (record { segment = 0; is_skipped = is_skipped; y_mode = Inter from mode; sub_modes = no_sub_modes; uv_mode = Dc; vectors = vectors })
 
--- the record of a macroblock at a place below and to the right of these, in an inter frame, in segment 0 (section 19.3)
+-- the record of a macroblock at the index after these, in an inter frame, in segment 0 (section 19.3)
 unfoldable pub inter_mode : Header → MbPlace → Option MbMode → Option MbMode → Option MbMode → Reading MbMode
 inter_mode header place above left above_left = do
   is_skipped ← skip header.skip_probability

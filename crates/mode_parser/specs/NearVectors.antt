@@ -12,7 +12,7 @@ use Rattle.mode_parser.specs.declared.nearby.MbPlace.{MbPlace}
 use Rattle.mode_parser.specs.declared.neighbours.Weighted.{Weighted}
 use Rattle.mode_parser.specs.declared.nearby.Near.{Near}
 
--- what neighbours have: the weight of zero vectors, and all others, the newest first
+-- the vectors of the neighbours, `near_mvs`: the weight of zero vectors, and all others, the newest first
 pub record Listing : Type 0 where
   pub zeros : ℕ
   pub listed : List Weighted
@@ -20,7 +20,7 @@ pub record Listing : Type 0 where
 abbrev pub no_listing : Listing
 no_listing = record { zeros = 0; listed = [] }
 
--- a vector that is not zero adds its weight to the newest one that is listed, where it is the same, or else is listed itself
+-- a vector that is not zero adds its weight to the newest one if they are equal, and is appended if not
 abbrev pub listed_with : List Weighted → MotionVector → ℕ → List Weighted
 listed_with [] vector weight = record { vector = vector; weight = weight } ∷ []
 listed_with (newest ∷ older) vector weight =
@@ -32,11 +32,11 @@ with_vector before vector weight =
     if is_same vector zero_vector then record { zeros = before.zeros + weight; listed = before.listed }
     else record { zeros = before.zeros; listed = listed_with before.listed vector weight }
 
--- the vector of a macroblock is that of its last block
+-- a macroblock's vector is its last block's
 abbrev pub vector_of : MbMode → MotionVector
 vector_of macroblock = slice_index_or macroblock.vectors 15 zero_vector
 
--- a neighbour outside the frame or without a reference is passed over
+-- a neighbour outside the frame or without a reference is skipped
 abbrev pub with_mode : SignBiases → Reference → Listing → YMode → MotionVector → ℕ → Listing
 with_mode biases reference before (Inter other mode) vector weight = with_vector before (toward biases reference other vector) weight
 with_mode biases reference before (Whole mode) vector weight = before
@@ -63,22 +63,22 @@ abbrev pub splits : Option MbMode → ℕ
 splits None = 0
 splits (Some macroblock) = from_bool (is_split_mode macroblock.y_mode)
 
--- a component of a vector, held so that a macroblock that it moves along a row or column of so many is at most one macroblock
--- out of the frame, in quarters of a sample (section 5)
+-- a component of a vector, clamped to move a macroblock along a row or column of so many at most one macroblock out of the
+-- frame, in quarters of a sample (section 5)
 abbrev pub held : ℕ → ℕ → ℤ → ℤ
 held place count z = int_max (neg_ℤ (pos (64 * (place + 1)))) (int_min z (pos (64 * (count - place))))
 
 abbrev pub clamped : MbPlace → MotionVector → MotionVector
 clamped place v = record { x = held place.column place.columns v.x; y = held place.row place.rows v.y }
 
--- the n-th vector in the order in which they were listed; one that is not listed is zero and weighs nothing
+-- the n-th vector of `near_mvs`, in the order in which they were found; past the last, a zero vector of weight 0
 abbrev pub unlisted : Weighted
 unlisted = record { vector = zero_vector; weight = 0 }
 
 abbrev pub listed_at : List Weighted → ℕ → Weighted
 listed_at listed n = slice_index_or (reverse listed) n unlisted
 
--- the first one weighs 1 more where it comes again as the third
+-- the first one weighs 1 more if it is the third too
 abbrev pub first_in : List Weighted → Weighted
 first_in listed =
     let first = listed_at listed 0 in
@@ -88,7 +88,7 @@ first_in listed =
 abbrev pub best_in : ℕ → Weighted → MotionVector
 best_in zeros nearest = if nat_le zeros nearest.weight then nearest.vector else zero_vector
 
--- the near vectors where these weigh most, zero vectors weigh so much, and split neighbours
+-- the near vectors, if these two weigh most, from the weight of zero vectors and of split neighbours
 abbrev pub near_in : MbPlace → ℕ → Weighted → Weighted → ℕ → Near
 near_in place zeros nearest near split = record {
   counts = zeros ∷ nearest.weight ∷ near.weight ∷ split ∷ [];
@@ -97,14 +97,14 @@ near_in place zeros nearest near split = record {
   near = clamped place near.vector;
 }
 
--- the first and the second vector that are listed, or the second and the first where that weighs more
+-- the first and the second vector, or the second and the first if the second weighs more
 abbrev pub ranked : MbPlace → Listing → ℕ → Near
 ranked place listing split =
     let first = first_in listing.listed in
     let second = listed_at listing.listed 1 in
     if nat_lt first.weight second.weight then near_in place listing.zeros second first split else near_in place listing.zeros first second split
 
--- the near vectors of a macroblock at a place, which is to be predicted from a reference
+-- the near vectors of a macroblock at a position, which is predicted from a reference
 unfoldable pub near_of : Option MbMode → Option MbMode → Option MbMode → Reference → SignBiases → MbPlace → Near
 near_of above left above_left reference biases place =
     ranked place (listing_of above left above_left reference biases) (2 * (splits above + splits left) + splits above_left)

@@ -15,7 +15,7 @@ use Rattle.mode_parser.specs.declared.records.MbMode.{MbMode}
 use Rattle.mode_parser.specs.SubModes.{first_sub_modes}
 use Rattle.mode_parser.specs.Vectors.{MotionVector, zero_vector}
 
--- whether a macroblock is skipped; where the header has no probability of it, none is (section 11.1)
+-- whether a macroblock is skipped; if the header has no probability of it, none is (section 11.1)
 unfoldable pub skip : Option ℕ → Reading Bool
 skip None = give false
 skip (Some probability) = read probability

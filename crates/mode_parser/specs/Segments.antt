@@ -1,4 +1,4 @@
--- The segment of a macroblock, and the segment map behind a frame (RFC 6386, sections 9.3 and 10).
+-- The segment of a macroblock, and the segment map after a frame (RFC 6386, sections 9.3 and 10).
 use Rattle.std.specs.Prelude.{ℕ, Bool, true, false, Option, Some, None, List, map, replicate, slice_index_or, if◌then◌else◌}
 use Rattle.bool_coder.specs.Reading.{Reading, give}
 use Rattle.bool_coder.specs.Trees.{leaf}
@@ -10,13 +10,13 @@ use Rattle.mode_parser.specs.declared.records.MbMode.{MbMode}
 unfoldable pub segment_number : List ℕ → Reading ℕ
 segment_number probabilities = leaf SEGMENT_TREE probabilities
 
--- the segment that the macroblock at a place has from the map before the frame; in a key frame it is 0 (section 9.3)
+-- the segment that the macroblock at an index has from the map before the frame; in a key frame it is 0 (section 9.3)
 abbrev pub kept_segment : Bool → Option (List ℕ) → ℕ → ℕ
 kept_segment true before place = 0
 kept_segment false None place = 0
 kept_segment false (Some before) place = slice_index_or before place 0
 
--- the segment of the macroblock at a place: read where the frame updates the map, and else kept; 0 in a frame without segments
+-- the segment of the macroblock at an index: read if the frame updates the map, and else kept; 0 in a frame without segments
 unfoldable pub segment_at : Header → Option (List ℕ) → ℕ → Reading ℕ
 segment_at header before place =
     if header.segmentation.updates_map then segment_number header.segmentation.map_probabilities
@@ -28,7 +28,7 @@ kept_map true count before = replicate count 0
 kept_map false count None = replicate count 0
 kept_map false count (Some before) = before
 
--- the segment map behind a frame: its records' segments where it updates the map, and else the one that it keeps
+-- the segment map after a frame: its records' segments if it updates the map, and else the one that it keeps
 abbrev pub map_behind : Header → ℕ → Option (List ℕ) → List MbMode → List ℕ
 map_behind header count before records =
     if header.segmentation.updates_map then map (λ macroblock. macroblock.segment) records else kept_map header.is_key count before

@@ -7,7 +7,7 @@ use Rattle.bool_coder.specs.Trees.{leaf}
 use Rattle.vp8_tables.specs.declared.vectors.TheConstants.{SHORT_VECTOR_TREE, LONG_VECTOR_BITS}
 use Rattle.mode_parser.specs.Vectors.{MotionVector}
 
--- the number that has the bits at these places, each read with the probability of its place
+-- the number that has the bits at these indices, each read with the probability at its index
 unfoldable pub bits_at : List ℕ → List ℕ → Reading ℕ
 bits_at [] probabilities = give 0
 bits_at (place ∷ places) probabilities = do
@@ -15,7 +15,7 @@ bits_at (place ∷ places) probabilities = do
   rest ← bits_at places probabilities
   give (2 ^ place * from_bool bit + rest)
 
--- a long size, which is 8 or more: bit 3 is read last, and is 1 unread where no bit above it is set
+-- a long size, which is 8 or more: bit 3 is read last, and is 1, and not read, if no bit above it is set
 unfoldable pub long_size : List ℕ → Reading ℕ
 long_size probabilities = do
   size ← bits_at LONG_VECTOR_BITS probabilities
@@ -32,7 +32,7 @@ vector_size probabilities = do
   is_long ← read (slice_index probabilities 0)
   if is_long then long_size probabilities else short_size probabilities
 
--- a component by its 19 probabilities: its size, and where that is not 0 its sign, where 1 is minus
+-- a component by its 19 probabilities: its size, and if that is not 0 its sign, 1 for minus
 unfoldable pub vector_component : List ℕ → Reading ℤ
 vector_component probabilities = do
   n ← vector_size probabilities

@@ -28,12 +28,12 @@ opposite v = record { x = neg_ℤ v.x; y = neg_ℤ v.y }
 abbrev pub is_same : MotionVector → MotionVector → Bool
 is_same a b = int_eq a.x b.x && int_eq a.y b.y
 
--- whether the vectors to a reference are kept with the other sign (section 9.7)
+-- the sign bias of a reference (`mv_bias`): whether vectors to it are stored with the other sign (section 9.7)
 abbrev pub is_biased : SignBiases → Reference → Bool
 is_biased biases Last = false
 is_biased biases Golden = biases.golden
 is_biased biases Altref = biases.altref
 
--- a vector to another reference as it counts for this one: negated where their sign biases differ (section 9.7)
+-- a vector to another reference with the sign bias applied: negated if the sign biases of the two differ (section 9.7)
 abbrev pub toward : SignBiases → Reference → Reference → MotionVector → MotionVector
 toward biases reference other v = if beq (is_biased biases other) (is_biased biases reference) then v else opposite v

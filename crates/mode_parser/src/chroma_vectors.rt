@@ -4,8 +4,8 @@ ghost use Rattle.std.specs.Prelude.{◌≡◌};
 ghost use Rattle.mode_parser.specs.ChromaVectors.{chroma_component};
 
 /// A component of the vector of a chroma block, in eighths of a chroma sample: the rounded mean of
-/// those of its four luma blocks, of which `sum` is the sum in quarters of a luma sample. In
-/// version 3 it is held to whole samples (RFC 6386, sections 5 and 18).
+/// its four luma blocks' components, whose sum in quarters of a luma sample is `sum`. In version 3
+/// it is rounded down to whole samples (RFC 6386, sections 5 and 18).
 #[inline]
 pub fn chroma_vector(sum: i32, version: u8) -> i32
     ensures { result ≡ chroma_component sum version }

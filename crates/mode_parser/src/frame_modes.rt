@@ -13,7 +13,7 @@ use std::alloc::Global;
 use std::marker::Model;
 use vp8_tables::Tables;
 
-/// The modes of a frame: a record for each macroblock, and the segment map behind the frame.
+/// The modes of a frame: a record for each macroblock, and the segment map after the frame.
 #[derive(Drop)]
 pub struct Modes {
     records: Vec<MbMode>,
@@ -52,9 +52,9 @@ impl Modes {
 }
 
 /// The modes of a frame that has `columns` by `rows` macroblocks, each 1 to 1,024 (RFC 6386,
-/// section 19.3): one record for each, in raster order, and the segment map behind the frame. `map`
-/// is the segment map before it, of one segment for each macroblock; no key frame looks at it.
-/// `NoMemory` where room for the records or for the map is refused.
+/// section 19.3): one record for each, in raster order, and the segment map after the frame. `map`
+/// is the segment map before it, of one segment for each macroblock; a key frame does not read it.
+/// `NoMemory` if memory for the records or for the map is refused.
 pub fn read_modes(
     alloc: Global,
     tables: &Tables,

@@ -16,8 +16,8 @@ use frame_header::Header;
 use std::alloc::Global;
 use vp8_tables::Tables;
 
-/// Reads the record of a macroblock in a key frame, at `place`, which is the place behind these, and
-/// puts it behind them. It is a call of its own, so that no room for it is cleared in other frames.
+/// Reads the record of a macroblock in a key frame, at `place`, the index after these, and appends
+/// it to them. It is a function of its own, so other frames clear no memory for it.
 #[inline(never)]
 fn push_key_mode(
     reader: &mut Decoder,
@@ -38,8 +38,8 @@ fn push_key_mode(
     Ok(())
 }
 
-/// Reads the record at `place`, which is the place behind these, but for its segment, which stands
-/// before the rest, and puts it behind them.
+/// Reads the record at `place`, the index after these, except its segment, which is before the
+/// rest, and appends it to them.
 #[inline]
 fn push_prediction(
     reader: &mut Decoder,
@@ -71,7 +71,7 @@ fn push_prediction(
     Ok(())
 }
 
-/// Reads the record at `place`, which is the place behind these, and puts it behind them.
+/// Reads the record at `place`, the index after these, and appends it to them.
 #[inline]
 #[tactic(auto, unfolding(crate::specs::FrameModes::mode_at))]
 fn push_mode(
@@ -91,8 +91,8 @@ fn push_mode(
     push_prediction(reader, tables, header, segment, place, records)
 }
 
-/// The records of a frame of 1 to 1,024 macroblocks each way, which stand behind its header, and
-/// `map` is the segment map before it.
+/// The records of a frame of 1 to 1,024 macroblocks each way, which follow its header; `map` is the
+/// segment map before it.
 pub(crate) fn read_records(
     alloc: Global,
     tables: &Tables,
@@ -110,7 +110,7 @@ pub(crate) fn read_records(
     // A copy of its own keeps the reader in registers.
     let mut reader = header.reader.copied();
     let mut records = Vec::with_capacity(alloc, columns * rows)?;
-    // The place is counted on: a division for each macroblock is slow.
+    // The index is incremented: a division for each macroblock is slow.
     let mut place = MbPlace {
         column: 0,
         row: 0,

@@ -44,7 +44,7 @@ fn read_y_mode(reader: &mut Decoder, probabilities: &[u8; 4]) -> YMode
     }
 }
 
-/// The modes of all sub blocks of a macroblock, whatever stands beside it.
+/// The modes of all sub blocks of a macroblock, whatever is next to it.
 fn read_sub_modes(reader: &mut Decoder) -> [SubMode; 16]
     ensures { first_inter_sub_modes 16 reader.old ≡ (result, reader.new) }
 {
@@ -74,8 +74,8 @@ fn read_reference(reader: &mut Decoder, probabilities: ReferenceProbabilities) -
     }
 }
 
-/// The vector mode of a macroblock with these candidates: the leaf of its tree, of which each
-/// probability stands in the row of what is counted for it.
+/// The vector mode of a macroblock with these candidates: the leaf of its tree, whose probabilities
+/// are each in the row of their count.
 #[inline]
 fn read_vector_mode(reader: &mut Decoder, found: &Candidates) -> VectorMode
     requires { AreLight found.now }
@@ -97,8 +97,8 @@ fn read_vector_mode(reader: &mut Decoder, found: &Candidates) -> VectorMode
     }
 }
 
-/// The record of a split macroblock below and to the right of these. It is a call of its own, so
-/// that the vectors of other macroblocks need not stand in memory one by one.
+/// The record of a split macroblock below and to the right of these. It is a function of its own,
+/// so the vectors of other macroblocks are not written to memory one at a time.
 #[inline(never)]
 fn read_split_mode(
     reader: &mut Decoder,
@@ -125,8 +125,8 @@ fn read_split_mode(
     }
 }
 
-/// Reads the record of a macroblock without a reference, and puts it behind these. It is a call of
-/// its own for the same reason as `read_split_mode`.
+/// Reads the record of a macroblock without a reference, and appends it to these. It is a function
+/// of its own for the same reason as `read_split_mode`.
 #[inline(never)]
 #[tactic(auto, unfolding(crate::specs::InterRecords::intra_mode, crate::specs::InterRecords::inter_sub_modes))]
 fn push_intra_mode(
@@ -155,8 +155,8 @@ fn push_intra_mode(
     Ok(())
 }
 
-/// Reads the record of a macroblock with a reference, at `place`, which is the place behind these,
-/// and puts it behind them.
+/// Reads the record of a macroblock with a reference, at `place`, the index after these, and
+/// appends it to them.
 #[inline]
 #[tactic(auto, unfolding(crate::specs::InterRecords::referenced_mode, crate::specs::InterRecords::vectors_by))]
 fn push_referenced_mode(
@@ -213,9 +213,9 @@ fn push_referenced_mode(
     Ok(())
 }
 
-/// Reads the record of a macroblock in an inter frame, at `place`, which is the place behind these,
-/// and puts it behind them. Most records are made right where they are put: one that is handed on
-/// is copied each time. Calls get copies of the reader, so that it stays in registers here.
+/// Reads the record of a macroblock in an inter frame, at `place`, the index after these, and
+/// appends it to them. Most records are made in their final memory: a returned one is copied each
+/// time. Calls get copies of the reader, so it stays in registers here.
 #[inline]
 #[tactic(auto, unfolding(crate::specs::InterRecords::inter_mode))]
 pub(crate) fn push_inter_mode(

@@ -10,9 +10,9 @@ use vp8_tables::{Tables, VECTOR_UPDATE_PROBABILITIES};
 /// A bit, and the probability with which it is written.
 type Pair = (u8, u8);
 
-/// The place of the sign bias of golden among the first bits of an inter frame whose fields are 0,
-/// from 0: behind 14 bits of segments, filter and partitions, 12 of quantizers and 6 of references
-/// (RFC 6386, section 19.2).
+/// The index, from 0, of the sign bias of golden among the first bits of an inter frame whose
+/// fields are 0: after 14 bits of segments, filter and partitions, 12 of quantizers and 6 of
+/// references (RFC 6386, section 19.2).
 const GOLDEN_BIAS: usize = 32;
 
 fn write_pairs(encoder: &mut Encoder, pairs: &[Pair]) -> Result<(), AllocError> {
@@ -73,9 +73,9 @@ fn packet_of(
     Ok(packet)
 }
 
-/// That an inter frame behind a key frame has these records, where its probabilities of skipping, of
-/// a reference, of the last frame and of golden are these and golden alone has a sign bias. The
-/// segment map of threes before it stays.
+/// Whether an inter frame after a key frame has these records, if its probabilities of skipping, of
+/// a reference, of the last frame and of golden are these and only golden has a sign bias. The
+/// segment map of threes before it remains.
 fn check_frame(
     rt: &impl Abort,
     alloc: Global,
@@ -163,8 +163,7 @@ const SKIPPED_GOLDEN: &[Pair] = &[(1, 77), (1, 200), (1, 100), (0, 150)];
 
 const ALTREF: &[Pair] = &[(0, 77), (1, 200), (1, 100), (1, 150)];
 
-// The modes where neighbours count nothing, and where one is listed, with a weight of 2, which is the
-// only one.
+// The modes without neighbours that count, and with one near vector of weight 2.
 const NEW_OF_NONE: &[Pair] = &[(1, 7), (1, 1), (1, 1), (0, 143)];
 
 const ZERO_OF_ONE: &[Pair] = &[(0, 7)];
@@ -327,7 +326,7 @@ fn counts_references_and_parts(rt: HostRuntime) -> Result<(), Fail> {
     Ok(())
 }
 
-/// Near vectors are held within a macroblock of the frame's edges, and a sum is not.
+/// Near vectors are clamped to at most one macroblock past the frame's edges, and a sum is not.
 #[test]
 fn holds_vectors_at_the_edges(rt: HostRuntime) -> Result<(), Fail> {
     let macroblocks: [&[Pair]; 12] = [
@@ -409,7 +408,7 @@ fn splits_into_halves_and_sixteenths(rt: HostRuntime) -> Result<(), Fail> {
     Ok(())
 }
 
-/// The second vector that is listed weighs more than the first.
+/// The second of `near_mvs` weighs more than the first.
 #[test]
 fn ranks_by_weight(rt: HostRuntime) -> Result<(), Fail> {
     let macroblocks: [&[Pair]; 12] = [

@@ -1,4 +1,4 @@
-//! Laws that show that the definitions mean what they are to mean.
+//! Laws over the definitions: examples and properties.
 
 ghost use Rattle.std.specs.Prelude.{◌≡◌, true, false, if◌then◌else◌, ◌+◌, ◌*◌, ◌<◌, ◌≤◌, ℕ, ℤ, pos, neg_ℤ, [], ◌∷◌, List, Option, Some, None, length, map, replicate, slice_index_or, All, IsTrue};
 ghost use Rattle.std.specs.List.{range_with_len};
@@ -64,7 +64,8 @@ pub fn worked_near_vectors()
     ensures split { near_of (Some (moved Last Split (right_by (pos 8)))) None (Some (moved Last Split (right_by (pos 8)))) Last golden_biased middle ≡ near_right (0 ∷ 3 ∷ 0 ∷ 3 ∷ []) (pos 8) (pos 8) (pos 0) }
 {}
 
-/// Where vectors are held in the middle of three columns and rows, and at both ends.
+/// The bounds to which vectors are clamped, in the middle of three columns and rows, and at both
+/// ends.
 pub fn worked_bounds()
     ensures inside { held 1 3 (pos 127) ≡ pos 127 }
     ensures right { held 1 3 (pos 129) ≡ pos 128 }
@@ -73,7 +74,7 @@ pub fn worked_bounds()
     ensures last { held 2 3 (pos 100) ≡ pos 64 }
 {}
 
-/// Vectors as they are read: of zeros for good, of ones for good, and of what an encoder wrote.
+/// Vectors read from endless zeros, from endless ones, and from an encoder's bits.
 pub fn worked_vectors()
     ensures zeros { (new_vector DEFAULT_VECTOR_PROBABILITIES (started [])).0 ≡ zero_vector }
     ensures ones { (new_vector DEFAULT_VECTOR_PROBABILITIES (started (replicate 8 255))).0 ≡ record { x = neg_ℤ (pos 1023); y = neg_ℤ (pos 1023) } }
@@ -94,8 +95,8 @@ pub fn numbers_name_sub_modes()
     ensures small { (mode : SubMode) → number_of mode < 10 }
 {}
 
-/// As what macroblocks count for their neighbours: outside the frame as DC, with a whole block's
-/// mode as its counterpart, and with sub blocks each as its own mode.
+/// The modes that neighbours see: DC outside the frame, the counterpart of a whole block's mode,
+/// and the mode of each sub block.
 pub fn worked_contexts()
     ensures outside { (n : ℕ) → context_in None n ≡ Dc }
     ensures dc { (m : MbMode) (n : ℕ) → m.y_mode ≡ Whole WholeDc → context_in (Some m) n ≡ Dc }
@@ -105,8 +106,8 @@ pub fn worked_contexts()
     ensures own { (m : MbMode) (rest : List SubMode) → m.y_mode ≡ B → m.sub_modes ≡ Ve ∷ Hu ∷ He ∷ rest → context_in (Some m) 1 ≡ Hu }
 {}
 
-/// Which sub blocks stand beside one: those of the last row of the macroblock above, of the last
-/// column of the one to the left, and those before it in its own.
+/// The neighbours of a sub block: in the last row of the macroblock above, in the last column of
+/// the one to the left, or earlier in its own.
 pub fn worked_neighbours()
     ensures above_first { (m : Option MbMode) → mode_above m [] 0 ≡ context_in m 12 }
     ensures above_last { (m : Option MbMode) (a b c : SubMode) → mode_above m (a ∷ b ∷ c ∷ []) 3 ≡ context_in m 15 }
@@ -116,7 +117,7 @@ pub fn worked_neighbours()
     ensures left_inner { (m : Option MbMode) (a b c d e : SubMode) → mode_left m (a ∷ b ∷ c ∷ d ∷ e ∷ []) 5 ≡ e }
 {}
 
-/// Which macroblocks stand beside one in a frame of three columns.
+/// The neighbours of a macroblock in a frame of three columns.
 pub fn worked_places()
     ensures corner { record_above [] 3 0 ≡ None }
     ensures corner_left { record_left [] 3 0 ≡ None }
@@ -138,8 +139,8 @@ pub fn records_have_shape(tables: &Tables, header: &Header, columns: usize, rows
     ensures shape { (map : Option (List ℕ)) → All HasShape (modes_of tables.now header.now columns rows map).records }
 {}
 
-/// A segment of each number is read by its bits. Where the map is not updated, a key frame has
-/// zeros, and another frame keeps the map before it.
+/// A segment of each number is read by its bits. If the map is not updated, a key frame has zeros,
+/// and another frame keeps the map before it.
 pub fn worked_segments()
     ensures first { (segment_number (200 ∷ 100 ∷ 50 ∷ []) (started (code_text ((false, 200) ∷ (false, 100) ∷ [])))).0 ≡ 0 }
     ensures second { (segment_number (200 ∷ 100 ∷ 50 ∷ []) (started (code_text ((false, 200) ∷ (true, 100) ∷ [])))).0 ≡ 1 }
@@ -149,17 +150,17 @@ pub fn worked_segments()
     ensures kept { kept_map false 2 (Some (1 ∷ 2 ∷ [])) ≡ 1 ∷ 2 ∷ [] }
 {}
 
-/// Where a frame does not update the segment map, its macroblocks have the segments that they keep,
-/// or 0 in a frame without segments, and the map behind it is the one that it keeps.
+/// If a frame does not update the segment map, its macroblocks keep their segments, or have 0 in a
+/// frame without segments, and the map after it is the one that it keeps.
 pub fn segments_are_kept(tables: &Tables, header: &Header, columns: usize, rows: usize)
     requires { header.now.segmentation.updates_map ≡ false }
     ensures segments { (before : Option (List ℕ)) → map (λ macroblock. macroblock.segment) (modes_of tables.now header.now columns rows before).records ≡ map (λ place. if header.now.segmentation.is_enabled then kept_segment header.now.is_key before place else 0) (range_with_len 0 (columns * rows)) }
     ensures behind { (before : Option (List ℕ)) → (modes_of tables.now header.now columns rows before).segment_map ≡ kept_map header.now.is_key (columns * rows) before }
 {}
 
-/// In a key frame the 16 sub block modes are DC where luma is predicted as a whole, no macroblock
-/// has vectors, and where it does not update the segment map that behind it is zeros, whatever that
-/// before it is.
+/// In a key frame the 16 sub block modes are DC if luma is predicted as a whole, and no macroblock
+/// has vectors. If the frame does not update the segment map, the map after it is zeros, whatever
+/// the map before it is.
 pub fn records_have_key_shape(tables: &Tables, header: &Header, columns: usize, rows: usize)
     requires key { IsTrue header.now.is_key }
     requires kept { header.now.segmentation.updates_map ≡ false }
@@ -167,8 +168,8 @@ pub fn records_have_key_shape(tables: &Tables, header: &Header, columns: usize, 
     ensures map { (map : Option (List ℕ)) → (modes_of tables.now header.now columns rows map).segment_map ≡ replicate (columns * rows) 0 }
 {}
 
-/// Where only zeros stand behind the header of a key frame, every macroblock has sub blocks, and
-/// all modes are DC and all segments 0, whatever the tables and the probabilities are.
+/// If only zeros follow the header of a key frame, every macroblock has sub blocks, and all modes
+/// are DC and all segments 0, whatever the tables and the probabilities are.
 pub fn zeros_are_dc(tables: &Tables, header: &Header, columns: usize, rows: usize)
     requires key { IsTrue header.now.is_key }
     requires zeros { ReadsZeros header.now.reader }

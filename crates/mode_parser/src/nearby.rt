@@ -1,4 +1,5 @@
-//! The vectors of the macroblocks beside one, as its own are told by (RFC 6386, section 16.3).
+//! The vectors of a macroblock's neighbours, from which its own are predicted: `near_mvs` (RFC
+//! 6386, section 16.3).
 
 ghost use Rattle.std.specs.Prelude.{◌≡◌, ◌<◌, ◌≤◌, All};
 ghost use Rattle.std.specs.Option.{option_copied};
@@ -11,7 +12,7 @@ use crate::records::MbMode;
 use crate::vectors::Vector;
 use frame_header::{Reference, SignBiases};
 
-/// The place of a macroblock in a frame of so many columns and rows of macroblocks.
+/// The position of a macroblock in a frame of so many columns and rows of macroblocks.
 #[derive(Clone, Copy, Debug, PartialEq, Eq)]
 pub struct MbPlace {
     /// Its column, from 0.
@@ -24,9 +25,9 @@ pub struct MbPlace {
     pub rows: usize,
 }
 
-/// What the macroblocks above, to the left, and above and to the left say of a macroblock's vectors
-/// (RFC 6386, section 16.3). Each vector is held so that it points at most one macroblock out of
-/// the frame.
+/// The vectors that the macroblocks above, to the left, and above and to the left predict for a
+/// macroblock: `near_mvs` (RFC 6386, section 16.3). Each vector is clamped to point at most one
+/// macroblock out of the frame.
 #[derive(Clone, Copy, Debug, PartialEq, Eq)]
 pub struct Near {
     /// The weights, each 0 to 5, by which its mode is read: of zero vectors, of `nearest`, of
@@ -34,14 +35,14 @@ pub struct Near {
     pub counts: [u8; 4],
     /// The vector to which a new one is added.
     pub best: Vector,
-    /// The vector of most weight; zero where there is none.
+    /// The vector of most weight, or zero.
     pub nearest: Vector,
-    /// The vector of second most weight; zero where there is none.
+    /// The vector of second most weight, or zero.
     pub near: Vector,
 }
 
-/// A component of a vector, held so that a macroblock that it moves along a row or column of `count`
-/// is at most one macroblock out of the frame.
+/// A component of a vector, clamped to move a macroblock along a row or column of `count` at most
+/// one macroblock out of the frame.
 #[inline(always)]
 fn held(place: usize, count: usize, component: i32) -> i32
     requires inside { place < count }
@@ -54,8 +55,7 @@ fn held(place: usize, count: usize, component: i32) -> i32
     component.clamp(least, most)
 }
 
-/// The vector held so that a macroblock at `place` that it moves is at most one macroblock out of
-/// the frame.
+/// The vector clamped to move a macroblock at `place` at most one macroblock out of the frame.
 #[inline(always)]
 fn clamped(place: MbPlace, vector: Vector) -> Vector
     requires across { (place.column < place.columns) × (place.columns ≤ 1024) }
@@ -69,7 +69,7 @@ fn clamped(place: MbPlace, vector: Vector) -> Vector
     Vector::new(x, y)
 }
 
-/// The nearest vector, or zero where zero vectors weigh more.
+/// The nearest vector, or zero if zero vectors weigh more.
 #[inline(always)]
 fn best_in(zeros: u32, nearest: &Weighted) -> Vector
     ensures { result ≡ best_in zeros nearest.now }
@@ -81,8 +81,8 @@ fn best_in(zeros: u32, nearest: &Weighted) -> Vector
     }
 }
 
-/// The vectors from which a macroblock has its own, with their weights, not held in the frame. Most
-/// macroblocks want one of them at most, so that each is held where it is used.
+/// The vectors from which a macroblock has its own, with their weights, not clamped. Most
+/// macroblocks use one of them at most, so each is clamped only when it is used.
 #[derive(Clone, Copy)]
 pub(crate) struct Candidates {
     pub(crate) zeros: u32,

@@ -1,4 +1,4 @@
-//! The vectors that the macroblocks beside one have (RFC 6386, section 16.3).
+//! The vectors of a macroblock's neighbours (RFC 6386, section 16.3).
 
 ghost use Rattle.std.specs.Prelude.{◌≡◌, ◌+◌, ◌*◌, ◌<◌, ◌≤◌, replicate};
 ghost use Rattle.std.specs.Option.{option_copied};
@@ -17,19 +17,20 @@ pub(crate) struct Weighted {
     pub(crate) weight: u32,
 }
 
-/// What neighbours have. Behind the zero vector stand the others in the order in which they were
-/// listed, each with its weight, and behind those zeros.
+/// The vectors of the neighbours, `near_mvs`: the zero vector, then the others in the order in
+/// which they were found, each with its weight, then zeros.
 #[derive(Clone, Copy)]
 pub(crate) struct Neighbours {
     pub(crate) vectors: [Vector; 4],
     pub(crate) weights: [u32; 4],
-    /// The place of the vector that was listed last; 0 where none was.
+    /// The index of the vector that was found last, or 0.
     pub(crate) newest: usize,
     /// The weight of split macroblocks.
     pub(crate) split: u32,
 }
 
-/// Whether the vectors to a reference are kept with the other sign (RFC 6386, section 9.7).
+/// The sign bias of a reference (`mv_bias`): whether vectors to it are stored with the other sign
+/// (RFC 6386, section 9.7).
 #[inline(always)]
 fn is_biased(biases: SignBiases, reference: Reference) -> bool
     ensures { result ≡ is_biased biases reference }
@@ -54,7 +55,7 @@ fn toward(biases: SignBiases, reference: Reference, other: Reference, vector: Ve
 }
 
 impl Neighbours {
-    /// What no neighbours have.
+    /// The vectors of no neighbours.
     #[inline(always)]
     fn none() -> Neighbours
         ensures value { result ≡ record { vectors = replicate 4 zero_vector; weights = replicate 4 0; newest = 0; split = 0 } }
@@ -124,7 +125,7 @@ impl Neighbours {
         }
     }
 
-    /// The first vector that is listed, which weighs 1 more where it comes again as the third.
+    /// The first vector of `near_mvs`, which weighs 1 more if it is the third too.
     #[inline(always)]
     pub(crate) fn first(&self) -> Weighted
         requires most { self.now.newest ≤ 3 }
@@ -141,7 +142,7 @@ impl Neighbours {
         }
     }
 
-    /// The second vector that is listed.
+    /// The second vector of `near_mvs`.
     #[inline(always)]
     pub(crate) fn second(&self) -> Weighted
         requires most { self.now.newest ≤ 3 }
@@ -157,7 +158,7 @@ impl Neighbours {
     }
 }
 
-/// What the macroblocks above, to the left, and above and to the left have.
+/// The vectors of the macroblocks above, to the left, and above and to the left.
 #[inline(always)]
 #[tactic(auto, unfolding(crate::specs::NearVectors::listing_of))]
 pub(crate) fn neighbours_of(

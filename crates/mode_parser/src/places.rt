@@ -1,4 +1,4 @@
-//! The places of macroblocks in raster order, and the records beside one.
+//! The indices of macroblocks in raster order, and the records next to one.
 
 ghost use Rattle.std.specs.Prelude.{◌≡◌, ◌<◌, ◌≤◌, ◌+◌, ℕ, length};
 ghost use Rattle.std.specs.Option.{option_copied};
@@ -7,7 +7,7 @@ ghost use Rattle.mode_parser.specs.FrameModes.{record_above, record_left, record
 use crate::nearby::MbPlace;
 use crate::records::MbMode;
 
-/// The record above the place behind these; `None` outside the frame.
+/// The record above the index after these; `None` outside the frame.
 #[inline]
 pub(crate) fn record_above(records: &[MbMode], columns: usize) -> Option<&MbMode>
     ensures { option_copied result ≡ record_above records.now columns (length records.now) }
@@ -20,7 +20,7 @@ pub(crate) fn record_above(records: &[MbMode], columns: usize) -> Option<&MbMode
     }
 }
 
-/// The record to the left of `place`, which is the place behind these; `None` outside the frame.
+/// The record to the left of `place`, the index after these; `None` outside the frame.
 #[inline]
 pub(crate) fn record_left(records: &[MbMode], place: MbPlace) -> Option<&MbMode>
     requires { place ≡ place_of place.columns place.rows (length records.now) }
@@ -33,8 +33,7 @@ pub(crate) fn record_left(records: &[MbMode], place: MbPlace) -> Option<&MbMode>
     }
 }
 
-/// The record above and to the left of `place`, which is the place behind these; `None` outside the
-/// frame.
+/// The record above and to the left of `place`, the index after these; `None` outside the frame.
 #[inline]
 pub(crate) fn record_above_left(records: &[MbMode], place: MbPlace) -> Option<&MbMode>
     requires { place ≡ place_of place.columns place.rows (length records.now) }
@@ -48,7 +47,7 @@ pub(crate) fn record_above_left(records: &[MbMode], place: MbPlace) -> Option<&M
     }
 }
 
-/// The place behind one in raster order.
+/// The next index in raster order.
 #[inline]
 pub(crate) fn next_place(place: MbPlace) -> MbPlace
     requires across { place.column < place.columns }

@@ -2,8 +2,8 @@ use crate::vectors::Vector;
 use frame_header::Reference;
 use intra_predict::{SubMode, WholeMode};
 
-/// Where the vectors of a macroblock that is predicted from a reference come from (RFC 6386,
-/// section 16.3).
+/// The source of the vectors of a macroblock that is predicted from a reference (RFC 6386, section
+/// 16.3).
 #[derive(Clone, Copy, Debug, PartialEq, Eq)]
 pub enum VectorMode {
     /// `mv_zero`: all are zero.
@@ -32,16 +32,16 @@ pub enum YMode {
 /// How a macroblock is predicted.
 #[derive(Clone, Copy, Debug, PartialEq, Eq)]
 pub struct MbMode {
-    /// The segment, 0 to 3; 0 where the frame has no segments (RFC 6386, section 9.3).
+    /// The segment, 0 to 3; 0 if the frame has no segments (RFC 6386, section 9.3).
     pub segment: u8,
     /// No coefficients are read for it (RFC 6386, section 11.1).
     pub is_skipped: bool,
     /// How its luma is predicted.
     pub y_mode: YMode,
-    /// The modes of its luma sub blocks in raster order; all DC where `y_mode` is not `B`.
+    /// The modes of its luma sub blocks in raster order; all DC if `y_mode` is not `B`.
     pub sub_modes: [SubMode; 16],
-    /// How each of its chroma blocks is predicted; DC where `y_mode` is `Inter`.
+    /// How each of its chroma blocks is predicted; DC if `y_mode` is `Inter`.
     pub uv_mode: WholeMode,
-    /// The vectors of its luma blocks in raster order; all zero where `y_mode` is not `Inter`.
+    /// The vectors of its luma blocks in raster order; all zero if `y_mode` is not `Inter`.
     pub vectors: [Vector; 16],
 }

@@ -31,7 +31,7 @@ fn kept_segment(is_key: bool, before: Option<&[u8]>, place: usize) -> u8
     }
 }
 
-/// The segment of the macroblock at `place`, which stands before the rest of its record.
+/// The segment of the macroblock at `place`, which is before the rest of its record.
 #[inline]
 #[tactic(auto, unfolding(crate::specs::Segments::segment_at))]
 pub(crate) fn read_segment(
@@ -79,7 +79,7 @@ fn segments_of(alloc: Global, records: &[MbMode]) -> Result<Vec<u8>, NoMemory>
     Ok(segments)
 }
 
-/// The segment map behind a frame with these records.
+/// The segment map after a frame with these records.
 pub(crate) fn map_behind(
     alloc: Global,
     header: &Header,

@@ -91,7 +91,7 @@ fn read_part_vector(
     best.plus(read_vector(reader, probabilities))
 }
 
-/// The vector of block `n`, whose part begins at block `start`, behind those before it.
+/// The vector of block `n`, whose part begins at block `start`, after the blocks before it.
 #[inline]
 fn read_block_vector(
     reader: &mut Decoder,

@@ -52,8 +52,8 @@ const SUB_BITS: [(&[u8], &[u8]); 10] = [
     (b"1111111", b"0123678"),
 ];
 
-/// The sub modes of the macroblocks of `frame` that have such, row by row. A sub mode is the last
-/// of three digits, behind the modes above and to its left.
+/// The sub modes of the macroblocks of `frame` that have them, row by row. A sub mode is the last
+/// of three digits, after the modes above and to its left.
 const SUBS: [[&[u8]; 4]; 4] = [
     [
         b"024 045 056 067",
@@ -81,7 +81,7 @@ const SUBS: [[&[u8]; 4]; 4] = [
     ],
 ];
 
-/// A macroblock by the places of its modes in the lists above; without sub modes its rows are
+/// A macroblock by the indices of its modes in the lists above; without sub modes its rows are
 /// empty.
 #[derive(Clone, Copy)]
 struct Written {
@@ -110,7 +110,7 @@ fn split(subs: [&'static [u8]; 4], chroma: usize) -> Written {
 }
 
 /// Four by two macroblocks: V, sub blocks, H, TM, and below them sub blocks twice, DC, sub blocks.
-/// They have each mode of each kind, and sub blocks beside the end of the frame, whole blocks and
+/// They have each mode of each kind, and sub blocks next to the end of the frame, whole blocks and
 /// sub blocks.
 fn frame() -> [Written; 8] {
     [
@@ -125,12 +125,12 @@ fn frame() -> [Written; 8] {
     ]
 }
 
-/// The number that a digit stands for.
+/// The value of a digit.
 fn number(digit: u8) -> usize {
     (digit % 16 % 10) as usize
 }
 
-/// Tables in which byte i is 37 i + i div 256, modulo 256, so that hardly two neighbours are alike.
+/// Tables in which byte i is 37 i + i div 256, modulo 256, so few neighbours are equal.
 fn counted_tables() -> Option<Tables> {
     let mut text = [0u8; 3012];
     for (i, byte) in text.iter_mut().enumerate() {
@@ -146,7 +146,7 @@ fn write_pairs(encoder: &mut Encoder, pairs: &[(bool, u8)]) -> Result<(), AllocE
     Ok(())
 }
 
-/// A header whose fields are 0 but for a probability of skipping of 200, where one is asked for.
+/// A header whose fields are 0, except a probability of skipping of 200 if requested.
 fn write_header(encoder: &mut Encoder, tables: &Tables, skips: bool) -> Result<(), AllocError> {
     for _field in 0..29 {
         encoder.bit(false, 128)?;
@@ -220,7 +220,7 @@ fn packet_of(alloc: Global, tables: &Tables, skips: bool) -> Result<Vec<u8>, All
     Ok(packet)
 }
 
-/// The sub mode of block `n` by rows of digits, which are empty where there is none.
+/// The sub mode of block `n` by rows of digits, which may be empty.
 fn sub_mode_of(rows: &[&[u8]; 4], n: usize) -> SubMode {
     let place = n % 4 * 4 + 2;
     match rows[n / 4 % 4].get(place) {

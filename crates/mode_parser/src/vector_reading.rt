@@ -28,8 +28,8 @@ fn read_short_size(reader: &mut Decoder, probabilities: &[u8; 19]) -> u16
     6 + reader.bit(nodes[6]) as u16
 }
 
-/// The size of a long component: bits 0 to 2, bits 9 to 4, and bit 3, which is 1 unread where no bit
-/// above it is set.
+/// The size of a long component: bits 0 to 2, bits 9 to 4, and bit 3, which is 1, and not read, if
+/// no bit above it is set.
 #[inline]
 #[tactic(auto, unfolding(crate::specs::VectorReading::long_size, crate::specs::VectorReading::bits_at))]
 fn read_long_size(reader: &mut Decoder, probabilities: &[u8; 19]) -> u16
@@ -67,7 +67,7 @@ fn read_size(reader: &mut Decoder, probabilities: &[u8; 19]) -> u16
     }
 }
 
-/// A component of a vector: its size, and where that is not 0 its sign, where 1 is minus.
+/// A component of a vector: its size, and if that is not 0 its sign, 1 for minus.
 #[inline]
 #[tactic(auto, unfolding(crate::specs::VectorReading::vector_component))]
 fn read_component(reader: &mut Decoder, probabilities: &[u8; 19]) -> i32

@@ -14,7 +14,7 @@ use Rattle.reference_frames.proofs.Squares.{index_in, index_before, index_above,
 all_zero : (n : ℕ) (xs : List ℤ) → length xs ≡ n → ((k : ℕ) (d : ℤ) → k < length xs → get_or xs k d ≡ pos 0) → xs ≡ replicate n (pos 0)
 all_zero n xs long all = same_lists xs (replicate n (pos 0)) (long ∙ sym (length-replicate n (pos 0))) (λ k d within. all k d within ∙ sym (get_or-replicate n k (pos 0) d (omega (arith, long))))
 
--- a block with no coefficient behind its first
+-- a block with no coefficient after its first
 pub only_first : (xs : List ℤ) → length xs ≡ 16 → All (λ c. c ≡ pos 0) (take 15 (drop 1 xs)) → xs ≡ slice_index_or xs 0 (pos 0) ∷ replicate 15 (pos 0)
 only_first [] long all = absurd (omega (arith, long))
 only_first (x ∷ xs) long all =
@@ -22,7 +22,7 @@ only_first (x ∷ xs) long all =
     let whole : length (take 15 xs) ≡ 15 = length-take-le 15 xs (omega (arith, fifteen)) in
     ap (λ (rest : List ℤ). x ∷ rest) (all_zero 15 xs fifteen (λ k d within. sym (get_or-take 15 xs k d (omega (arith, fifteen))) ∙ all k d (omega (arith, whole, fifteen))))
 
--- a pass over zeros gives zeros
+-- a pass over zeros returns zeros
 pass_of_zeros : (n : ℕ) → dct_pass n (pos 0) (pos 0) (pos 0) (pos 0) ≡ pos 0
 unfolding by_sine by_cosine dct_pass
 pass_of_zeros zero = refl
@@ -51,7 +51,7 @@ none_added coefficients stride samples none fit = record {
 
 -- ---- a block in rows of samples
 
--- a block that was added to what begins with it was added to it among the samples
+-- a residual added to the part that begins with a block is added to the block within the samples
 pub added_at : (residual : ℕ → ℕ → ℤ) (across column row : ℕ) (old part rest : List ℕ) → column + 4 ≤ across → (row + 4) * across ≤ length old →
     IsAdded residual across (take (length old - (across * row + column)) (drop (across * row + column) old)) part → rest ≡ drop (length old - (across * row + column)) (drop (across * row + column) old) → IsAddedAt residual across column row old (take (across * row + column) old ++ (part ++ rest))
 added_at residual across column row old part rest wide high is behind =

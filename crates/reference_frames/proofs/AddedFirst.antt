@@ -25,7 +25,7 @@ pub record HasFirst (side first : ℕ) (blocks : List (List ℤ)) (across x y k 
 pub none_first : (side first : ℕ) (blocks : List (List ℤ)) (across x y : ℕ) (old : List ℕ) → HasFirst side first blocks across x y 0 old old
 none_first side first blocks across x y old = record { whole = refl; done = λ i j a b less. absurd (omega arith); later = λ i j a b c. refl; outside = λ i j a out. refl }
 
--- a sample is in block k of the square where that is its block's number
+-- a sample is in block k of the square if k is its block's number
 in_block : (size : BlockSize) (k i j : ℕ) → i < side_of size → j < side_of size → number (side_of size) i j ≡ k → IsInBlock (4 * (k % (side_of size / 4))) (4 * (k / (side_of size / 4))) i j
 in_block Sixteen k i j a b is = (omega (arith, is), omega (arith, is), omega (arith, is), omega (arith, is))
 in_block Eight k i j a b is = (omega (arith, is), omega (arith, is), omega (arith, is), omega (arith, is))

@@ -1,4 +1,4 @@
--- What stands behind a frame.
+-- The state after a frame.
 use Rattle.std.specs.Prelude.{Option, Some, None, if◌then◌else◌}
 use Rattle.std.proofs.Common.{◌≡◌, ℕ, Bool, true, false, ◌*◌, List, length, refl, sym, ap, ◌∙◌}
 use Rattle.std.specs.Option.{ForSome}
@@ -41,7 +41,7 @@ decoded_high : (packet : List ℕ) (header : Header) (references : Option Refere
 unfolding decoded_picture
 decoded_high packet header references width height modes = refl
 
--- the last reference behind a frame has the size of the frame, and so the segment map that goes with it
+-- the last reference after a frame has the size of the frame, and so the segment map that goes with it
 pub has_map : (packet : List ℕ) (header : Header) (before : Option State) (sources : Option References) (width height columns rows : ℕ) (modes : List MbMode) (picture : PictureSamples) (state : StateValue) →
     width ≡ width_of header before → height ≡ height_of header before → picture ≡ decoded_picture packet header sources width height modes → state.references ≡ references_behind header picture before → columns ≡ macroblocks width → rows ≡ macroblocks height → length state.segment_map ≡ columns * rows → HasMap state
 has_map packet header before sources width height columns rows modes picture state wide high picture_is references_are columns_are rows_are long =
@@ -89,7 +89,7 @@ have_one_size packet header (Some state) sources width height modes picture refe
     let down : picture.height ≡ height_of header (Some state) = ap (λ (p : PictureSamples). p.height) picture_is ∙ decoded_high packet header sources width height modes ∙ high in
     rw references_are (after_sized header.references picture state.references (across, down) (one state refl))
 
--- what the parts of a frame come to
+-- the parts of a frame together
 pub decoded_whole : (tables : TableEntries) (packet : List ℕ) (header : Header) (before : Option State) (modes : FrameModes) (picture : PictureSamples) (references : References) (map : List ℕ) (state : StateValue) →
     modes ≡ frame_modes tables header before → picture ≡ decoded_picture packet header (references_before before) (width_of header before) (height_of header before) modes.records → references ≡ references_behind header picture before → map ≡ modes.segment_map →
     state ≡ record { context = header.context_after; segment_map = map; references = references } → (state, picture) ≡ decoded tables packet header before

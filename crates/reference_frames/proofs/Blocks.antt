@@ -16,14 +16,14 @@ use Rattle.vp8_tables.specs.Bounds.{held}
 use Rattle.transforms.specs.Transforms.{inverse_dct}
 use Rattle.reference_frames.specs.Unfiltered.{above_row, left_column, corner, block_row, with_block, with_block_rows, whole_block_sample, predicted_whole}
 
--- a part of a row that was written, put back into the row
+-- a written part of a row, inserted into the row
 pub written_part : (row part span : List ℕ) (x side : ℕ) → part ≡ span → length span ≡ side → x + side ≤ length row → take x row ++ (part ++ drop (x + side - x) (drop x row)) ≡ put_chunk x row span
 written_part row part span x side same long within =
     let size : x + side - x ≡ length span = omega arith in
     let fits : x + length span ≤ length row = omega arith in
     rw same (ap (λ k. take x row ++ (span ++ drop k (drop x row))) size ∙ sym (put_chunk_is x row span fits))
 
--- a part of a list of rows is the list of what stands at its places
+-- a part of a list of rows is the list of the samples at its indices
 pub part_row : (block : List ℕ) (side row : ℕ) → row * side + side ≤ length block → take (row * side + side - row * side) (drop (row * side) block) ≡ block_row side (λ column r. slice_index block (r * side + column)) row
 part_row block side row within =
     let size : row * side + side - row * side ≡ side = omega arith in
@@ -73,7 +73,7 @@ side_part side size samples is long =
     let fits : side ≤ length samples = omega (arith, side_small size) in
     length-take-le side samples fits ∙ is
 
--- a residual that was added to what was predicted
+-- a residual that was added to predicted samples
 pub restored_block : (side first : ℕ) (residual : Residual) (sample : ℕ → ℕ → ℕ) (old new : List ℕ) → IsBlock side sample old → IsBlock side (restored side first residual (λ column row. slice_index old (row * side + column))) new → IsBlock side (restored side first residual sample) new
 restored_block side first None sample old new is added = record { whole = added.whole; each = λ column row a b. added.each column row a b ∙ is.each column row a b }
 restored_block side first (Some blocks) sample old new is added = record {

@@ -1,4 +1,4 @@
--- What is in a plane sample by sample, as its blocks are written one after another.
+-- The samples of a plane, as its blocks are written one after another.
 use Rattle.std.specs.Prelude.{replicate, slice_index, map, min, nat_lt, if◌then◌else◌}
 use Rattle.std.specs.List.{range_with_len}
 use Rattle.std.specs.Simd.Lanes.{put_chunk}
@@ -56,7 +56,7 @@ span_out p x y i j span whole below within out =
 
 -- ---- a block
 
--- the plane has these sides, and a sample for each place
+-- the plane has these sides, and a sample for each position
 pub record IsPlane (w h : ℕ) (p : Samples) : Type 0 where
   pub wide : p.width ≡ w
   pub high : p.height ≡ h
@@ -115,13 +115,13 @@ block_write_local p x y side sample i j whole holds within below =
     let shape : IsPlane p.width p.height p = record { wide = refl; high = refl; whole = whole.4 } in
     (λ inside. rows_in p.width p.height p x y side sample side i j shape holds.0 holds.1 inside.0 inside.1 inside.2 inside.3, λ outside. rows_out p.width p.height p x y side sample side i j shape holds.0 holds.1 within (λ a b c d. outside (a, b, c, d)))
 
--- ---- what is known of the samples of a plane
+-- ---- known samples of a plane
 
--- in the first n columns and m rows each sample is what `of_row` gives for its row
+-- in the first n columns and m rows `of_row` returns each sample by its row
 pub record IsDone (of_row : ℕ → ℕ) (w h n m : ℕ) (p : Samples) : Type 0 where
   pub at : (i j : ℕ) → i < n → j < m → i < w → j < h → sample_at p i j ≡ of_row j
 
--- a place is in a square, or it is not
+-- a position is in a square, or it is not
 pub in_or_out : (x y side i j : ℕ) → IsInSquare x y side i j ⊎ (x ≤ i → i < x + side → y ≤ j → j < y + side → ⊥)
 in_or_out x y side i j =
     elim (cases_lt i x) [
@@ -153,12 +153,12 @@ block_done of_row w h n m p x y side sample shape wide high right others =
     ] in
     record { at = done }
 
--- what was done stays done
+-- known samples remain known
 pub block_kept : (of_row : ℕ → ℕ) (w h n m : ℕ) (p : Samples) (x y side : ℕ) (sample : ℕ → ℕ → ℕ) → IsPlane w h p → x + side ≤ w → y + side ≤ h → ((column row : ℕ) → row < side → sample column row ≡ of_row (y + row)) → IsDone of_row w h n m p → IsDone of_row w h n m (with_block p x y side sample)
 block_kept of_row w h n m p x y side sample shape wide high right before =
     block_done of_row w h n m p x y side sample shape wide high right (λ i j a b c d out. before.at i j a b c d)
 
--- with what stands above the block and to its left, all is done down to the block's last sample
+-- with the samples above the block and to its left, all are known down to the block's last sample
 pub block_more : (of_row : ℕ → ℕ) (w h : ℕ) (p : Samples) (x y side : ℕ) (sample : ℕ → ℕ → ℕ) → IsPlane w h p → x + side ≤ w → y + side ≤ h → ((column row : ℕ) → row < side → sample column row ≡ of_row (y + row)) → IsDone of_row w h (x + side) y p → IsDone of_row w h x (y + side) p → IsDone of_row w h (x + side) (y + side) (with_block p x y side sample)
 block_more of_row w h p x y side sample shape wide high right upper before =
     block_done of_row w h (x + side) (y + side) p x y side sample shape wide high right (λ i j a b c d out.
@@ -167,7 +167,7 @@ block_more of_row w h p x y side sample shape wide high right upper before =
       | inr from ↦ elim (cases_lt j y) [ inl lt ↦ upper.at i j a lt c d | inr le ↦ absurd (out from a le b) ]
     ])
 
--- what is done holds of fewer columns and rows
+-- known samples, for fewer columns and rows
 pub IsDone-less : (of_row : ℕ → ℕ) (w h n m n' m' : ℕ) (p : Samples) → n' ≤ n → m' ≤ m → IsDone of_row w h n m p → IsDone of_row w h n' m' p
 IsDone-less of_row w h n m n' m' p fewer lower before = record { at = λ i j a b c d. before.at i j (omega arith) (omega arith) c d }
 
@@ -209,7 +209,7 @@ pub above_done : (of_row : ℕ → ℕ) (w h : ℕ) (p : Samples) (x y n k value
 above_done of_row w h p x y n k value done wide high below is less =
     cond-false _ _ _ (ne_eqb y 0 below) ∙ done.at (x + k) (y - 1) (omega arith) (omega arith) (omega arith) (omega arith) ∙ is
 
--- beside a column that is done
+-- next to a column of known samples
 pub left_done : (of_row : ℕ → ℕ) (w h : ℕ) (p : Samples) (x y n k value : ℕ) → IsDone of_row w h x (y + n) p → x ≤ w → y + n ≤ h → (x ≡ 0 → ⊥) → of_row (y + k) ≡ value → k < n → left p x (y + k) ≡ value
 left_done of_row w h p x y n k value done wide high beside is less =
     cond-false _ _ _ (ne_eqb x 0 beside) ∙ done.at (x - 1) (y + k) (omega arith) (omega arith) (omega arith) (omega arith) ∙ is

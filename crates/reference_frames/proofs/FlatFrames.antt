@@ -67,7 +67,7 @@ mean_129_129 : mean_of (replicate 4 129 ++ replicate 4 129) ≡ 129
 unfolding mean_of
 mean_129_129 = refl
 
--- what mode DC gives such a sub block
+-- the sample of mode DC in such a sub block
 dc_is : (p : Samples) (mx my n : ℕ) → sub_column mx n + 4 ≤ p.width → IsRound p (sub_column mx n) (sub_row my n) → (column row : ℕ) → sub_block_sample p mx my n Dc column row ≡ luma_of_row (sub_row my n)
 unfolding sub_sample
 dc_is p mx my n wide round column row =
@@ -91,7 +91,7 @@ dc_top w h p x y before wide high top =
       }
     ]
 
--- what stands to the left of a sub block below the first row
+-- the samples to the left of a sub block below the first row
 left_below : (w h : ℕ) (p : Samples) (x y : ℕ) → IsDone luma_of_row w h x (y + 4) p → x + 4 ≤ w → y + 4 ≤ h → 4 ≤ y → (k : ℕ) → k < 4 → left p x (y + k) ≡ 129
 left_below w h p x y before wide high below k less =
     elim (cases_eq x 0) [
@@ -148,7 +148,7 @@ left_inside : (w h : ℕ) (p : Samples) (x y n : ℕ) → IsDone grey w h x (y +
 left_inside w h p x y n before wide high beside =
     cond-false _ _ _ (ne_eqb x 0 beside) ∙ ap Some (left_column_is p x y n 128 (λ k less. left_done grey w h p x y n k 128 before wide high beside refl less))
 
--- what mode DC gives between two such sides
+-- the sample of mode DC between two such sides
 grey_mean : (p : Samples) (x y : ℕ) (upper beside : Option (List ℕ)) → above_side p x y 8 ≡ upper → left_side p x y 8 ≡ beside → mean_of (inside upper ++ inside beside) ≡ 128 → (column row : ℕ) → whole_block_sample p x y 8 WholeDc column row ≡ 128
 unfolding whole_sample
 grey_mean p x y upper beside upper_is beside_is mean column row =
@@ -216,7 +216,7 @@ pub record IsInside (columns rows my mx n : ℕ) (p : Samples) : Type 0 where
 aligned_or : (y q : ℕ) → y ≡ 4 * q → (y ≡ 0) ⊎ (4 ≤ y)
 aligned_or y q e = elim (cases_eq q 0) [ inl top ↦ inl (omega arith) | inr below ↦ inr (omega arith) ]
 
--- what stands round the n-th block of a macroblock, which is the one at (x, y)
+-- the samples around the n-th block of a macroblock, which is the block at (x, y)
 record StandsRound (w h x y : ℕ) (p : Samples) : Type 0 where
   pub wide : x + 4 ≤ w
   pub high : y + 4 ≤ h
@@ -261,7 +261,7 @@ sub_block_at columns rows my mx n x y p sample x_is y_is in_row in_frame in_bloc
       }
     ]
 
--- what mode DC gives the n-th block
+-- the sample of mode DC in the n-th block
 sub_block_flat : (columns rows my mx n : ℕ) (p : Samples) → mx < columns → my < rows → n < 16 → IsInside columns rows my mx n p → (column row : ℕ) → sub_block_sample p mx my n Dc column row ≡ luma_of_row (sub_row my n)
 sub_block_flat columns rows my mx n p in_row in_frame in_block inside =
     let round = stands_round columns rows my mx n (sub_column mx n) (sub_row my n) p refl refl in_row in_frame in_block inside in
@@ -293,11 +293,11 @@ luma_step columns rows my mx p in_row in_frame begun =
 
 -- ---- frames
 
--- a macroblock's place is one of the frame's
+-- a macroblock's index is one of the frame's
 place_within : (columns rows my mx : ℕ) → mx < columns → my < rows → my * columns + mx < columns * rows
 place_within columns rows my mx in_row in_frame = let fits = row_fits columns rows my in_frame in omega (arith, fits)
 
--- what is done in each of the three planes
+-- the known samples of each of the three planes
 pub record AreBegun (columns rows my mx : ℕ) (planes : PlaneSamples) : Type 0 where
   pub luma : IsBegun luma_of_row 16 columns rows my mx planes.luma
   pub cb : IsBegun grey 8 columns rows my mx planes.cb

@@ -26,7 +26,7 @@ predicted_more version references start old new columns mx my n modes residuals 
     let row : n / columns ≡ my = rw (← place) (div-mul-add my columns mx in_row) in
     rw (add-one, found, column, row, ← so_far) here
 
--- what stands behind one macroblock more, and the residual of that macroblock
+-- the state after one macroblock more, and the residual of that macroblock
 pub state_more : (header : Header) (start old new : TokenState) (columns mx my n : ℕ) (modes : List MbMode) (mode : MbMode) → slice_get modes n ≡ Some mode → old ≡ token_state header columns start modes n →
     new ≡ state_with old mx my (tokens_at header.context.probabilities.coefficients old mx my mode) → my * columns + mx ≡ n → mx < columns → new ≡ token_state header columns start modes (n + 1)
 unfolding token_state

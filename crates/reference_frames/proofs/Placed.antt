@@ -51,7 +51,7 @@ placed_at f g across side column row old part rest some wide high same is behind
           ];
     }
 
--- a square goes by its own samples alone
+-- a square depends on its own samples only
 pub placed_as : (f g : ℕ → ℕ → ℕ) (across side column row : ℕ) (old new : List ℕ) → ((i j : ℕ) → IsInSquare column row side i j → g i j ≡ f i j) → IsPlaced g across side column row old new → IsPlaced f across side column row old new
 placed_as f g across side column row old new same is = record {
   whole = is.whole;
@@ -59,7 +59,7 @@ placed_as f g across side column row old new same is = record {
   others = is.others;
 }
 
--- a square goes by the columns and rows of what it stands in, which begins in column x of row y
+-- a square by the columns and rows of the part that it is in, which begins in column x of row y
 pub placed_from : (f g : ℕ → ℕ → ℕ) (across side x y column row at_column at_row : ℕ) (old new : List ℕ) → at_column ≡ x + column → at_row ≡ y + row → ((i j : ℕ) → IsInSquare column row side i j → g (x + i) (y + j) ≡ f i j) →
     IsPlaced g across side at_column at_row old new → IsPlaced (from_corner x y f) across side at_column at_row old new
 placed_from f g across side x y column row at_column at_row old new to_column to_row same is =
@@ -73,11 +73,11 @@ placed_from f g across side x y column row at_column at_row old new to_column to
     sym (ap (λ n. g n j) right) ∙ sym (ap (λ n. g (x + (i - x)) n) down)
     ∙ same (i - x) (j - y) (omega (arith, to_column, from_i), omega (arith, to_column, from_i, to_i), omega (arith, to_row, from_j), omega (arith, to_row, from_j, to_j))) is
 
--- the same place in other words
+-- the same position in other words
 pub placed_there : (f : ℕ → ℕ → ℕ) (across side column row at_column at_row : ℕ) (old new : List ℕ) → at_column ≡ column → at_row ≡ row → IsPlaced f across side column row old new → IsPlaced f across side at_column at_row old new
 placed_there f across side column row at_column at_row old new to_column to_row is = rw (to_column, to_row) is
 
--- four squares, of which the second stands to the right of the first and the others below them, are one of twice the side
+-- four squares, the second to the right of the first and the others below them, are one of twice the side
 pub four_placed : (f : ℕ → ℕ → ℕ) (across side column row : ℕ) (s0 s1 s2 s3 s4 : List ℕ) → column + side + side ≤ across →
     IsPlaced f across side column row s0 s1 → IsPlaced f across side (column + side) row s1 s2 → IsPlaced f across side column (row + side) s2 s3 → IsPlaced f across side (column + side) (row + side) s3 s4 → IsPlaced f across (side + side) column row s0 s4
 four_placed f across side column row s0 s1 s2 s3 s4 wide a b c d = record {
@@ -107,7 +107,7 @@ four_placed f across side column row s0 s1 s2 s3 s4 wide a b c d = record {
       ∙ a.others i j in_i (λ q. out (q.0, omega (arith, q.1), q.2, omega (arith, q.3)));
 }
 
--- a sample of a block that begins in this column and row is that of its own column and row
+-- a sample of a block that begins in this column and row, by its own column and row
 pub moved : (kind : Kind) (p : Samples) (column row i j : ℕ) (right below : ℤ) → column ≤ i → row ≤ j → predicted kind p (pos column) (pos row) right below (i - column) (j - row) ≡ inter_sample kind p (pos i) (pos j) right below
 moved kind p column row i j right below a b =
     let across : column + (i - column) ≡ i = omega (arith, a) in
@@ -116,7 +116,7 @@ moved kind p column row i j right below a b =
 
 -- ---- a square and its residual
 
--- the residual of a sample goes by that sample alone
+-- the residual of a sample depends on that sample only
 restored_same : (side first : ℕ) (residual : Residual) (one other : ℕ → ℕ → ℕ) (i j : ℕ) → one i j ≡ other i j → restored side first residual one i j ≡ restored side first residual other i j
 restored_same side first None one other i j same = same
 restored_same side first (Some blocks) one other i j same = ap (λ n. held (pos n +ℤ inverse_dct (slice_index_or blocks (block_at side first i j) []) (i % 4) (j % 4))) same
@@ -129,7 +129,7 @@ none_added_to side first across x y old = record {
   others = λ i j a out. refl;
 }
 
--- a residual that was added to what was predicted
+-- a residual that was added to predicted samples
 pub restored_placed : (side first : ℕ) (residual : Residual) (sample : ℕ → ℕ → ℕ) (across x y : ℕ) (s0 s1 s2 : List ℕ) → IsPlaced (from_corner x y sample) across side x y s0 s1 → IsPlaced (from_corner x y (restored side first residual (square_from s1 across x y))) across side x y s1 s2 →
     IsPlaced (from_corner x y (restored side first residual sample)) across side x y s0 s2
 restored_placed side first residual sample across x y s0 s1 s2 is added = record {

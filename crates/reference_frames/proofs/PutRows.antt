@@ -9,7 +9,7 @@ use Rattle.pixel_planes.specs.Samples.{Samples}
 use Rattle.reference_frames.specs.Unfiltered.{block_row, with_block_rows}
 use Rattle.reference_frames.specs.WrittenBlocks.{block_rows_put}
 
--- writing what stands there
+-- writing the samples that are there
 put_front : (n : ℕ) (xs : List ℕ) → put_chunk 0 xs (take n xs) ≡ xs
 put_front zero [] = refl
 put_front zero (x ∷ xs) = refl
@@ -40,7 +40,7 @@ put_in_row (suc a) w x (h ∷ t) span fits =
 row_place : (y n w x : ℕ) → (y + n) * w + x ≡ y * w + x + n * w
 row_place y n w x = omega arith
 
--- a row of a block that is written into a row of the plane is written at its place
+-- a row of a block that is written into a row of the plane is written at its index
 row_written : (w y n x : ℕ) (xs span : List ℕ) → x + length span ≤ w → put_chunk ((y + n) * w) xs (put_chunk x (slice_range xs ((y + n) * w) ((y + n) * w + w)) span) ≡ put_chunk (y * w + x + n * w) xs span
 row_written w y n x xs span fits =
     let wide : (y + n) * w + w - (y + n) * w ≡ w = omega arith in
@@ -56,13 +56,13 @@ rows_put p x y side sample (suc n) fits =
     let before = block_rows_put p.samples (y * p.width + x) p.width side sample n in
     rw (rows_put p x y side sample n fits) (ap (λ (xs : List ℕ). record p { samples = xs }) (row_written p.width y n x before span (omega (arith, long, fits))))
 
--- and as many samples stand there
+-- and there are as many samples
 pub rows_put-length : (samples : List ℕ) (start stride side : ℕ) (sample : ℕ → ℕ → ℕ) (n : ℕ) → length (block_rows_put samples start stride side sample n) ≡ length samples
 unfolding block_rows_put
 rows_put-length samples start stride side sample zero = refl
 rows_put-length samples start stride side sample (suc n) = length-put_chunk _ _ _ ∙ rows_put-length samples start stride side sample n
 
--- the place behind a row
+-- the index after a row
 pub row_inside : (side stride n : ℕ) → n < side → n * stride + stride ≤ side * stride
 row_inside side stride n below = grind (arith, mul-le-mul_right)
 

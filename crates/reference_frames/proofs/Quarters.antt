@@ -16,7 +16,7 @@ use Rattle.reference_frames.specs.PlacedBlocks.{IsInSquare}
 abbrev pub first_block : ℕ → ℕ
 first_block quarter = 8 * (quarter / 2) + 2 * (quarter % 2)
 
--- a vector in eighths is that of this block
+-- a vector in eighths is this block's
 abbrev pub IsOfBlock : List MotionVector → ℕ → ℤ × ℤ → Type 0
 IsOfBlock vectors n vector = (vector.0 ≡ pos 2 *ℤ (slice_index_or vectors n zero_vector).x) × (vector.1 ≡ pos 2 *ℤ (slice_index_or vectors n zero_vector).y)
 

@@ -8,24 +8,24 @@ use Rattle.std.proofs.lemmas.List.FromFn.{fill_by_all, length-map-range_with_len
 use Rattle.pixel_planes.specs.Samples.{Samples, sample_at, row_of}
 use Rattle.reference_frames.specs.Unfiltered.{above, left, above_row, left_column, above_eight, sub_column, sub_row, right_row}
 
--- a list of one number is what a function gives that is that number at each place
+-- a list of one number equals the list of a function that is that number at each index
 pub replicate_is_map : (f : ℕ → ℕ) (n value : ℕ) → ((k : ℕ) → k < n → f k ≡ value) → replicate n value ≡ map f (range_with_len 0 n)
 replicate_is_map f n value same =
     fill_by_all f (replicate n value) n 0 (length-replicate n value) (λ k less. get_or-replicate n k value 0 less ∙ sym (same k less))
 
--- a part of a list is what stands at its places
+-- a part of a list is the list of the entries at its indices
 pub part_is_map : (f : ℕ → ℕ) (row : List ℕ) (x n : ℕ) → x + n ≤ length row → ((k : ℕ) → k < n → f k ≡ slice_index row (x + k)) → take (x + n - x) (drop x row) ≡ map f (range_with_len 0 n)
 part_is_map f row x n within same =
     let size : x + n - x ≡ n = omega arith in
     let fits : n ≤ length (drop x row) = omega (arith, length-drop x row) in
     rw size (fill_by_all f (take n (drop x row)) n 0 (length-take-le n (drop x row) fits) (λ k less. get_or-take n (drop x row) k 0 less ∙ get_or-drop x row k 0 ∙ sym (same k less)))
 
--- a sample of a row is that of the plane
+-- a sample of a row is the plane's
 pub row_sample : (p : Samples) (x y : ℕ) → x < p.width → slice_index (row_of p y) x ≡ sample_at p x y
 row_sample p x y within =
     get_or-take (y * p.width + p.width - y * p.width) (drop (y * p.width) p.samples) x 0 (omega arith) ∙ get_or-drop (y * p.width) p.samples x 0
 
--- 127 stands above the frame
+-- samples above the frame are 127
 pub above_frame : (p : Samples) (x y n : ℕ) → y ≡ 0 → replicate n 127 ≡ above_row p x y n
 unfolding above_row
 above_frame p x y n top = replicate_is_map (λ k. above p (x + k) y) n 127 (λ k less. cond-true _ _ _ (eq-eqb _ _ top))
@@ -37,7 +37,7 @@ above_part p x y n row below is wide within =
     part_is_map (λ k. above p (x + k) y) row x n (omega (arith, wide)) (λ k less.
     cond-false _ _ _ (ne_eqb _ _ below) ∙ sym (ap (λ (r : List ℕ). slice_index r (x + k)) is ∙ row_sample p (x + k) (y - 1) (omega arith)))
 
--- 129 stands to the left of the frame
+-- samples to the left of the frame are 129
 pub left_of_frame : (p : Samples) (x y n : ℕ) → x ≡ 0 → replicate n 129 ≡ left_column p x y n
 unfolding left_column
 left_of_frame p x y n first = replicate_is_map (λ k. left p x (y + k)) n 129 (λ k less. cond-true _ _ _ (eq-eqb _ _ first))
@@ -49,7 +49,7 @@ left_part p x y n inside =
     fill_by_all (λ k. left p x (y + k)) (map (λ k. sample_at p (x - 1) (y + k)) (range_with_len 0 n)) n 0 (length-map-range_with_len (λ k. sample_at p (x - 1) (y + k)) 0 n) (λ k less.
     get_or-map-range_with_len (λ k. sample_at p (x - 1) (y + k)) 0 n k k 0 less (omega arith) ∙ sym (cond-false _ _ _ (ne_eqb _ _ inside)))
 
--- where the plane does not end, the sample of its last column does not stand again
+-- inside the plane its last column does not repeat
 pub above_within : (p : Samples) (x y n : ℕ) → x + n ≤ p.width → above_row p x y n ≡ map (λ k. above p (min (x + k) (p.width - 1)) y) (range_with_len 0 n)
 unfolding above_row
 above_within p x y n within =

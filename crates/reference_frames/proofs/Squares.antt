@@ -1,4 +1,4 @@
--- Places in rows of samples, and in what begins with one of them.
+-- Indices in rows of samples, and in a part that begins with one of them.
 use Rattle.std.specs.Prelude.{slice_index}
 use Rattle.std.proofs.Common.{◌≡◌, ℕ, ◌+◌, ◌-◌, ◌*◌, ◌<◌, ◌≤◌, inl, inr, List, ◌++◌, length, get_or, take, drop, refl, ap, sym, ◌∙◌, arith}
 use Rattle.std.proofs.Math.ListN.{get_or-eq_default}
@@ -14,7 +14,7 @@ index_in side i j column row a b =
     let e : j ≡ row + (j - row) = omega arith in
     ap (λ n. n * side + i) e ∙ index_from side i (j - row) column row a
 
--- a sample left of the block stands at the end of a row of what begins with the block
+-- a sample left of the block is at the end of a row of the part that begins with the block
 index_left : (side i d column row : ℕ) → column ≤ side → (row + (d + 1)) * side + i ≡ side * row + column + (d * side + (side + i - column))
 index_left side i d column row a = omega arith
 
@@ -31,15 +31,15 @@ index_above side i j column row a b =
     let e : row ≡ j + 1 + (row - j - 1) = omega arith in
     rw e (above_start side i j (row - j - 1) column a)
 
--- each place of the first rows is within them
+-- each index of the first rows is within them
 pub index_within : (across i j rows : ℕ) → i < across → j < rows → j * across + i < rows * across
 index_within across i j rows a b = let fits : (j + 1) * across ≤ rows * across = mul-le-mul_right across (omega (arith, b)) in omega (arith, fits, a)
 
--- fewer rows have room where more have it
+-- fewer rows have room if more have it
 pub rows_room : (few many across count : ℕ) → few ≤ many → many * across ≤ count → few * across ≤ count
 rows_room few many across count fewer room = let fits : few * across ≤ many * across = mul-le-mul_right across fewer in omega (arith, fits, room)
 
--- a square has its first sample, and what its last row needs
+-- a square has its first sample, and the samples of its last row
 pub start_within : (across side column row count : ℕ) → 0 < side → column + side ≤ across → (row + side) * across ≤ count → across * row + column ≤ count
 start_within across side column row count some wide room =
     let inside = index_within across column row (row + side) (omega (arith, some, wide)) (omega (arith, some)) in
@@ -51,14 +51,14 @@ last_row_within across side column row count some wide room =
     let rows = rw last at room in
     omega (arith, rows, wide)
 
--- the place of a sample, by its column and row in a square
+-- the index of a sample, by its column and row in a square
 pub from_place : (across x y i j : ℕ) → x ≤ i → y ≤ j → (y + (j - y)) * across + (x + (i - x)) ≡ j * across + i
 from_place across x y i j a b =
     let right : x + (i - x) ≡ i = omega (arith, a) in
     let down : y + (j - y) ≡ j = omega (arith, b) in
     rw (right, down) refl
 
--- what stands behind the start of a part stands in the part
+-- an index after the start of a part is in the part
 pub part_old : (old : List ℕ) (start k : ℕ) → start + k < length old → slice_index (take (length old - start) (drop start old)) k ≡ slice_index old (start + k)
 part_old old start k within = get_or-take (length old - start) (drop start old) k 0 (omega arith) ∙ get_or-drop start old k 0
 
@@ -82,7 +82,7 @@ whole_put old part rest start room whole behind =
     let none : length rest ≡ 0 = ap (λ (r : List ℕ). length r) behind ∙ length-drop (length old - start) (drop start old) ∙ omega (arith, length-drop start old) in
     omega (arith, length-append (take start old) (part ++ rest), length-append part rest, front, whole, long, none)
 
--- a sample behind the start of a block that is as it was in the part is as it was in the whole
+-- a sample after the start of a block that is unchanged in the part is unchanged in the whole
 pub part_kept : (old part rest : List ℕ) (start k n : ℕ) → start ≤ length old → length part ≡ length (take (length old - start) (drop start old)) → rest ≡ drop (length old - start) (drop start old) → n ≡ start + k → slice_index part k ≡ slice_index (take (length old - start) (drop start old)) k → slice_index (take start old ++ (part ++ rest)) n ≡ slice_index old n
 part_kept old part rest start k n room whole behind place same =
     let long : length (take start old ++ (part ++ rest)) ≡ length old = whole_put old part rest start room whole behind in

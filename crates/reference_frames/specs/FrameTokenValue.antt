@@ -1,4 +1,4 @@
--- What a reader of a frame's tokens holds.
+-- The state of a reader of a frame's tokens.
 use Rattle.std.specs.Prelude.{if◌then◌else◌, None, Some}
 use Rattle.mode_parser.specs.declared.records.MbMode.{MbMode}
 use Rattle.reference_frames.specs.FrameTokens.{TokenState}

@@ -1,4 +1,4 @@
--- The tokens of a frame (RFC 6386, sections 9.5 and 13): what stands between its macroblocks, and the residual that each has.
+-- The tokens of a frame (RFC 6386, sections 9.5 and 13): the state between its macroblocks, and the residual of each.
 use Rattle.std.specs.Prelude.{ℕ, zero, suc, ◌+◌, ◌%◌, ◌/◌, ◌==◌, nat_lt, Bool, true, false, not, if◌then◌else◌, List, [], map, length, replicate, slice_get, slice_index_or, slice_range, slice_set, Option, Some, None, ℤ, pos}
 use Rattle.std.specs.List.{range_with_len}
 use Rattle.bool_coder.specs.Reader.{Reader, started}
@@ -17,13 +17,13 @@ use Rattle.reference_frames.specs.Restored.{Residual}
 
 -- ---- the residual of a macroblock
 
--- every luma mode but those of sub blocks and of split macroblocks has a block Y2 of the first coefficients of luma (section 13)
+-- every luma mode except B and the split vector mode has a block Y2 of the first coefficients of luma (section 13)
 abbrev pub has_y2 : YMode → Bool
 has_y2 (Whole mode) = true
 has_y2 B = false
 has_y2 (Inter reference mode) = not (is_split mode)
 
--- a block, dequantised by its first factor and that of its others (section 14.1)
+-- a block, dequantised by the factor of its first coefficient and the factor of its others (section 14.1)
 unfoldable pub block_with : List ℤ → ℤ → ℤ → List ℤ
 block_with coefficients dc ac = dequantised coefficients dc ac
 
@@ -31,7 +31,7 @@ block_with coefficients dc ac = dequantised coefficients dc ac
 unfoldable pub y2_results : Factors → List ℤ → List ℤ
 y2_results factors coefficients = inverse_wht (block_with coefficients factors.y2_dc factors.y2_ac)
 
--- the first coefficients of the luma blocks, where Y2 has them
+-- the first coefficients of the luma blocks, if Y2 has them
 abbrev pub firsts_of : Factors → Bool → List (List ℤ) → Option (List ℤ)
 firsts_of factors y2 coefficients = if y2 then Some (y2_results factors (slice_index_or coefficients 24 [])) else None
 
@@ -49,7 +49,7 @@ block_of factors firsts coefficients k =
 unfoldable pub blocks_of : Factors → Bool → List (List ℤ) → List (List ℤ)
 blocks_of factors y2 coefficients = map (block_of factors (firsts_of factors y2 coefficients) coefficients) (range_with_len 0 24)
 
--- ---- what stands between macroblocks
+-- ---- the state between macroblocks
 
 -- the readers of the token partitions, the flags above for each column of macroblocks, and those to the left
 pub record TokenState : Type 0 where
@@ -80,14 +80,14 @@ flags_at state column = record {
 abbrev pub partition_of : TokenState → ℕ → ℕ
 partition_of state row = row % length state.readers
 
--- the tokens of the macroblock in this column and row, and the reader behind them
+-- the tokens of the macroblock in this column and row, and the reader after them
 unfoldable pub tokens_at : List ℕ → TokenState → ℕ → ℕ → MbMode → Tokens × Reader
 tokens_at probs state column row mode =
     let flags = flags_at state column in
     let reader = slice_index_or state.readers (partition_of state row) (started []) in
     if mode.is_skipped then (skipped (has_y2 mode.y_mode) flags, reader) else macroblock probs (has_y2 mode.y_mode) flags reader
 
--- what stands behind it
+-- the state after it
 abbrev pub state_with : TokenState → ℕ → ℕ → Tokens × Reader → TokenState
 state_with state column row told = record {
   readers = slice_set state.readers (partition_of state row) told.1;
@@ -110,7 +110,7 @@ state_behind header columns state place None = state
 state_behind header columns state place (Some mode) =
     state_with state (place % columns) (place / columns) (tokens_at header.context.probabilities.coefficients state (place % columns) (place / columns) mode)
 
--- what stands behind the first n macroblocks, in raster order
+-- the state after the first n macroblocks, in raster order
 unfoldable pub token_state : Header → ℕ → TokenState → List MbMode → ℕ → TokenState
 token_state header columns start modes zero = start
 token_state header columns start modes (suc n) = state_behind header columns (token_state header columns start modes n) n (slice_get modes n)
@@ -120,7 +120,7 @@ residual_behind header columns state place None = None
 residual_behind header columns state place (Some mode) =
     residual_with (factors_of header mode.segment) mode (tokens_at header.context.probabilities.coefficients state (place % columns) (place / columns) mode).0
 
--- the residual of the macroblock at a place
+-- the residual of the macroblock at an index
 unfoldable pub residual_at : Header → ℕ → TokenState → List MbMode → ℕ → Residual
 residual_at header columns start modes n = residual_behind header columns (token_state header columns start modes n) n (slice_get modes n)
 
@@ -129,7 +129,7 @@ flag_behind header columns state place None = false
 flag_behind header columns state place (Some mode) =
     flag_with mode (tokens_at header.context.probabilities.coefficients state (place % columns) (place / columns) mode).0
 
--- whether a block of the macroblock at a place has a token
+-- whether a block of the macroblock at an index has a token
 unfoldable pub flag_at : Header → ℕ → TokenState → List MbMode → ℕ → Bool
 flag_at header columns start modes n = flag_behind header columns (token_state header columns start modes n) n (slice_get modes n)
 

@@ -13,7 +13,7 @@ use Rattle.pixel_planes.specs.Samples.{Samples}
 abbrev pub kind_of : ℕ → Kind
 kind_of version = if version == 0 then SixTap else Bilinear
 
--- the vector of luma block n: its own where the macroblock is split, else the macroblock's, which is that of the last block (section 16.3)
+-- the vector of luma block n: its own if the macroblock is split, else the last block's (section 16.3)
 abbrev pub block_vector : VectorMode → List MotionVector → ℕ → MotionVector
 block_vector mode vectors n = slice_index_or vectors (if is_split mode then n else 15) zero_vector
 
@@ -27,7 +27,7 @@ luma_sample kind p mx my vector_of column row =
     let vector = vector_of (luma_block column row) in
     inter_sample kind p (pos (16 * mx + column)) (pos (16 * my + row)) (pos 2 *ℤ vector.x) (pos 2 *ℤ vector.y)
 
--- the group of two by two luma blocks that stands over the sample in a column and row of the macroblock's chroma
+-- the group of two by two luma blocks over the sample in a column and row of the macroblock's chroma
 abbrev pub chroma_group : ℕ → ℕ → ℕ
 chroma_group column row = 2 * (row / 4) + column / 4
 

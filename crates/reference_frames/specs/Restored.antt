@@ -8,11 +8,11 @@ use Rattle.transforms.specs.Transforms.{inverse_dct}
 abbrev pub Residual : Type 0
 Residual = Option (List (List ℤ))
 
--- the block that has a sample of a square of this side, whose blocks are numbered from `first` on
+-- the block that has a sample of a square of this side, whose blocks are numbered starting at `first`
 abbrev pub block_at : ℕ → ℕ → ℕ → ℕ → ℕ
 block_at side first column row = first + (row / 4 * (side / 4) + column / 4)
 
--- the samples of a square of this side with the residuals of its blocks, held within 0 to 255
+-- the samples of a square of this side with the residuals of its blocks, clamped to 0..255
 abbrev pub restored : ℕ → ℕ → Residual → (ℕ → ℕ → ℕ) → ℕ → ℕ → ℕ
 restored side first None sample = sample
 restored side first (Some blocks) sample = λ column row.

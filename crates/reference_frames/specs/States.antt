@@ -1,10 +1,10 @@
--- What is seen of a state: what its packets leave for those behind them (RFC 6386, section 9).
+-- The value of a state: what its packets leave for the packets after them (RFC 6386, section 9).
 use Rattle.std.specs.Prelude.{◌≡◌, ℕ, ◌*◌, List, length}
 use Rattle.frame_header.specs.declared.context.Context.{Context}
 use Rattle.pixel_planes.specs.Pictures.{PictureSamples, macroblocks}
 use Rattle.reference_frames.specs.declared.references.References.{References}
 
--- what the last header left, the segment of each macroblock, and the references, which have one size
+-- the context that the last header left, the segment of each macroblock, and the references, which have one size
 pub record StateValue : Type 0 where
   pub context : Context
   pub segment_map : List ℕ
@@ -22,6 +22,6 @@ HaveOneSize references = HasSize references.golden references.last.width referen
 abbrev pub HasMap : StateValue → Type 0
 HasMap state = length state.segment_map ≡ macroblocks state.references.last.width * macroblocks state.references.last.height
 
--- what each state has: a segment for each macroblock, and references of one size
+-- the invariant of each state: a segment for each macroblock, and references of one size
 abbrev pub IsState : StateValue → Type 0
 IsState state = HasMap state × HaveOneSize state.references

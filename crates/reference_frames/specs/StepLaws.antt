@@ -1,4 +1,4 @@
--- What the definition of a step comes to, as a law over it.
+-- A property of the definition of a step, as a law.
 use Rattle.std.specs.Prelude.{◌≡◌, ℕ, true, List, Option, None}
 use Rattle.vp8_tables.specs.Tables.{TableEntries}
 use Rattle.frame_header.specs.Tags.{has_key_tag}

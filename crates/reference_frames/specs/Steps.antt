@@ -1,6 +1,12 @@
+<<<<<<< HEAD
 -- One step of decoding: tables, a state or none, and a packet give a state and a picture, or a cause
 -- (RFC 6386, section 9).
 use Rattle.std.specs.Prelude.{ℕ, ◌==◌, List, length, Option, Some, None, Result, Ok, Err, ◌≡◌, if◌then◌else◌}
+=======
+-- One step of decoding: tables, a state or none, and a packet determine a state and a picture, or a cause (RFC 6386, section
+-- 9).
+use Rattle.std.specs.Prelude.{ℕ, List, Option, Some, None, Result, Ok, Err, ◌≡◌, if◌then◌else◌}
+>>>>>>> e2ad207544980d6406b77c14e0f430d7ae528534
 use Rattle.std.specs.Option.{option_map}
 use Rattle.vp8_tables.specs.Tables.{TableEntries}
 use Rattle.frame_header.specs.declared.cause.Cause.{Cause}
@@ -21,14 +27,14 @@ use Rattle.reference_frames.specs.declared.states.State.{State}
 use Rattle.reference_frames.specs.declared.step_fault.StepFault.{StepFault}
 use Rattle.reference_frames.specs.declared.step_fault.StepFault.TheVariants.{Refused, NoMemory}
 
--- the state that a packet goes on from: one with a key tag begins anew
+-- the state before a packet: none for a packet with a key tag
 abbrev pub state_before : List ℕ → Option State → Option State
 state_before packet state = if has_key_tag packet then None else state
 
 abbrev pub references_before : Option State → Option References
 references_before before = option_map (λ s. s.references) before
 
--- the shown size of a frame: that of its references, and a key frame's own
+-- the shown size of a frame: its references' size, or a key frame's own
 abbrev pub width_of : Header → Option State → ℕ
 width_of header None = header.width
 width_of header (Some before) = before.references.last.width
@@ -37,7 +43,7 @@ abbrev pub height_of : Header → Option State → ℕ
 height_of header None = header.height
 height_of header (Some before) = before.references.last.height
 
--- the picture of a frame of this shown size, by its references, its records and the residuals that its token partitions give, behind the loop filter, which goes by the macroblocks that have tokens
+-- the picture of a frame of this shown size, by its references, its records and the residuals of its token partitions, after the loop filter, which depends on which macroblocks have tokens
 unfoldable pub decoded_picture : List ℕ → Header → Option References → ℕ → ℕ → List MbMode → PictureSamples
 decoded_picture packet header references width height modes =
     let columns = macroblocks width in
@@ -45,7 +51,7 @@ decoded_picture packet header references width height modes =
     let planes = unfiltered header.version references columns (macroblocks height) modes (residual_at header columns start modes) in
     picture_of width height (filtered_planes header modes (flags_of header columns start modes) planes)
 
--- the modes of a frame, behind the segment map before it
+-- the modes of a frame, by the segment map before it
 abbrev pub frame_modes : TableEntries → Header → Option State → FrameModes
 frame_modes tables header before =
     modes_of tables header (macroblocks (width_of header before)) (macroblocks (height_of header before)) (option_map (λ s. s.segment_map) before)
@@ -62,14 +68,14 @@ state_with header modes picture before = record {
   references = references_behind header picture before;
 }
 
--- the state behind a frame, and its picture, which is the same whether it is kept or not
+-- the state after a frame, and its picture, which is the same whether it refreshes a reference or not
 abbrev pub decoded : TableEntries → List ℕ → Header → Option State → State × PictureSamples
 decoded tables packet header before =
     let modes = frame_modes tables header before in
     let picture = decoded_picture packet header (references_before before) (width_of header before) (height_of header before) modes.records in
     (state_with header modes picture before, picture)
 
--- what a header that is accepted gives
+-- the result for an accepted header
 abbrev pub decoded_by : TableEntries → List ℕ → Option State → Result Header Cause → Result (State × PictureSamples) Cause
 decoded_by tables packet state (Ok header) = Ok (decoded tables packet header (state_before packet state))
 decoded_by tables packet state (Err cause) = Err cause

@@ -1,4 +1,4 @@
--- The unfiltered picture of a frame: each macroblock is predicted by its record, from what stands round it or from a reference, and its residual is added, in raster order (RFC 6386, sections 12, 14.5 and 18).
+-- The unfiltered picture of a frame: each macroblock is predicted by its record, from the samples around it or from a reference, and its residual is added, in raster order (RFC 6386, sections 12, 14.5 and 18).
 use Rattle.std.specs.Prelude.{◌≡◌, ℕ, zero, suc, ◌+◌, ◌-◌, ◌*◌, ◌/◌, ◌%◌, ◌≤◌, ◌==◌, nat_lt, min, if◌then◌else◌, List, map, length, slice_get, slice_index_or, Option, Some, None}
 use Rattle.std.specs.List.{range_with_len}
 use Rattle.std.specs.Simd.Lanes.{put_chunk}
@@ -67,7 +67,7 @@ above_row p x y n = map (λ k. above p (x + k) y) (range_with_len 0 n)
 unfoldable pub left_column : Samples → ℕ → ℕ → ℕ → List ℕ
 left_column p x y n = map (λ k. left p x (y + k)) (range_with_len 0 n)
 
--- those of the n samples above or to the left of a block that are inside the frame
+-- the n samples above or to the left of a block, if they are inside the frame
 abbrev pub above_side : Samples → ℕ → ℕ → ℕ → Option (List ℕ)
 above_side p x y n = if y == 0 then None else Some (above_row p x y n)
 
@@ -81,27 +81,27 @@ sub_column mx n = 16 * mx + 4 * (n % 4)
 abbrev pub sub_row : ℕ → ℕ → ℕ
 sub_row my n = 16 * my + 4 * (n / 4)
 
--- the row below the four samples that stand above a sub block on its right: in a macroblock's last column, its first row (section 12.3)
+-- the row below the four samples above and to the right of a sub block: in a macroblock's last column, its first row (section 12.3)
 abbrev pub right_row : ℕ → ℕ → ℕ
 right_row my n = if n % 4 == 3 then 16 * my else sub_row my n
 
--- the eight samples above a sub block; behind the last column of the plane, that column stands again
+-- the eight samples above a sub block; past the last column of the plane, that column repeats
 unfoldable pub above_eight : Samples → ℕ → ℕ → ℕ → List ℕ
 above_eight p mx my n =
     map (λ k. above p (min (sub_column mx n + k) (p.width - 1)) (if nat_lt k 4 then sub_row my n else right_row my n)) (range_with_len 0 8)
 
--- what a mode gives each column and row of a sub block of 4 by 4 samples (section 12.3)
+-- the sample that a mode predicts in each column and row of a sub block of 4 by 4 samples (section 12.3)
 abbrev pub sub_block_sample : Samples → ℕ → ℕ → ℕ → SubMode → ℕ → ℕ → ℕ
 sub_block_sample p mx my n mode =
     let x = sub_column mx n in
     let y = sub_row my n in
     sub_sample mode (left_column p x y 4) (corner p x y) (above_eight p mx my n)
 
--- what a mode gives each column and row of a whole block of this side (section 12.2)
+-- the sample that a mode predicts in each column and row of a whole block of this side (section 12.2)
 abbrev pub whole_block_sample : Samples → ℕ → ℕ → ℕ → WholeMode → ℕ → ℕ → ℕ
 whole_block_sample p x y side mode = whole_sample mode (above_side p x y side) (left_side p x y side) (corner p x y)
 
--- the plane with these samples written from column x of row y on
+-- the plane with these samples written starting at column x of row y
 abbrev pub with_span : Samples → ℕ → ℕ → List ℕ → Samples
 with_span p x y span = with_row p y (put_chunk x (row_of p y) span)
 
@@ -122,12 +122,12 @@ with_block p x y side sample = with_block_rows p x y side sample side
 abbrev pub predicted_sub_block : Samples → ℕ → ℕ → ℕ → SubMode → Residual → Samples
 predicted_sub_block p mx my n mode residual = with_block p (sub_column mx n) (sub_row my n) 4 (restored 4 n residual (sub_block_sample p mx my n mode))
 
--- the luma plane after the first n of a macroblock's 16 sub blocks, in raster order, each by the mode at its place, from what stands by then
+-- the luma plane after the first n of a macroblock's 16 sub blocks, in raster order, each by the mode at its index, from the samples there are by then
 unfoldable pub predicted_sub_blocks : Samples → ℕ → ℕ → List SubMode → Residual → ℕ → Samples
 predicted_sub_blocks p mx my modes residual zero = p
 predicted_sub_blocks p mx my modes residual (suc n) = predicted_sub_block (predicted_sub_blocks p mx my modes residual n) mx my n (slice_index_or modes n Dc) residual
 
--- a plane after the prediction of a macroblock's block of this side, and its residual, whose blocks are numbered from `first` on
+-- a plane after the prediction of a macroblock's block of this side, and its residual, whose blocks are numbered starting at `first`
 abbrev pub predicted_whole : Samples → ℕ → ℕ → ℕ → WholeMode → Residual → ℕ → Samples
 predicted_whole p side mx my mode residual first = with_block p (side * mx) (side * my) side (restored side first residual (whole_block_sample p (side * mx) (side * my) side mode))
 
@@ -153,7 +153,7 @@ inter_macroblock version from planes mx my mode vectors residual = record {
   cr = with_block planes.cr (8 * mx) (8 * my) 8 (restored 8 20 residual (chroma_sample version from.cr mx my (block_vector mode vectors)));
 }
 
--- no key frame has references, and none of its macroblocks asks for one
+-- a key frame has no references, and none of its macroblocks asks for one
 abbrev pub referred_macroblock : ℕ → Option References → Reference → VectorMode → PlaneSamples → ℕ → ℕ → MbMode → Residual → PlaneSamples
 referred_macroblock version None reference vector_mode planes mx my mode residual = planes
 referred_macroblock version (Some references) reference vector_mode planes mx my mode residual =
@@ -168,7 +168,7 @@ predicted_by (Inter reference vector_mode) version references planes mx my mode 
 unfoldable pub predicted_macroblock : ℕ → Option References → PlaneSamples → ℕ → ℕ → MbMode → Residual → PlaneSamples
 predicted_macroblock version references planes mx my mode residual = predicted_by mode.y_mode version references planes mx my mode residual
 
--- the planes after the macroblock at this place of a frame of so many columns, if it has a record
+-- the planes after the macroblock at this index of a frame of so many columns, if it has a record
 abbrev pub predicted_at : ℕ → Option References → PlaneSamples → ℕ → ℕ → Option MbMode → Residual → PlaneSamples
 predicted_at version references planes columns place None residual = planes
 predicted_at version references planes columns place (Some mode) residual = predicted_macroblock version references planes (place % columns) (place / columns) mode residual
@@ -186,6 +186,6 @@ empty_planes columns rows = record {
   cr = uniform (8 * columns) (8 * rows) 0;
 }
 
--- the unfiltered planes of a frame of this version, with these references and this many macroblocks, by their records and the residual at each place
+-- the unfiltered planes of a frame of this version, with these references and this many macroblocks, by their records and the residual at each index
 abbrev pub unfiltered : ℕ → Option References → ℕ → ℕ → List MbMode → (ℕ → Residual) → PlaneSamples
 unfiltered version references columns rows modes residuals = predicted_macroblocks version references (empty_planes columns rows) columns modes residuals (length modes)

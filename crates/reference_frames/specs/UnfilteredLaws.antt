@@ -1,4 +1,4 @@
--- What the definitions of the unfiltered picture come to, sample by sample.
+-- Properties of the definitions of the unfiltered picture, sample by sample.
 use Rattle.std.specs.Prelude.{◌≡◌, ℕ, ◌-◌, ◌*◌, ◌<◌, nat_lt, if◌then◌else◌, true, List, length, replicate, slice_get, Option, Some}
 use Rattle.intra_predict.specs.declared.modes.SubMode.TheVariants.{Dc}
 use Rattle.intra_predict.specs.declared.modes.WholeMode.TheVariants.{Dc as WholeDc}
@@ -25,7 +25,7 @@ luma_of_row y = if nat_lt y 4 then 128 else 129
 abbrev pub IsBlank : MbMode → Type 0
 IsBlank mode = (mode.y_mode ≡ B) × (mode.sub_modes ≡ replicate 16 Dc) × (mode.uv_mode ≡ WholeDc) × (mode.is_skipped ≡ true)
 
--- where each record is such, luma is 128 in the first four rows and 129 below them, and chroma is 128, whatever the token partitions hold
+-- if each record is blank, luma is 128 in the first four rows and 129 below them, and chroma is 128, whatever the token partitions hold
 abbrev pub AreFlat : Type 0
 AreFlat =
     (version : ℕ) (references : Option References) (header : Header) (start : TokenState) (columns rows : ℕ) (modes : List MbMode) (x y : ℕ) → length modes ≡ columns * rows → ((n : ℕ) (mode : MbMode) → slice_get modes n ≡ Some mode → IsBlank mode) →

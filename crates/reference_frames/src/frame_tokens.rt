@@ -1,5 +1,5 @@
-//! The tokens of a frame: what stands between its macroblocks, and the residual that each has
-//! (RFC 6386, sections 9.5 and 13).
+//! The tokens of a frame: the state between its macroblocks, and the residual of each (RFC 6386,
+//! sections 9.5 and 13).
 
 ghost use Rattle.std.specs.Prelude.{◌≡◌, ◌+◌, ◌%◌, ◌<◌, ◌≤◌, [], length, map, slice_index_or, slice_set, All, IfOk};
 ghost use Rattle.std.specs.Option.{option_copied};
@@ -49,7 +49,7 @@ fn y2_results(factors: Factors, coefficients: &[i16; 16]) -> [i16; 16]
     wht(&block_with(coefficients, factors.y2_dc, factors.y2_ac))
 }
 
-/// The coefficients of block `k`, dequantised; the first of a luma block is its result of Y2, where
+/// The coefficients of block `k`, dequantised; the first of a luma block is its result of Y2, if
 /// there is one (RFC 6386, sections 14.1 and 14.3).
 #[inline]
 fn block_of(
@@ -107,7 +107,7 @@ fn partition_readers<'a>(
     Ok(readers)
 }
 
-/// What stands between the macroblocks of a frame.
+/// The state between the macroblocks of a frame.
 #[derive(Drop)]
 pub struct FrameTokens<'a> {
     /// The readers of the token partitions.
@@ -123,8 +123,8 @@ pub struct FrameTokens<'a> {
 }
 
 impl<'a> FrameTokens<'a> {
-    /// What stands before the first macroblock of a frame of so many columns. `NoMemory` where the
-    /// readers or the flags find no room.
+    /// The state before the first macroblock of a frame of so many columns. `NoMemory` if memory
+    /// for the readers or the flags is refused.
     pub fn new(
         alloc: Global,
         packet: &'a [u8],
@@ -143,7 +143,7 @@ impl<'a> FrameTokens<'a> {
         })
     }
 
-    /// Reads the tokens of a macroblock in row `my`, behind its flags, and keeps its residual.
+    /// Reads the tokens of a macroblock in row `my`, after its flags, and stores its residual.
     fn read_blocks(&mut self, header: &Header, my: usize, mode: &MbMode)
         requires { 0 < length self.old.readers.items }
         ensures tokens { (self.new.tokens, slice_index_or self.new.readers.items (my % length self.old.readers.items) (started [])) ≡ macroblock header.now.context.probabilities.coefficients (has_y2_of mode.now.y_mode) (cleared self.old.tokens) (slice_index_or self.old.readers.items (my % length self.old.readers.items) (started [])) }
@@ -170,8 +170,8 @@ impl<'a> FrameTokens<'a> {
         );
     }
 
-    /// Reads the tokens of the macroblock in column `mx` of row `my`, which stands next, and keeps its
-    /// residual. Where it is skipped, nothing is read.
+    /// Reads the tokens of the macroblock in column `mx` of row `my`, which is next, and stores its
+    /// residual. If it is skipped, nothing is read.
     #[tactic(auto, unfolding(crate::specs::FrameTokens::tokens_at))]
     pub fn read(&mut self, header: &Header, mx: usize, my: usize, mode: &MbMode)
         requires some { 0 < length (state_of self.old).readers }
@@ -194,8 +194,8 @@ impl<'a> FrameTokens<'a> {
         self.above[mx] = self.tokens.above;
     }
 
-    /// The residual of the macroblock that was read last, of which this is the record. Where it is
-    /// skipped it has none.
+    /// The residual of the macroblock that was read last, of which this is the record. A skipped
+    /// macroblock has none.
     #[inline]
     pub fn residual(&self, mode: &MbMode) -> Option<&Blocks>
         ensures { option_copied result ≡ kept_residual self.now mode.now }

@@ -1,4 +1,4 @@
-//! The picture of a frame: its macroblocks one after another, and behind them the loop filter.
+//! The picture of a frame: its macroblocks one after another, and then the loop filter.
 
 ghost use Rattle.std.specs.Prelude.{◌≡◌, ◌*◌, ◌+◌, ◌<◌, ◌≤◌, All, IfOk, length};
 ghost use Rattle.std.specs.Option.{option_copied};
@@ -17,8 +17,8 @@ use mode_parser::{MbMode, Modes};
 use pixel_planes::{NoMemory, Picture, Plane, Planes};
 use std::alloc::Global;
 
-/// Predicts the macroblocks of a frame in raster order, each by its record, and adds the residual that
-/// its tokens give. Gives for each whether one of its blocks has a token.
+/// Predicts the macroblocks of a frame in raster order, each by its record, and adds the residual
+/// of its tokens. Returns for each whether one of its blocks has a token.
 fn predict_macroblocks(
     alloc: Global,
     planes: &mut Planes,
@@ -78,12 +78,13 @@ fn empty_planes(alloc: Global, columns: usize, rows: usize) -> Result<Planes, No
     })
 }
 
-/// Makes the picture of a frame of this shown size from its packet, of which this is the header: each
-/// macroblock is predicted by its record, of which there is one for each in raster order, and the
-/// residual that its tokens give is added to it (RFC 6386, sections 12 to 14 and 18). Behind the last
-/// of them the loop filter goes over the whole (section 15).
+/// Makes the picture of a frame of this shown size from its packet, of which this is the header:
+/// each macroblock is predicted by its record, of which there is one for each in raster order, and
+/// the residual of its tokens is added to it (RFC 6386, sections 12 to 14 and 18). After the last
+/// of them the loop filter runs over the whole (section 15).
 ///
-/// `NoMemory` where a plane or its shared block, or what stands between macroblocks, is refused.
+/// `NoMemory` if memory for a plane, for its shared block, or for the state between macroblocks is
+/// refused.
 pub(crate) fn decoded_picture(
     alloc: Global,
     packet: &[u8],

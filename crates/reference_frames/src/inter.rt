@@ -42,7 +42,7 @@ pub(crate) fn is_split(mode: VectorMode) -> bool
 }
 
 /// Predicts the square of this side that begins in column `column` of row `row` of a plane, in the
-/// plane's samples, of which `across` stand in a row. The vector is in eighths of a sample.
+/// plane's samples, `across` in a row. The vector is in eighths of a sample.
 #[inline]
 fn predict_square(
     from: &Plane,
@@ -85,8 +85,8 @@ fn are_same(a: (i32, i32), b: (i32, i32)) -> bool
     a.0 == b.0 && a.1 == b.1
 }
 
-/// Predicts a quarter of a split macroblock's luma, of which the macroblock stands in column `mx` of
-/// row `my`: as one block, where its four vectors are the same.
+/// Predicts a quarter of a split macroblock's luma, for the macroblock in column `mx` of row `my`:
+/// as one block if its four vectors are equal.
 fn predict_quarter(
     from: &Plane,
     mx: usize,
@@ -119,8 +119,8 @@ fn predict_quarter(
     predict_square(from, fourth, kind, 4, samples, across, x + 4, y + 4);
 }
 
-/// Predicts the luma of the macroblock in column `mx` of row `my`, in a plane's samples, of which
-/// `across` stand in a row: as one block, or where it is split by its quarters.
+/// Predicts the luma of the macroblock in column `mx` of row `my`, in a plane's samples, `across`
+/// in a row: as one block, or if it is split by its quarters.
 fn luma_samples(
     from: &Plane,
     mx: usize,
@@ -201,8 +201,8 @@ fn whole_vector(mode: VectorMode, vectors: &[Vector; 16], version: u8) -> (i32, 
     (chroma_vector(x, version), chroma_vector(y, version))
 }
 
-/// Predicts the macroblock in column `mx` of row `my` in a chroma plane's samples, of which `across`
-/// stand in a row: as one block by the vector `whole`, or where it is split by four.
+/// Predicts the macroblock in column `mx` of row `my` in a chroma plane's samples, `across` in a
+/// row: as one block by the vector `whole`, or if it is split as four.
 fn chroma_samples(
     from: &Plane,
     mx: usize,
@@ -259,8 +259,8 @@ fn predict_luma(
     add_to_square(residual, 0, size, samples, width, 16 * mx, 16 * my);
 }
 
-/// Predicts a macroblock's samples of a chroma plane from a reference's, and adds its residual, whose
-/// blocks are numbered from `first` on. Where it is not split, it goes by the vector `whole`.
+/// Predicts a macroblock's samples of a chroma plane from a reference's, and adds its residual,
+/// whose blocks are numbered starting at `first`. If it is not split, its vector is `whole`.
 fn predict_chroma(
     plane: &mut Plane,
     from: &Plane,

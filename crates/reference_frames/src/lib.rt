@@ -1,5 +1,5 @@
-//! One step of decoding: what a packet leaves for the packets behind it, and its picture, predicted
-//! macroblock by macroblock (RFC 6386, sections 9 to 18).
+//! One step of decoding: the state that a packet leaves for the packets after it, and its picture,
+//! predicted macroblock by macroblock (RFC 6386, sections 9 to 18).
 #![tactic(auto)]
 
 mod comparison;

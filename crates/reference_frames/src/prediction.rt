@@ -15,10 +15,10 @@ use intra_predict::{BlockSize, SubMode, WholeMode, sub, whole};
 use mode_parser::{MbMode, VectorMode, YMode};
 use pixel_planes::{Plane, Planes};
 
-/// What stands above the frame (RFC 6386, section 12.2).
+/// Each sample above the frame (RFC 6386, section 12.2).
 const ABOVE_FRAME: u8 = 127;
 
-/// What stands to the left of the frame (RFC 6386, section 12.2).
+/// Each sample to the left of the frame (RFC 6386, section 12.2).
 const LEFT_OF_FRAME: u8 = 129;
 
 /// The sample above column `x` of row `y`, 127 above the frame (RFC 6386, section 12.2).
@@ -76,8 +76,8 @@ fn read_above(plane: &Plane, x: usize, y: usize, out: &mut [u8])
     }
 }
 
-/// Reads the samples above a block at column `x` of row `y` into `out`; behind the plane's last
-/// column, that column stands again.
+/// Reads the samples above a block at column `x` of row `y` into `out`; past the plane's last
+/// column, that column repeats.
 #[inline(always)]
 fn read_above_or_last(plane: &Plane, x: usize, y: usize, out: &mut [u8])
     requires within { (x ≤ plane.now.shown.width) × (y ≤ plane.now.shown.height) }
@@ -94,8 +94,8 @@ fn read_above_or_last(plane: &Plane, x: usize, y: usize, out: &mut [u8])
     }
 }
 
-/// Reads the eight samples above a sub block of a macroblock. Those on the right of the last
-/// column of sub blocks stand above the macroblock, for each of its rows (RFC 6386, section 12.3).
+/// Reads the eight samples above a sub block of a macroblock. To the right of the last column of
+/// sub blocks they are above the macroblock, for each of its rows (RFC 6386, section 12.3).
 #[inline(always)]
 fn read_above_eight(plane: &Plane, mx: usize, my: usize, block: usize, out: &mut [u8; 8])
     requires within { HoldsSquare plane.now.shown (16 * mx) (16 * my) 16 }
@@ -137,8 +137,8 @@ fn read_left(plane: &Plane, x: usize, y: usize, out: &mut [u8])
     }
 }
 
-/// Writes the rows of a block of `side` by `side` samples, the first at `start` and each further one
-/// `stride` places behind the last.
+/// Writes the rows of a block of `side` by `side` samples, the first at index `start` and each
+/// further one `stride` after the last.
 #[inline(always)]
 fn write_rows(samples: &mut [u8], start: usize, stride: usize, side: usize, block: &[u8])
     requires wide { side ≤ stride }
@@ -168,7 +168,7 @@ fn write_block(plane: &mut Plane, x: usize, y: usize, side: usize, block: &[u8])
     write_rows(plane.samples_mut(), start, width, side, block);
 }
 
-/// Predicts a sub block of a macroblock from what stands round it by then, and adds its residual.
+/// Predicts a sub block of a macroblock from the samples around it by then, and adds its residual.
 fn predict_sub_block(
     plane: &mut Plane,
     mx: usize,
@@ -192,8 +192,8 @@ fn predict_sub_block(
     write_block(plane, x, y, 4, &samples);
 }
 
-/// Predicts the 16 sub blocks of a macroblock by their modes, each from what stands round it by then,
-/// and adds its residual before the next one.
+/// Predicts the 16 sub blocks of a macroblock by their modes, each from the samples around it by
+/// then, and adds its residual before the next one.
 fn predict_sub_blocks(
     plane: &mut Plane,
     mx: usize,
@@ -210,7 +210,7 @@ fn predict_sub_blocks(
     }
 }
 
-/// A side of a block, `None` where it is outside the frame.
+/// A side of a block, `None` if it is outside the frame.
 fn side_inside(is_outside: bool, samples: &[u8]) -> Option<&[u8]>
     ensures value { option_copied result ≡ (if is_outside then None else Some samples.now) }
     ensures len { ForSome result (λ side. length side.now ≡ length samples.now) }
@@ -218,8 +218,8 @@ fn side_inside(is_outside: bool, samples: &[u8]) -> Option<&[u8]>
     if is_outside { None } else { Some(samples) }
 }
 
-/// Predicts the whole block of a macroblock in a plane where it has this size, and adds its residual,
-/// whose blocks are numbered from `first` on.
+/// Predicts the whole block of a macroblock of this size in a plane, and adds its residual, whose
+/// blocks are numbered starting at `first`.
 #[inline(always)]
 fn predict_whole(
     plane: &mut Plane,
@@ -265,7 +265,7 @@ fn predict_luma(plane: &mut Plane, mx: usize, my: usize, mode: &MbMode, residual
     }
 }
 
-/// Predicts an intra macroblock in column `mx` of row `my` from what stands round it, and adds its
+/// Predicts an intra macroblock in column `mx` of row `my` from the samples around it, and adds its
 /// residual, if it has one.
 fn predict_intra(
     planes: &mut Planes,
@@ -299,16 +299,16 @@ fn predict_intra(
     );
 }
 
-/// What macroblocks are predicted from beside the picture in the making: the references, of which a
-/// key frame has none, by the filters of the frame's version.
+/// The sources of prediction besides the current picture: the references (a key frame has none),
+/// and the version, which determines the filters.
 #[derive(Clone, Copy)]
 pub(crate) struct Sources<'a> {
     pub(crate) version: u8,
     pub(crate) references: Option<&'a References>,
 }
 
-/// Predicts a macroblock from a reference, by its vectors, and adds its residual. Where there are no
-/// references the planes stay as they are.
+/// Predicts a macroblock from a reference, by its vectors, and adds its residual. Without
+/// references the planes remain as they are.
 fn predict_referred(
     planes: &mut Planes,
     sources: Sources,
@@ -343,8 +343,8 @@ fn predict_referred(
     }
 }
 
-/// Predicts the macroblock in column `mx` of row `my`, from what stands round it or from a reference,
-/// and adds its residual, if it has one.
+/// Predicts the macroblock in column `mx` of row `my`, from the samples around it or from a
+/// reference, and adds its residual, if it has one.
 pub(crate) fn predict_macroblock(
     planes: &mut Planes,
     sources: Sources,

@@ -9,7 +9,7 @@ use pixel_planes::{NoMemory, Picture, same};
 /// The pictures from which later frames are predicted. They may share their planes.
 #[derive(Debug, Drop)]
 pub struct References {
-    /// The last frame that was kept as such.
+    /// The last frame that refreshed it.
     pub last: Picture,
     /// The golden frame.
     pub golden: Picture,
@@ -57,8 +57,8 @@ impl References {
         })
     }
 
-    /// The same references once more, which takes no memory. `NoMemory` where one of their pictures
-    /// is shared as often as can be counted.
+    /// A second share of the same references, which takes no memory. `NoMemory` if the share count
+    /// of one of their pictures is at its maximum.
     pub(crate) fn again(&self) -> Result<References, NoMemory>
         ensures { IfOk result (λ r. r ≡ self.now) }
     {
@@ -69,8 +69,9 @@ impl References {
         })
     }
 
-    /// The references behind a frame of this picture: first altref is copied, then golden, and then
-    /// come the refreshes (RFC 6386, section 9.7). It takes no memory; `NoMemory` as for `again`.
+    /// The references after a frame of this picture: first altref is copied, then golden, and then
+    /// the refreshes are done (RFC 6386, section 9.7). It takes no memory; `NoMemory` as for
+    /// `again`.
     pub(crate) fn after(
         &self,
         updates: &ReferenceUpdates,

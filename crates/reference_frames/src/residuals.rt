@@ -1,4 +1,4 @@
-//! Residuals that are added to what was predicted (RFC 6386, section 14.5).
+//! Residuals that are added to predicted samples (RFC 6386, section 14.5).
 
 ghost use Rattle.std.specs.Prelude.{◌≡◌, ◌+◌, ◌*◌, ◌/◌, ◌<◌, ◌≤◌, length, pos, slice_index, slice_range, All, IsTrue, Some};
 ghost use Rattle.std.specs.Option.{option_copied};
@@ -19,14 +19,14 @@ use transforms::{dct_add, dct_add_first};
 /// in raster order.
 pub type Blocks = [[i16; 16]; 24];
 
-/// Whether a block has no coefficient behind its first.
+/// Whether a block has no coefficient after its first.
 #[inline(always)]
 fn has_only_first(coefficients: &[i16; 16]) -> bool
     ensures { IsTrue result → All (λ c. c ≡ pos 0) (slice_range coefficients.now 1 16) }
 {
     let at = coefficients;
     let zeros = i16x8::splat(0);
-    // Eight from the second on: the ninth stands in both, so that each is one load.
+    // Eight starting at the second: the ninth is in both, so each is one load.
     let next = i16x8::from_array([at[1], at[2], at[3], at[4], at[5], at[6], at[7], at[8]]);
     let last = i16x8::from_array([at[8], at[9], at[10], at[11], at[12], at[13], at[14], at[15]]);
     next.simd_eq(zeros).all() && last.simd_eq(zeros).all()
@@ -47,8 +47,8 @@ fn add_block(coefficients: &[i16; 16], samples: &mut [u8], stride: usize)
     }
 }
 
-/// Adds the residual of a block to its samples in rows of `across` samples, from this column and
-/// row on.
+/// Adds the residual of a block to its samples in rows of `across` samples, starting at this column
+/// and row.
 #[inline(always)]
 fn add_at(coefficients: &[i16; 16], samples: &mut [u8], across: usize, column: usize, row: usize)
     requires small { (across ≤ 16384) × (row + 4 ≤ 16384) }
@@ -59,8 +59,8 @@ fn add_at(coefficients: &[i16; 16], samples: &mut [u8], across: usize, column: u
     add_block(coefficients, &mut samples[across * row + column..], across);
 }
 
-/// Adds the residual of a macroblock to one of its squares, whose blocks are numbered from `first`
-/// on, and which begins in column `x` of row `y` of rows of `across` samples.
+/// Adds the residual of a macroblock to one of its squares, whose blocks are numbered starting at
+/// `first`, and which begins in column `x` of row `y` of rows of `across` samples.
 #[inline(never)]
 fn add_blocks(
     blocks: &Blocks,
@@ -89,8 +89,9 @@ fn add_blocks(
     }
 }
 
-/// Adds the residual of a macroblock, if it has one, to one of its squares, whose blocks are numbered
-/// from `first` on, and which begins in column `x` of row `y` of rows of `across` samples.
+/// Adds the residual of a macroblock, if it has one, to one of its squares, whose blocks are
+/// numbered starting at `first`, and which begins in column `x` of row `y` of rows of `across`
+/// samples.
 #[inline(always)]
 pub fn add_to_square(
     residual: Option<&Blocks>,
@@ -113,7 +114,7 @@ pub fn add_to_square(
 }
 
 /// Adds the residual of a macroblock, if it has one, to the samples of one of its squares, whose
-/// blocks are numbered from `first` on.
+/// blocks are numbered starting at `first`.
 #[inline]
 pub fn add_to_whole(residual: Option<&Blocks>, first: usize, size: BlockSize, samples: &mut [u8])
     requires first { first + side_of size / 4 * (side_of size / 4) ≤ 24 }

@@ -1,4 +1,4 @@
-//! What packets leave for those behind them (RFC 6386, section 9).
+//! The state that packets leave for the packets after them (RFC 6386, section 9).
 
 ghost use Rattle.std.specs.Prelude.{◌≡◌, IfOk, IsTrue, ◌↔◌};
 ghost use Rattle.reference_frames.specs.States.{HasMap, HaveOneSize, IsState};
@@ -11,8 +11,8 @@ use std::alloc::Global;
 use std::marker::Model;
 use std::rc::Rc;
 
-/// What packets leave for those behind them: the context of the last header, the segment of each
-/// macroblock, and the references, which all have the size of the frames to come.
+/// The state that packets leave for the packets after them: the context of the last header, the
+/// segment of each macroblock, and the references, which all have the size of the frames to come.
 #[derive(Debug, Drop)]
 pub struct State {
     context: Context,
@@ -71,8 +71,8 @@ impl State {
         &self.references
     }
 
-    /// The same state once more, which shares all that it holds and takes no memory. `NoMemory`
-    /// where one of its parts is shared as often as can be counted.
+    /// A second share of the same state, which takes no memory. `NoMemory` if the share count of
+    /// one of its parts is at its maximum.
     pub fn again(&self) -> Result<State, NoMemory>
         ensures { IfOk result (λ s. s ≡ self.now) }
     {
@@ -105,14 +105,14 @@ mod tests {
     /// A key packet of 16 by 16 samples that reads 0 at every bit.
     const KEY: [u8; 10] = [0x10, 0, 0, 0x9D, 1, 0x2A, 0x10, 0, 0x10, 0];
 
-    /// The state behind the key packet.
+    /// The state after the key packet.
     fn key_state(rt: &impl Abort, alloc: Global) -> State {
         let decoded = step(alloc, &Tables::flat(), None, &KEY);
         decoded.expect(rt, "a key packet").0
     }
 
-    /// A packet with no key tag whose fields are 0 up to its quantizers, and go on with these digits
-    /// and then with zeros. Its picture is 128 throughout, which the key packet's is not.
+    /// A packet with no key tag whose fields are 0 up to its quantizers, and continue with these
+    /// digits and then with zeros. Its picture is 128 throughout, which the key packet's is not.
     fn inter_packet(alloc: Global, digits: &[u8]) -> Result<Vec<u8>, NoMemory> {
         let mut encoder = Encoder::new(alloc);
         for _ in 0..26 {
@@ -129,7 +129,7 @@ mod tests {
         Ok(packet)
     }
 
-    /// Whether the state behind such a packet is that before it.
+    /// Whether the state after such a packet equals the state before it.
     fn keeps(rt: &impl Abort, alloc: Global, digits: &[u8]) -> Result<bool, Fail> {
         let state = key_state(rt, alloc);
         let packet = inter_packet(alloc, digits)?;
@@ -139,7 +139,7 @@ mod tests {
     }
 
     // Golden and altref are refreshed or copied, then come their sign biases, refresh_entropy and
-    // refresh_last. All references are one picture here, so that a copy changes nothing.
+    // refresh_last. All references are one picture here, so a copy changes nothing.
     #[test]
     fn references_change_alone(rt: HostRuntime) -> Result<(), Fail> {
         let alloc = rt.alloc();
@@ -153,7 +153,7 @@ mod tests {
         Ok(())
     }
 
-    /// What a field of the context is changed by.
+    /// Changes one field of the context.
     fn change(context: &mut Context, field: usize) {
         match field {
             0 => context.probabilities.coefficients[1055] = 7,

@@ -13,7 +13,7 @@ use pixel_planes::{NoMemory, Picture};
 use std::alloc::Global;
 use vp8_tables::Tables;
 
-/// The shown size of a frame: that of its references, and a key frame's own.
+/// The shown size of a frame: its references' size, or a key frame's own.
 fn size_of(header: &Header, before: Option<&State>) -> (u16, u16)
     requires behind { header.now.is_key ≡ false → IsSome before }
     requires wide { IsTrue header.now.is_key → (1 ≤ header.now.width) × (header.now.width ≤ 16383) }
@@ -32,7 +32,7 @@ fn size_of(header: &Header, before: Option<&State>) -> (u16, u16)
     }
 }
 
-/// The segment map before a frame, if it goes on from a state.
+/// The segment map before a frame, if it has a state before it.
 fn map_before(before: Option<&State>) -> Option<&[u8]>
     ensures value { option_copied result ≡ option_map (λ s. s.segment_map) (option_copied before.entry) }
     ensures whole { ForSome before.entry (λ s. HasMap s.now) }
@@ -43,7 +43,7 @@ fn map_before(before: Option<&State>) -> Option<&[u8]>
     }
 }
 
-/// The references before a frame, if it goes on from a state.
+/// The references before a frame, if it has a state before it.
 fn references_before(before: Option<&State>) -> Option<&References>
     ensures value { option_copied result ≡ references_before (option_copied before.entry) }
     ensures one_size { ForSome (option_copied before.entry) (λ s. HaveOneSize s.references) }
@@ -54,7 +54,7 @@ fn references_before(before: Option<&State>) -> Option<&References>
     }
 }
 
-/// The references behind a frame of this picture.
+/// The references after a frame of this picture.
 fn references_behind(
     header: &Header,
     picture: &Picture,
@@ -68,7 +68,7 @@ fn references_behind(
     }
 }
 
-/// Decodes a frame behind its header: the state behind it, and its picture.
+/// Decodes a frame after its header: the state after it, and its picture.
 fn decode(
     alloc: Global,
     tables: &Tables,
@@ -96,6 +96,7 @@ fn decode(
     Ok((state, picture))
 }
 
+<<<<<<< HEAD
 /// The same state again, and the picture of its last reference. It takes no memory; `NoMemory` if one of
 /// its parts is shared as often as can be counted.
 fn shown_again(state: &State) -> Result<(State, Picture), NoMemory>
@@ -122,6 +123,16 @@ fn repeat(state: Option<&State>) -> Result<(State, Picture), StepFault>
 
 /// The step of a packet with bytes: its header, and the frame after it.
 fn step_coded(
+=======
+/// One step of decoding (RFC 6386, section 9): the state after `packet` and its picture, from the
+/// state before it, or from none.
+///
+/// `Refused` with the first cause against the packet; `NoMemory` if memory for the modes, the
+/// readers of the token partitions, the flags between macroblocks, a plane, or a shared block is
+/// refused, or the share count of a plane is at its maximum.
+#[tactic(auto, unfolding(crate::specs::Steps::step_of))]
+pub fn step(
+>>>>>>> e2ad207544980d6406b77c14e0f430d7ae528534
     alloc: Global,
     tables: &Tables,
     state: Option<&State>,

@@ -12,7 +12,7 @@ pub record TableEntries : Type 0 where
 abbrev pub flat_entries : TableEntries
 flat_entries = record { coefficients = replicate 1056 128; updates = replicate 1056 128; key_subs = replicate 900 128 }
 
--- the three tables that stand in a text one after another
+-- the three tables of a text, one after another
 abbrev pub entries_in : List ℕ → TableEntries
 entries_in bytes = record { coefficients = take 1056 bytes; updates = take 1056 (drop 1056 bytes); key_subs = drop 1056 (drop 1056 bytes) }
 
@@ -20,11 +20,11 @@ entries_in bytes = record { coefficients = take 1056 bytes; updates = take 1056 
 abbrev pub entries_of : List ℕ → Result TableEntries TableFault
 entries_of bytes = if length bytes == 3012 then Ok (entries_in bytes) else Err Length
 
--- the place of a token probability in a table of 4 kinds, 8 bands, 3 contexts and 11 nodes (RFC 6386, section 13)
+-- the index of a token probability in a table of 4 kinds, 8 bands, 3 contexts and 11 nodes (RFC 6386, section 13)
 abbrev pub coefficient_place : ℕ → ℕ → ℕ → ℕ → ℕ
 coefficient_place kind band context node = ((kind * 8 + band) * 3 + context) * 11 + node
 
--- the place of a sub mode probability in a table of 10 modes above, 10 modes to the left and 9 nodes (RFC 6386, section 11)
+-- the index of a sub mode probability in a table of 10 modes above, 10 modes to the left and 9 nodes (RFC 6386, section 11)
 abbrev pub key_sub_place : ℕ → ℕ → ℕ → ℕ
 key_sub_place above left node = (above * 10 + left) * 9 + node
 

@@ -3,7 +3,7 @@ ghost use Rattle.vp8_tables.specs.Fault.{fault_word};
 
 use thiserror::Error;
 
-/// Why a text is no set of long tables.
+/// Why a text is not a set of long tables.
 #[derive(Clone, Copy, Debug, PartialEq, Eq, Error)]
 pub enum TableFault {
     /// The text does not have 3,012 bytes.
@@ -12,7 +12,7 @@ pub enum TableFault {
 }
 
 impl TableFault {
-    /// The name of the fault.
+    /// The error's name.
     pub fn word(self) -> &'static str
         ensures { result.now ≡ fault_word self }
     {

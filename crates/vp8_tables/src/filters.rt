@@ -1,8 +1,8 @@
 //! The filters that inter prediction interpolates with (RFC 6386, section 18.3).
 
-/// The six-tap filters, by the eighths of a sample that a place lies behind a whole sample. The taps
-/// stand from two samples before that sample to three behind it; they add up to 128 (RFC 6386,
-/// section 18.3).
+/// The six-tap filters, by the eighths of a sample after a whole sample. The taps are for the six
+/// samples from two before that sample to three after it; they add up to 128 (RFC 6386, section
+/// 18.3).
 pub const SIX_TAP_FILTERS: [[i16; 6]; 8] = [
     [0, 0, 128, 0, 0, 0],
     [0, -6, 123, 12, -1, 0],
@@ -14,8 +14,8 @@ pub const SIX_TAP_FILTERS: [[i16; 6]; 8] = [
     [0, -1, 12, 123, -6, 0],
 ];
 
-/// The bilinear filters, by the eighths of a sample that a place lies behind a whole sample. The
-/// taps stand at that sample and the next; they add up to 128 (RFC 6386, section 18.3).
+/// The bilinear filters, by the eighths of a sample after a whole sample. The taps are for that
+/// sample and the next; they add up to 128 (RFC 6386, section 18.3).
 pub const BILINEAR_FILTERS: [[u8; 2]; 8] = [
     [128, 0],
     [112, 16],

@@ -28,7 +28,7 @@ pub use vectors::{
 mod tests {
     use super::*;
 
-    // Byte i is 37 i + i div 256, modulo 256, so that each stride shows.
+    // Byte i is 37 i + i div 256, modulo 256, so each stride shows.
     fn counted_text<const N: usize>() -> [u8; N] {
         let mut text = [0u8; N];
         for (i, byte) in text.iter_mut().enumerate() {

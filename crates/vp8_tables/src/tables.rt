@@ -52,8 +52,8 @@ impl Tables {
         }
     }
 
-    /// The tables whose entries are the bytes of a text, in index order: coefficients, updates,
-    /// key sub modes. `Length` where it does not have 3,012 bytes.
+    /// The tables whose entries are the bytes of a text, in index order: coefficients, updates, key
+    /// sub modes. `Length` if it does not have 3,012 bytes.
     pub fn read(bytes: &[u8]) -> Result<Tables, TableFault>
         ensures { result ≡ entries_of bytes.now }
     {
@@ -87,8 +87,8 @@ impl Tables {
         self.coefficients[((kind * 8 + band) * 3 + context) * 11 + node]
     }
 
-    /// The probability that a frame updates that of a token node: ranges as in `coefficient`
-    /// (RFC 6386, section 13.4).
+    /// The probability that a frame updates the probability of a token node: ranges as in
+    /// `coefficient` (RFC 6386, section 13.4).
     pub fn update(&self, kind: usize, band: usize, context: usize, node: usize) -> u8
         requires kind { kind < 4 }
         requires band { band < 8 }

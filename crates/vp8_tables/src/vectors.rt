@@ -1,10 +1,10 @@
 //! The tree and the fixed probabilities of motion vectors (RFC 6386, sections 17.1 and 17.2).
 //!
-//! A component has 19 probabilities: 0 that it is short, 1 that of its sign, 2 to 8 those of the
-//! nodes of `SHORT_VECTOR_TREE`, and from 9 on those of the bits of a long one, bit 0 first.
+//! A component has 19 probabilities: 0 that it is short, 1 for its sign, 2 to 8 for the nodes of
+//! `SHORT_VECTOR_TREE`, and starting at 9 for the bits of a long one, bit 0 first.
 
-/// The probabilities of the parts of a motion vector with which inter frames begin behind a key
-/// frame: those of the row component, then those of the column component (RFC 6386, section 17.2).
+/// The probabilities of the parts of a motion vector with which inter frames begin after a key
+/// frame: the row component, then the column component (RFC 6386, section 17.2).
 pub const DEFAULT_VECTOR_PROBABILITIES: [[u8; 19]; 2] = [
     [
         162, 128, 225, 146, 172, 147, 214, 39, 156, 128, 129, 132, 75, 145, 178, 206, 239, 254, 254,

@@ -15,7 +15,7 @@ use Rattle.reference_frames.proofs.frames.predict_macroblocks.Goals.{then-mx-col
 some_columns : (columns rows : ℕ) → 0 < columns * rows → 0 < columns
 some_columns columns rows some = grind arith
 
--- the first place of the next row, and the next place of this row
+-- the first index of the next row, and the next index of this row
 next_row : (columns my mx my' mx' n : ℕ) → my * columns + mx ≡ n → mx + 1 ≡ columns → my' ≡ my + 1 → mx' ≡ 0 → my' * columns + mx' ≡ n + 1
 next_row columns my mx my' mx' n place last row column = rw (row, column) (omega arith)
 

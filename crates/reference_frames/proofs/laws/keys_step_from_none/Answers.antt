@@ -11,7 +11,7 @@ use Rattle.reference_frames.specs.declared.states.State.{State}
 use Rattle.reference_frames.proofs.Tagged.{key_has_bytes}
 use Rattle.reference_frames.proofs.laws.keys_step_from_none.Goals as goal
 
--- behind a key tag it does not matter which state stood before
+-- with a key tag the state before does not matter
 begins_anew : (tables : TableEntries) (packet : List ℕ) (state : Option State) (header : Result Header Cause) → has_key_tag packet ≡ true → decoded_by tables packet state header ≡ decoded_by tables packet None header
 begins_anew tables packet state (Err cause) tagged = refl
 begins_anew tables packet state (Ok header) tagged = rw tagged refl
