@@ -5,7 +5,8 @@ use Rattle.bool_coder.specs.Reader.{read}
 use Rattle.bool_coder.specs.Reading.{Reading, ◌>>=◌, give}
 use Rattle.bool_coder.specs.Trees.{leaf_below}
 
--- its leaves are the sizes 0 to 4, 5 to 10 for the six categories of larger sizes, and 11 for the end of a block
+-- the tree (`coeff_tree` in RFC 6386): its leaves are the sizes 0 to 4, 5 to 10 for the six categories of larger sizes (`dct_cat1` to
+-- `dct_cat6`), and 11 for the end of a block (`dct_eob`)
 abbrev pub token_tree : List ℤ
 token_tree = negsuc 10 ∷ pos 2 ∷ pos 0 ∷ pos 4 ∷ negsuc 0 ∷ pos 6 ∷ pos 8 ∷ pos 12 ∷ negsuc 1 ∷ pos 10 ∷ negsuc 2 ∷ negsuc 3 ∷ pos 14 ∷ pos 16 ∷ negsuc 4 ∷ negsuc 5 ∷ pos 18 ∷ pos 20 ∷ negsuc 6 ∷ negsuc 7 ∷ negsuc 8 ∷ negsuc 9 ∷ []
 
@@ -16,7 +17,7 @@ end_of_block = 11
 abbrev pub token : List ℕ → Bool → Reading ℕ
 token nodes after_zero = leaf_below (length token_tree) token_tree nodes (if after_zero then 2 else 0)
 
--- the least size of each category, and the probabilities of the extra bits
+-- the least size of each category, and the probabilities of the extra bits (`Pcat1` to `Pcat6` in RFC 6386)
 abbrev pub categories : List (ℕ × List ℕ)
 categories = (5, 159 ∷ []) ∷ (7, 165 ∷ 145 ∷ []) ∷ (11, 173 ∷ 148 ∷ 140 ∷ []) ∷ (19, 176 ∷ 155 ∷ 140 ∷ 135 ∷ []) ∷ (35, 180 ∷ 157 ∷ 141 ∷ 134 ∷ 130 ∷ []) ∷ (67, 254 ∷ 254 ∷ 243 ∷ 230 ∷ 196 ∷ 177 ∷ 153 ∷ 140 ∷ 133 ∷ 130 ∷ 129 ∷ []) ∷ []
 

@@ -5,7 +5,7 @@ use Rattle.vp8_tables.specs.Tables.{coefficient_place}
 use Rattle.token_parser.specs.declared.places.TheConstants.{BANDS, ZIGZAG}
 use Rattle.token_parser.specs.TokenTree.{end_of_block, token, size_of}
 
--- the probabilities of the tree's nodes for a kind of block, an index in it and the last token there (section 13.3)
+-- the probabilities of the tree's nodes for a kind of block, an index in it and the last token there (`coeff_probs` by block type, band and context, section 13.3)
 abbrev pub nodes_at : List ℕ → ℕ → ℕ → ℕ → List ℕ
 nodes_at probs kind place context =
     let start = coefficient_place kind (slice_index BANDS place) context 0 in slice_range probs start (start + 11)

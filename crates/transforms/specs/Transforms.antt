@@ -11,7 +11,7 @@ reduced x = int_wrap w16 x
 abbrev pub coefficient : List ℤ → ℕ → ℕ → ℤ
 coefficient coefficients column row = slice_index_or coefficients (4 * row + column) (pos 0)
 
--- sqrt 2 times the sine of pi / 8 times x, and the same with the cosine, in 65,536ths rounded down (section 14.3)
+-- sqrt 2 times the sine of pi / 8 times x, and the same with the cosine, in 65,536ths rounded down (`sinpi8sqrt2` and `cospi8sqrt2minus1` in section 14.3)
 unfoldable pub by_sine : ℤ → ℤ
 by_sine x = int_shr (x *ℤ pos 35468) 16
 
