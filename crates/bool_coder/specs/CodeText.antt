@@ -26,7 +26,7 @@ abbrev pub narrowed : Bool → ℕ → Code → Code
 narrowed false prob c = record c { range = split_of prob c.range }
 narrowed true prob c = record c { low = c.low + split_of prob c.range; range = c.range - split_of prob c.range }
 
--- one bit written with a probability (RFC 6386, section 7.3)
+-- one bit written with a probability (`write_bool` in RFC 6386, section 7.3)
 unfoldable pub written : Bool → ℕ → Code → Code
 written bit prob c = code_renewed 7 (narrowed bit prob c)
 

@@ -57,11 +57,11 @@ unfoldable pub renewed : ℕ → Reader → Reader
 renewed zero r = r
 renewed (suc more) r = if nat_lt r.range 128 then renewed more (doubled r) else r
 
--- the split of a range for a probability
+-- the split of a range for a probability (`split` in RFC 6386, section 7.3)
 abbrev pub split_of : ℕ → ℕ → ℕ
 split_of prob range = 1 + (range - 1) * prob / 256
 
--- one bit read with a probability, and the reader after it (RFC 6386, section 7.3)
+-- one bit read with a probability, and the reader after it (`read_bool` in RFC 6386, section 7.3)
 unfoldable pub read : ℕ → Reader → Bool × Reader
 read prob r =
     let split = split_of prob r.range in

@@ -26,7 +26,7 @@ more_bits (suc count) value = do
   bit ← flag
   more_bits count (2 * value + from_bool bit)
 
--- L(n): a number of n bits, most significant first (RFC 6386, section 8)
+-- L(n): a number of n bits, most significant first (`read_literal` in RFC 6386, section 8)
 unfoldable pub literal : ℕ → Reading ℕ
 literal count = more_bits count 0
 

@@ -32,6 +32,6 @@ leaf_below (suc more) tree probs node = do
   let entry = slice_index_or tree (node + from_bool bit) (pos 0)
   if is_node entry then leaf_below more tree probs (unsigned_abs entry) else give (unsigned_abs entry)
 
--- the leaf of a tree, with a probability for each node
+-- the leaf of a tree, with a probability for each node (`treed_read` in RFC 6386, section 8.1)
 unfoldable pub leaf : List ℤ → List ℕ → Reading ℕ
 leaf tree probs = leaf_below (length tree) tree probs 0

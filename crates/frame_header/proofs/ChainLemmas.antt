@@ -72,7 +72,7 @@ pub fields-chain : (is_key : Bool) (before : Context) → IsChain (fields is_key
 unfolding fields
 fields-chain is_key before = search (chains, colors-chain, segmentation-chain, filter-chain, adjustment-chain, partition_count-chain) depth 12
 
--- probabilities are updated where a bit read with the update's probability is set
+-- a probability is updated if a bit read with the update's probability is set
 first_updated-chain : (way : ℕ → ℕ → Reading ℕ) (count : ℕ) (updates before : List ℕ) → ((update now : ℕ) → update < 256 → IsChain (way update now)) → AreProbabilities updates → IsChain (first_updated way count updates before)
 unfolding first_updated
 first_updated-chain way zero updates before is small = give-chain before

@@ -26,7 +26,7 @@ same_line_in s r at across same =
     let one : at + 1 * across ≡ at + across = omega arith in
     same_line _ _ (rw (← none) (same 0 (omega arith))) (rw (← one) (same 1 (omega arith))) (same 2 (omega arith)) (same 3 (omega arith)) (same 4 (omega arith)) (same 5 (omega arith)) (same 6 (omega arith)) (same 7 (omega arith))
 
--- a line that is put, sample by sample
+-- a line that is written, sample by sample
 pub line_is_sets : (s : List ℕ) (at across : ℕ) (l : Line) → with_line s at across l ≡ line_sets s at across (λ k. slice_index (samples_of l) k) 8
 unfolding with_line line_sets
 line_is_sets s at across l =
@@ -35,7 +35,7 @@ line_is_sets s at across l =
     let six : List ℕ → List ℕ = λ (x : List ℕ). set (set (set (set (set (set x (at + 2 * across) l.p1) (at + 3 * across) l.p0) (at + 4 * across) l.q0) (at + 5 * across) l.q1) (at + 6 * across) l.q2) (at + 7 * across) l.q3 in
     ap (λ (p : ℕ). six (set (set s p l.p3) (at + across) l.p2)) none ∙ ap (λ (p : ℕ). six (set (set s (at + 0 * across) l.p3) p l.p2)) one
 
--- a line of samples side by side, put at once
+-- a line of adjacent samples, written at a time
 pub line_is_put : (s : List ℕ) (at : ℕ) (l : Line) → put_chunk at s (samples_of l) ≡ with_line s at 1 l
 unfolding with_line
 line_is_put s at l =
@@ -64,7 +64,7 @@ columns_fold f s start stride row (suc n) wide is =
 pub columns_edge : (f : Line → Line) (s : List ℕ) (start stride count : ℕ) (row : ℕ → List ℕ) → 8 ≤ stride → ((i : ℕ) → i < count → row i ≡ samples_of (f (line_in s (start + i * stride) 1))) → rows_put s start stride row count ≡ lines_filtered f start stride 1 s count
 columns_edge f s start stride count row wide is = columns_fold f s start stride row count wide is
 
--- a sample of a later column stands beside what is written of each row
+-- a sample of a later column is outside the written part of each row
 later_column : (start stride n j k : ℕ) (written : List ℕ) → n < stride → length written ≤ n → (start + n + j * stride < start + k * stride) ⊎ (start + k * stride + length written ≤ start + n + j * stride)
 later_column start stride n j k written less short =
     elim (cases_lt j k) [

@@ -1,4 +1,4 @@
--- What each operation on lanes makes of one lane.
+-- The result of each operation on lanes, in one lane.
 use Rattle.std.specs.Prelude.{min, max, replicate, slice_index}
 use Rattle.std.proofs.Common.{◌≡◌, ℕ, ◌+◌, ◌-◌, ◌*◌, ◌/◌, ◌%◌, ◌^◌, ◌<◌, ◌≤◌, Bool, true, false, cond, ltb, leb, eqb, List, [], ◌∷◌, map, length, refl, ap, subst, ◌∙◌, arith, w8, Fits}
 use lib.Lanes.{Each1, zip2, sel_l}
@@ -8,16 +8,16 @@ use Rattle.std.proofs.lemmas.Simd.{get_or-zip2, length-zip2, get_or-sel_l}
 use Rattle.std.proofs.lemmas.List.{get_or-replicate, get_or-map, length-map}
 use Rattle.loop_filter.specs.Lanes.{sum_of, either_of, share_of}
 
--- two lists that begin alike and go on alike
+-- two lists with equal heads and equal tails
 same_lanes : (x y : ℕ) (xs ys : List ℕ) → x ≡ y → xs ≡ ys → x ∷ xs ≡ y ∷ ys
 same_lanes x y xs ys first rest = ap (λ (z : ℕ). z ∷ xs) first ∙ ap (λ (l : List ℕ). y ∷ l) rest
 
--- the top bit of a mask tells what was compared
+-- the top bit of a mask is the comparison's result
 mask_tells : (b : Bool) → leb 128 (cond b 255 0) ≡ b
 mask_tells true = refl
 mask_tells false = refl
 
--- one lane of a sum that is held at 255, of a rest that is held at 0, and of the greater of two
+-- one lane of a sum that is clamped to 255, of a difference that is clamped to 0, and of the greater of two
 sum_lane : (a b : ℕ) → a < 256 → (a + cond (leb 128 (cond (ltb b (255 - a)) 255 0)) b (255 - a)) % 256 ≡ min (a + b) 255
 sum_lane a b small = rw mask_tells (grind (arith, nat_tests))
 
@@ -43,7 +43,7 @@ greater_lanes [] ys = refl
 greater_lanes (x ∷ xs) [] = refl
 greater_lanes (x ∷ xs) (y ∷ ys) = same_lanes _ _ _ _ (greater_lane x y) (greater_lanes xs ys)
 
--- each of them, at its place
+-- each of them, at its index
 lane2 : (f : ℕ → ℕ → ℕ) (xs ys : List ℕ) (i : ℕ) → length xs ≡ 16 → length ys ≡ 16 → i < 16 → slice_index (zip2 f xs ys) i ≡ f (slice_index xs i) (slice_index ys i)
 lane2 f xs ys i long long' less = get_or-zip2 f xs ys i 0 0 0 (omega (arith, long)) (omega (arith, long'))
 

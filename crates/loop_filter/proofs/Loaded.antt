@@ -1,4 +1,4 @@
--- Lines that are taken from samples and written back.
+-- Lines that are loaded from samples and stored.
 use Rattle.std.specs.Prelude.{slice_index}
 use Rattle.std.specs.Simd.Lanes.{put_chunk}
 use Rattle.std.proofs.Common.{◌≡◌, ℕ, suc, ◌+◌, ◌-◌, ◌*◌, ◌<◌, inl, inr, List, [], ◌∷◌, ◌++◌, refl, ap, subst, ◌∙◌, arith}
@@ -10,7 +10,7 @@ use Rattle.loop_filter.specs.Lanes.{line_at, vector, vectors, column_of, row_of,
 use Rattle.loop_filter.proofs.EdgeFold.{same_line, samples_of}
 use Rattle.loop_filter.proofs.Transposed.{below_eight}
 
--- the line whose samples stand in lanes of one vector
+-- the line whose samples are in lanes of one vector
 abbrev pub lanes_line : (ℕ → ℕ) → List ℕ → Line
 lanes_line lane w = record {
   p3 = slice_index w (lane 0);
@@ -59,7 +59,7 @@ pub is_turned : (t : Taps) (ws : List (List ℕ)) → t.p3 ≡ column_of 0 ws �
 is_turned t ws e0 e1 e2 e3 e4 e5 e6 e7 i =
     same_line (line_at t i) (line_at (turned ws) i) (ap (λ l. slice_index l i) e0) (ap (λ l. slice_index l i) e1) (ap (λ l. slice_index l i) e2) (ap (λ l. slice_index l i) e3) (ap (λ l. slice_index l i) e4) (ap (λ l. slice_index l i) e5) (ap (λ l. slice_index l i) e6) (ap (λ l. slice_index l i) e7)
 
--- eight rows that are written one after another
+-- eight rows that are written in sequence
 pub eight_rows : (s : List ℕ) (start stride : ℕ) (row : ℕ → List ℕ)
     → put_chunk (start + 7 * stride) (put_chunk (start + 6 * stride) (put_chunk (start + 5 * stride) (put_chunk (start + 4 * stride) (put_chunk (start + 3 * stride) (put_chunk (start + 2 * stride) (put_chunk (start + stride) (put_chunk start s (row 0)) (row 1)) (row 2)) (row 3)) (row 4)) (row 5)) (row 6)) (row 7)
     ≡ rows_put s start stride row 8
@@ -83,7 +83,7 @@ four_pairs s a b c d start stride s1 s2 s3 s4 e1 e2 e3 e4 =
     let seven : start + 6 * stride + stride ≡ start + 7 * stride = omega arith in
     rw (e4, e3, e2, e1, three, five, seven) (eight_rows s start stride (row_in_pairs (a ∷ b ∷ c ∷ d ∷ [])))
 
--- a column that is taken from eight rows
+-- a column that is loaded from eight rows
 pub loaded_column : (s : List ℕ) (start stride i : ℕ) (l : Line) → l.p3 ≡ slice_index s (start + i) → l.p2 ≡ slice_index s (start + stride + i) → l.p1 ≡ slice_index s (start + 2 * stride + i) → l.p0 ≡ slice_index s (start + 3 * stride + i)
     → l.q0 ≡ slice_index s (start + 4 * stride + i) → l.q1 ≡ slice_index s (start + 5 * stride + i) → l.q2 ≡ slice_index s (start + 6 * stride + i) → l.q3 ≡ slice_index s (start + 7 * stride + i) → l ≡ line_in s (start + i) stride
 loaded_column s start stride i l e0 e1 e2 e3 e4 e5 e6 e7 =
@@ -128,11 +128,11 @@ lane_of_first t i k less below = below_eight (λ i. slice_index (eight_from 0 (v
 pub lane_of_second : (t : Taps) (i k : ℕ) → i < 8 → k < 8 → slice_index (eight_from 8 (vector t k)) i ≡ slice_index (samples_of (line_at t (8 + i))) k
 lane_of_second t i k less below = below_eight (λ i. slice_index (eight_from 8 (vector t k)) i ≡ slice_index (vector t k) (8 + i)) refl refl refl refl refl refl refl refl i less ∙ lane_of_vector t (8 + i) k below
 
--- the same lanes, at a place that is written another way
+-- the same lanes, at an index that is written another way
 pub moved_on : (lane : ℕ → ℕ) (w s : List ℕ) (place other : ℕ) → place ≡ other → Holds lane w s place → Holds lane w s other
 moved_on lane w s place other same holds = subst (Holds lane w s) same holds
 
--- two rows of sixteen samples more
+-- two more rows of sixteen samples
 abbrev pub wide_row : Taps → Taps → ℕ → List ℕ
 wide_row a b i = row_of i (vectors a) ++ row_of i (vectors b)
 

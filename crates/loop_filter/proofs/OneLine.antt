@@ -1,4 +1,4 @@
--- One line behind each filter, as a lane of each vector holds it.
+-- One line after each filter, in one lane of each vector.
 use Rattle.std.proofs.Common.{◌≡◌, ℕ, ◌<◌, Bool, true, false, cond, not, refl}
 use Rattle.loop_filter.specs.declared.edge_limits.EdgeLimits.{EdgeLimits}
 use Rattle.loop_filter.specs.Lines.{Line, is_filtered, is_varied, is_small_step, lack, adjusted, outer_adjusted, smoothed, simple_line, inner_line, macroblock_line}

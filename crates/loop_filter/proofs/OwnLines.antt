@@ -1,6 +1,6 @@
 -- An edge changes its own lines, and nothing else.
 use Rattle.std.specs.Prelude.{slice_index}
-use Rattle.std.proofs.Common.{◌≡◌, ◌≢◌, ◌⊎◌, inl, inr, ℕ, zero, suc, ◌+◌, ◌*◌, ◌<◌, ◌≤◌, List, length, set, refl, sym, ap, ◌∙◌, arith}
+use Rattle.std.proofs.Common.{◌≡◌, ◌≢◌, inl, inr, ℕ, zero, suc, ◌+◌, ◌*◌, ◌<◌, ◌≤◌, List, length, refl, sym, ap, ◌∙◌, arith}
 use Rattle.std.proofs.Math.Nat.{mul-le-mul_right}
 use Rattle.std.proofs.lemmas.Bool.{cases_lt}
 use Rattle.std.proofs.lemmas.List.{length-set, get_or-set_same, get_or-set_other}
@@ -22,7 +22,7 @@ sets-other s at across v zero place other = refl
 sets-other s at across v (suc m) place other =
     get_or-set_other (line_sets s at across v m) (at + m * across) place (v m) 0 (other m (omega arith)) ∙ sets-other s at across v m place (λ k less. other k (omega arith))
 
--- places of one line are apart
+-- the indices of one line are distinct
 apart : (at across k m : ℕ) → 1 ≤ across → k < m → at + k * across < at + m * across
 apart at across k m some less = let e = earlier_row across k m less in omega (arith, e)
 
@@ -32,15 +32,15 @@ sets-own s at across v zero k some less inside = absurd (omega arith)
 sets-own s at across v (suc m) k some less inside =
     elim (cases_lt k m) [
       | inl earlier ↦ (let e : at + k * across < at + m * across = apart at across k m some earlier in
-        get_or-set_other (line_sets s at across v m) (at + m * across) (at + k * across) (v m) 0 (λ same. omega arith) ∙ sets-own s at across v m k some earlier inside)
+          get_or-set_other (line_sets s at across v m) (at + m * across) (at + k * across) (v m) 0 (λ same. omega arith) ∙ sets-own s at across v m k some earlier inside)
       | inr upto ↦ (let last : k ≡ m = omega arith in
-        let long : length (line_sets s at across v m) ≡ length s = sets-length s at across v m in
-        let fits : at + k * across < length (line_sets s at across v m) = omega (arith, long) in
-        let here : at + m * across < length (line_sets s at across v m) = rw last at fits in
-        rw last (get_or-set_same (line_sets s at across v m) (at + m * across) (v m) 0 here))
+          let long : length (line_sets s at across v m) ≡ length s = sets-length s at across v m in
+          let fits : at + k * across < length (line_sets s at across v m) = omega (arith, long) in
+          let here : at + m * across < length (line_sets s at across v m) = rw last at fits in
+          rw last (get_or-set_same (line_sets s at across v m) (at + m * across) (v m) 0 here))
     ]
 
--- a line that is put
+-- a line that is written
 put-length : (s : List ℕ) (at across : ℕ) (l : Line) → length (with_line s at across l) ≡ length s
 put-length s at across l = ap (λ x. length x) (line_is_sets s at across l) ∙ sets-length s at across (λ k. slice_index (samples_of l) k) 8
 
@@ -60,7 +60,7 @@ put-own s at across l some inside =
     same_line _ _ (ap sample none ∙ put-sample s at across l 0 some inside (omega arith)) (ap sample one ∙ put-sample s at across l 1 some inside (omega arith)) (put-sample s at across l 2 some inside (omega arith)) (put-sample s at across l 3 some inside (omega arith))
     (put-sample s at across l 4 some inside (omega arith)) (put-sample s at across l 5 some inside (omega arith)) (put-sample s at across l 6 some inside (omega arith)) (put-sample s at across l 7 some inside (omega arith))
 
--- no line of an edge meets another
+-- no line of an edge overlaps another
 abbrev pub AreApart : ℕ → ℕ → ℕ → ℕ → Type 0
 AreApart n start between across = (i j k l : ℕ) → i < j → j < n → k < 8 → l < 8 → start + i * between + k * across ≢ start + j * between + l * across
 
@@ -89,14 +89,14 @@ edge-own f start between across s (suc n) i some are below inside =
     let here : Line = f (line_in before at across) in
     elim (cases_lt i n) [
       | inl earlier ↦ (
-        same_line_in before (with_line before at across here) (start + i * between) across (λ k less. put-other before at across here (start + i * between + k * across) (λ l less'. are i n k l earlier (omega arith) less less'))
-        ∙ edge-own f start between across s n i some (λ i j k l before below. are i j k l before (omega arith)) earlier inside)
+          same_line_in before (with_line before at across here) (start + i * between) across (λ k less. put-other before at across here (start + i * between + k * across) (λ l less'. are i n k l earlier (omega arith) less less'))
+          ∙ edge-own f start between across s n i some (λ i j k l before below. are i j k l before (omega arith)) earlier inside)
       | inr upto ↦ (
-        let last : i ≡ n = omega arith in
-        let long : length before ≡ length s = edge-length f start between across s n in
-        let fits : at + 7 * across < length s = rw last at inside in
-        let same : line_in before at across ≡ line_in s at across = same_line_in s before at across (λ k less. edge-other f start between across s n (at + k * across) (λ j l earlier less'. λ e. are j n l k earlier (omega arith) less' less (sym e))) in
-        rw last (put-own before at across here some (omega (arith, long)) ∙ ap f same))
+          let last : i ≡ n = omega arith in
+          let long : length before ≡ length s = edge-length f start between across s n in
+          let fits : at + 7 * across < length s = rw last at inside in
+          let same : line_in before at across ≡ line_in s at across = same_line_in s before at across (λ k less. edge-other f start between across s n (at + k * across) (λ j l earlier less'. λ e. are j n l k earlier (omega arith) less' less (sym e))) in
+          rw last (put-own before at across here some (omega (arith, long)) ∙ ap f same))
     ]
 
 pub own-lines : (f : Line → Line) (start between across n : ℕ) (s : List ℕ) → 1 ≤ across → AreApart n start between across → ChangesItsLines f n start between across s (lines_filtered f start between across s n)

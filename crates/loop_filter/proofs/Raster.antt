@@ -42,7 +42,7 @@ unfolding row_of_planes rows_filtered
 more_of_frame true strength columns my planes = refl
 more_of_frame false strength columns my planes = refl
 
--- n macroblocks more, of row my
+-- n more macroblocks, of row my
 along_row : (is_simple : Bool) (strength : ℕ → Option Strength) (columns my : ℕ) (start planes : PlaneSamples) (n : ℕ) → n ≤ columns → planes ≡ macroblocks_in_planes is_simple strength columns start (my * columns) → row_of_planes is_simple strength columns my planes n ≡ macroblocks_in_planes is_simple strength columns start (my * columns + n)
 unfolding macroblocks_in_planes
 along_row is_simple strength columns my start planes zero within here =

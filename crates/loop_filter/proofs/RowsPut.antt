@@ -1,4 +1,4 @@
--- Rows that are written into samples, and samples that are set one by one.
+-- Rows that are written into samples, and samples that are set in sequence.
 use Rattle.std.specs.Prelude.{slice_index}
 use Rattle.std.specs.Simd.Lanes.{put_chunk}
 use Rattle.std.proofs.Common.{◌≡◌, ◌⊎◌, inl, inr, ℕ, zero, suc, ◌+◌, ◌*◌, ◌<◌, ◌≤◌, List, [], ◌∷◌, length, take, set, get_or, refl, ap, sym, ◌∙◌, arith}
@@ -25,7 +25,7 @@ put_next at next xs y ys same = put_first at xs y ys ∙ ap (λ (n : ℕ). put_c
 pub put_last : (at : ℕ) (xs : List ℕ) (y : ℕ) → put_chunk at xs (y ∷ []) ≡ set xs at y
 put_last at xs y = put_first at xs y [] ∙ put_none (suc at) (set xs at y)
 
--- one sample more of a row
+-- one more sample of a row
 put_more : (at : ℕ) (xs line : List ℕ) (n place : ℕ) → n < length line → at + n ≡ place → put_chunk at xs (take (suc n) line) ≡ set (put_chunk at xs (take n line)) place (get_or line n 0)
 put_more at xs [] n place less same = absurd (omega arith)
 put_more at xs (y ∷ ys) zero place less same = let is : at ≡ place = omega arith in put_last at xs y ∙ rw (put_none at xs, is) refl
@@ -47,7 +47,7 @@ set_set [] (suc p) (suc q) v w less = refl
 set_set (x ∷ xs) zero (suc q) v w less = refl
 set_set (x ∷ xs) (suc p) (suc q) v w less = ap (λ (l : List ℕ). x ∷ l) (set_set xs p q v w (omega arith))
 
--- samples that are set `across` places apart
+-- samples that are set `across` apart
 unfoldable pub line_sets : List ℕ → ℕ → ℕ → (ℕ → ℕ) → ℕ → List ℕ
 line_sets s at across v zero = s
 line_sets s at across v (suc m) = set (line_sets s at across v m) (at + m * across) (v m)
@@ -114,7 +114,7 @@ earlier_row stride row n less =
     let le : (row + 1) * stride ≤ n * stride = mul-le-mul_right stride (omega arith) in
     omega (arith, le)
 
--- one column more of all rows
+-- one more column of all rows
 pub one_more : (s : List ℕ) (start stride : ℕ) (row : ℕ → List ℕ) (n m : ℕ) → n < stride → ((k : ℕ) → k < m → n < length (row k))
     → rows_put s start stride (λ k. take (suc n) (row k)) m ≡ line_sets (rows_put s start stride (λ k. take n (row k)) m) (start + n) stride (λ k. get_or (row k) n 0) m
 unfolding rows_put line_sets

@@ -1,4 +1,4 @@
--- The numbers of a filter and what stands for them in a lane.
+-- The numbers of a filter and their form in a lane.
 use Rattle.std.specs.Prelude.{max, nat_eq, nat_le}
 use Rattle.std.specs.Int.{abs_diff, int_shr}
 use Rattle.std.proofs.Common.{◌≡◌, ℕ, ◌+◌, ◌-◌, ◌*◌, ◌/◌, ◌<◌, ◌≤◌, Bool, true, false, not, ◌&&◌, refl, ap, ◌∙◌, arith, ℤ, pos, inl, inr, ◌+ℤ◌, ◌-ℤ◌, ◌*ℤ◌}
@@ -9,7 +9,7 @@ use Rattle.loop_filter.specs.declared.edge_limits.EdgeLimits.{EdgeLimits}
 use Rattle.loop_filter.specs.Lines.{Line, signed, held, raised, lowered, is_small_step, is_filtered, is_varied, lack, eighth, share}
 use Rattle.loop_filter.specs.Lanes.{sum_of, raised_by, lowered_by, difference_of, lack_from, eighth_of, half_of, share_of, step_over_of, side_of, variance_over_of, roughness_of}
 
--- what a number at an offset stands for
+-- the number of an offset form
 abbrev pub off : ℕ → ℕ → ℤ
 off offset d = pos d -ℤ pos offset
 
@@ -22,7 +22,7 @@ pub lowered_is : (offset s d : ℕ) → s < 256 → lowered s (off offset d) ≡
 unfolding lowered lowered_by
 lowered_is offset s d small = grind (arith, ints)
 
--- the number that both sides are moved by
+-- the number by which both sides are moved
 difference_is : (a b : ℕ) → a < 256 → b < 256 → held (signed a -ℤ signed b) ≡ off 128 (difference_of a b)
 unfolding difference_of
 difference_is a b small small' = grind (arith, ints)
@@ -92,7 +92,7 @@ pub share9_is : (w : ℕ) → w < 256 → share 9 (off 128 w) ≡ off 9 (share_o
 unfolding share share_of
 share9_is w small = grind (arith, ints)
 
--- what moves nothing
+-- a move by 0
 pub raised_none : (offset s : ℕ) → s < 256 → raised_by offset s offset ≡ s
 unfolding raised_by
 raised_none offset s small = grind arith
@@ -122,7 +122,7 @@ pub lowered_second : (s n : ℕ) → n < 128 → lowered_by 43 s (sum_of n 16) �
 unfolding lowered_by
 lowered_second s n small = grind arith
 
--- what is moved has 8 bits
+-- moved samples have 8 bits
 pub raised_small : (offset s d : ℕ) → s < 256 → raised_by offset s d < 256
 unfolding raised_by
 raised_small offset s d small = grind arith

@@ -1,4 +1,4 @@
--- Three edges four samples apart, each filtered line by line, and rows of sixteen samples that are filtered at once.
+-- Three edges four samples apart, each filtered line by line, and rows of sixteen samples that are filtered at a time.
 use Rattle.std.specs.Prelude.{slice_index}
 use Rattle.std.specs.Simd.Lanes.{put_chunk}
 use Rattle.std.proofs.Common.{◌≡◌, ℕ, zero, suc, ◌+◌, ◌*◌, ◌<◌, ◌≤◌, List, [], ◌∷◌, ◌++◌, length, refl, ap, sym, subst, ◌∙◌, arith}
@@ -9,13 +9,13 @@ use Rattle.loop_filter.specs.Lanes.{middle_line, last_line, left_filtered, right
 use Rattle.loop_filter.proofs.EdgeFold.{samples_of, same_line, same_line_in, line_is_sets, line_is_put}
 use Rattle.loop_filter.proofs.RowsPut.{put_past_sets, earlier_row}
 
--- a line that is put before what is written
+-- a line that is written before a part
 with_line_before : (s ys : List ℕ) (at place : ℕ) (l : Line) → at + 8 ≤ place → with_line (put_chunk place s ys) at 1 l ≡ put_chunk place (with_line s at 1 l) ys
 with_line_before s ys at place l le =
     let v : ℕ → ℕ = λ (k : ℕ). slice_index (samples_of l) k in
     line_is_sets (put_chunk place s ys) at 1 l ∙ sym (put_past_sets s at 1 v 8 place ys (λ j less. omega arith)) ∙ ap (λ (x : List ℕ). put_chunk place x ys) (sym (line_is_sets s at 1 l))
 
--- lines that are filtered before what is written
+-- lines that are filtered before a part
 lines_before : (f : Line → Line) (s ys : List ℕ) (start stride n place : ℕ) → ((i : ℕ) → i < n → start + i * stride + 8 ≤ place) → lines_filtered f start stride 1 (put_chunk place s ys) n ≡ put_chunk place (lines_filtered f start stride 1 s n) ys
 unfolding lines_filtered
 lines_before f s ys start stride zero place before = refl
@@ -28,7 +28,7 @@ lines_before f s ys start stride (suc n) place before =
     ∙ ap (λ (l : Line). with_line (put_chunk place z ys) at 1 (f l)) same
     ∙ with_line_before z ys at place (f (line_in z at 1)) le
 
--- samples behind all lines, and how many there are
+-- samples after all lines, and their number
 lines_other : (f : Line → Line) (s : List ℕ) (start stride n p : ℕ) → ((i : ℕ) → i < n → start + i * stride + 8 ≤ p) → slice_index (lines_filtered f start stride 1 s n) p ≡ slice_index s p
 unfolding lines_filtered
 lines_other f s start stride zero p before = refl
@@ -47,7 +47,7 @@ length-lines f s start stride (suc n) =
     let at = start + n * stride in
     ap length (sym (line_is_put z at (f (line_in z at 1)))) ∙ length-put_chunk at z (samples_of (f (line_in z at 1))) ∙ length-lines f s start stride n
 
--- what is written over the end of what was written
+-- a part written over the end of an earlier one
 put_again : (at : ℕ) (s b c : List ℕ) → length b ≤ length c → put_chunk at (put_chunk at s b) c ≡ put_chunk at s c
 put_again at [] b c le = refl
 put_again zero (x ∷ s) [] c le = refl
@@ -92,7 +92,7 @@ line_after s at place l same room =
 room_left : (start stride i n more p : ℕ) → i < n → 16 ≤ stride → more ≤ 16 → start + n * stride ≤ p → start + i * stride + more ≤ p
 room_left start stride i n more p less wide le there = let e = earlier_row stride i n less in omega (arith, e)
 
--- one line more of an edge
+-- one more line of an edge
 one_line : (f : Line → Line) (s z : List ℕ) (start stride n at : ℕ) (l : Line) → start + n * stride ≡ at → lines_filtered f start stride 1 s n ≡ z → line_in z at 1 ≡ l → lines_filtered f start stride 1 s (suc n) ≡ put_chunk at z (samples_of (f l))
 unfolding lines_filtered
 one_line f s z start stride n at l place done is =
@@ -101,7 +101,7 @@ one_line f s z start stride n at l place done is =
     ∙ ap (λ (l : Line). with_line z at 1 (f l)) is
     ∙ sym (line_is_put z at (f l))
 
--- the line across the second edge, and across the third, where those before were filtered
+-- the line across the second edge, and across the third, after those before are filtered
 second_line : (s z : List ℕ) (at : ℕ) (l : Line) → at + 8 ≤ length z → ((p : ℕ) → at ≤ p → slice_index z p ≡ slice_index s p) → line_in (put_chunk at z (samples_of l)) (at + 4) 1 ≡ middle_line l (line_in s (at + 8) 1)
 second_line s z at l room same =
     let on : (k : ℕ) → at + (8 + k) ≡ at + 8 + k = λ (k : ℕ). omega arith in
@@ -117,14 +117,14 @@ third_line s z at first l room same =
     line_after under (at + 4) (at + 8) l (omega arith) (omega (arith, long))
     ∙ same_line _ (last_line l (line_in s (at + 8) 1)) refl refl refl refl (seen 0) (seen 1) (seen 2) (seen 3)
 
--- three lines that lie over one another are one row
+-- three lines that overlap are one row
 three_puts : (z : List ℕ) (at : ℕ) (a b c : Line) → put_chunk (at + 8) (put_chunk (at + 4) (put_chunk at z (samples_of a)) (samples_of b)) (samples_of c)
     ≡ put_chunk at z ((a.p3 ∷ a.p2 ∷ a.p1 ∷ a.p0 ∷ b.p3 ∷ b.p2 ∷ b.p1 ∷ b.p0 ∷ []) ++ samples_of c)
 three_puts z at a b c =
     ap (λ (x : List ℕ). put_chunk (at + 8) x (samples_of c)) (put_over at (at + 4) z (a.p3 ∷ a.p2 ∷ a.p1 ∷ a.p0 ∷ []) (a.q0 ∷ a.q1 ∷ a.q2 ∷ a.q3 ∷ []) (samples_of b) refl (omega arith))
     ∙ put_over at (at + 8) z (a.p3 ∷ a.p2 ∷ a.p1 ∷ a.p0 ∷ b.p3 ∷ b.p2 ∷ b.p1 ∷ b.p0 ∷ []) (b.q0 ∷ b.q1 ∷ b.q2 ∷ b.q3 ∷ []) (samples_of c) refl (omega arith)
 
--- the three edges, line by line, are the rows filtered at once
+-- the three edges, line by line, are the rows filtered at a time
 pub three_edges : (f : Line → Line) (s : List ℕ) (start stride n : ℕ) → 16 ≤ stride → ((i : ℕ) → i < n → start + i * stride + 16 ≤ length s)
     → rows_put s start stride (λ i. row_filtered f s (start + i * stride)) n ≡ lines_filtered f (start + 8) stride 1 (lines_filtered f (start + 4) stride 1 (lines_filtered f start stride 1 s n) n) n
 unfolding rows_put lines_filtered

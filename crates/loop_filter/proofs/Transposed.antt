@@ -1,23 +1,23 @@
--- What interleaved vectors hold.
+-- The contents of interleaved vectors.
 use Rattle.std.specs.Prelude.{slice_index}
 use Rattle.std.proofs.Common.{◌≡◌, ℕ, zero, suc, ◌*◌, ◌+◌, ◌-◌, ◌<◌, ◌≤◌, List, [], ◌∷◌, ◌++◌, length, get_or, refl, ap, ◌∙◌, arith}
 use Rattle.std.proofs.lemmas.List.{get_or_append_left, get_or-append_right}
 
--- a lane of the first of two vectors side by side, and one of the second
+-- a lane of the first of two concatenated vectors, and one of the second
 front : (a b : List ℕ) (m : ℕ) → length a ≡ 16 → m < 16 → get_or (a ++ b) m 0 ≡ get_or a m 0
 front a b m long less = get_or_append_left a b 0 m (omega (arith, long))
 
 behind : (a b : List ℕ) (m : ℕ) → length a ≡ 16 → get_or (a ++ b) (m + 16) 0 ≡ get_or b m 0
 behind a b m long = get_or-append_right a b 16 (m + 16) 0 long (omega arith) ∙ (let same : m + 16 - 16 ≡ m = omega arith in ap (λ (i : ℕ). get_or b i 0) same)
 
--- lane m of eight vectors, four and four of which stand side by side
+-- lane m of eight vectors, concatenated four and four
 pub eight_lanes : (a0 a1 a2 a3 b0 b1 b2 b3 : List ℕ) (m : ℕ) (rest rest' : List ℕ) → length a0 ≡ 16 → length a1 ≡ 16 → length a2 ≡ 16 → length a3 ≡ 16 → m < 16 → rest ≡ rest'
     → get_or (a0 ++ b0) m 0 ∷ get_or (a1 ++ b1) m 0 ∷ get_or (a2 ++ b2) m 0 ∷ get_or (a3 ++ b3) m 0 ∷ get_or (a0 ++ b0) (m + 16) 0 ∷ get_or (a1 ++ b1) (m + 16) 0 ∷ get_or (a2 ++ b2) (m + 16) 0 ∷ get_or (a3 ++ b3) (m + 16) 0 ∷ rest
     ≡ get_or a0 m 0 ∷ get_or a1 m 0 ∷ get_or a2 m 0 ∷ get_or a3 m 0 ∷ get_or b0 m 0 ∷ get_or b1 m 0 ∷ get_or b2 m 0 ∷ get_or b3 m 0 ∷ rest'
 eight_lanes a0 a1 a2 a3 b0 b1 b2 b3 m rest rest' l0 l1 l2 l3 less same =
     rw (front a0 b0 m l0 less, front a1 b1 m l1 less, front a2 b2 m l2 less, front a3 b3 m l3 less, behind a0 b0 m l0, behind a1 b1 m l1, behind a2 b2 m l2, behind a3 b3 m l3, same) refl
 
--- two of its lanes, one behind the other
+-- two of its lanes, one after the other
 pub sixteen_lanes : (a0 a1 a2 a3 b0 b1 b2 b3 : List ℕ) (m n : ℕ) → length a0 ≡ 16 → length a1 ≡ 16 → length a2 ≡ 16 → length a3 ≡ 16 → m < 16 → n < 16
     → get_or (a0 ++ b0) m 0 ∷ get_or (a1 ++ b1) m 0 ∷ get_or (a2 ++ b2) m 0 ∷ get_or (a3 ++ b3) m 0 ∷ get_or (a0 ++ b0) (m + 16) 0 ∷ get_or (a1 ++ b1) (m + 16) 0 ∷ get_or (a2 ++ b2) (m + 16) 0 ∷ get_or (a3 ++ b3) (m + 16) 0
     ∷ get_or (a0 ++ b0) n 0 ∷ get_or (a1 ++ b1) n 0 ∷ get_or (a2 ++ b2) n 0 ∷ get_or (a3 ++ b3) n 0 ∷ get_or (a0 ++ b0) (n + 16) 0 ∷ get_or (a1 ++ b1) (n + 16) 0 ∷ get_or (a2 ++ b2) (n + 16) 0 ∷ get_or (a3 ++ b3) (n + 16) 0 ∷ []
@@ -26,7 +26,7 @@ pub sixteen_lanes : (a0 a1 a2 a3 b0 b1 b2 b3 : List ℕ) (m n : ℕ) → length 
 sixteen_lanes a0 a1 a2 a3 b0 b1 b2 b3 m n l0 l1 l2 l3 less less' =
     eight_lanes a0 a1 a2 a3 b0 b1 b2 b3 m _ _ l0 l1 l2 l3 less (eight_lanes a0 a1 a2 a3 b0 b1 b2 b3 n _ _ l0 l1 l2 l3 less' refl)
 
--- what holds of the numbers below 8 one by one holds of each
+-- a fact of each number below 8 holds for all of them
 pub below_eight : (P : ℕ → Type 0) → P 0 → P 1 → P 2 → P 3 → P 4 → P 5 → P 6 → P 7 → (k : ℕ) → k < 8 → P k
 below_eight P h0 h1 h2 h3 h4 h5 h6 h7 zero less = h0
 below_eight P h0 h1 h2 h3 h4 h5 h6 h7 (suc zero) less = h1
@@ -38,7 +38,7 @@ below_eight P h0 h1 h2 h3 h4 h5 h6 h7 (suc (suc (suc (suc (suc (suc zero)))))) l
 below_eight P h0 h1 h2 h3 h4 h5 h6 h7 (suc (suc (suc (suc (suc (suc (suc zero))))))) less = h7
 below_eight P h0 h1 h2 h3 h4 h5 h6 h7 (suc (suc (suc (suc (suc (suc (suc (suc k)))))))) less = absurd (omega arith)
 
--- two vectors of eight lanes, woven
+-- two vectors of eight lanes, interleaved
 abbrev pub in_turn : List ℕ → List ℕ
 in_turn ab =
     get_or ab 0 0 ∷ get_or ab 8 0 ∷ get_or ab 1 0 ∷ get_or ab 9 0 ∷ get_or ab 2 0 ∷ get_or ab 10 0 ∷ get_or ab 3 0 ∷ get_or ab 11 0
@@ -54,7 +54,7 @@ odd_lane a b long =
     let at : (m : ℕ) → get_or (a ++ b) (m + 8) 0 ≡ get_or b m 0 = λ (m : ℕ). get_or-append_right a b 8 (m + 8) 0 long (omega arith) ∙ (let same : m + 8 - 8 ≡ m = omega arith in ap (λ (i : ℕ). get_or b i 0) same) in
     below_eight (λ k. slice_index (in_turn (a ++ b)) (2 * k + 1) ≡ slice_index b k) (at 0) (at 1) (at 2) (at 3) (at 4) (at 5) (at 6) (at 7)
 
--- two vectors of eight lanes, one behind the other
+-- two vectors of eight lanes, one after the other
 abbrev pub in_order : List ℕ → List ℕ
 in_order ab =
     get_or ab 0 0 ∷ get_or ab 1 0 ∷ get_or ab 2 0 ∷ get_or ab 3 0 ∷ get_or ab 4 0 ∷ get_or ab 5 0 ∷ get_or ab 6 0 ∷ get_or ab 7 0
@@ -70,7 +70,7 @@ second_lane a b long =
     let at : (m : ℕ) → get_or (a ++ b) (m + 8) 0 ≡ get_or b m 0 = λ (m : ℕ). get_or-append_right a b 8 (m + 8) 0 long (omega arith) ∙ (let same : m + 8 - 8 ≡ m = omega arith in ap (λ (i : ℕ). get_or b i 0) same) in
     below_eight (λ k. slice_index (in_order (a ++ b)) (8 + k) ≡ slice_index b k) (at 0) (at 1) (at 2) (at 3) (at 4) (at 5) (at 6) (at 7)
 
--- halves of two vectors of sixteen lanes, woven
+-- halves of two vectors of sixteen lanes, interleaved
 abbrev pub woven_from : ℕ → List ℕ → List ℕ
 woven_from first ab =
     get_or ab (first + 0) 0 ∷ get_or ab (first + 0 + 16) 0 ∷ get_or ab (first + 1) 0 ∷ get_or ab (first + 1 + 16) 0 ∷ get_or ab (first + 2) 0 ∷ get_or ab (first + 2 + 16) 0 ∷ get_or ab (first + 3) 0 ∷ get_or ab (first + 3 + 16) 0

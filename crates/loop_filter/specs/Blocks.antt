@@ -9,7 +9,7 @@ use Rattle.loop_filter.specs.declared.edge_limits.EdgeFilter.{EdgeFilter}
 use Rattle.loop_filter.specs.declared.edge_limits.EdgeFilter.TheVariants.{Simple, Inner, Macroblock}
 use Rattle.loop_filter.specs.declared.strengths.Strength.{Strength}
 
--- the limits at an edge between macroblocks, and at one inside a macroblock
+-- the limits at an edge between macroblocks (`mbedge_limit`), and at one inside a macroblock (`sub_bedge_limit`)
 abbrev pub outer_limits : Limits → EdgeLimits
 outer_limits limits = record { edge = limits.macroblock_edge; interior = limits.interior; variance = limits.variance }
 
@@ -23,7 +23,7 @@ outer_filter is_simple = if is_simple then Simple else Macroblock
 abbrev pub inner_filter : Bool → EdgeFilter
 inner_filter is_simple = if is_simple then Simple else Inner
 
--- the side of a macroblock's block in a plane, and the columns and rows before which its inner edges stand
+-- the side of a macroblock's block in a plane, and the columns and rows before which its inner edges are
 pub record Shape : Type 0 where
   pub side : ℕ
   pub inner : List ℕ
@@ -42,7 +42,7 @@ column_edge filter side block x samples = lines_filtered filter (block.start + x
 unfoldable pub row_edge : (Line → Line) → ℕ → Block → ℕ → List ℕ → List ℕ
 row_edge filter side block y samples = lines_filtered filter (block.start + y * block.stride - 4 * block.stride) 1 block.stride samples side
 
--- such edges one after another
+-- such edges in sequence
 abbrev pub column_edges : (Line → Line) → ℕ → Block → List ℕ → List ℕ → List ℕ
 column_edges filter side block [] samples = samples
 column_edges filter side block (x ∷ more) samples = column_edges filter side block more (column_edge filter side block x samples)
@@ -59,7 +59,7 @@ left_edge outer side block samples = if block.is_leftmost then samples else colu
 unfoldable pub inner_columns : (Line → Line) → Shape → Bool → Block → List ℕ → List ℕ
 inner_columns inner shape has_inner_edges block samples = if has_inner_edges then column_edges inner shape.side block shape.inner samples else samples
 
--- its top edge, which it has but in the first row of macroblocks
+-- its top edge, which it has except in the first row of macroblocks
 unfoldable pub top_edge : (Line → Line) → ℕ → Block → List ℕ → List ℕ
 top_edge outer side block samples = if block.is_topmost then samples else row_edge outer side block 0 samples
 
@@ -77,16 +77,16 @@ block_filtered shape is_simple strength block samples =
     let top = top_edge outer shape.side block columns in
     inner_rows inner shape strength.has_inner_edges block top
 
--- the block of a macroblock that is filtered so, or is left as it is
+-- the block of a macroblock after its filters, or unchanged if it has none
 unfoldable pub filtered_by : Shape → Bool → Option Strength → Block → List ℕ → List ℕ
 filtered_by shape is_simple None block samples = samples
 filtered_by shape is_simple (Some strength) block samples = block_filtered shape is_simple strength block samples
 
--- the limits of edges are such as those of levels up to 63
+-- the limits of edges are as small as those of levels up to 63
 abbrev pub HasSmallLimits : Strength → Type 0
 HasSmallLimits strength = (strength.limits.macroblock_edge < 255) × (strength.limits.inner_edge < 255)
 
--- the block lies among so many samples, with those that its filters read to its left and above it
+-- the block is inside so many samples, with the samples that its filters read to its left and above it
 pub record IsInside (side : ℕ) (block : Block) (count : ℕ) : Type 0 where
   pub wide : side ≤ block.stride
   pub left : block.is_leftmost ≡ false → 4 ≤ block.start

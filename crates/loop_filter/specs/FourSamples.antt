@@ -1,4 +1,4 @@
--- The simple filter on four samples alone (RFC 6386, section 15.2).
+-- The simple filter on four samples (RFC 6386, section 15.2).
 use Rattle.std.specs.Prelude.{ℕ, List, [], ◌∷◌}
 use Rattle.loop_filter.specs.Lines.{Line, line_of_four, simple_line}
 
@@ -6,6 +6,6 @@ use Rattle.loop_filter.specs.Lines.{Line, line_of_four, simple_line}
 abbrev pub four_of_line : Line → List ℕ
 four_of_line l = l.p1 ∷ l.p0 ∷ l.q0 ∷ l.q1 ∷ []
 
--- four such samples behind the simple filter with this limit
+-- four such samples after the simple filter with this limit
 abbrev pub simple_four : ℕ → List ℕ → List ℕ
 simple_four limit samples = four_of_line (simple_line limit (line_of_four samples))

@@ -14,19 +14,30 @@ use Rattle.loop_filter.specs.Blocks.{Shape, luma, chroma, filtered_by}
 use Rattle.loop_filter.specs.declared.blocks.Block.{Block}
 use Rattle.loop_filter.specs.declared.strengths.Strength.{Strength}
 
+<<<<<<< HEAD
 -- whether a macroblock of this mode is parted into blocks with modes or vectors of their own
+=======
+-- whether a macroblock of this mode is split into blocks with modes or vectors of their own (`B_PRED` and `SPLITMV` in RFC 6386)
+abbrev pub is_split : VectorMode → Bool
+is_split Zero = false
+is_split Nearest = false
+is_split Near = false
+is_split New = false
+is_split Split = true
+
+>>>>>>> e9feafc8cc8800c0941d7786ac5099e25c74c415
 abbrev pub is_parted : YMode → Bool
 is_parted (Whole mode) = false
 is_parted B = true
 is_parted (Inter reference mode) = is_split mode
 
--- the filter limits of a macroblock, by its record and whether one of its blocks has a token: none at level 0; its inner edges are left out where it is neither parted nor has a token
+-- the filter limits of a macroblock, by its record and whether one of its blocks has a token: none at level 0; its inner edges are skipped if it is neither split so nor has a token
 unfoldable pub strength_of : Header → MbMode → Bool → Option Strength
 strength_of header mode has_tokens =
     if level_of header mode == 0 then None
     else Some (record { limits = limits_of (level_of header mode) header.filter.sharpness header.is_key; has_inner_edges = is_parted mode.y_mode || has_tokens })
 
--- and of the macroblock at a place of the frame, if it has a record
+-- and of the macroblock at an index of the frame, if it has a record
 abbrev pub strength_by : Header → Option MbMode → Bool → Option Strength
 strength_by header None has_tokens = None
 strength_by header (Some mode) has_tokens = strength_of header mode has_tokens
@@ -34,7 +45,7 @@ strength_by header (Some mode) has_tokens = strength_of header mode has_tokens
 unfoldable pub strength_at : Header → List MbMode → List Bool → ℕ → Option Strength
 strength_at header records flags place = strength_by header (slice_get records place) (slice_index_or flags place false)
 
--- where the block of the macroblock in column mx of row my stands among the samples of a plane of so many macroblocks in a row
+-- the position of the block of the macroblock in column mx of row my among the samples of a plane of so many macroblocks in a row
 abbrev pub block_at : ℕ → ℕ → ℕ → ℕ → Block
 block_at side columns mx my = record {
   start = my * (side * (side * columns)) + side * mx;
@@ -43,22 +54,22 @@ block_at side columns mx my = record {
   is_topmost = my == 0;
 }
 
--- the samples of a plane behind the first macroblocks of row my, from the left
+-- the samples of a plane after the first macroblocks of row my, from the left
 unfoldable pub row_filtered : Shape → Bool → (ℕ → Option Strength) → ℕ → ℕ → List ℕ → ℕ → List ℕ
 row_filtered shape is_simple strength columns my samples zero = samples
 row_filtered shape is_simple strength columns my samples (suc mx) =
     filtered_by shape is_simple (strength (my * columns + mx)) (block_at shape.side columns mx my) (row_filtered shape is_simple strength columns my samples mx)
 
--- and behind its first rows of macroblocks, from the top
+-- and after its first rows of macroblocks, from the top
 unfoldable pub rows_filtered : Shape → Bool → (ℕ → Option Strength) → ℕ → List ℕ → ℕ → List ℕ
 rows_filtered shape is_simple strength columns samples zero = samples
 rows_filtered shape is_simple strength columns samples (suc my) = row_filtered shape is_simple strength columns my (rows_filtered shape is_simple strength columns samples my) columns
 
--- a plane behind the filter of all its macroblocks
+-- a plane after all its macroblocks are filtered
 abbrev pub plane_filtered : Shape → Bool → (ℕ → Option Strength) → ℕ → ℕ → Samples → Samples
 plane_filtered shape is_simple strength columns rows plane = record plane { samples = rows_filtered shape is_simple strength columns plane.samples rows }
 
--- how many macroblocks the planes of a picture have each way
+-- the number of macroblocks in the planes of a picture, each way
 abbrev pub columns_in : PlaneSamples → ℕ
 columns_in planes = planes.luma.width / 16
 
@@ -78,7 +89,7 @@ KeepSides old new =
 abbrev pub HasOldBorder : PlaneValue → PlaneValue → Type 0
 HasOldBorder old new = (new.border ≡ old.border) × (new.is_current ≡ false)
 
--- the planes behind the filter of all macroblocks; the simple filter leaves chroma as it is (section 15.2)
+-- the planes after all macroblocks are filtered; the simple filter leaves chroma unchanged (section 15.2)
 abbrev pub planes_filtered : Bool → (ℕ → Option Strength) → ℕ → ℕ → PlaneSamples → PlaneSamples
 planes_filtered is_simple strength columns rows planes = record {
   luma = plane_filtered luma is_simple strength columns rows planes.luma;

@@ -1,4 +1,4 @@
--- The filters in numbers of 8 bits, as sixteen lanes hold them: a number that may be below 0 stands there with an offset added, as a sample does with 128.
+-- The filters in numbers of 8 bits, as the sixteen lanes store them: a number that may be below 0 has an offset added, as a sample has 128.
 use Rattle.std.specs.Prelude.{◌≡◌, ℕ, ◌+◌, ◌-◌, ◌*◌, ◌/◌, ◌<◌, min, max, zero, suc, if◌then◌else◌, nat_eq, List, [], ◌∷◌, ◌++◌, map, slice_index, slice_index_or}
 use Rattle.std.specs.Simd.Lanes.{put_chunk}
 use Rattle.std.specs.Int.{abs_diff}
@@ -6,7 +6,7 @@ use Rattle.loop_filter.specs.Lines.{Line}
 use Rattle.loop_filter.specs.declared.edge_limits.EdgeLimits.{EdgeLimits}
 use Rattle.loop_filter.specs.declared.kernels.Taps.{Taps}
 
--- each of the sixteen lanes of a result is what f makes of those of one vector, or of two
+-- each of the sixteen lanes of a result is f of that lane of one vector, or of two
 abbrev pub Each : (ℕ → ℕ) → List ℕ → List ℕ → Type 0
 Each f a result = (i : ℕ) → i < 16 → slice_index result i ≡ f (slice_index a i)
 
@@ -17,11 +17,11 @@ Each2 f a b result = (i : ℕ) → i < 16 → slice_index result i ≡ f (slice_
 abbrev pub AreSamples : List ℕ → Type 0
 AreSamples a = (i : ℕ) → i < 16 → slice_index a i < 256
 
--- the sum of two numbers, held at 255
+-- the sum of two numbers, clamped to 255
 abbrev pub sum_of : ℕ → ℕ → ℕ
 sum_of x y = min (x + y) 255
 
--- a sample with a number added that stands at an offset, and with it taken away
+-- a sample with a number added that has an offset, and with it subtracted
 unfoldable pub raised_by : ℕ → ℕ → ℕ → ℕ
 raised_by offset x d = sum_of x (d - offset) - (offset - d)
 
@@ -32,7 +32,7 @@ lowered_by offset x d = sum_of x (offset - d) - (d - offset)
 unfoldable pub difference_of : ℕ → ℕ → ℕ
 difference_of x y = sum_of 128 (x - y) - (y - x)
 
--- three times what p0 lacks of q0, added to a number
+-- three times q0 - p0, added to a number
 unfoldable pub lack_from : ℕ → ℕ → ℕ → ℕ
 lack_from start p0 q0 = sum_of (sum_of (sum_of start (q0 - p0)) (q0 - p0)) (q0 - p0) - (p0 - q0) - (p0 - q0) - (p0 - q0)
 
@@ -48,7 +48,7 @@ half_of e = (e + 1) / 2
 unfoldable pub share_of : ℕ → ℕ → ℕ
 share_of k w = (w * k + 63) / 128
 
--- how far the step at the edge is over its limit: 0 where it is not
+-- the excess of the step at the edge over its limit: 0 if there is none
 unfoldable pub step_over_of : ℕ → ℕ → ℕ → ℕ → ℕ → ℕ
 step_over_of limit p1 p0 q0 q1 = sum_of (sum_of (abs_diff p0 q0) (abs_diff p0 q0)) (abs_diff p1 q1 / 2) - limit
 
@@ -56,15 +56,15 @@ step_over_of limit p1 p0 q0 q1 = sum_of (sum_of (abs_diff p0 q0) (abs_diff p0 q0
 unfoldable pub side_of : ℕ → ℕ → ℕ → ℕ → ℕ
 side_of s3 s2 s1 s0 = max (max (abs_diff s3 s2) (abs_diff s2 s1)) (abs_diff s1 s0)
 
--- how far the greater of two differences is over the threshold
+-- the excess of the greater of two differences over the threshold
 unfoldable pub variance_over_of : ℕ → ℕ → ℕ → ℕ → ℕ → ℕ
 variance_over_of threshold p1 p0 q0 q1 = max (abs_diff p1 p0) (abs_diff q1 q0) - threshold
 
--- how far what a normal filter asks of a line is not met: 0 where it is
+-- the excess of a line over the limits of a normal filter: 0 if it is filtered
 unfoldable pub roughness_of : EdgeLimits → Line → ℕ
 roughness_of limits l = sum_of (step_over_of limits.edge l.p1 l.p0 l.q0 l.q1) (max (side_of l.p3 l.p2 l.p1 l.p0) (side_of l.q3 l.q2 l.q1 l.q0) - limits.interior)
 
--- one of two numbers, by whether a test left 0
+-- one of two numbers, the first if a test left 0
 abbrev pub either_of : ℕ → ℕ → ℕ → ℕ
 either_of test none other = if nat_eq test 0 then none else other
 
@@ -88,19 +88,19 @@ vectors t = t.p3 ∷ t.p2 ∷ t.p1 ∷ t.p0 ∷ t.q0 ∷ t.q1 ∷ t.q2 ∷ t.q3 
 abbrev pub vector : Taps → ℕ → List ℕ
 vector t k = slice_index_or (vectors t) k []
 
--- sample k of sixteen lines, where number i of eight vectors holds lines i and i + 8, sample beside sample
+-- sample k of sixteen lines, if number i of eight vectors holds lines i and i + 8, their samples alternating
 abbrev pub column_of : ℕ → List (List ℕ) → List ℕ
 column_of k woven = map (λ lanes. slice_index lanes (2 * k)) woven ++ map (λ lanes. slice_index lanes (2 * k + 1)) woven
 
--- line i of sixteen, where number k of eight vectors holds sample k of each
+-- line i of sixteen, if number k of eight vectors holds sample k of each
 abbrev pub row_of : ℕ → List (List ℕ) → List ℕ
 row_of i columns = map (λ lanes. slice_index lanes i) columns
 
--- eight lanes of a vector, from one on
+-- eight lanes of a vector, starting at one
 abbrev pub eight_from : ℕ → List ℕ → List ℕ
 eight_from first lanes = map (λ k. slice_index lanes (first + k)) (0 ∷ 1 ∷ 2 ∷ 3 ∷ 4 ∷ 5 ∷ 6 ∷ 7 ∷ [])
 
--- the rows of vectors that hold two each, one behind the other
+-- the rows of vectors that hold two each, one after the other
 abbrev pub rows_of : List (List ℕ) → List (List ℕ)
 rows_of [] = []
 rows_of (pair ∷ pairs) = eight_from 0 pair ∷ eight_from 8 pair ∷ rows_of pairs
@@ -109,7 +109,7 @@ rows_of (pair ∷ pairs) = eight_from 0 pair ∷ eight_from 8 pair ∷ rows_of p
 abbrev pub row_in_pairs : List (List ℕ) → ℕ → List ℕ
 row_in_pairs pairs i = slice_index_or (rows_of pairs) i []
 
--- the samples with `n` rows written, the first at `start` and each further one `stride` places behind the last
+-- the samples with `n` rows written, the first at `start` and each further one `stride` samples after the one before it
 unfoldable pub rows_put : List ℕ → ℕ → ℕ → (ℕ → List ℕ) → ℕ → List ℕ
 rows_put samples start stride row zero = samples
 rows_put samples start stride row (suc n) = put_chunk (start + n * stride) (rows_put samples start stride row n) (row n)
@@ -121,7 +121,7 @@ middle_line first right = record { p3 = first.q0; p2 = first.q1; p1 = first.q2; 
 abbrev pub last_line : Line → Line → Line
 last_line middle right = record right { p3 = middle.q0; p2 = middle.q1; p1 = middle.q2; p0 = middle.q3 }
 
--- the left and the right eight samples of such a row behind the filters of the three edges
+-- the left and the right eight samples of such a row after the filters of the three edges
 abbrev pub left_filtered : (Line → Line) → Line → Line → Line
 left_filtered filter left right =
     let first = filter left in

@@ -1,4 +1,4 @@
--- Examples and statements that laws speak of.
+-- Examples and statements that laws cite.
 use Rattle.std.specs.Prelude.{◌≡◌, ◌≢◌, ℕ, zero, suc, ◌+◌, ◌-◌, ◌*◌, ◌/◌, ◌%◌, ◌<◌, ◌≤◌, length, slice_index, Bool, false, if◌then◌else◌, List, [], ◌∷◌, pos, negsuc, Option, None, IfSome}
 use Rattle.frame_header.specs.declared.context.FilterDeltas.{FilterDeltas}
 use Rattle.frame_header.specs.declared.context.Segments.{Segments}
@@ -25,11 +25,11 @@ worked_deltas = record {
   mode = pos 4 ∷ negsuc 1 ∷ pos 1 ∷ pos 5 ∷ [];
 }
 
--- levels of segments that stand for themselves, or are added: 10, 20, -30 and 40
+-- levels of segments that are absolute, or are added: 10, 20, -30 and 40
 abbrev pub worked_segments : Bool → Segments
 worked_segments is_absolute = record { is_absolute = is_absolute; quantizers = pos 0 ∷ pos 0 ∷ pos 0 ∷ pos 0 ∷ []; levels = pos 10 ∷ pos 20 ∷ negsuc 29 ∷ pos 40 ∷ [] }
 
--- these limits
+-- limits of these values
 abbrev pub limits_are : ℕ → ℕ → ℕ → ℕ → Limits
 limits_are interior variance macroblock_edge inner_edge = record { interior = interior; variance = variance; macroblock_edge = macroblock_edge; inner_edge = inner_edge }
 
@@ -45,11 +45,11 @@ LeavesMacroblocksOfLevel0 = (header : Header) (mode : MbMode) (has_tokens : Bool
 abbrev pub LeavesInnerEdges : Type 0
 LeavesInnerEdges = (header : Header) (mode : MbMode) (whole : WholeMode) → mode.y_mode ≡ Whole whole → IfSome (strength_of header mode false) (λ strength. strength.has_inner_edges ≡ false)
 
--- a plane behind one macroblock
+-- a plane after one macroblock
 abbrev pub macroblock_in_plane : Shape → Bool → Option Strength → ℕ → ℕ → ℕ → Samples → Samples
 macroblock_in_plane shape is_simple strength columns mx my plane = record plane { samples = filtered_by shape is_simple strength (block_at shape.side columns mx my) plane.samples }
 
--- the three planes behind one macroblock
+-- the three planes after one macroblock
 abbrev pub macroblock_in_planes : Bool → Option Strength → ℕ → ℕ → ℕ → PlaneSamples → PlaneSamples
 macroblock_in_planes is_simple strength columns mx my planes = record {
   luma = macroblock_in_plane luma is_simple strength columns mx my planes.luma;
@@ -57,28 +57,28 @@ macroblock_in_planes is_simple strength columns mx my planes = record {
   cr = if is_simple then planes.cr else macroblock_in_plane chroma is_simple strength columns mx my planes.cr;
 }
 
--- and behind the first n macroblocks of a frame, in raster order
+-- and after the first n macroblocks of a frame, in raster order
 unfoldable pub macroblocks_in_planes : Bool → (ℕ → Option Strength) → ℕ → PlaneSamples → ℕ → PlaneSamples
 macroblocks_in_planes is_simple strength columns planes zero = planes
 macroblocks_in_planes is_simple strength columns planes (suc n) = macroblock_in_planes is_simple (strength n) columns (n % columns) (n / columns) (macroblocks_in_planes is_simple strength columns planes n)
 
--- the filtered picture is what filtering the three planes macroblock by macroblock gives
+-- the filtered picture is the result of filtering the three planes macroblock by macroblock
 abbrev pub GoesMacroblockByMacroblock : Type 0
 GoesMacroblockByMacroblock =
     (header : Header) (records : List MbMode) (flags : List Bool) (planes : PlaneSamples) → 0 < header.filter.level →
     filtered_planes header records flags planes ≡ macroblocks_in_planes header.filter.is_simple (strength_at header records flags) (columns_in planes) planes (columns_in planes * rows_in planes)
 
--- the sides of planes of so many macroblocks tell how many there are
+-- the sides of planes of so many macroblocks determine their number
 abbrev pub SidesTellMacroblocks : Type 0
 SidesTellMacroblocks = (planes : PlaneSamples) (columns rows : ℕ) → HaveBlocks planes columns rows → (columns_in planes ≡ columns) × (rows_in planes ≡ rows)
 
--- an edge of `count` lines changed them, each by itself, and every sample of no line is as it was
+-- an edge of `count` lines changed each line by itself, and every sample of no line is unchanged
 pub record ChangesItsLines (filter : Line → Line) (count start between across : ℕ) (old new : List ℕ) : Type 0 where
   pub whole : length new ≡ length old
   pub lines : (i : ℕ) → i < count → start + i * between + 7 * across < length old → line_in new (start + i * between) across ≡ filter (line_in old (start + i * between) across)
   pub others : (place : ℕ) → ((i k : ℕ) → i < count → k < 8 → place ≢ start + i * between + k * across) → slice_index new place ≡ slice_index old place
 
--- so does each edge of a block, between columns and between rows
+-- each edge of a block does so, between columns and between rows
 abbrev pub ColumnEdgesChangeTheirLines : Type 0
 ColumnEdgesChangeTheirLines =
     (filter : Line → Line) (side : ℕ) (block : Block) (x : ℕ) (samples : List ℕ) → 8 ≤ block.stride → ChangesItsLines filter side (block.start + x - 4) block.stride 1 samples (column_edge filter side block x samples)
@@ -94,10 +94,10 @@ line_of samples = line_in samples 0 1
 abbrev pub edge_limits_are : ℕ → ℕ → ℕ → EdgeLimits
 edge_limits_are edge interior variance = record { edge = edge; interior = interior; variance = variance }
 
--- a line with a step of 20 at the edge, which is measured as 54; the greatest step beside it is 5, and that is between p1 and p0
+-- a line with a step of 20 at the edge, which is measured as 54; the greatest difference next to it is 5, between p1 and p0
 abbrev pub worked_line : Line
 worked_line = line_of (90 ∷ 92 ∷ 95 ∷ 100 ∷ 120 ∷ 124 ∷ 126 ∷ 128 ∷ [])
 
--- a line that is flat on both sides of a step of 64, so far that the numbers of its filters are held
+-- a line that is flat on both sides of a step of 64, so large that the filters' numbers are clamped
 abbrev pub worked_step : Line
 worked_step = line_of (0 ∷ 0 ∷ 0 ∷ 0 ∷ 64 ∷ 64 ∷ 64 ∷ 64 ∷ [])

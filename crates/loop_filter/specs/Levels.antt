@@ -11,18 +11,18 @@ use Rattle.mode_parser.specs.declared.records.VectorMode.TheVariants.{Zero, Near
 use Rattle.mode_parser.specs.declared.records.YMode.{YMode}
 use Rattle.mode_parser.specs.declared.records.YMode.TheVariants.{Whole, B, Inter}
 
--- a number held within 0 to 63
+-- a number clamped to 0 to 63
 abbrev pub held_level : ℤ → ℕ
 held_level (pos n) = min n 63
 held_level (negsuc n) = 0
 
--- the level in one of four segments: the frame's; or with segments that of the segment, which stands in its place or is added to it (section 9.3)
+-- the level in one of four segments: the frame's level; or with segments the segment's, which replaces it or is added to it (section 9.3)
 abbrev pub level_in : ℕ → Bool → Segments → ℕ → ℕ
 level_in level has_segments segments segment =
     let of_segment = slice_index_or segments.levels segment (pos 0) in
     held_level (if has_segments then (if segments.is_absolute then of_segment else pos level +ℤ of_segment) else pos level)
 
--- which change by reference a macroblock has: the first where it is predicted from its own frame (section 9.4)
+-- the index of a macroblock's change by reference (`ref_lf_deltas` in libvpx): the first if it is predicted from its own frame (section 9.4)
 abbrev pub number_of_reference : Reference → ℕ
 number_of_reference Last = 1
 number_of_reference Golden = 2
@@ -36,7 +36,7 @@ reference_number (Inter reference mode) = number_of_reference reference
 abbrev pub reference_delta : FilterDeltas → YMode → ℤ
 reference_delta deltas mode = slice_index_or deltas.reference (reference_number mode) (pos 0)
 
--- the change by the mode of vectors (section 9.4)
+-- the change by the mode of vectors (`mode_lf_deltas` in libvpx, section 9.4)
 abbrev pub vector_mode_delta : FilterDeltas → VectorMode → ℤ
 vector_mode_delta deltas Zero = slice_index_or deltas.mode 1 (pos 0)
 vector_mode_delta deltas Nearest = slice_index_or deltas.mode 2 (pos 0)
@@ -44,7 +44,7 @@ vector_mode_delta deltas Near = slice_index_or deltas.mode 2 (pos 0)
 vector_mode_delta deltas New = slice_index_or deltas.mode 2 (pos 0)
 vector_mode_delta deltas Split = slice_index_or deltas.mode 3 (pos 0)
 
--- the change by mode: of the intra modes, B alone has one (section 9.4)
+-- the change by mode: of the intra modes, only B has one (section 9.4)
 abbrev pub mode_delta : FilterDeltas → YMode → ℤ
 mode_delta deltas (Whole mode) = pos 0
 mode_delta deltas B = slice_index_or deltas.mode 0 (pos 0)
@@ -54,7 +54,7 @@ mode_delta deltas (Inter reference mode) = vector_mode_delta deltas mode
 abbrev pub changed_level : FilterDeltas → YMode → ℕ → ℕ
 changed_level deltas mode level = held_level ((pos level +ℤ reference_delta deltas mode) +ℤ mode_delta deltas mode)
 
--- the level of a macroblock: that in its segment, changed where the frame adjusts it
+-- the level of a macroblock: the level in its segment, changed if the frame adjusts levels
 unfoldable pub level_of : Header → MbMode → ℕ
 level_of header mode =
     let level = level_in header.filter.level header.segmentation.is_enabled header.context.segments mode.segment in

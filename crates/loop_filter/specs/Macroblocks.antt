@@ -1,4 +1,4 @@
--- What the loops of a frame's filter go over.
+-- The arguments of the loops of a frame's filter.
 use Rattle.std.specs.Prelude.{◌≡◌, ℕ, ◌+◌, ◌*◌, ◌≤◌, length, List, Option}
 use Rattle.loop_filter.specs.Blocks.{Shape, filtered_by}
 use Rattle.loop_filter.specs.Frames.{block_at, strength_at, row_filtered, rows_filtered}
@@ -21,7 +21,7 @@ IsPlane side all count = count ≡ side * all.columns * (side * all.rows)
 abbrev pub strengths : Macroblocks → ℕ → Option Strength
 strengths all = strength_at all.header.now all.records.now all.flags.now
 
--- the samples behind one macroblock, behind one row, and behind all
+-- the samples after one macroblock, after one row, and after all
 abbrev pub macroblock_filtered : Shape → Macroblocks → ℕ → ℕ → List ℕ → List ℕ
 macroblock_filtered shape all mx my samples = filtered_by shape all.header.now.filter.is_simple (strengths all (my * all.columns + mx)) (block_at shape.side all.columns mx my) samples
 

@@ -2,7 +2,7 @@
 use Rattle.std.specs.Prelude.{◌≡◌, ℕ, ◌≤◌, List, Some, slice_get, ◌+◌, ◌-◌, ◌*◌, ◌/◌, ◌==◌, nat_lt, min, max, Bool, if◌then◌else◌}
 use Rattle.loop_filter.specs.declared.edge_limits.Limits.{Limits}
 
--- the level, halved or quartered by the sharpness and then at most 9 less it; at least 1
+-- the level, halved or quartered by the sharpness and then at most 9 minus it; at least 1
 abbrev pub interior_limit : ℕ → ℕ → ℕ
 interior_limit level sharpness =
     max 1 (if sharpness == 0 then level else min (level / (if nat_lt 4 sharpness then 4 else 2)) (9 - sharpness))
@@ -23,7 +23,7 @@ limits_of level sharpness is_key = record {
   inner_edge = level * 2 + interior_limit level sharpness;
 }
 
--- each level up to 63 has its limits at its place in a table
+-- each level up to 63 has its limits at its index in a table
 pub record AreLimits (sharpness : ℕ) (is_key : Bool) (table : List Limits) : Type 0 where
   pub value : (level : ℕ) → level ≤ 63 → slice_get table level ≡ Some (limits_of level sharpness is_key)
   pub macroblock_edge : (level : ℕ) → level ≤ 63 → (limits_of level sharpness is_key).macroblock_edge ≤ 193

@@ -9,12 +9,12 @@ use crate::edge_limits::{EdgeFilter, EdgeLimits, Limits};
 use crate::edges::{filter_columns, filter_rows};
 use crate::strengths::Strength;
 
-/// Where a macroblock's block stands among the samples of a plane.
+/// The position of a macroblock's block among the samples of a plane.
 #[derive(Clone, Copy)]
 pub(crate) struct Block {
-    /// The place of its first sample.
+    /// The index of its first sample.
     pub(crate) start: usize,
-    /// How many samples further on the next row begins.
+    /// The distance to the start of the next row, in samples.
     pub(crate) stride: usize,
     /// It is in the first column of macroblocks.
     pub(crate) is_leftmost: bool,
@@ -110,8 +110,8 @@ fn filter_left(filter: EdgeFilter, limits: EdgeLimits, samples: &mut [u8], block
     }
 }
 
-/// Filters the vertical edges before columns 4, 8 and 12 of a block, those of the normal filter in one
-/// turn of the block.
+/// Filters the vertical edges before columns 4, 8 and 12 of a block; with the normal filter all
+/// three in one pass over the block.
 #[inline]
 fn filter_three_columns(filter: EdgeFilter, limits: EdgeLimits, samples: &mut [u8], block: Block)
     requires limit { limits.edge < 255 }

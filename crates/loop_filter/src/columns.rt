@@ -1,4 +1,4 @@
-//! Lines that lie in rows of samples, turned into columns and back.
+//! Lines of samples in rows, transposed to columns and back.
 
 ghost use Rattle.std.specs.Prelude.{◌≡◌, ℕ, ◌+◌, ◌*◌, ◌<◌, ◌≤◌, [], ◌∷◌, ◌++◌, length, slice_index};
 ghost use Rattle.std.specs.Simd.Lanes.{put_chunk};
@@ -9,7 +9,7 @@ use crate::kernels::Taps;
 use std::simd::prelude::*;
 use std::simd::{u8x8, u8x16};
 
-/// The lanes of two vectors, one of `a` and one of `b` in turn.
+/// The lanes of two vectors, alternately one of `a` and one of `b`.
 #[inline(always)]
 fn woven(a: u8x8, b: u8x8) -> u8x16
     ensures a { (k : ℕ) → k < 8 → slice_index result (2 * k) ≡ slice_index a k }
@@ -18,7 +18,8 @@ fn woven(a: u8x8, b: u8x8) -> u8x16
     a.shuffle(b, [0, 8, 1, 9, 2, 10, 3, 11, 4, 12, 5, 13, 6, 14, 7, 15])
 }
 
-/// Turns sixteen lines of eight samples: vector `w0` holds lines 0 and 8, woven, and so on.
+/// Transposes sixteen lines of eight samples: vector `w0` holds lines 0 and 8, interleaved, and so
+/// on.
 #[inline(always)]
 pub fn columns(
     w0: u8x16,
@@ -63,7 +64,7 @@ pub fn columns(
     }
 }
 
-/// Turns sixteen lines back: each vector holds two of them, one behind the other.
+/// Transposes sixteen lines back: each vector holds two of them, one after the other.
 #[inline(always)]
 pub fn row_pairs(
     p3: u8x16,
@@ -99,7 +100,7 @@ pub fn row_pairs(
     (r0, r2, r4, r6, r8, r10, r12, r14)
 }
 
-/// Eight samples from a place on in one list, woven with eight of another.
+/// Eight samples from an index in one list, interleaved with eight of another.
 #[inline(always)]
 fn load_pair(a: &[u8], b: &[u8], a_at: usize, b_at: usize) -> u8x16
     requires room_a { a_at + 8 ≤ length a.now }
@@ -112,8 +113,8 @@ fn load_pair(a: &[u8], b: &[u8], a_at: usize, b_at: usize) -> u8x16
     woven(first, second)
 }
 
-/// Takes eight lines of samples side by side from each of two lists; in both, each line stands
-/// `stride` places behind the last.
+/// Loads eight lines of adjacent samples from each of two lists; in both, each line begins `stride`
+/// samples after the one before it.
 #[inline(always)]
 pub fn load_lines(a: &[u8], b: &[u8], a_start: usize, b_start: usize, stride: usize) -> Taps
     requires room_a { a_start + 7 * stride + 8 ≤ length a.now }
@@ -132,7 +133,7 @@ pub fn load_lines(a: &[u8], b: &[u8], a_start: usize, b_start: usize, stride: us
     columns(w0, w1, w2, w3, w4, w5, w6, w7)
 }
 
-/// Writes two lines that stand in one vector, the second `stride` places behind the first.
+/// Stores two lines of one vector, the second `stride` samples after the first.
 #[inline(always)]
 fn store_pair(samples: &mut [u8], at: usize, stride: usize, rows: u8x16)
     requires room { at + stride + 8 ≤ length samples.old }
@@ -143,7 +144,7 @@ fn store_pair(samples: &mut [u8], at: usize, stride: usize, rows: u8x16)
         .copy_to_slice(&mut samples[at + stride..]);
 }
 
-/// Writes eight lines, two in each vector, each line `stride` places behind the last.
+/// Stores eight lines, two in each vector, each line `stride` samples after the one before it.
 #[inline(always)]
 pub fn store_lines(
     samples: &mut [u8],

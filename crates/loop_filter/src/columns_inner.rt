@@ -1,5 +1,5 @@
-//! The three edges between columns inside a block of 16 by 16 samples, which is turned once for all
-//! of them.
+//! The three edges between columns inside a block of 16 by 16 samples, which is transposed once for
+//! all of them.
 
 ghost use Rattle.std.specs.Prelude.{◌≡◌, ℕ, ◌+◌, ◌*◌, ◌<◌, ◌≤◌, ◌++◌, length, slice_index};
 ghost use Rattle.std.specs.Simd.Lanes.{put_chunk};
@@ -14,8 +14,8 @@ use crate::lanes::{load, store};
 use std::simd::prelude::*;
 use std::simd::u8x16;
 
-/// The lanes of two vectors, one of `a` and one of `b` in turn: those of the left halves, and those
-/// of the right halves.
+/// The lanes of two vectors, alternately one of `a` and one of `b`: those of the left halves, and
+/// those of the right halves.
 #[inline(always)]
 fn woven(a: u8x16, b: u8x16) -> (u8x16, u8x16)
     ensures left_a { (k : ℕ) → k < 8 → slice_index result.0 (2 * k) ≡ slice_index a k }
@@ -26,7 +26,7 @@ fn woven(a: u8x16, b: u8x16) -> (u8x16, u8x16)
     a.interleave(b)
 }
 
-/// Two rows of sixteen samples, woven: the left eight of each, and the right eight.
+/// Two rows of sixteen samples, interleaved: the left eight of each, and the right eight.
 #[inline(always)]
 fn load_pair(samples: &[u8], at: usize, other: usize) -> (u8x16, u8x16)
     requires room_at { at + 16 ≤ length samples.now }
@@ -41,7 +41,7 @@ fn load_pair(samples: &[u8], at: usize, other: usize) -> (u8x16, u8x16)
     woven(first, second)
 }
 
-/// Takes sixteen rows of sixteen samples: the left eight samples of each, and the right eight.
+/// Loads sixteen rows of sixteen samples: the left eight samples of each, and the right eight.
 #[inline(always)]
 fn load_block(samples: &[u8], start: usize, stride: usize) -> (Taps, Taps)
     requires room { start + 15 * stride + 16 ≤ length samples.now }
@@ -99,8 +99,8 @@ fn filter_block(limits: EdgeLimits, left: Taps, right: Taps) -> (Taps, Taps)
     (left, last)
 }
 
-/// Writes two rows of sixteen samples, the second `stride` places behind the first: each vector
-/// holds eight samples of the first, and eight of the second behind them.
+/// Stores two rows of sixteen samples, the second `stride` samples after the first: each vector
+/// holds eight samples of the first, followed by eight of the second.
 #[inline(always)]
 fn store_two(samples: &mut [u8], at: usize, stride: usize, left: u8x16, right: u8x16)
     requires room { at + stride + 16 ≤ length samples.old }
@@ -118,7 +118,7 @@ fn store_two(samples: &mut [u8], at: usize, stride: usize, left: u8x16, right: u
     store(samples, at + stride, second);
 }
 
-/// Writes sixteen rows of sixteen samples.
+/// Stores sixteen rows of sixteen samples.
 #[inline(always)]
 fn store_block(left: Taps, right: Taps, samples: &mut [u8], start: usize, stride: usize)
     requires room { start + 15 * stride + 16 ≤ length samples.old }

@@ -1,15 +1,16 @@
-/// How far samples may differ at and beside a macroblock's edges for a filter to change them
-/// (RFC 6386, section 15.2).
+/// The greatest differences of samples at and near a macroblock's edges for which a filter changes
+/// them (RFC 6386, section 15.2).
 #[derive(Clone, Copy, Debug, PartialEq, Eq)]
 pub struct Limits {
-    /// How far samples side by side beside an edge may differ, 1 to 63.
+    /// The greatest difference of adjacent samples on one side of an edge, 1 to 63:
+    /// `interior_limit`.
     pub interior: u8,
-    /// How far a sample at an edge may differ from its neighbour before the edge counts as one of
-    /// high variance, 0 to 3.
+    /// The difference of a sample at an edge and its neighbour above which the edge has high
+    /// variance, 0 to 3: `hev_threshold`.
     pub variance: u8,
-    /// The limit of the step at an edge between macroblocks.
+    /// The limit of the step at an edge between macroblocks: `mbedge_limit`.
     pub macroblock_edge: u8,
-    /// The limit of the step at an edge between blocks of one macroblock.
+    /// The limit of the step at an edge between blocks of one macroblock: `sub_bedge_limit`.
     pub inner_edge: u8,
 }
 
@@ -18,13 +19,13 @@ pub struct Limits {
 pub struct EdgeLimits {
     /// The limit of the step at the edge.
     pub edge: u8,
-    /// How far samples side by side beside it may differ.
+    /// The greatest difference of adjacent samples on one side of it.
     pub interior: u8,
-    /// How far a sample at it may differ from its neighbour before its variance is high.
+    /// The difference of a sample at it and its neighbour above which its variance is high.
     pub variance: u8,
 }
 
-/// Which filter an edge has.
+/// The filter of an edge.
 #[derive(Clone, Copy)]
 pub enum EdgeFilter {
     /// The simple filter, which reads and writes the fewest samples (RFC 6386, section 15.2).

@@ -10,7 +10,7 @@ use crate::edge_limits::{EdgeFilter, EdgeLimits};
 use crate::kernels::{Taps, filter as filtered};
 use crate::lanes::{load, store};
 
-/// Takes sixteen columns of eight samples, in rows `stride` places apart.
+/// Loads sixteen columns of eight samples, in rows `stride` samples apart.
 #[inline(always)]
 fn load_rows(samples: &[u8], start: usize, stride: usize) -> Taps
     requires room { start + 7 * stride + 16 ≤ length samples.now }
@@ -28,7 +28,7 @@ fn load_rows(samples: &[u8], start: usize, stride: usize) -> Taps
     }
 }
 
-/// Writes sixteen columns of eight samples, in rows `stride` places apart.
+/// Stores sixteen columns of eight samples, in rows `stride` samples apart.
 #[inline(always)]
 fn store_rows(taps: Taps, samples: &mut [u8], start: usize, stride: usize)
     requires room { start + 7 * stride + 16 ≤ length samples.old }

@@ -12,7 +12,7 @@ fn signed(sample: u8) -> i16
     i16::from(sample) - 128
 }
 
-/// A number held within -128 to 127.
+/// A number clamped to -128 to 127.
 fn held(number: i16) -> i16
     ensures value { result ≡ held number }
     ensures within { (negsuc 127 ≤ℤ result) × (result ≤ℤ pos 127) }
@@ -20,7 +20,7 @@ fn held(number: i16) -> i16
     number.clamp(-128, 127)
 }
 
-/// The sample of a number, held.
+/// The sample of a number, clamped.
 fn sample(number: i16) -> u8
     ensures { result ≡ sample number }
 {
@@ -47,7 +47,7 @@ fn raised(from: u8, by: i16) -> u8
     sample(signed(from) + by)
 }
 
-/// A sample with a number taken away.
+/// A sample with a number subtracted.
 #[tactic(auto, unfolding(crate::specs::Lines::lowered))]
 fn lowered(from: u8, by: i16) -> u8
     requires { (negsuc 127 ≤ℤ by) × (by ≤ℤ pos 127) }
@@ -65,7 +65,7 @@ fn is_small_step(samples: &[u8; 4], limit: u8) -> bool
     step <= u16::from(limit)
 }
 
-/// How much higher one sample is than another.
+/// The difference of two samples, as a signed number.
 fn difference(a: u8, b: u8) -> i16
     ensures value { result ≡ signed a -ℤ signed b }
     ensures within { (negsuc 255 ≤ℤ result) × (result ≤ℤ pos 255) }
@@ -82,7 +82,7 @@ fn thrice(difference: i16) -> i16
     3 * difference
 }
 
-/// The sum of two numbers, held.
+/// The sum of two numbers, clamped.
 fn held_sum(first: i16, second: i16) -> i16
     requires first { (negsuc 127 ≤ℤ first) × (first ≤ℤ pos 127) }
     requires second { (negsuc 767 ≤ℤ second) × (second ≤ℤ pos 765) }
@@ -92,7 +92,8 @@ fn held_sum(first: i16, second: i16) -> i16
     held(first + second)
 }
 
-/// What the samples at the edge lack of each other, three times, with the difference of the outer two.
+/// Three times the difference of the samples at the edge, plus the difference of the outer two: `a`
+/// of `common_adjust` in RFC 6386.
 #[tactic(auto, unfolding(crate::specs::Lines::lack))]
 fn lack(samples: &[u8; 4]) -> i16
     ensures value { result ≡ lack true (line_of_four samples.now) }
@@ -103,8 +104,8 @@ fn lack(samples: &[u8; 4]) -> i16
     held_sum(outer, thrice(difference(q0, p0)))
 }
 
-/// Filters the four samples p1, p0, q0 and q1 of a line across an edge, which stands between p0 and
-/// q0, by the simple filter (RFC 6386, section 15.2). `limit` is that of the step at the edge.
+/// Filters the four samples p1, p0, q0 and q1 of a line across an edge, which is between p0 and q0,
+/// with the simple filter (RFC 6386, section 15.2). `limit` is the limit of the step at the edge.
 #[tactic(auto, unfolding(crate::specs::Lines::simple_line))]
 pub fn simple(samples: &mut [u8; 4], limit: u8)
     ensures { samples.new ≡ simple_four limit samples.old }

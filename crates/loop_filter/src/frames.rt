@@ -15,7 +15,7 @@ use frame_header::Header;
 use mode_parser::{MbMode, Modes};
 use pixel_planes::Planes;
 
-/// The macroblocks of a frame, in raster order, how many there are each way, and the limits of each
+/// The macroblocks of a frame, in raster order, their number each way, and the limits of each
 /// level.
 #[derive(Clone, Copy)]
 struct Macroblocks<'a> {
@@ -27,7 +27,7 @@ struct Macroblocks<'a> {
     limits: &'a [Limits; 64],
 }
 
-/// How the macroblock at a place is filtered.
+/// The filter limits of the macroblock at an index.
 #[inline]
 #[tactic(auto, unfolding(crate::specs::Frames::strength_at))]
 fn strength_at(all: Macroblocks, place: usize) -> Option<Strength>
@@ -45,7 +45,8 @@ fn strength_at(all: Macroblocks, place: usize) -> Option<Strength>
     )
 }
 
-/// Where the block of the macroblock in column `mx` of row `my` stands in a plane of so many columns.
+/// The position of the block of the macroblock in column `mx` of row `my` in a plane of so many
+/// columns.
 #[inline]
 fn block_at(side: usize, columns: usize, mx: usize, my: usize) -> Block
     requires small { (side ≤ 16) × (columns ≤ 1024) × (mx ≤ 1024) × (my ≤ 1024) }
@@ -143,13 +144,12 @@ fn filter_chroma(all: Macroblocks, cb: &mut [u8], cr: &mut [u8])
     }
 }
 
-/// Filters the planes of a frame by its records and flags, of which there is one for each macroblock
-/// in raster order (RFC 6386, section 15.1). A flag says that some block of its macroblock has a
-/// token.
+/// Filters the planes of a frame by its records and flags, one for each macroblock in raster order
+/// (RFC 6386, section 15.1). A flag is set if some block of its macroblock has a token.
 ///
-/// The planes are of whole macroblocks, of 16 by 16 samples in luma and 8 by 8 in chroma. Where the
-/// level of the frame is 0 they are left as they are, and so is chroma by the simple filter; a plane
-/// that is filtered has its border out of date.
+/// The planes consist of whole macroblocks, of 16 by 16 samples in luma and 8 by 8 in chroma. If
+/// the level of the frame is 0 they are unchanged, and with the simple filter chroma is; the border
+/// of a filtered plane is out of date.
 #[tactic(auto, unfolding(crate::specs::Frames::filtered_planes))]
 pub fn frame(header: &Header, modes: &Modes, flags: &[bool], planes: &mut Planes)
     requires blocks { HaveBlocks (shown_of planes.old) (columns_in (shown_of planes.old)) (rows_in (shown_of planes.old)) }

@@ -11,12 +11,12 @@ const FILTERS: [EdgeFilter; 3] = [
     EdgeFilter::Macroblock,
 ];
 
-/// A number held within -128 to 127.
+/// A number clamped to -128 to 127.
 fn held(number: i32) -> i32 {
     number.clamp(-128, 127)
 }
 
-/// A sample with a number added, held.
+/// A sample with a number added, clamped.
 fn moved(sample: u8, number: i32) -> u8 {
     i32::from(sample).wrapping_add(number).clamp(0, 255) as u8
 }
@@ -30,7 +30,7 @@ fn move_both(line: &mut [u8; 8], near: usize, far: usize, number: i32)
     line[far] = moved(line[far], 0i32.wrapping_sub(number));
 }
 
-/// How far two samples of a line are apart.
+/// The absolute difference of two samples of a line.
 fn apart(line: &[u8; 8], one: usize, other: usize) -> i32
     requires one { one < 8 }
     requires other { other < 8 }
@@ -38,7 +38,7 @@ fn apart(line: &[u8; 8], one: usize, other: usize) -> i32
     i32::from(line[one].abs_diff(line[other]))
 }
 
-/// Whether samples side by side on either side of the edge differ by no more than `limit`.
+/// Whether adjacent samples on either side of the edge differ by no more than `limit`.
 fn is_smooth(line: &[u8; 8], limit: u8) -> bool {
     let limit = i32::from(limit);
     let is_smooth_before = apart(line, 0, 1) <= limit
@@ -50,7 +50,7 @@ fn is_smooth(line: &[u8; 8], limit: u8) -> bool {
         && apart(line, 6, 7) <= limit
 }
 
-/// A plain reading of sections 15.2 and 15.3: what a filter makes of a line of samples p3 to q3.
+/// A plain reading of sections 15.2 and 15.3: the result of a filter on a line of samples p3 to q3.
 fn filtered(filter: EdgeFilter, limits: EdgeLimits, samples: [u8; 8]) -> [u8; 8] {
     let mut line = samples;
     let step = apart(&samples, 3, 4)
@@ -92,8 +92,8 @@ fn filtered(filter: EdgeFilter, limits: EdgeLimits, samples: [u8; 8]) -> [u8; 8]
     line
 }
 
-/// The places of an edge's lines: where the first begins, how far the lines are apart, how far
-/// their samples are apart, and how many lines there are.
+/// The positions of an edge's lines: the start of the first, the distance of the lines, the
+/// distance of their samples, and the number of lines.
 #[derive(Clone, Copy)]
 struct Places {
     start: usize,
@@ -102,7 +102,7 @@ struct Places {
     count: usize,
 }
 
-/// The samples behind an edge's lines that are filtered one after another.
+/// The samples after an edge's lines are filtered in sequence.
 fn lines_filtered(
     filter: EdgeFilter,
     limits: EdgeLimits,
@@ -180,7 +180,8 @@ fn samples_of(seed: u32, spread: u32, step: u8, places: Places) -> [u8; 256] {
     samples
 }
 
-/// How samples are made: from a seed, that differ by less than `spread` beside the step at the edge.
+/// How samples are made: from a seed, and differing by less than `spread` next to the step at the
+/// edge.
 #[derive(Clone, Copy)]
 struct Samples {
     seed: u32,
@@ -188,7 +189,7 @@ struct Samples {
     step: u8,
 }
 
-/// Whether an edge of luma between rows, and one between columns, is as read plainly.
+/// Whether an edge of luma between rows, and one between columns, equals the plain reading.
 fn is_luma_right(filter: EdgeFilter, limits: EdgeLimits, kind: Samples) -> bool
     requires { limits.edge < 255 }
 {
@@ -216,7 +217,7 @@ fn is_luma_right(filter: EdgeFilter, limits: EdgeLimits, kind: Samples) -> bool
     samples == lines_filtered(filter, limits, &before, across)
 }
 
-/// Whether the three inner edges of luma between columns are as read plainly, one after another.
+/// Whether the three inner edges of luma between columns, in sequence, equal the plain reading.
 fn are_inner_columns_right(limits: EdgeLimits, kind: Samples) -> bool
     requires { limits.edge < 255 }
 {
@@ -237,7 +238,8 @@ fn are_inner_columns_right(limits: EdgeLimits, kind: Samples) -> bool
     samples == expected
 }
 
-/// Whether an edge of both chroma planes between rows, and one between columns, is as read plainly.
+/// Whether an edge of both chroma planes between rows, and one between columns, equals the plain
+/// reading.
 fn is_chroma_right(filter: EdgeFilter, limits: EdgeLimits, kind: Samples) -> bool
     requires { limits.edge < 255 }
 {
@@ -292,7 +294,7 @@ fn edges_are_as_read_plainly_at_all_levels(rt: HostRuntime) {
     }
 }
 
-/// What is far apart is held: samples of any value, with limits that let almost all pass.
+/// Large numbers are clamped: samples of any value, with limits that let almost all pass.
 #[test]
 fn edges_of_steep_samples_are_as_read_plainly(rt: HostRuntime) {
     for seed in 0..64u32 {
@@ -325,9 +327,9 @@ fn rows_of(line: [u8; 8]) -> [u8; 128] {
     samples
 }
 
-/// The step of 10 lacks 20 with the outer difference and 30 without it. Of 20, 27, 18 and 9 128ths
-/// are 4, 3 and 1; an eighth of 30 is 4, and half of that 2; with high variance 3 times 6 less 10
-/// moves q0 and p0 by 1. The edge's step is 25.
+/// The step of 10 has a = 20 with the outer difference and 30 without it. Of 20, 27, 18 and 9
+/// 128ths are 4, 3 and 1; an eighth of 30 is 4, and half of that 2; with high variance 3 times 6
+/// less 10 moves q0 and p0 by 1. The edge's step is 25.
 #[test]
 fn lines_are_as_worked_by_hand(rt: HostRuntime) {
     let even = [100, 100, 100, 100, 110, 110, 110, 110];

@@ -11,7 +11,7 @@ use crate::lanes::{
 };
 use std::simd::u8x16;
 
-/// Sixteen lines of samples across an edge, each line in a lane: `p0` and `q0` stand at the edge.
+/// Sixteen lines of samples across an edge, each line in a lane: `p0` and `q0` are at the edge.
 #[derive(Clone, Copy)]
 pub struct Taps {
     pub p3: u8x16,
@@ -58,7 +58,7 @@ fn simple(limit: u8, taps: Taps) -> Taps
     }
 }
 
-/// How far what a normal filter asks of sixteen lines is not met: 0 where it is.
+/// The excess over the limits of a normal filter in sixteen lines: 0 in a line that is filtered.
 #[inline(always)]
 #[tactic(auto, unfolding(crate::specs::Lanes::roughness_of))]
 fn roughness(limits: EdgeLimits, taps: Taps) -> u8x16
@@ -105,8 +105,8 @@ pub fn inner(limits: EdgeLimits, taps: Taps) -> Taps
 
 /// Filters sixteen lines by the normal filter of an edge between macroblocks.
 ///
-/// A line is moved by an eighth or by shares, and the other number is 0 at its offset: `p0` and `q0`
-/// are moved by the sum of both, at the sum of their offsets.
+/// A line is moved either by an eighth or by shares, and the other number is 0 at its offset: `p0`
+/// and `q0` are moved by the sum of both, at the sum of their offsets.
 #[inline(always)]
 fn macroblock(limits: EdgeLimits, taps: Taps) -> Taps
     requires limit { limits.edge < 255 }

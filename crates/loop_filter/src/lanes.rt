@@ -1,4 +1,4 @@
-//! What is done with sixteen samples at once: lanes of 8 bits without signs.
+//! Operations on sixteen samples at a time: lanes of 8 bits without signs.
 
 ghost use Rattle.std.specs.Prelude.{◌≡◌, ℕ, ◌+◌, ◌-◌, ◌/◌, ◌<◌, ◌≤◌, max, length, slice_index};
 ghost use Rattle.std.specs.Simd.Lanes.{put_chunk};
@@ -8,7 +8,7 @@ ghost use Rattle.loop_filter.specs.Lanes.{Each, Each2, AreSamples, sum_of, raise
 use std::simd::prelude::*;
 use std::simd::{u8x16, u16x16};
 
-/// The sixteen samples from `at` on.
+/// The sixteen samples starting at `at`.
 #[inline(always)]
 pub fn load(samples: &[u8], at: usize) -> u8x16
     requires room { at + 16 ≤ length samples.now }
@@ -17,7 +17,7 @@ pub fn load(samples: &[u8], at: usize) -> u8x16
     u8x16::from_slice(&samples[at..])
 }
 
-/// Writes sixteen samples from `at` on.
+/// Stores sixteen samples starting at `at`.
 #[inline(always)]
 pub fn store(samples: &mut [u8], at: usize, row: u8x16)
     requires room { at + 16 ≤ length samples.old }
@@ -35,7 +35,7 @@ pub fn all(value: u8) -> u8x16
     u8x16::splat(value)
 }
 
-/// The lanes of both added, held at 255.
+/// The lanes of both added, clamped to 255.
 #[inline(always)]
 pub fn more(a: u8x16, b: u8x16) -> u8x16
     ensures { Each2 sum_of a b result }
@@ -43,7 +43,7 @@ pub fn more(a: u8x16, b: u8x16) -> u8x16
     a.saturating_add(b)
 }
 
-/// The lanes of `a` less those of `b`, held at 0.
+/// The lanes of `a` minus those of `b`, clamped to 0.
 #[inline(always)]
 pub fn less(a: u8x16, b: u8x16) -> u8x16
     ensures { Each2 (λ x y. x - y) a b result }
@@ -59,7 +59,7 @@ pub fn greater(a: u8x16, b: u8x16) -> u8x16
     a.simd_max(b)
 }
 
-/// How far each two lanes are apart.
+/// The absolute difference of each two lanes.
 #[inline(always)]
 fn apart(a: u8x16, b: u8x16) -> u8x16
     ensures { Each2 abs_diff a b result }
@@ -69,7 +69,7 @@ fn apart(a: u8x16, b: u8x16) -> u8x16
     more(above, below)
 }
 
-/// The lanes of `none` where `test` is 0, and those of `other` elsewhere.
+/// The lanes of `none` if `test` is 0, and those of `other` elsewhere.
 #[inline(always)]
 pub fn either(test: u8x16, none: u8x16, other: u8x16) -> u8x16
     ensures { (i : ℕ) → i < 16 → slice_index result i ≡ either_of (slice_index test i) (slice_index none i) (slice_index other i) }
@@ -93,7 +93,7 @@ fn eighths(a: u8x16) -> u8x16
     a >> u8x16::splat(3)
 }
 
-/// Samples with numbers added that stand at an offset.
+/// Samples with numbers added that have an offset.
 #[inline(always)]
 #[tactic(auto, unfolding(crate::specs::Lanes::raised_by))]
 pub fn raised(offset: u8, samples: u8x16, numbers: u8x16) -> u8x16
@@ -107,7 +107,7 @@ pub fn raised(offset: u8, samples: u8x16, numbers: u8x16) -> u8x16
     less(sum, below)
 }
 
-/// Samples with numbers taken away that stand at an offset.
+/// Samples with numbers subtracted that have an offset.
 #[inline(always)]
 #[tactic(auto, unfolding(crate::specs::Lanes::lowered_by))]
 pub fn lowered(offset: u8, samples: u8x16, numbers: u8x16) -> u8x16
@@ -121,7 +121,7 @@ pub fn lowered(offset: u8, samples: u8x16, numbers: u8x16) -> u8x16
     less(sum, above)
 }
 
-/// The differences of samples, held within -128 to 127, at offset 128.
+/// The differences of samples, clamped to -128 to 127, at offset 128.
 #[inline(always)]
 #[tactic(auto, unfolding(crate::specs::Lanes::difference_of))]
 pub fn difference(a: u8x16, b: u8x16) -> u8x16
@@ -136,7 +136,7 @@ pub fn difference(a: u8x16, b: u8x16) -> u8x16
     less(sum, below)
 }
 
-/// Three times what `p0` lacks of `q0`, added to numbers at offset 128 and held within -128 to 127.
+/// Three times `q0 - p0`, added to numbers at offset 128 and clamped to -128 to 127.
 #[inline(always)]
 #[tactic(auto, unfolding(crate::specs::Lanes::lack_from))]
 pub fn lack(start: u8x16, p0: u8x16, q0: u8x16) -> u8x16
@@ -192,7 +192,7 @@ pub fn shares(numbers: u8x16) -> (u8x16, u8x16, u8x16)
     (far.cast::<u8>(), middle.cast::<u8>(), near.cast::<u8>())
 }
 
-/// How far the step at the edge of each line is over `limit`: 0 where it is within.
+/// The excess of the step at the edge of each line over `limit`: 0 if it is within the limit.
 #[inline(always)]
 #[tactic(auto, unfolding(crate::specs::Lanes::step_over_of))]
 pub fn step_over(limit: u8, p1: u8x16, p0: u8x16, q0: u8x16, q1: u8x16) -> u8x16
@@ -207,7 +207,7 @@ pub fn step_over(limit: u8, p1: u8x16, p0: u8x16, q0: u8x16, q1: u8x16) -> u8x16
     less(step, limit)
 }
 
-/// The greatest difference of samples side by side, on one side of the edge of each line.
+/// The greatest difference of adjacent samples, on one side of the edge of each line.
 #[inline(always)]
 #[tactic(auto, unfolding(crate::specs::Lanes::side_of))]
 pub fn side(s3: u8x16, s2: u8x16, s1: u8x16, s0: u8x16) -> u8x16
@@ -220,8 +220,8 @@ pub fn side(s3: u8x16, s2: u8x16, s1: u8x16, s0: u8x16) -> u8x16
     greater(outermost, inner)
 }
 
-/// How far the greater difference of a sample at the edge and its neighbour is over `threshold`: 0
-/// where the edge of a line is of no high variance.
+/// The excess over `threshold` of the greater difference of a sample at the edge and its neighbour:
+/// 0 in a line whose edge does not have high variance.
 #[inline(always)]
 #[tactic(auto, unfolding(crate::specs::Lanes::variance_over_of))]
 pub fn variance_over(threshold: u8, p1: u8x16, p0: u8x16, q0: u8x16, q1: u8x16) -> u8x16

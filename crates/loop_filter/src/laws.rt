@@ -1,4 +1,4 @@
-//! Laws that show that the definitions mean what they are to mean.
+//! Laws that show that the definitions have their intended meaning.
 
 ghost use Rattle.std.specs.Prelude.{◌≡◌, true, false, [], ◌∷◌};
 ghost use Rattle.frame_header.specs.declared.references.Reference.TheVariants.{Last, Golden, Altref};
@@ -11,9 +11,9 @@ ghost use Rattle.loop_filter.specs.FourSamples.{simple_four};
 ghost use Rattle.loop_filter.specs.Lines.{inner_line, macroblock_line};
 ghost use Rattle.loop_filter.specs.Laws.{worked_deltas, worked_segments, limits_are, LeavesFramesOfLevel0, LeavesMacroblocksOfLevel0, LeavesInnerEdges, GoesMacroblockByMacroblock, SidesTellMacroblocks, ColumnEdgesChangeTheirLines, RowEdgesChangeTheirLines, edge_limits_are, line_of, worked_line, worked_step};
 
-/// Levels of 20 and 60 in segments, and changed by each reference and mode: of the modes inside the
-/// frame B alone has a change of its own. A sum of frame and segment is held before it is changed:
-/// 60 and 20 come to 63, and then to 58 by -3 and -2 (RFC 6386, sections 9.3 and 9.4).
+/// Levels of 20 and 60 in segments, and changed by each reference and mode: of the intra modes only
+/// B has a change of its own. The sum of frame and segment is clamped before it is changed: 60 and
+/// 20 become 63, and then 58 by -3 and -2 (RFC 6386, sections 9.3 and 9.4).
 pub fn worked_levels()
     ensures none { level_in 20 false (worked_segments true) 0 ≡ 20 }
     ensures absolute { level_in 20 true (worked_segments true) 3 ≡ 40 }
@@ -30,7 +30,7 @@ pub fn worked_levels()
     ensures held_between { changed_level worked_deltas (Inter Altref Zero) (level_in 60 true (worked_segments false) 1) ≡ 58 }
 {}
 
-/// Limits of a few levels and of each way of sharpness (RFC 6386, section 15.4).
+/// Limits of a few levels and of each kind of sharpness (RFC 6386, section 15.4).
 #[tactic(auto, unfolding(crate::specs::Strengths::limits_of))]
 pub fn worked_limits()
     ensures soft { limits_of 20 0 true ≡ limits_are 20 1 64 60 }
@@ -43,7 +43,7 @@ pub fn worked_limits()
     ensures at_least_1 { limits_of 1 1 false ≡ limits_are 1 0 7 3 }
 {}
 
-/// What is not filtered (RFC 6386, sections 9.4 and 15.1).
+/// Frames, macroblocks and edges that are not filtered (RFC 6386, sections 9.4 and 15.1).
 #[tactic(auto, unfolding(crate::specs::Frames::filtered_planes, crate::specs::Frames::strength_of))]
 pub fn what_is_left()
     ensures frames { LeavesFramesOfLevel0 }
@@ -51,13 +51,13 @@ pub fn what_is_left()
     ensures inner { LeavesInnerEdges }
 {}
 
-/// The filtered picture is also what filtering goes through where each macroblock, in raster order, is
-/// filtered in all three planes before the next (RFC 6386, section 15.1).
+/// The filtered picture is also the result of filtering macroblock by macroblock, in raster order,
+/// each in all three planes before the next (RFC 6386, section 15.1).
 pub fn filters_macroblock_by_macroblock()
     ensures { GoesMacroblockByMacroblock }
 {}
 
-/// Planes of so many macroblocks each way are what `frame` takes them for.
+/// `frame` derives the right number of macroblocks each way from the sides of the planes.
 pub fn sides_tell_macroblocks()
     ensures { SidesTellMacroblocks }
 {}
@@ -69,9 +69,10 @@ pub fn worked_steps()
     ensures above { simple_four 24 (100 ∷ 100 ∷ 110 ∷ 110 ∷ []) ≡ 100 ∷ 100 ∷ 110 ∷ 110 ∷ [] }
 {}
 
-/// The two normal filters on either side of each of their limits, as RFC 6386, section 15.3 works
-/// them out: a line is filtered up to its limits, and it has high edge variance above the threshold.
-/// Of the step of 20 a is 31 with the outer samples and 60 without; of the step of 64 it is 127.
+/// The two normal filters on either side of each of their limits, calculated from RFC 6386, section
+/// 15.3: a line is filtered up to its limits, and it has high edge variance (hev) above the
+/// threshold. For the step of 20 `a` is 31 with the outer samples and 60 without; for the step of
+/// 64 it is 127.
 #[tactic(auto, unfolding(crate::specs::Lines::inner_line, crate::specs::Lines::macroblock_line, crate::specs::Lines::is_filtered, crate::specs::Lines::is_varied, crate::specs::Lines::lack, crate::specs::Lines::eighth, crate::specs::Lines::share, crate::specs::Lines::raised, crate::specs::Lines::lowered))]
 pub fn worked_lines()
     ensures inner { inner_line (edge_limits_are 54 5 5) worked_line ≡ line_of (90 ∷ 92 ∷ 99 ∷ 107 ∷ 112 ∷ 120 ∷ 126 ∷ 128 ∷ []) }

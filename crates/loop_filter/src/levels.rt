@@ -4,7 +4,7 @@ ghost use Rattle.loop_filter.specs.Levels.{held_level, level_in, reference_delta
 use frame_header::{FilterDeltas, Header, Reference, Segments};
 use mode_parser::{MbMode, VectorMode, YMode};
 
-/// A level held within 0 to 63.
+/// A level clamped to 0 to 63.
 fn held(level: i16) -> u8
     ensures value { result ≡ held_level level }
     ensures small { result ≤ 63 }
@@ -12,7 +12,7 @@ fn held(level: i16) -> u8
     level.clamp(0, 63) as u8
 }
 
-/// A level with two changes, held.
+/// A level with two changes, clamped.
 fn with_changes(level: u8, by_reference: i8, by_mode: i8) -> u8
     ensures value { result ≡ held_level ((pos level +ℤ by_reference) +ℤ by_mode) }
     ensures small { result ≤ 63 }
@@ -21,7 +21,7 @@ fn with_changes(level: u8, by_reference: i8, by_mode: i8) -> u8
     held(i16::from(level) + change)
 }
 
-/// The level of one of the four segments; 0 where there is no such segment.
+/// The level of one of the four segments; 0 if there is no such segment.
 fn level_of_segment(segments: &Segments, segment: u8) -> i8
     ensures { result ≡ slice_index_or segments.now.levels segment (pos 0) }
 {
@@ -48,7 +48,7 @@ fn level_in(level: u8, has_segments: bool, segments: &Segments, segment: u8) -> 
     }
 }
 
-/// By how much the reference of a macroblock changes its level.
+/// The change of a macroblock's level by its reference: `ref_lf_deltas` in libvpx.
 fn reference_delta(deltas: &FilterDeltas, mode: YMode) -> i8
     ensures { result ≡ reference_delta deltas.now mode }
 {
@@ -61,7 +61,7 @@ fn reference_delta(deltas: &FilterDeltas, mode: YMode) -> i8
     }
 }
 
-/// By how much the mode of a macroblock changes its level.
+/// The change of a macroblock's level by its mode: `mode_lf_deltas` in libvpx.
 fn mode_delta(deltas: &FilterDeltas, mode: YMode) -> i8
     ensures { result ≡ mode_delta deltas.now mode }
 {
@@ -86,8 +86,8 @@ fn changed_level(deltas: &FilterDeltas, mode: YMode, level: u8) -> u8
 
 /// The level of the loop filter for a macroblock, 0 to 63 (RFC 6386, sections 9.3, 9.4 and 15).
 ///
-/// It is the frame's, or with segments that of its segment or their sum, held within 0 to 63. Where
-/// the frame adjusts it, it is then changed by reference and mode, and held again.
+/// It is the frame's level, or with segments the segment's or their sum, clamped to 0 to 63. If the
+/// frame adjusts levels, it is then changed by reference and mode, and clamped again.
 #[tactic(auto, unfolding(crate::specs::Levels::level_of))]
 pub fn level(header: &Header, mode: &MbMode) -> u8
     ensures value { result ≡ level_of header.now mode.now }

@@ -12,7 +12,7 @@ use crate::kernels::{Taps, filter as filtered};
 use std::simd::prelude::*;
 use std::simd::{u8x8, u8x16};
 
-/// The lanes of `a`, and those of `b` behind them.
+/// The lanes of `a`, followed by those of `b`.
 #[inline(always)]
 fn joined(a: u8x8, b: u8x8) -> u8x16
     ensures a { (i : ℕ) → i < 8 → slice_index result i ≡ slice_index a i }
@@ -21,7 +21,7 @@ fn joined(a: u8x8, b: u8x8) -> u8x16
     a.shuffle(b, [0, 1, 2, 3, 4, 5, 6, 7, 8, 9, 10, 11, 12, 13, 14, 15])
 }
 
-/// The eight samples from `at` on in `u`, and those in `v` behind them.
+/// The eight samples starting at `at` in `u`, followed by those in `v`.
 #[inline(always)]
 fn load_both(u: &[u8], v: &[u8], at: usize) -> u8x16
     requires room_u { at + 8 ≤ length u.now }
@@ -34,7 +34,7 @@ fn load_both(u: &[u8], v: &[u8], at: usize) -> u8x16
     joined(first, second)
 }
 
-/// Writes eight samples from `at` on in `u`, and eight in `v`.
+/// Stores eight samples starting at `at` in `u`, and eight in `v`.
 #[inline(always)]
 fn store_both(u: &mut [u8], v: &mut [u8], at: usize, row: u8x16)
     requires room_u { at + 8 ≤ length u.old }
@@ -46,7 +46,7 @@ fn store_both(u: &mut [u8], v: &mut [u8], at: usize, row: u8x16)
     row.extract::<8, 8>().copy_to_slice(&mut v[at..]);
 }
 
-/// Takes eight columns of eight samples from each plane, in rows `stride` places apart.
+/// Loads eight columns of eight samples from each plane, in rows `stride` samples apart.
 #[inline(always)]
 fn load_rows(u: &[u8], v: &[u8], start: usize, stride: usize) -> Taps
     requires room_u { start + 7 * stride + 8 ≤ length u.now }
@@ -66,7 +66,7 @@ fn load_rows(u: &[u8], v: &[u8], start: usize, stride: usize) -> Taps
     }
 }
 
-/// Writes eight columns of eight samples into each plane, in rows `stride` places apart.
+/// Stores eight columns of eight samples into each plane, in rows `stride` samples apart.
 #[inline(always)]
 fn store_rows(taps: Taps, u: &mut [u8], v: &mut [u8], start: usize, stride: usize)
     requires room_u { start + 7 * stride + 8 ≤ length u.old }

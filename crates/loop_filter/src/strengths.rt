@@ -8,7 +8,7 @@ use crate::levels::level;
 use frame_header::Header;
 use mode_parser::{MbMode, VectorMode, YMode};
 
-/// How a macroblock is filtered.
+/// The filter limits of a macroblock, and whether its inner edges are filtered.
 #[derive(Clone, Copy)]
 pub(crate) struct Strength {
     /// The limits of its edges.
@@ -86,7 +86,7 @@ pub(crate) fn limits_of_levels(sharpness: u8, is_key: bool) -> [Limits; 64]
     all
 }
 
-/// Whether a macroblock is parted into blocks with modes or vectors of their own.
+/// Whether a macroblock is split into blocks with modes or vectors of their own.
 fn is_parted(mode: YMode) -> bool
     ensures { result ≡ is_parted mode }
 {
@@ -98,8 +98,8 @@ fn is_parted(mode: YMode) -> bool
     }
 }
 
-/// How a macroblock is filtered, where one of its blocks has a token or none has, by the limits of
-/// each level. `None` where it is left as it is.
+/// The filter limits of a macroblock, given whether one of its blocks has a token, from the limits
+/// of each level. `None` if it is not filtered.
 #[inline]
 #[tactic(auto, unfolding(crate::specs::Frames::strength_of))]
 pub(crate) fn strength_for(

@@ -13,7 +13,7 @@ use vp8_tables::Tables;
 /// A key frame of 48 by 32 samples whose bits are all 0.
 const KEY: [u8; 10] = [0x10, 0, 0, 0x9D, 0x01, 0x2A, 48, 0, 32, 0];
 
-/// A frame behind it whose bits are all 0.
+/// A frame after it whose bits are all 0.
 const NEXT: [u8; 3] = [0x11, 0, 0];
 
 #[test]
@@ -106,7 +106,7 @@ fn levels_of_modes_and_segments(rt: HostRuntime) {
     assert_eq!(rt; level_of(&header, split), 25);
 }
 
-/// Fills samples with numbers from 100 on that look random, `range` of them.
+/// Fills samples with numbers starting at 100 that look random, `range` of them.
 fn fill(samples: &mut [u8], seed: u32, range: u32)
     requires { (0 < range) × (range ≤ 32) }
 {
@@ -117,7 +117,7 @@ fn fill(samples: &mut [u8], seed: u32, range: u32)
     }
 }
 
-/// A number that tells planes apart: 31 times what it was before, and the sample, in 32 bits.
+/// A number that distinguishes planes: 31 times its previous value, plus the sample, in 32 bits.
 fn total(plane: &Plane) -> u32 {
     let mut total = 0u32;
     for y in 0..plane.height() {
@@ -128,8 +128,8 @@ fn total(plane: &Plane) -> u32 {
     total
 }
 
-/// The totals of the planes of a filtered frame of zero bits: a key frame, whose macroblocks all have
-/// inner edges, or another, whose macroblocks have them where they have tokens.
+/// The totals of the planes of a filtered frame of zero bits: a key frame, whose macroblocks all
+/// have inner edges, or another, whose macroblocks have them if they have tokens.
 fn filtered(
     rt: &impl Abort,
     alloc: Global,

@@ -43,7 +43,7 @@ unfolding first_sub_modes
 first_sub_modes-chain zero tables above left small = give-chain []
 first_sub_modes-chain (suc n) tables above left small =
     bind-chain (first_sub_modes-chain n tables above left small) (λ before.
-      bind-chain (sub_mode-chain (key_sub_nodes_of tables (number_of (mode_above above before n)) (number_of (mode_left left before n))) (part-probabilities tables.key_subs _ _ small)) (λ mode. give-chain (before ++ mode ∷ [])))
+    bind-chain (sub_mode-chain (key_sub_nodes_of tables (number_of (mode_above above before n)) (number_of (mode_left left before n))) (part-probabilities tables.key_subs _ _ small)) (λ mode. give-chain (before ++ mode ∷ [])))
 
 inter_sub-small : AreProbabilities INTER_SUB_PROBABILITIES
 unfolding are_bytes
@@ -96,7 +96,7 @@ pub key_mode-chain : (tables : TableEntries) (skipped : Option ℕ) (above left 
 unfolding key_mode
 key_mode-chain tables skipped above left small rare =
     bind-chain (skip-chain skipped rare) (λ is_skipped. bind-chain key_y_mode-chain (λ mode. bind-chain (key_sub_modes-chain mode tables above left small) (λ sub_modes.
-      bind-chain (chroma_mode-chain KEY_UV_PROBABILITIES key_uv-small) (λ chroma. give-chain (record { segment = 0; is_skipped = is_skipped; y_mode = mode; sub_modes = sub_modes; uv_mode = chroma; vectors = no_vectors })))))
+    bind-chain (chroma_mode-chain KEY_UV_PROBABILITIES key_uv-small) (λ chroma. give-chain (record { segment = 0; is_skipped = is_skipped; y_mode = mode; sub_modes = sub_modes; uv_mode = chroma; vectors = no_vectors })))))
 
 -- vectors
 bits_at-chain : (places probs : List ℕ) → AreProbabilities probs → IsChain (bits_at places probs)
@@ -218,22 +218,22 @@ intra_mode-chain : (is_skipped : Bool) (probs : Probabilities) → AreProbabilit
 unfolding intra_mode
 intra_mode-chain is_skipped probs y uv =
     bind-chain (inter_y_mode-chain probs.y_modes y) (λ mode. bind-chain (inter_sub_modes-chain mode) (λ sub_modes. bind-chain (chroma_mode-chain probs.uv_modes uv) (λ chroma.
-      give-chain (record { segment = 0; is_skipped = is_skipped; y_mode = mode; sub_modes = sub_modes; uv_mode = chroma; vectors = no_vectors }))))
+    give-chain (record { segment = 0; is_skipped = is_skipped; y_mode = mode; sub_modes = sub_modes; uv_mode = chroma; vectors = no_vectors }))))
 
 referenced_mode-chain : (is_skipped : Bool) (header : Header) (place : MbPlace) (above left above_left : Option MbMode) → header.reference_probabilities.last < 256 → header.reference_probabilities.golden < 256 → AreRows header.context.probabilities.vectors → IsChain (referenced_mode is_skipped header place above left above_left)
 unfolding referenced_mode
 referenced_mode-chain is_skipped header place above left above_left last golden small =
     let near : Reference → Near = λ (from : Reference). near_of above left above_left from header.context.sign_biases place in
     bind-chain (which_reference-chain header.reference_probabilities last golden) (λ from. bind-chain (vector_mode-chain (near from).counts) (λ mode.
-      bind-chain (vectors_by-chain mode (near from) header.context.probabilities.vectors above left small) (λ vectors.
-        give-chain (record { segment = 0; is_skipped = is_skipped; y_mode = Inter from mode; sub_modes = no_sub_modes; uv_mode = Dc; vectors = vectors }))))
+    bind-chain (vectors_by-chain mode (near from) header.context.probabilities.vectors above left small) (λ vectors.
+    give-chain (record { segment = 0; is_skipped = is_skipped; y_mode = Inter from mode; sub_modes = no_sub_modes; uv_mode = Dc; vectors = vectors }))))
 
 inter_mode-chain : (tables : TableEntries) (header : Header) (place : MbPlace) (above left above_left : Option MbMode) → HaveProbabilities tables header → IsChain (inter_mode header place above left above_left)
 unfolding inter_mode
 inter_mode-chain tables header place above left above_left have =
     bind-chain (skip-chain header.skip_probability have.skip) (λ is_skipped. bind-chain (read-chain header.reference_probabilities.inter have.inter) (λ is_referenced. if-chain is_referenced
-      (referenced_mode-chain is_skipped header place above left above_left have.last have.golden have.vectors)
-      (intra_mode-chain is_skipped header.context.probabilities have.y_modes have.uv_modes)))
+    (referenced_mode-chain is_skipped header place above left above_left have.last have.golden have.vectors)
+    (intra_mode-chain is_skipped header.context.probabilities have.y_modes have.uv_modes)))
 
 -- the records of a frame
 segment_at-chain : (header : Header) (map : Option (List ℕ)) (place : ℕ) → AreProbabilities header.segmentation.map_probabilities → IsChain (segment_at header map place)

@@ -27,7 +27,7 @@ pub record HaveProbabilities (tables : TableEntries) (header : Header) : Type 0 
   pub uv_modes : AreProbabilities header.context.probabilities.uv_modes
   pub vectors : AreRows header.context.probabilities.vectors
 
--- the record of each macroblock is a chain of reads, and so are those of the first n
+-- the record of each macroblock is a chain of reads, and so are the records of the first n macroblocks
 abbrev pub RecordsAreChains : Type 0
 RecordsAreChains = (tables : TableEntries) (header : Header) (columns rows : ℕ) (map : Option (List ℕ)) (place : ℕ) (before : List MbMode) → HaveProbabilities tables header → IsChain (mode_at tables header columns rows map place before)
 

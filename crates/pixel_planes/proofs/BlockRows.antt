@@ -14,11 +14,11 @@ pub rows_of-suc : (items : List ℕ) (first stride width n : ℕ) → rows_of it
 unfolding rows_of
 rows_of-suc items first stride width n = ap (λ row. rows_of items first stride width n ++ row) (part_is items (first + n * stride) width)
 
--- row y ends where the rows are said to
+-- row y ends within the rows
 pub row_room : (first stride width y n : ℕ) → width ≤ stride → y < n → first + y * stride + width ≤ first + n * stride
 row_room first stride width y n wide below = grind (arith, mul-le-mul_left)
 
--- as many samples as rows of so many
+-- the number of samples of so many rows
 pub length-rows_of : (items : List ℕ) (first stride width n : ℕ) → width ≤ stride → first + n * stride ≤ length items → length (rows_of items first stride width n) ≡ n * width
 unfolding rows_of
 length-rows_of items first stride width zero wide fits = omega arith
@@ -51,7 +51,7 @@ pub sample_of_rows : (items : List ℕ) (first stride width n x y : ℕ) → wid
 sample_of_rows items first stride width n x y wide fits below in_row =
     sym (get_or-chunk (y * width) width (rows_of items first stride width n) x 0 in_row) ∙ ap (λ row. slice_index row x) (chunk_of_rows items first stride width n y wide fits below) ∙ get_or-chunk (first + y * stride) width items x 0 in_row
 
--- rows that stand one right behind the other at the front of the block
+-- rows that are one directly after the other at the front of the block
 pub rows_at_front : (items : List ℕ) (width n : ℕ) → rows_of items 0 width width n ≡ take (n * width) items
 unfolding rows_of
 rows_at_front items width zero = let none : 0 * width ≡ 0 = omega arith in rw none refl

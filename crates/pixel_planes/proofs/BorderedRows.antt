@@ -7,7 +7,7 @@ use Rattle.std.proofs.lemmas.List.{length-replicate, get_or-replicate, get_or_ap
 use Rattle.pixel_planes.specs.Layout.{bordered_row, bordered_side}
 use Rattle.pixel_planes.proofs.Parts.{chunk_left, chunk_right, chunk_all}
 
--- the border comes to a row's length twice
+-- the border adds twice its width to a row's length
 pub length-bordered_row : (border : ℕ) (row : List ℕ) → length (bordered_row border row) ≡ bordered_side (length row) border
 length-bordered_row border row =
     rw (length-append, length-append, length-replicate border (slice_index row 0), length-replicate border (slice_index row (length row - 1))) (omega arith)

@@ -1,4 +1,4 @@
--- A plane in its block: what the block shows, and its border.
+-- A plane in its block: the samples that the block shows, and its border.
 use Rattle.std.specs.Prelude.{slice_index, slice_range}
 use Rattle.std.specs.Simd.Lanes.{chunk, put_chunk}
 use Rattle.std.proofs.Common.{◌≡◌, ℕ, ◌+◌, ◌-◌, ◌*◌, ◌<◌, ◌≤◌, min, Bool, false, List, length, take, replicate, refl, ap, sym, subst, ◌∙◌, arith, ℤ, pos, negsuc, ◌+ℤ◌}
@@ -14,20 +14,20 @@ use Rattle.pixel_planes.proofs.Parts.{part_is, chunk-chunk, take-put_chunk}
 use Rattle.pixel_planes.proofs.BlockRows.{length-rows_of, chunk_of_rows, sample_of_rows, rows_at_front, same_rows, row_ends}
 use Rattle.pixel_planes.proofs.BorderedRows.{row_in_bordered, sample_in_bordered}
 
--- what is seen of a plane with this layout
+-- the model of a plane with this layout
 abbrev pub shown_value : ℕ → ℕ → ℕ → ℕ → ℕ → Bool → List ℕ → PlaneValue
 shown_value width height border first stride cur items = record { shown = shown_in (layout_of width height border first stride) items; border = border; is_current = cur }
 
--- what is shown is a whole plane
+-- the shown samples are a whole plane
 pub whole_of_laid_out : (l : Layout) (items : List ℕ) → IsLaidOut l items → IsWhole (shown_in l items)
 whole_of_laid_out l items o = (o.wide.0, o.wide.1, o.high.0, o.high.1, length-rows_of items l.first l.stride l.width l.height o.stride_small.0 o.rows_fit ∙ mul_comm l.height l.width)
 
--- a shown row where it stands
+-- a shown row in the block
 pub row_of_laid_out : (l : Layout) (items : List ℕ) (y : ℕ) → IsLaidOut l items → y < l.height → slice_range items (l.first + y * l.stride) (l.first + y * l.stride + l.width) ≡ row_of (shown_in l items) y
 row_of_laid_out l items y o below =
     part_is items (l.first + y * l.stride) l.width ∙ sym (chunk_of_rows items l.first l.stride l.width l.height y o.stride_small.0 o.rows_fit below) ∙ sym (part_is (rows_of items l.first l.stride l.width l.height) (y * l.width) l.width)
 
--- a shown sample where it stands
+-- a shown sample in the block
 pub sample_of_laid_out : (l : Layout) (items : List ℕ) (x y : ℕ) → IsLaidOut l items → x < l.width → y < l.height → slice_index items (l.first + y * l.stride + x) ≡ sample_at (shown_in l items) x y
 sample_of_laid_out l items x y o in_row below = sym (sample_of_rows items l.first l.stride l.width l.height x y o.stride_small.0 o.rows_fit below in_row)
 
@@ -54,11 +54,11 @@ held_go : (side border m : ℕ) (z : ℤ) → z +ℤ pos border ≡ pos m → he
 held_go side border m (pos n) at = omega (arith, ints)
 held_go side border m (negsuc n) at = omega (arith, ints)
 
--- a coordinate held within the plane, by its place in the block
+-- a coordinate clamped to the plane, by its index in the block
 pub held_is : (side border found k : ℕ) (x : ℤ) → pos found ≡ x +ℤ pos border → held_place side (x +ℤ pos k) ≡ min (found + k - border) (side - 1)
 held_is side border found k x at = held_go side border (found + k) (x +ℤ pos k) (omega (arith, ints))
 
--- a place of the block by its coordinates
+-- an index of the block by its coordinates
 pub reference_of_bordered : (p : Samples) (border : ℕ) (items : List ℕ) → IsWhole p → IsBordered p border items → (left top column row : ℕ) (x y : ℤ) → pos left ≡ x +ℤ pos border → pos top ≡ y +ℤ pos border → left + column < bordered_side p.width border → top + row < bordered_side p.height border → slice_index items ((top + row) * bordered_side p.width border + (left + column)) ≡ reference_sample p (x +ℤ pos column) (y +ℤ pos row)
 unfolding reference_sample
 reference_of_bordered p border items whole b left top column row x y across down in_row in_block =
@@ -74,17 +74,17 @@ row_there p border items whole b y below =
     let row : chunk ((border + y) * stride) stride items ≡ bordered_row border (row_of p y) = sym (part_is items ((border + y) * stride) stride) ∙ b.rows (border + y) (omega arith) ∙ ap (λ k. bordered_row border (row_of p k)) held in
     ap (λ k. chunk k p.width items) at ∙ sym (chunk-chunk ((border + y) * stride) stride border p.width items (omega arith)) ∙ ap (chunk border p.width) row ∙ row_in_bordered border p.width (row_of p y) (length-row_of p y whole below) ∙ part_is p.samples (y * p.width) p.width ∙ ap (λ k. chunk k p.width p.samples) (sym start)
 
--- what a block with its border shows
+-- the shown samples of a block with its border
 pub shown_of_bordered : (p : Samples) (border : ℕ) (items : List ℕ) → IsWhole p → IsBordered p border items → rows_of items (border * bordered_side p.width border + border) (bordered_side p.width border) p.width p.height ≡ p.samples
 shown_of_bordered p border items whole b =
     let stride : ℕ = bordered_side p.width border in
     same_rows items p.samples (border * stride + border) stride 0 p.width p.width p.height (λ y below. row_there p border items whole b y below) ∙ rows_at_front p.samples p.width p.height ∙ take_all (p.height * p.width) p.samples (omega (arith, whole.4, mul_comm p.width p.height))
 
--- what a packed block shows
+-- the shown samples of a packed block
 pub shown_of_packed : (items packed : List ℕ) (first stride width height : ℕ) → take (width * height) packed ≡ rows_of items first stride width height → rows_of packed 0 width width height ≡ rows_of items first stride width height
 shown_of_packed items packed first stride width height value = rows_at_front packed width height ∙ ap (λ k. take k packed) (mul_comm height width) ∙ value
 
--- what is left behind a write to a packed block
+-- the block after a write to a packed block
 pub shown_of_written : (items ws : List ℕ) (at first stride width height : ℕ) → stride ≡ width → first ≡ 0 → rows_of (put_chunk at items ws) first stride width height ≡ put_chunk at (rows_of items first stride width height) ws
 shown_of_written items ws at first stride width height flat front =
     rw (flat, front, rows_at_front (put_chunk at items ws) width height, rows_at_front items width height) (take-put_chunk (height * width) at items ws)
@@ -115,7 +115,7 @@ bordered_of_replicate width height border value m wide high size =
           part_is (replicate m value) (row * stride) stride ∙ chunk-replicate (row * stride) stride m value (omega (arith, size, mul_comm stride (bordered_side height border), row_ends row (bordered_side height border) stride within)) ∙ sym (ap (bordered_row border) part ∙ bordered_replicate border width value wide);
     }
 
--- a plane whose border is up to date: where it stands, and that it shows what it showed
+-- a plane whose border is up to date: its layout, and that its shown samples are unchanged
 pub record IsSettled (width height border first stride : ℕ) (items : List ℕ) (shown : Samples) : Type 0 where
   pub laid_out : IsLaidOut (layout_of width height border first stride) items
   pub has_border : IsBordered shown border items
@@ -132,7 +132,7 @@ bare_row width height first stride items flat o row within =
     let at : first + row * stride ≡ row * width = rw (flat, front) (omega arith) in
     rw (held, side, append-nil) (rw (at) at (row_of_laid_out (layout_of width height 0 first stride) items row o below))
 
--- with no border nothing is to be done
+-- with no border there is nothing to do
 settled_bare : (width height first stride : ℕ) (items : List ℕ) → stride ≡ width → IsLaidOut (layout_of width height 0 first stride) items → IsSettled width height 0 first stride items (shown_in (layout_of width height 0 first stride) items)
 settled_bare width height first stride items flat o =
     record { laid_out = o; has_border = record { rows = bare_row width height first stride items flat o }; same = refl }
@@ -200,7 +200,7 @@ pub part_in_block : (l : Layout) (items : List ℕ) (top left n : ℕ) → IsLai
 part_in_block l items top left n o in_block in_row =
     omega (arith, o.room, mul_comm (bordered_side l.width l.border) (bordered_side l.height l.border), row_ends top (bordered_side l.height l.border) (bordered_side l.width l.border) (omega arith))
 
--- where a rectangle stands in the block with its border
+-- the position of a rectangle in the block with its border
 pub record IsPlaced (l : Layout) (x y : ℤ) (width height left top : ℕ) : Type 0 where
   pub across : (pos left ≡ x +ℤ pos l.border) × (left + width ≤ bordered_side l.width l.border)
   pub down : (pos top ≡ y +ℤ pos l.border) × (top + height ≤ bordered_side l.height l.border)

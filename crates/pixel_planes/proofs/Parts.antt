@@ -1,4 +1,4 @@
--- Parts of a list: of an append, of a part, and behind a write.
+-- Parts of a list: of an append, of a part, and after a write.
 use Rattle.std.specs.Prelude.{slice_range}
 use Rattle.std.specs.Simd.Lanes.{chunk, put_chunk}
 use borrow.Rule.Slice.PartMut.{put_mid}
@@ -6,7 +6,7 @@ use Rattle.std.proofs.Common.{◌≡◌, ℕ, zero, suc, ◌+◌, ◌-◌, ◌�
 use Rattle.std.proofs.lemmas.List.{drop-append-le, take-append-le, drop_at, drop-drop, drop-take, take-take, take_all}
 use Rattle.std.proofs.lemmas.Simd.{put_chunk_is}
 
--- a part of n places
+-- a part of n elements
 pub part_is : (xs : List ℕ) (i n : ℕ) → slice_range xs i (i + n) ≡ chunk i n xs
 part_is xs i n = ap (λ k. take k (drop i xs)) (omega arith)
 
@@ -49,13 +49,13 @@ chunk_from_front at i n xs ys before same = sym (chunk_of_take at i n xs before)
 suc_plus : (i n : ℕ) → suc i + n ≡ suc (i + n)
 suc_plus i n = omega arith
 
--- a front with a part behind it
+-- a front followed by a part
 pub take_more_chunk : (i n : ℕ) (xs : List ℕ) → take i xs ++ chunk i n xs ≡ take (i + n) xs
 take_more_chunk zero n xs = let e : 0 + n ≡ n = omega arith in rw e refl
 take_more_chunk (suc i) n [] = take_all n [] (omega arith) ∙ sym (take_all (suc i + n) [] (omega arith))
 take_more_chunk (suc i) n (x ∷ xs) = rw (suc_plus i n) (ap (λ (l : List ℕ). x ∷ l) (take_more_chunk i n xs))
 
--- a front of a list with something written into it
+-- a front of a list with a part written into it
 pub take-put_chunk : (n i : ℕ) (xs ws : List ℕ) → take n (put_chunk i xs ws) ≡ put_chunk i (take n xs) ws
 take-put_chunk zero i xs ws = refl
 take-put_chunk (suc n) i [] ws = refl
@@ -63,7 +63,7 @@ take-put_chunk (suc n) zero (x ∷ xs) [] = refl
 take-put_chunk (suc n) zero (x ∷ xs) (w ∷ ws) = ap (λ (l : List ℕ). w ∷ l) (take-put_chunk n zero xs ws)
 take-put_chunk (suc n) (suc i) (x ∷ xs) ws = ap (λ (l : List ℕ). x ∷ l) (take-put_chunk n i xs ws)
 
--- what was written is the part there
+-- the written part is the part there
 pub chunk_at-put_chunk : (i n : ℕ) (xs ws : List ℕ) → length ws ≡ n → i + n ≤ length xs → chunk i n (put_chunk i xs ws) ≡ ws
 chunk_at-put_chunk zero n xs [] len fits = rw (← len) refl
 chunk_at-put_chunk zero n [] (w ∷ ws) len fits = absurd (omega arith)
@@ -71,14 +71,14 @@ chunk_at-put_chunk zero n (x ∷ xs) (w ∷ ws) len fits = rw (← len) (ap (λ 
 chunk_at-put_chunk (suc i) n [] ws len fits = absurd (omega arith)
 chunk_at-put_chunk (suc i) n (x ∷ xs) ws len fits = chunk_at-put_chunk i n xs ws len (omega arith)
 
--- what stands before the place of a write
+-- the part before the index of a write
 pub take_before-put_chunk : (n i : ℕ) (xs ws : List ℕ) → n ≤ i → take n (put_chunk i xs ws) ≡ take n xs
 take_before-put_chunk zero i xs ws before = refl
 take_before-put_chunk (suc n) i [] ws before = refl
 take_before-put_chunk (suc n) zero (x ∷ xs) ws before = absurd (omega arith)
 take_before-put_chunk (suc n) (suc i) (x ∷ xs) ws before = ap (λ (l : List ℕ). x ∷ l) (take_before-put_chunk n i xs ws (omega arith))
 
--- what stands behind a write
+-- the part after a write
 pub drop_behind-put_chunk : (n i : ℕ) (xs ws : List ℕ) → i + length ws ≤ n → drop n (put_chunk i xs ws) ≡ drop n xs
 drop_behind-put_chunk n i [] ws behind = refl
 drop_behind-put_chunk zero zero (x ∷ xs) [] behind = refl
@@ -88,6 +88,6 @@ drop_behind-put_chunk (suc n) zero (x ∷ xs) [] behind = refl
 drop_behind-put_chunk (suc n) zero (x ∷ xs) (w ∷ ws) behind = drop_behind-put_chunk n zero xs ws (omega arith)
 drop_behind-put_chunk (suc n) (suc i) (x ∷ xs) ws behind = drop_behind-put_chunk n i xs ws (omega arith)
 
--- what a write to a part of a slice leaves
+-- the list after a write to a part of a slice
 pub mid_is_put : (i k : ℕ) (xs ws : List ℕ) → length ws ≡ k → i + k ≤ length xs → put_mid i k xs ws ≡ put_chunk i xs ws
 mid_is_put i k xs ws len fits = rw (← len) (sym (put_chunk_is i xs ws (omega arith)))

@@ -8,7 +8,7 @@ use Rattle.std.proofs.lemmas.Bool.{cases_lt, cases_eq, ne_eqb, cond-true, cond-f
 use Rattle.std.proofs.lemmas.Simd.{get_or-put_chunk_below, get_or-put_chunk_at, get_or-put_chunk_above}
 use Rattle.pixel_planes.specs.Samples.{Samples, sample_at, with_row, WritesOneRow}
 
--- what a `Vec` keeps of the list that is left behind a lent range of it
+-- the list of a `Vec` after a lent range of it was written
 pub lent_range_is_put : (i : ℕ) (xs ws : List ℕ) → take (length xs) ((take i xs ++ (ws ++ drop (length ws) (drop i xs))) ++ drop (length (take i xs ++ (ws ++ drop (length ws) (drop i xs)))) xs) ≡ put_chunk i xs ws
 lent_range_is_put i [] ws = refl
 lent_range_is_put zero (x ∷ xs) [] = take-append_seam (x ∷ xs) (drop (length (x ∷ xs)) (x ∷ xs))
@@ -19,15 +19,15 @@ lent_range_is_put (suc i) (x ∷ xs) ws = ap (λ (l : List ℕ). x ∷ l) (lent_
 pub written_range : (n i : ℕ) (xs ws : List ℕ) → n ≡ length xs → take n ((take i xs ++ (ws ++ drop (length ws) (drop i xs))) ++ drop (length (take i xs ++ (ws ++ drop (length ws) (drop i xs)))) xs) ≡ put_chunk i xs ws
 written_range n i xs ws e = rw e (lent_range_is_put i xs ws)
 
--- a place in a row above row y stands before row y
+-- an index in a row above row y is before row y
 before_row : (w x y other : ℕ) → x < w → other < y → other * w + x < y * w
 before_row w x y other in_row above = grind (arith, mul-le-mul_left)
 
--- row y stands within a plane of more than y rows
+-- row y is within a plane of more than y rows
 pub row_fits : (w h y : ℕ) → y < h → y * w + w ≤ w * h
 row_fits w h y below = grind (arith, mul-le-mul_left)
 
--- a place in a row below row y stands after row y
+-- an index in a row below row y is after row y
 after_row : (w x y other : ℕ) → y < other → y * w + w ≤ other * w + x
 after_row w x y other below = grind (arith, mul-le-mul_left)
 

@@ -1,21 +1,21 @@
--- How the samples of a plane and of its border stand in one block of memory.
+-- The layout of the samples of a plane and of its border in one block of memory.
 use Rattle.std.specs.Prelude.{◌≡◌, ℕ, zero, suc, ◌+◌, ◌-◌, ◌*◌, ◌<◌, ◌≤◌, min, List, [], ◌++◌, length, replicate, slice_index, slice_range}
 use Rattle.pixel_planes.specs.Samples.{Samples, row_of}
 
--- so many rows of `width` samples, the first of them from place `first` on and each further one `stride` places behind the one above, one row after another
+-- so many rows of `width` samples, the first of them starting at index `first` and each further one `stride` after the one above, concatenated
 unfoldable pub rows_of : List ℕ → ℕ → ℕ → ℕ → ℕ → List ℕ
 rows_of items first stride width zero = []
 rows_of items first stride width (suc n) = rows_of items first stride width n ++ slice_range items (first + n * stride) (first + n * stride + width)
 
--- column x of row y of such rows is the sample that many places behind the first one of its row in the block
+-- column x of row y of such rows is the sample x after the first one of its row in the block
 abbrev pub RowsArePlaced : Type 0
 RowsArePlaced = (items : List ℕ) (first stride width n x y : ℕ) → width ≤ stride → first + n * stride ≤ length items → y < n → x < width → slice_index (rows_of items first stride width n) (y * width + x) ≡ slice_index items (first + y * stride + x)
 
--- the side of a plane with its border before and behind it
+-- the side of a plane with its border on both sides
 abbrev pub bordered_side : ℕ → ℕ → ℕ
 bordered_side side border = side + 2 * border
 
--- a row with its first sample so many times before it and its last sample so many times behind it
+-- a row with its first sample so many times before it and its last sample so many times after it
 abbrev pub bordered_row : ℕ → List ℕ → List ℕ
 bordered_row border row = replicate border (slice_index row 0) ++ (row ++ replicate border (slice_index row (length row - 1)))
 
@@ -23,7 +23,7 @@ bordered_row border row = replicate border (slice_index row 0) ++ (row ++ replic
 pub record IsBordered (p : Samples) (border : ℕ) (items : List ℕ) : Type 0 where
   pub rows : (row : ℕ) → row < bordered_side p.height border → slice_range items (row * bordered_side p.width border) (row * bordered_side p.width border + bordered_side p.width border) ≡ bordered_row border (row_of p (min (row - border) (p.height - 1)))
 
--- the sides of a plane and its border, and where its shown rows stand in the block
+-- the sides of a plane and its border, and the position of its shown rows in the block
 pub record Layout : Type 0 where
   pub width : ℕ
   pub height : ℕ
@@ -35,20 +35,20 @@ pub record Layout : Type 0 where
 abbrev pub layout_of : ℕ → ℕ → ℕ → ℕ → ℕ → Layout
 layout_of width height border first stride = record { width = width; height = height; border = border; first = first; stride = stride }
 
--- what the block shows
+-- the shown samples of the block
 abbrev pub shown_in : Layout → List ℕ → Samples
 shown_in l items = record { width = l.width; height = l.height; samples = rows_of items l.first l.stride l.width l.height }
 
--- the plane of these sides whose rows stand one right behind the other at the front of the block
+-- the plane of these sides whose rows are one directly after the other at the front of the block
 abbrev pub flat_plane : ℕ → ℕ → List ℕ → Samples
 flat_plane width height items = record { width = width; height = height; samples = rows_of items 0 width width height }
 
--- the rows that stood at the front of the block now stand in it with their border
+-- the rows from the front of the block are now in it with their border
 abbrev pub HasBorderedRows : ℕ → ℕ → ℕ → List ℕ → List ℕ → Type 0
 HasBorderedRows width height border before items =
     (y : ℕ) → y < height → slice_range items ((border + y) * bordered_side width border) ((border + y) * bordered_side width border + bordered_side width border) ≡ bordered_row border (slice_range before (y * width) (y * width + width))
 
--- the sides are 1 to 16,384 and the border at most 64; the block has room for the plane with its border; the shown rows stand in it, apart from each other, or one right behind the other at its front
+-- the sides are 1 to 16,384 and the border at most 64; the block has room for the plane with its border; the shown rows are in it, apart from each other, or one directly after the other at its front
 pub record IsLaidOut (l : Layout) (items : List ℕ) : Type 0 where
   pub wide : (0 < l.width) × (l.width ≤ 16384)
   pub high : (0 < l.height) × (l.height ≤ 16384)

@@ -1,4 +1,4 @@
--- What is seen of a picture: its shown size and its three planes.
+-- The model of a picture: its shown size and its three planes.
 use Rattle.std.specs.Prelude.{◌≡◌, ℕ, zero, suc, ◌+◌, ◌*◌, ◌/◌, ◌<◌, ◌≤◌, List, [], ◌++◌, take}
 use Rattle.pixel_planes.specs.Samples.{Samples, IsWhole, row_of}
 use Rattle.pixel_planes.specs.declared.pictures.Component.{Component}
@@ -16,7 +16,7 @@ pub record PictureSamples : Type 0 where
 abbrev pub half_side : ℕ → ℕ
 half_side n = (n + 1) / 2
 
--- how many macroblocks of 16 samples cover a shown side
+-- the number of macroblocks of 16 samples that cover a shown side
 abbrev pub macroblocks : ℕ → ℕ
 macroblocks n = (n + 15) / 16
 
@@ -40,17 +40,17 @@ plane_of p Luma = p.luma
 plane_of p Cb = p.cb
 plane_of p Cr = p.cr
 
--- a luma side as it is in this component
+-- a luma side as a side of this component
 abbrev pub side_of : Component → ℕ → ℕ
 side_of Luma n = n
 side_of Cb n = half_side n
 side_of Cr n = half_side n
 
--- how many samples of a row of this component are shown
+-- the number of samples of a row of this component that are shown
 abbrev pub shown_width : PictureSamples → Component → ℕ
 shown_width p component = side_of component p.width
 
--- how many rows of this component are shown
+-- the number of rows of this component that are shown
 abbrev pub shown_height : PictureSamples → Component → ℕ
 shown_height p component = side_of component p.height
 
@@ -58,11 +58,11 @@ shown_height p component = side_of component p.height
 abbrev pub shown_row_of : PictureSamples → Component → ℕ → List ℕ
 shown_row_of p component y = take (shown_width p component) (row_of (plane_of p component) y)
 
--- the first n shown rows of this component, one after another
+-- the first n shown rows of this component, concatenated
 abbrev pub shown_rows : PictureSamples → Component → ℕ → List ℕ
 shown_rows p component zero = []
 shown_rows p component (suc n) = shown_rows p component n ++ shown_row_of p component n
 
--- all shown rows of this component, one after another
+-- all shown rows of this component, concatenated
 abbrev pub shown_plane : PictureSamples → Component → List ℕ
 shown_plane p component = shown_rows p component (shown_height p component)

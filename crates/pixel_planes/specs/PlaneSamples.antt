@@ -1,4 +1,4 @@
--- The shown samples of the three planes of a picture that is being made.
+-- The shown samples of the three planes of a picture under construction.
 use Rattle.std.specs.Prelude.{ℕ}
 use Rattle.pixel_planes.specs.Samples.{Samples}
 use Rattle.pixel_planes.specs.Pictures.{PictureSamples}
@@ -10,7 +10,7 @@ pub record PlaneSamples : Type 0 where
   pub cb : Samples
   pub cr : Samples
 
--- what three planes show
+-- the shown samples of three planes
 abbrev pub shown_of : Planes → PlaneSamples
 shown_of planes = record { luma = planes.luma.shown; cb = planes.cb.shown; cr = planes.cr.shown }
 

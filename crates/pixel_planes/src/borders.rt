@@ -1,10 +1,10 @@
-//! Rows of samples that stand apart from each other in a block, and rows with a border.
+//! Rows of samples that are apart from each other in a block, and rows with a border.
 ghost use Rattle.std.specs.Prelude.{◌≡◌, ◌+◌, ◌*◌, ◌<◌, ◌≤◌, length, is_some, IfSome, ℕ, pos, ◌+ℤ◌, slice_range, take};
 ghost use Rattle.pixel_planes.specs.ReferenceSamples.{held_place, spans_within};
 ghost use Rattle.pixel_planes.specs.Layout.{rows_of, bordered_side, bordered_row, flat_plane, IsBordered, HasBorderedRows};
 ghost use Rattle.std.specs.Simd.Lanes.{put_chunk};
 
-/// A coordinate held within a side of 1 to 16,384: 0 before it, its last place behind it.
+/// A coordinate clamped to a side of 1 to 16,384: 0 before it, its last index after it.
 pub(crate) fn held(place: i64, side: usize) -> usize
     requires { (0 < side) × (side ≤ 16384) }
     ensures value { result ≡ held_place side place }
@@ -19,8 +19,8 @@ pub(crate) fn held(place: i64, side: usize) -> usize
     }
 }
 
-/// How far from the first place of a border the place of this coordinate is, where that one and
-/// those after it, `count` in all, lie in the side or its border.
+/// The distance of this coordinate from the start of the border, if this one and those after it,
+/// `count` in all, are in the side or its border.
 pub(crate) fn place(at: i64, count: usize, side: usize, border: usize) -> Option<usize>
     requires some { 0 < count }
     requires small { (side ≤ 16384) × (border ≤ 64) }
@@ -38,8 +38,8 @@ pub(crate) fn place(at: i64, count: usize, side: usize, border: usize) -> Option
     }
 }
 
-/// Moves rows that stand `stride` apart from place `first` on to the front of the block, one right
-/// behind the other.
+/// Moves rows that are `stride` apart, starting at index `first`, to the front of the block, one
+/// directly after the other.
 pub(crate) fn pack(samples: &mut Vec<u8>, first: usize, stride: usize, width: usize, height: usize)
     requires sides { (width ≤ stride) × (stride ≤ 16512) × (height ≤ 16384) }
     requires room { first + height * stride ≤ length samples.old.items }
@@ -52,8 +52,8 @@ pub(crate) fn pack(samples: &mut Vec<u8>, first: usize, stride: usize, width: us
     }
 }
 
-/// Spreads the rows at the front of a block out over it, each with its border, and repeats the
-/// first and the last one above and below them.
+/// Spreads the rows at the front of a block over it, each with its border, and repeats the first
+/// and the last one above and below them.
 pub(crate) fn spread(samples: &mut [u8], width: usize, height: usize, border: usize)
     requires wide { (0 < width) × (width ≤ 16384) }
     requires high { (0 < height) × (height ≤ 16384) }
@@ -70,7 +70,7 @@ pub(crate) fn spread(samples: &mut [u8], width: usize, height: usize, border: us
     repeat_row(&rows[(height - 1) * stride..height * stride], border, below);
 }
 
-/// Spreads the rows at the front of a block out over it, each with its border, from the last to the
+/// Spreads the rows at the front of a block over it, each with its border, from the last to the
 /// first.
 fn spread_rows(samples: &mut [u8], width: usize, height: usize, border: usize)
     requires wide { (0 < width) × (width ≤ 16384) }
@@ -86,7 +86,7 @@ fn spread_rows(samples: &mut [u8], width: usize, height: usize, border: usize)
     }
 }
 
-/// Writes a row `count` times, one right behind the other.
+/// Writes a row `count` times, one directly after the other.
 fn repeat_row(row: &[u8], count: usize, out: &mut [u8])
     requires small { (length row.now ≤ 16512) × (count ≤ 64) }
     requires room { length out.old ≡ count * length row.now }
@@ -98,7 +98,7 @@ fn repeat_row(row: &[u8], count: usize, out: &mut [u8])
     }
 }
 
-/// Puts the row from place `from` on, with its border, at place `to`, which lies behind it.
+/// Copies the row at index `from`, with its border, to index `to`, which is after it.
 fn spread_row(samples: &mut [u8], from: usize, to: usize, width: usize, border: usize)
     requires small { (0 < width) × (width ≤ 16384) × (border ≤ 64) }
     requires behind { from + width ≤ to }

@@ -1,25 +1,25 @@
-//! Laws over the definitions of this crate: each is the contract of a function that does nothing.
+//! Laws on the definitions of this crate: each is the contract of a function that does nothing.
 
 ghost use Rattle.pixel_planes.specs.Samples.{WritesOneRow};
 ghost use Rattle.pixel_planes.specs.ReferenceSamples.{GoesOnPastItsEdges, BorderOf16By16};
 ghost use Rattle.pixel_planes.specs.Layout.{RowsArePlaced};
 
-/// A row that is written holds what was written, and every other row is as it was.
+/// A row that is written has the samples written, and every other row is unchanged.
 pub fn row_write_is_local()
     ensures { WritesOneRow }
 {}
 
-/// A reference sample inside a plane is the plane's own, and past an edge that of the edge.
+/// A reference sample inside a plane is the plane's own, and past an edge it is the edge's.
 pub fn edges_go_on()
     ensures { GoesOnPastItsEdges }
 {}
 
-/// The rows that a block shows are those that stand in it, a stride apart.
+/// The rows that a block shows are rows of it, a stride apart.
 pub fn rows_are_placed()
     ensures { RowsArePlaced }
 {}
 
-/// Where a plane of 16 by 16 samples with a border of 32 has a span.
+/// The spans of a plane of 16 by 16 samples with a border of 32.
 pub fn border_of_16_by_16()
     ensures { BorderOf16By16 }
 {}

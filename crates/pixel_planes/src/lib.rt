@@ -10,5 +10,5 @@ mod tests;
 
 pub use pictures::{Component, Picture, Planes, same};
 pub use planes::{Plane, Window};
-/// The refusal of a block of memory.
+/// An allocation was refused.
 pub use std::alloc::AllocError as NoMemory;

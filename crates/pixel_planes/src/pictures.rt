@@ -11,16 +11,16 @@ use std::rc::Rc;
 /// One of the three parts of a picture.
 #[derive(Clone, Copy, Debug, PartialEq, Eq)]
 pub enum Component {
-    /// Brightness, a sample for each place of the picture.
+    /// Brightness, a sample for each position of the picture.
     Luma,
-    /// The blue difference, a sample for each two by two places.
+    /// The blue difference, a sample for each two by two positions.
     Cb,
-    /// The red difference, a sample for each two by two places.
+    /// The red difference, a sample for each two by two positions.
     Cr,
 }
 
-/// The three planes of a picture that is being made, whose chroma planes have half the sides of
-/// its luma plane.
+/// The three planes of a picture under construction, whose chroma planes have half the sides of its
+/// luma plane.
 #[derive(Debug, Drop)]
 pub struct Planes {
     /// The plane of `Component::Luma`.
@@ -33,8 +33,8 @@ pub struct Planes {
 
 /// A finished picture, whose planes may be shared with other pictures.
 ///
-/// The shown size is 1 to 16,383 each way. The planes have the coded size: luma is as many whole
-/// macroblocks of 16 by 16 samples as cover the shown size, and chroma has half its sides. Their
+/// The shown size is 1 to 16,383 each way. The planes have the coded size: luma has the whole
+/// macroblocks of 16 by 16 samples that cover the shown size, and chroma has half its sides. Their
 /// borders are up to date.
 #[derive(Debug, Drop)]
 pub struct Picture {
@@ -60,7 +60,7 @@ impl Picture {
     /// Makes a picture of these planes, to be shown at `width` by `height`, 1 to 16,383 each.
     ///
     /// The planes have the coded size of that picture. Their borders are brought up to date.
-    /// `NoMemory` where a plane's shared block is refused; the planes are dropped then.
+    /// `NoMemory` if a plane's shared block is refused; the planes are then dropped.
     pub fn share(
         alloc: Global,
         planes: Planes,
@@ -140,9 +140,9 @@ impl Picture {
         &self.cr
     }
 
-    /// The same picture again, which shares its planes and takes no memory.
+    /// The same picture, which shares its planes and takes no memory.
     ///
-    /// `NoMemory` where a plane is shared so often that no further share can be counted.
+    /// `NoMemory` if a plane is shared so often that no further share can be counted.
     pub fn again(&self) -> Result<Picture, NoMemory>
         ensures { IfOk result (λ p. p ≡ self.now) }
     {
@@ -158,7 +158,7 @@ impl Picture {
     /// Shown row `y` of a component, counted from the top.
     ///
     /// It has the shown width in luma, and half of that, rounded up, in chroma. `y` is below the
-    /// component's shown height, which goes by the same rule.
+    /// component's shown height, which follows the same rule.
     pub fn shown_row(&self, component: Component, y: usize) -> &[u8]
         requires { y < shown_height self.now component }
         ensures value { result.now ≡ shown_row_of self.now component y }

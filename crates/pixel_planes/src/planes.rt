@@ -9,12 +9,13 @@ use crate::borders::{held, pack, place, spread};
 use std::alloc::Global;
 use std::marker::Model;
 
-/// A rectangle of 8-bit samples with a border round it, in one block of memory.
+/// A rectangle of 8-bit samples with a border around it, in one block of memory.
 ///
-/// Both sides are 1 to 16,384 samples, and only shown samples count. The border is 0 to 64 samples
-/// wide and repeats the samples at the edges; it is up to date until samples are lent to be written.
+/// Both sides are 1 to 16,384 samples, and only shown samples are compared. The border is 0 to 64
+/// samples wide and repeats the samples at the edges; it is up to date until samples are lent for
+/// writing.
 ///
-/// While the plane is written, its rows stand one right behind the other at the front of the block.
+/// While the plane is written, its rows are one directly after the other at the front of the block.
 /// They are spread out in place when the border is brought up to date.
 #[derive(Debug, Drop)]
 pub struct Plane {
@@ -29,13 +30,13 @@ pub struct Plane {
 
 /// Rows of samples in a plane or in its border.
 ///
-/// Row `y` of the window begins at `samples[y * stride]`. What stands between its rows is no part
+/// Row `y` of the window begins at `samples[y * stride]`. The samples between its rows are not part
 /// of it.
 #[derive(Clone, Copy, Debug)]
 pub struct Window<'a> {
-    /// The samples from the first one of the window on.
+    /// The samples starting at the first one of the window.
     pub samples: &'a [u8],
-    /// How many samples further on the next row begins, at most 16,512.
+    /// The distance to the start of the next row, in samples, at most 16,512.
     pub stride: usize,
 }
 
@@ -55,7 +56,7 @@ impl Plane {
     /// Makes a plane of `width` by `height` samples with a border of 32, each of them `value`, in
     /// one allocation.
     ///
-    /// The sides are 1 to 16,384. The border is up to date. `NoMemory` where the block is refused.
+    /// The sides are 1 to 16,384. The border is up to date. `NoMemory` if the block is refused.
     pub fn make(alloc: Global, width: usize, height: usize, value: u8) -> Result<Plane, NoMemory>
         requires wide { (0 < width) × (width ≤ 16384) }
         requires high { (0 < height) × (height ≤ 16384) }
@@ -68,7 +69,7 @@ impl Plane {
     /// `value`, in one allocation.
     ///
     /// The sides are 1 to 16,384, and the border is 0 to 64. The border is up to date. `NoMemory`
-    /// where the block is refused.
+    /// if the block is refused.
     pub fn make_bordered(
         alloc: Global,
         width: usize,
@@ -117,7 +118,7 @@ impl Plane {
         self.height
     }
 
-    /// The number of columns and of rows that stand round the shown samples at each side.
+    /// The number of columns and of rows around the shown samples at each side.
     pub fn border(&self) -> usize
         ensures value { result ≡ self.now.border }
         ensures small { result ≤ 64 }
@@ -125,15 +126,15 @@ impl Plane {
         self.border
     }
 
-    /// Whether the border repeats the edges of the shown samples as they are now.
+    /// Whether the border repeats the current edges of the shown samples.
     pub fn is_current(&self) -> bool
         ensures { result ≡ self.now.is_current }
     {
         self.is_current
     }
 
-    /// The sample at these coordinates, which are held within the plane: past an edge its samples
-    /// go on (section 18 of RFC 6386).
+    /// The sample at these coordinates, clamped to the plane: past an edge its samples continue
+    /// (section 18 of RFC 6386).
     pub fn sample(&self, x: i64, y: i64) -> u8
         ensures { result ≡ reference_sample self.now.shown x y }
     {
@@ -142,9 +143,10 @@ impl Plane {
         self.samples[self.first + row * self.stride + column]
     }
 
-    /// The `n` samples from (`x`, `y`) to the right, each as `sample` gives it. `n` is at least 1.
+    /// The `n` samples from (`x`, `y`) to the right, each as `sample` returns it. `n` is at least
+    /// 1.
     ///
-    /// None exactly where the border is out of date or a sample lies outside the border.
+    /// None exactly if the border is out of date or a sample is outside the border.
     pub fn span(&self, x: i64, y: i64, n: usize) -> Option<&[u8]>
         requires { 0 < n }
         ensures within { is_some result ≡ is_within_border self.now x y n 1 }
@@ -160,9 +162,9 @@ impl Plane {
     }
 
     /// The samples of `width` columns and `height` rows from (`x`, `y`) to the right and down, each
-    /// as `sample` gives it. Both sides are at least 1.
+    /// as `sample` returns it. Both sides are at least 1.
     ///
-    /// None exactly where the border is out of date or a sample lies outside the border.
+    /// None exactly if the border is out of date or a sample is outside the border.
     pub fn window(&self, x: i64, y: i64, width: usize, height: usize) -> Option<Window<'_>>
         requires wide { 0 < width }
         requires high { 0 < height }
@@ -195,7 +197,7 @@ impl Plane {
 
     /// Shown row `y` to be written, counted from the top: `width` samples. `y` is below the height.
     ///
-    /// The border is out of date from here on.
+    /// The border is then out of date.
     pub fn row_mut(&mut self, y: usize) -> &mut [u8]
         requires { y < self.old.shown.height }
         ensures* writes_back { sem 𝓛 (LendsRow self.entry y result) }
@@ -208,10 +210,10 @@ impl Plane {
         self.samples.slice_mut(start..end)
     }
 
-    /// All shown samples to be written, row by row from the top, each row right behind the one
+    /// All shown samples to be written, row by row from the top, each row directly after the one
     /// above it.
     ///
-    /// The border is out of date from here on.
+    /// The border is then out of date.
     pub fn samples_mut(&mut self) -> &mut [u8]
         ensures* writes_back { sem 𝓛 (LendsSamples self.entry result) }
         ensures value { result.now ≡ self.old.shown.samples }
@@ -250,7 +252,8 @@ impl Plane {
         self.is_current = true;
     }
 
-    /// Puts the border out of date and the shown rows one right behind the other, to be written.
+    /// Marks the border as out of date and moves the shown rows one directly after the other, to be
+    /// written.
     fn open(&mut self)
         ensures { self.new ≡ out_of_date self.old }
     {

@@ -4,7 +4,7 @@ use crate::{Component, NoMemory, Picture, Plane, Planes, same};
 use std::alloc::Global;
 use std::test::Fail;
 
-/// Writes 1, 2, 3 and so on, and 0 behind 255.
+/// Writes 1, 2, 3 and so on, and 0 after 255.
 fn number(samples: &mut [u8]) {
     let mut number = 0u8;
     for sample in samples {
@@ -25,7 +25,7 @@ fn numbered(alloc: Global, width: usize, height: usize, border: usize) -> Result
     Ok(plane)
 }
 
-/// The number in a numbered plane of 16 by 16 samples, or that of the edge.
+/// The number in a numbered plane of 16 by 16 samples, or the edge's.
 fn number_at(x: i64, y: i64) -> i64 {
     y.clamp(0, 15)
         .wrapping_mul(16)
@@ -34,14 +34,14 @@ fn number_at(x: i64, y: i64) -> i64 {
         % 256
 }
 
-/// Whether the span of these samples begins at this place.
+/// Whether the span of these samples begins at this position.
 fn has_span(plane: &Plane, x: i64, y: i64, samples: &[u8]) -> bool
     requires { 0 < length samples.now }
 {
     plane.span(x, y, samples.len()) == Some(samples)
 }
 
-/// Whether there is a span of `n` samples at this place.
+/// Whether there is a span of `n` samples at this position.
 fn is_within(plane: &Plane, x: i64, y: i64, n: usize) -> bool
     requires { 0 < n }
 {
@@ -81,7 +81,7 @@ fn spans_are_samples(plane: &Plane, border: usize) -> bool
     !is_within(plane, -side - 1, 0, 1) && !is_within(plane, -side, 0, 17 + 2 * border)
 }
 
-/// Turns the highest bit of one sample.
+/// Inverts the highest bit of one sample.
 fn turn(plane: &mut Plane, place: usize) {
     if let Some(sample) = plane.samples_mut().get_mut(place) {
         *sample ^= 128;

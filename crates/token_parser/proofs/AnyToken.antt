@@ -1,4 +1,4 @@
--- One block more is asked for a token
+-- One more block is tested for a token
 use Rattle.std.proofs.Common.{◌≡◌, ℕ, ◌+◌, Bool, true, false, ◌||◌, map, refl, arith}
 use Rattle.std.specs.List.{list_any, range_with_len}
 use Rattle.std.proofs.lemmas.List.Folds.{list_any-append}
@@ -12,7 +12,7 @@ last_or false false = refl
 pub one_more : (f : ℕ → Bool) (k : ℕ) → list_any (λ has. has) (map f (range_with_len 0 (k + 1))) ≡ (list_any (λ has. has) (map f (range_with_len 0 k)) || f k)
 one_more f k = rw (map-range_with_len_more {X = Bool} f 0 k k (omega arith), list_any-append) (last_or (list_any (λ has. has) (map f (range_with_len 0 k))) (f k))
 
--- a test that has passed stays so, and one that has not goes by the next block
+-- a test that has passed stays so, and one that has not depends on the next block
 pub found_before : (f : ℕ → Bool) (k : ℕ) (found : Bool) → found ≡ list_any (λ has. has) (map f (range_with_len 0 k)) → found ≡ true → found ≡ list_any (λ has. has) (map f (range_with_len 0 (k + 1)))
 found_before f k found so_far is = rw (one_more f k, ← so_far, is) refl
 

@@ -1,4 +1,4 @@
--- Tables, and where the blocks of a macroblock stand
+-- Tables, and the positions of the blocks of a macroblock
 use Rattle.std.proofs.Common.{◌≡◌, ℕ, zero, suc, ◌+◌, ◌<◌, Bool, true, false, List, [], ◌∷◌, slice_index_or, map, refl, ap, sym, ◌∙◌, arith}
 use Rattle.std.specs.Prelude.{nat_eq, nat_lt}
 use Rattle.std.specs.Int.{from_bool}
@@ -10,13 +10,13 @@ use Rattle.token_parser.specs.declared.block_place.BlockPlace.{BlockPlace}
 use Rattle.token_parser.specs.declared.macroblocks.TheConstants.{INDICES, ABOVE, LEFT, KINDS}
 use Rattle.token_parser.specs.Blocks.{place_of, y2_place, IsInside}
 
--- what is true of all entries is true of each
+-- a fact of all entries holds for each
 pub small-at : (bound : ℕ) (xs : List ℕ) (k : ℕ) → 0 < bound → list_all (λ x. nat_lt x bound) xs ≡ true → slice_index_or xs k 0 < bound
 small-at bound [] k least small = least
 small-at bound (x ∷ xs) zero least small = let first : nat_lt x bound ≡ true = (and_parts _ _ small).0 in grind (arith, nat_tests, first)
 small-at bound (x ∷ xs) (suc k) least small = small-at bound xs k least (and_parts _ _ small).1
 
--- the place that the tables tell
+-- the position from the tables
 abbrev pub table_place : List ℕ → ℕ → BlockPlace
 table_place kinds k =
     let kind = slice_index_or kinds k 0 in

@@ -1,4 +1,4 @@
--- One block more of a macroblock
+-- One more block of a macroblock
 use Rattle.std.proofs.Common.{◌≡◌, ℕ, suc, ◌+◌, ◌≤◌, Bool, true, false, not, List, refl, add-one, arith}
 use Rattle.std.specs.Prelude.{nat_lt, ◌||◌}
 use Rattle.std.specs.Int.{from_bool}
@@ -7,7 +7,7 @@ use Rattle.bool_coder.specs.Reader.{Reader}
 use Rattle.token_parser.specs.declared.tokens.Tokens.{Tokens}
 use Rattle.token_parser.specs.Blocks.{place_of, block, first_blocks}
 
--- without Y2 the first block is left out
+-- without Y2 the first block is skipped
 pub first_blocks-start : (probs : List ℕ) (has_y2 : Bool) (before : Tokens) (r : Reader) → first_blocks (from_bool (not has_y2)) probs has_y2 before r ≡ (before, r)
 unfolding first_blocks
 first_blocks-start probs true before r = refl

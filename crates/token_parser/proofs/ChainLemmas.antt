@@ -51,7 +51,7 @@ tokens_from-chain (suc more) probs kind place context after_zero coefficients sm
     let here : IsChain (token (nodes_at probs kind place context) after_zero) = token-chain (nodes_at probs kind place context) after_zero (part-probabilities probs _ _ small) in
     let later : (place context : ℕ) (after_zero : Bool) (coefficients : List ℤ) → IsChain (tokens_from more probs kind place context after_zero coefficients) = λ place context after_zero coefficients. tokens_from-chain more probs kind place context after_zero coefficients small in
     bind-chain here (λ t. if-chain (t == end_of_block) (give-chain (coefficients, place)) (if-chain (t == 0) (later (place + 1) 0 true coefficients) (
-      bind-chain (size_of-chain t) (λ size. bind-chain (signed_size-chain size) (λ value. later (place + 1) (min size 2) false (slice_set coefficients (slice_index ZIGZAG place) value))))))
+    bind-chain (size_of-chain t) (λ size. bind-chain (signed_size-chain size) (λ value. later (place + 1) (min size 2) false (slice_set coefficients (slice_index ZIGZAG place) value))))))
 
 block-chain : (probs : List ℕ) (at : BlockPlace) (before : Tokens) → AreProbabilities probs → IsChain (block probs at before)
 unfolding block

@@ -1,4 +1,4 @@
--- The extra bits of a size, one by one
+-- The extra bits of a size, in sequence
 use Rattle.std.proofs.Common.{◌≡◌, ℕ, ◌+◌, ◌*◌, ◌^◌, ◌<◌, ◌≤◌, Bool, true, false, List, ◌∷◌, length, drop, refl, add-one, arith}
 use Rattle.std.specs.Prelude.{slice_index}
 use Rattle.std.proofs.Math.Nat.{pow-suc, pow-le-pow_right}
@@ -12,7 +12,7 @@ more_extra_bits-cons : (prob : ℕ) (probs : List ℕ) (value : ℕ) (r s : Read
 unfolding more_extra_bits
 more_extra_bits-cons prob probs value r s bit told = rw told refl
 
--- one bit more, of which i are read
+-- one more bit, of which i are read
 pub more_extra_bits-step : (probs : List ℕ) (i value : ℕ) (r s : Reader) (bit : Bool) → i < length probs → read (slice_index probs i) r ≡ (bit, s) → more_extra_bits (drop i probs) value r ≡ more_extra_bits (drop (i + 1) probs) (2 * value + from_bool bit) s
 more_extra_bits-step probs i value r s bit below told =
     rw (drop-cons probs i 0 below, add-one) (more_extra_bits-cons _ _ _ _ _ _ told)

@@ -1,4 +1,4 @@
--- Walks down a tree: when they are over, and which leaves they reach
+-- Walks down a tree: when they end, and which leaves they reach
 use Rattle.std.proofs.Common.{◌≡◌, ℕ, zero, suc, ◌+◌, ◌/◌, Bool, true, false, List, slice_index_or, refl, arith}
 use Rattle.std.specs.Prelude.{ℤ, pos, unsigned_abs, slice_index, ◌&&◌, if◌then◌else◌}
 use Rattle.std.specs.Int.{from_bool}
@@ -11,7 +11,7 @@ use Rattle.bool_coder.specs.Trees.{is_node, leaf_below}
 abbrev entry_at : List ℤ → ℕ → Bool → ℤ
 entry_at tree node side = slice_index_or tree (node + from_bool side) (pos 0)
 
--- every walk from a node is over with so many bits, at a leaf that passes a test
+-- every walk from a node ends after so many bits, at a leaf that passes a test
 abbrev pub all_below : ℕ → List ℤ → (ℕ → Bool) → ℕ → Bool
 all_below zero tree test node = false
 all_below (suc bits) tree test node = (if is_node (entry_at tree node false) then all_below bits tree test (unsigned_abs (entry_at tree node false)) else test (unsigned_abs (entry_at tree node false))) && (if is_node (entry_at tree node true) then all_below bits tree test (unsigned_abs (entry_at tree node true)) else test (unsigned_abs (entry_at tree node true)))

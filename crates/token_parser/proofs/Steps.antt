@@ -1,4 +1,4 @@
--- One token more of a block
+-- One more token of a block
 use Rattle.std.proofs.Common.{◌≡◌, ℕ, suc, ◌+◌, ◌-◌, ◌<◌, Bool, true, false, List, refl, sym, ◌∙◌, arith}
 use Rattle.std.specs.Prelude.{ℤ, slice_index, slice_set, ◌==◌, ◌&&◌, not, min}
 use Rattle.std.proofs.lemmas.Bool.{and_parts}
@@ -10,11 +10,11 @@ use Rattle.token_parser.specs.Walks.{size_below}
 use Rattle.token_parser.specs.Tokens.{nodes_at, signed_size, tokens_from}
 use Rattle.token_parser.proofs.Leaves.{all_below, leaf_below-more, leaf_below-test}
 
--- a token that stands for a size
+-- a token with a size
 abbrev is_size : ℕ → Bool
 is_size t = not (t == end_of_block) && not (t == 0)
 
--- all tokens in the middle of the tree do, and six bits are enough for them
+-- all tokens in the middle of the tree have one, and six bits are enough for them
 middle : all_below 6 token_tree is_size 4 ≡ true
 middle = refl
 
@@ -26,12 +26,12 @@ token-end : (nodes : List ℕ) (r s : Reader) (bit : Bool) → read (slice_index
 unfolding leaf_below
 token-end nodes r s bit told is = rw (told, is) refl
 
--- or leads to where a token is read behind a 0
+-- or leads to the node where a token is read after a 0
 token-more : (nodes : List ℕ) (r s : Reader) (bit : Bool) → read (slice_index nodes 0) r ≡ (bit, s) → bit ≡ true → token nodes false r ≡ leaf_below 21 token_tree nodes 2 s
 unfolding leaf_below
 token-more nodes r s bit told is = rw (told, is) refl
 
--- there the first bit tells a 0
+-- there the first bit decides whether it is a 0
 zero-token : (bits : ℕ) (nodes : List ℕ) (r s : Reader) (bit : Bool) → read (slice_index nodes 1) r ≡ (bit, s) → bit ≡ false → leaf_below (suc bits) token_tree nodes 2 r ≡ (0, s)
 unfolding leaf_below
 zero-token bits nodes r s bit told is = rw (told, is) refl
@@ -41,7 +41,7 @@ some-token : (bits : ℕ) (nodes : List ℕ) (r s : Reader) (bit : Bool) → rea
 unfolding leaf_below
 some-token bits nodes r s bit told is = rw (told, is) refl
 
--- the number of bits that may be read behind a 0 does not matter
+-- the number of bits that may be read after a 0 does not matter
 second-node : (nodes : List ℕ) (r : Reader) → leaf_below 21 token_tree nodes 2 r ≡ leaf_below 22 token_tree nodes 2 r
 second-node nodes r =
     leaf_below-more 7 14 token_tree (λ t. true) nodes 2 r refl ∙ sym (leaf_below-more 7 15 token_tree (λ t. true) nodes 2 r refl)
@@ -61,7 +61,7 @@ stored : (more : ℕ) (probs : List ℕ) (kind place context : ℕ) (after_zero 
 unfolding tokens_from
 stored more probs kind place context after_zero coefficients t size value r s u v told ends zeros sized signed = rw (told, ends, zeros, sized, signed) refl
 
--- two readings of one token go on alike
+-- two readings of one token continue alike
 alike : (more : ℕ) (probs : List ℕ) (kind place context : ℕ) (coefficients : List ℤ) (r s : Reader) → token (nodes_at probs kind place context) false r ≡ token (nodes_at probs kind place context) true s → tokens_from (suc more) probs kind place context false coefficients r ≡ tokens_from (suc more) probs kind place context true coefficients s
 unfolding tokens_from
 alike more probs kind place context coefficients r s same = rw same refl
@@ -70,7 +70,7 @@ not-true : (b : Bool) → not b ≡ true → b ≡ false
 not-true true is = absurd (cc)
 not-true false is = refl
 
--- the same steps at a place of the 16
+-- the same steps at an index of the 16
 pub end-step : (probs nodes : List ℕ) (kind place context : ℕ) (coefficients : List ℤ) (r s : Reader) (bit : Bool) → nodes ≡ nodes_at probs kind place context → place < 16 → read (slice_index nodes 0) r ≡ (bit, s) → bit ≡ false → tokens_from (16 - place) probs kind place context false coefficients r ≡ ((coefficients, place), s)
 end-step probs nodes kind place context coefficients r s bit are below told is =
     let one_more : 16 - place ≡ suc (16 - (place + 1)) = omega arith in
@@ -99,7 +99,7 @@ some-step probs nodes kind place context coefficients size value r s t u bit are
     let tests = and_parts _ _ (middle-test at_place s) in
     rw one_more (stored _ _ _ _ _ _ _ token_there.0 _ _ _ token_there.1 _ _ (some-token 21 _ _ _ _ there is ∙ leaf_below-more 6 15 token_tree is_size at_place 4 s middle) (not-true _ tests.0) (not-true _ tests.1) sized_there signed)
 
--- behind the last of the 16 nothing is read
+-- after the last of the 16 nothing is read
 pub last-step : (probs : List ℕ) (kind place context : ℕ) (after_zero : Bool) (coefficients : List ℤ) (r : Reader) → place ≡ 16 → tokens_from (16 - place) probs kind place context after_zero coefficients r ≡ ((coefficients, 16), r)
 unfolding tokens_from
 last-step probs kind place context after_zero coefficients r all = rw all refl

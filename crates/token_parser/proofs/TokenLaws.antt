@@ -1,4 +1,4 @@
--- Which tokens there are, and which flags a macroblock leaves alone
+-- The possible tokens, and the flags that a macroblock leaves unchanged
 use Rattle.std.proofs.Common.{◌≡◌, ℕ, zero, suc, ◌<◌, ◌≤◌, Bool, true, false, List, [], refl, ◌∙◌, arith, slice_index_or}
 use Rattle.std.specs.Prelude.{ℤ, nat_lt, nat_le, slice_set, ◌||◌, if◌then◌else◌}
 use Rattle.std.proofs.lemmas.Bool.Decides.{nat_tests}
@@ -23,7 +23,7 @@ token-any nodes r =
     let small : nat_le (leaf_below 7 token_tree nodes 0 r).0 11 ≡ true = leaf_below-test 7 token_tree (λ t. nat_le t 11) nodes 0 r refl in
     rw (leaf_below-more 7 15 token_tree (λ t. true) nodes 0 r refl) (grind (arith, nat_tests, small))
 
--- blocks behind Y2 have flags of their own
+-- blocks after Y2 have flags of their own
 place_of-above : (k : ℕ) → 0 < k → (place_of false k).above < 8
 place_of-above k some = grind (arith, nat_tests)
 
@@ -33,7 +33,7 @@ place_of-left k some below = grind (arith, nat_tests)
 place_of-index : (k : ℕ) → 0 < k → k < 25 → (place_of false k).index < 24
 place_of-index k some below = grind (arith, nat_tests)
 
--- a write below a place
+-- a write below an index
 keeps : {A : Type 0} (xs : List A) (i j : ℕ) (x d : A) → i < j → slice_index_or (slice_set xs i x) j d ≡ slice_index_or xs j d
 keeps xs i j x d below = get_or-set_other xs i j x d (omega arith)
 
@@ -52,7 +52,7 @@ block-y2 probs at before r above left index = written-y2 before at.above at.left
 HasSameY2-trans : (a b c : Tokens) → HasSameY2 a b → HasSameY2 b c → HasSameY2 a c
 HasSameY2-trans a b c p q = record { above = q.above ∙ p.above; left = q.left ∙ p.left; coefficients = q.coefficients ∙ p.coefficients; end = q.end ∙ p.end }
 
--- the blocks behind Y2 leave it alone
+-- the blocks after Y2 leave it unchanged
 pub first_blocks-y2 : (k : ℕ) (probs : List ℕ) (before : Tokens) (r : Reader) → k ≤ 25 → HasSameY2 before (first_blocks k probs false before r).0
 unfolding first_blocks
 first_blocks-y2 zero probs before r most = record { above = refl; left = refl; coefficients = refl; end = refl }

@@ -7,8 +7,8 @@ use Rattle.token_parser.specs.declared.tokens.Tokens.{Tokens}
 use Rattle.token_parser.specs.declared.block_place.BlockPlace.{BlockPlace}
 use Rattle.token_parser.specs.Tokens.{tokens_from}
 
--- where a block stands: its kind, the place of its first token, its number, and the numbers of the flags above it and
--- to its left. Y2 has kind 1, chroma 2, luma 0 behind Y2, which has its first coefficients, and 3 without Y2
+-- the position of a block: its kind, the index of its first token, its number, and the numbers of the flags above it and
+-- to its left. Y2 has kind 1, chroma 2, luma 0 after Y2, which has its first coefficients, and 3 without Y2
 abbrev pub y2_place : BlockPlace
 y2_place = record { kind = 1; first = 0; index = 24; above = 8; left = 8 }
 
@@ -22,7 +22,7 @@ chroma_place blocks flags n = record { kind = 2; first = 0; index = blocks + n; 
 abbrev pub place_of : Bool → ℕ → BlockPlace
 place_of has_y2 k = if k == 0 then y2_place else if nat_lt k 17 then luma_place has_y2 (k - 1) else if nat_lt k 21 then chroma_place 16 4 (k - 17) else chroma_place 20 6 (k - 21)
 
--- a place of one of the 25 blocks
+-- a position of one of the 25 blocks
 pub record IsInside (at : BlockPlace) : Type 0 where
   pub kind : at.kind < 4
   pub first : at.first ≤ 1
@@ -30,7 +30,7 @@ pub record IsInside (at : BlockPlace) : Type 0 where
   pub above : at.above < 9
   pub left : at.left < 9
 
--- a block is read in the context of the flags above and to the left, and leaves both telling whether it has a token,
+-- a block is read in the context of the flags above and to the left, and sets both to whether it has a token,
 -- whatever the values are (section 13.3)
 unfoldable pub block : List ℕ → BlockPlace → Tokens → Reading Tokens
 block probs at before = do
@@ -39,7 +39,7 @@ block probs at before = do
   let has_token = nat_lt at.first told.1
   give (record { above = slice_set before.above at.above has_token; left = slice_set before.left at.left has_token; coefficients = slice_set before.coefficients at.index told.0; ends = slice_set before.ends at.index told.1 })
 
--- the first k blocks of a macroblock, of which the first is left out where it has no Y2
+-- the first k blocks of a macroblock, of which the first is skipped if it has no Y2
 unfoldable pub first_blocks : ℕ → List ℕ → Bool → Tokens → Reading Tokens
 first_blocks zero probs has_y2 before = give before
 first_blocks (suc k) probs has_y2 before = do
@@ -50,7 +50,7 @@ first_blocks (suc k) probs has_y2 before = do
 abbrev pub macroblock : List ℕ → Bool → Tokens → Reading Tokens
 macroblock = first_blocks 25
 
--- the place of a block's first token: luma behind Y2 begins at place 1
+-- the index of a block's first token: luma after Y2 begins at index 1
 abbrev pub first_place : Bool → ℕ → ℕ
 first_place has_y2 index = if has_y2 && nat_lt index 16 then 1 else 0
 
@@ -58,11 +58,11 @@ first_place has_y2 index = if has_y2 && nat_lt index 16 then 1 else 0
 abbrev pub has_token : Bool → Tokens → ℕ → Bool
 has_token has_y2 told index = nat_lt (first_place has_y2 index) (slice_index_or told.ends index 0)
 
--- and whether one of its 25 blocks has
+-- and whether one of its 25 blocks has one
 unfoldable pub has_tokens : Bool → Tokens → Bool
 has_tokens has_y2 told = list_any (λ has. has) (map (has_token has_y2 told) (range_with_len 0 25))
 
--- a macroblock without tokens takes its flags away; that of Y2 stays where it has no Y2 (section 13.3)
+-- a macroblock without tokens clears its flags; the flag of Y2 is unchanged if it has no Y2 (section 13.3)
 abbrev pub no_flags : Bool → List Bool → List Bool
 no_flags has_y2 flags = replicate 8 false ++ (if has_y2 then false else slice_index_or flags 8 false) ∷ []
 

@@ -1,4 +1,4 @@
--- The token tree from a node in its middle on.
+-- The token tree starting at a node in its middle.
 use Rattle.std.specs.Prelude.{ℕ, List}
 use Rattle.bool_coder.specs.Reading.{Reading, ◌>>=◌}
 use Rattle.bool_coder.specs.Trees.{leaf_below}

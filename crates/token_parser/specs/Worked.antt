@@ -1,4 +1,4 @@
--- What the laws are told with.
+-- Examples that laws cite.
 use Rattle.std.specs.Prelude.{◌≡◌, ℕ, ◌+◌, Bool, true, false, ℤ, pos, List, [], ◌∷◌, ◌++◌, map, replicate, slice_index_or, unsigned_abs}
 use Rattle.std.specs.Int.{from_bool}
 use Rattle.bool_coder.specs.Reader.{Reader, started}
@@ -20,7 +20,7 @@ reader_of bits = started (code_text (map (λ bit. (bit, 128)) bits))
 abbrev pub even_odds : List ℕ
 even_odds = replicate 1056 128
 
--- the tokens 2, behind it the sign minus, 0, 4, behind it plus, and the end of the block
+-- the tokens 2, followed by the sign minus, 0, 4, followed by plus, and the end of the block
 abbrev pub three_tokens : List Bool
 three_tokens = (true ∷ true ∷ true ∷ false ∷ false ∷ true ∷ []) ++ (true ∷ false ∷ []) ++ (true ∷ true ∷ false ∷ true ∷ true ∷ false ∷ []) ++ false ∷ []
 

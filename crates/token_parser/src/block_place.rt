@@ -1,6 +1,6 @@
-//! Where the blocks of a macroblock stand.
+//! The positions of the blocks of a macroblock.
 
-/// Where a block stands: its kind (RFC 6386, section 13.3), the place of its first token, its
+/// The position of a block: its kind (RFC 6386, section 13.3), the index of its first token, its
 /// number, and the numbers of the flags above it and to its left.
 #[derive(Clone, Copy)]
 pub struct BlockPlace {

@@ -18,8 +18,8 @@ fn read_sign(reader: &mut Decoder, size: u16) -> i16
     if reader.flag() { -value } else { value }
 }
 
-/// The coefficients of a block behind the place `first`, where its end is known not to stand, and the
-/// place behind its last token. Others stay as they are.
+/// The coefficients of a block starting at the index `first`, where the block is known not to end,
+/// and the index after its last token (eob). Others are unchanged.
 #[inline]
 fn read_more_tokens(
     reader: &mut Decoder,
@@ -63,8 +63,8 @@ fn read_more_tokens(
     }
 }
 
-/// The coefficients of a block that stand behind the place `first`, and the place behind its last
-/// token. Others stay as they are.
+/// The coefficients of a block starting at the index `first`, and the index after its last token
+/// (eob). Others are unchanged.
 #[inline]
 pub(crate) fn read_tokens(
     reader: &mut Decoder,

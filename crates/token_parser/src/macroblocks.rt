@@ -24,7 +24,7 @@ const LEFT: [u8; 25] = [
     8, 0, 0, 0, 0, 1, 1, 1, 1, 2, 2, 2, 2, 3, 3, 3, 3, 4, 4, 5, 5, 6, 6, 7, 7,
 ];
 
-/// The kinds of these blocks: luma has kind 3 where the macroblock has no Y2, and 0 behind it.
+/// The kinds of these blocks: luma has kind 3 if the macroblock has no Y2, and 0 after it.
 const KINDS: [[u8; 25]; 2] = [
     [
         1, 3, 3, 3, 3, 3, 3, 3, 3, 3, 3, 3, 3, 3, 3, 3, 3, 2, 2, 2, 2, 2, 2, 2, 2,
@@ -35,7 +35,7 @@ const KINDS: [[u8; 25]; 2] = [
 ];
 
 impl Tokens {
-    /// No block has a token or a coefficient: what a frame starts with.
+    /// No block has a token or a coefficient: the state at the start of a frame.
     pub fn new() -> Tokens
         ensures { result ≡ no_tokens }
     {
@@ -47,7 +47,7 @@ impl Tokens {
         }
     }
 
-    /// Makes all coefficients and ends 0, and leaves the flags as they are.
+    /// Sets all coefficients and ends to 0, and leaves the flags unchanged.
     #[inline]
     pub fn clear(&mut self)
         ensures { self.new ≡ cleared self.old }
@@ -69,7 +69,7 @@ impl Tokens {
     }
 }
 
-/// The place of a block's first token: luma behind Y2 begins at place 1.
+/// The index of a block's first token: luma after Y2 begins at index 1.
 #[inline]
 fn first_place(has_y2: bool, index: usize) -> usize
     ensures { result ≡ first_place has_y2 index }
@@ -77,7 +77,7 @@ fn first_place(has_y2: bool, index: usize) -> usize
     if has_y2 && index < 16 { 1 } else { 0 }
 }
 
-/// The place of the block whose tokens come behind those of `k` others.
+/// The position of the block whose tokens follow those of `k` others.
 #[inline]
 fn place_of(has_y2: bool, k: usize) -> BlockPlace
     requires { k < 25 }
@@ -110,12 +110,12 @@ fn read_block(reader: &mut Decoder, probs: &[u8; 1056], at: BlockPlace, tokens: 
     tokens.ends[at.index] = end as u8;
 }
 
-/// Reads the tokens of a macroblock: of Y2 where it has one, of 16 blocks of luma, 4 of U and 4 of V
+/// Reads the tokens of a macroblock: of Y2 if it has one, of 16 blocks of luma, 4 of U and 4 of V
 /// (RFC 6386, section 13). `probabilities` has 4 kinds by 8 bands by 3 contexts by 11 nodes.
 ///
 /// `tokens.above` and `tokens.left` are the flags of the macroblocks above and to the left, and
-/// become its own. Each coefficient that is not 0 is written over what stood there, and nothing else
-/// is: the caller hands in lists of zeros.
+/// become its own. Each coefficient that is not 0 is written over the previous value, and no other
+/// is: the caller passes lists of zeros.
 #[inline(never)]
 pub fn read_macroblock(
     decoder: &mut Decoder,
@@ -141,8 +141,8 @@ fn no_flags(has_y2: bool, flags: &[bool; 9]) -> [bool; 9]
     [false, false, false, false, false, false, false, false, y2]
 }
 
-/// Takes the flags of a macroblock without tokens away: all 9 where it has Y2, else those of luma and
-/// chroma (RFC 6386, section 13.3). Coefficients and ends stay as they are.
+/// Clears the flags of a macroblock without tokens: all 9 if it has Y2, otherwise those of luma and
+/// chroma (RFC 6386, section 13.3). Coefficients and ends are unchanged.
 pub fn skip_macroblock(has_y2: bool, tokens: &mut Tokens)
     ensures { tokens.new ≡ skipped has_y2 tokens.old }
 {

@@ -3,16 +3,16 @@
 ghost use Rattle.std.specs.Prelude.{◌≡◌, ◌<◌, length};
 ghost use Rattle.token_parser.specs.Tokens.{nodes_at};
 
-/// The band of each place (RFC 6386, section 13.3), which the contracts cite.
+/// The band of each index (`coeff_bands` in RFC 6386, section 13.3), which the contracts cite.
 const BANDS: [usize; 16] = [0, 1, 2, 3, 6, 4, 5, 6, 6, 6, 6, 6, 6, 6, 6, 7];
 
-/// Where the probabilities of each place's band stand behind the first of its kind: a band has 3
-/// contexts by 11 nodes.
+/// The offset of the probabilities of each index's band within its kind: a band has 3 contexts by
+/// 11 nodes.
 const BAND_STARTS: [usize; 16] = [
     0, 33, 66, 99, 198, 132, 165, 198, 198, 198, 198, 198, 198, 198, 198, 231,
 ];
 
-/// Where the coefficient of each place stands in raster order (RFC 6386, section 13).
+/// The raster index of the coefficient at each index (`zigzag` in RFC 6386, section 13).
 pub(crate) const ZIGZAG: [usize; 16] = [0, 1, 4, 8, 5, 2, 3, 6, 9, 12, 13, 10, 7, 11, 14, 15];
 
 /// The probabilities of the 11 nodes of the token tree: `context` is 0, 1 or 2 by the last token.

@@ -26,7 +26,7 @@ const CATEGORY_5: [u8; 5] = [180, 157, 141, 134, 130];
 
 const CATEGORY_6: [u8; 11] = [254, 254, 243, 230, 196, 177, 153, 140, 133, 130, 129];
 
-/// The least and the greatest size of each token, its extra bits, which are all alike, and their
+/// The least and the greatest size of each token, its extra bits, which are all equal, and their
 /// probabilities (section 13.2).
 const SIZES: [(i16, usize, bool, &[u8]); 16] = [
     (1, 1, false, &[]),
@@ -47,7 +47,7 @@ const SIZES: [(i16, usize, bool, &[u8]); 16] = [
     (2114, 10, true, &CATEGORY_6),
 ];
 
-/// Where a token is read: the kind of its block, its band and its context.
+/// The context in which a token is read: the kind of its block, its band and its context number.
 #[derive(Clone, Copy)]
 struct NodeTable {
     kind: u8,
@@ -63,7 +63,7 @@ fn nodes(kind: u8, band: u8, context: u8) -> NodeTable {
     }
 }
 
-/// Probability i is 1 + (37 i + i div 256) modulo 255, so that hardly two near ones are alike.
+/// Probability i is 1 + (37 i + i div 256) modulo 255, so few neighbours are equal.
 fn counted_probabilities() -> [u8; 1056] {
     let mut probabilities = [0; 1056];
     for (i, probability) in probabilities.iter_mut().enumerate() {
@@ -72,7 +72,7 @@ fn counted_probabilities() -> [u8; 1056] {
     probabilities
 }
 
-/// Writes the bits of a token; those behind a 0 leave out the first.
+/// Writes the bits of a token; after a 0 the first bit is left out.
 fn write_token(
     encoder: &mut Encoder,
     at: NodeTable,
@@ -95,7 +95,7 @@ fn write_extra(encoder: &mut Encoder, bit: bool, probs: &[u8]) -> Result<(), All
     Ok(())
 }
 
-/// Blocks that end at once.
+/// Blocks that end immediately.
 fn write_ends(encoder: &mut Encoder, kind: u8, count: u32) -> Result<(), AllocError> {
     for _block in 0..count {
         write_token(encoder, nodes(kind, 0, 0), END, false)?;
@@ -103,8 +103,8 @@ fn write_ends(encoder: &mut Encoder, kind: u8, count: u32) -> Result<(), AllocEr
     Ok(())
 }
 
-/// In luma block n the n-th of `SIZES` stands as it is at the first place, and as its negative at
-/// the second; no other block has a token.
+/// In luma block n the n-th of `SIZES` is at the first index, and its negative at the second; no
+/// other block has a token.
 fn sizes_text(alloc: Global, has_y2: bool) -> Result<Vec<u8>, AllocError> {
     let mut encoder = Encoder::new(alloc);
     let (kind, first) = if has_y2 { (0, 1) } else { (3, 0) };
@@ -148,8 +148,8 @@ fn each_size_is_read_back(rt: HostRuntime) -> Result<(), Fail> {
     Ok(())
 }
 
-// Y2 has a 0 at all places but the last, luma nothing, the last block of U one 0 and then 1,091 =
-// 67 + 1,024, and the first block of V sixteen times 0.
+// Y2 has a 0 at all indices except the last, luma nothing, the last block of U one 0 and then 1,091
+// = 67 + 1,024, and the first block of V sixteen times 0.
 fn order_text(alloc: Global) -> Result<Vec<u8>, AllocError> {
     let bands = [0, 1, 2, 3, 6, 4, 5, 6, 6, 6, 6, 6, 6, 6, 6, 7];
     let mut encoder = Encoder::new(alloc);
@@ -210,7 +210,7 @@ fn blocks_come_in_order(rt: HostRuntime) -> Result<(), Fail> {
     Ok(())
 }
 
-// Behind the end of a partition every bit is 0, which is the end of each block.
+// After the end of a partition every bit is 0, which is the end of each block.
 #[test]
 fn no_bytes_are_ends(rt: HostRuntime) -> Result<(), Fail> {
     let mut decoder = Decoder::new(&[]);

@@ -1,4 +1,4 @@
--- Bits of lanes, and the numbers that they stand for.
+-- Bits of lanes, and the numbers that they represent.
 use Rattle.std.proofs.Common.{◌≡◌, ℕ, zero, suc, ◌+◌, ◌-◌, ◌*◌, ◌%◌, ◌^◌, ◌<◌, refl, sym, ◌∙◌, arith, ℤ, pos, negsuc, ◌+ℤ◌, ◌-ℤ◌, ◌*ℤ◌, w16, w32, SFits, to_z, of_z}
 use Rattle.std.proofs.lemmas.Int.{ints, to_z-of_z, int_wrap_fits, wrapping_add-bits, wrapping_sub-bits, wrapping_mul-bits, int_wrap-add_left, int_wrap-add_right, int_wrap-sub_right, int_wrap-mul_left, int_wrap-mul_right}
 use Rattle.std.specs.Int.{int_wrap, int_shr}
@@ -13,7 +13,7 @@ use Rattle.transforms.specs.Transforms.{by_sine}
 pub wider : (z : ℤ) → SFits w16 z → SFits w32 z
 wider z fits = record { sfits = omega (arith, fits.sfits) }
 
--- the bits n stand for a number that may be too great for them: they are those of what is left of it
+-- the bits n represent a number that may be too large for them: they are the bits of its reduced form
 pub record Stand (w : Width) (n : ℕ) (z : ℤ) : Type 0 where
   pub below : n < 2 ^ bits w
   pub is : to_z w n ≡ int_wrap w z
@@ -41,14 +41,14 @@ Stand-times w m n x y sm sn = record {
 pub Stand-of : (w : Width) (x : ℤ) → SFits w x → Stand w (of_z w x) x
 Stand-of w x fits = record { below = (of_z_fits w x fits).fits; is = to_z-of_z w x fits ∙ sym (int_wrap_fits w x fits) }
 
--- and is what its bits stand for
+-- and equals the number of its bits
 pub Stand-fits : (w : Width) (n : ℕ) (z : ℤ) → Stand w n z → SFits w z → to_z w n ≡ z
 Stand-fits w n z s fits = s.is ∙ int_wrap_fits w z fits
 
 pub Stand-same : (w : Width) (n : ℕ) (x y : ℤ) → x ≡ y → Stand w n x → Stand w n y
 Stand-same w n x y same s = rw (← same) s
 
--- a part of a number of 16 bits, in 65,536ths rounded down, and its place among 16 bits
+-- a fraction of a number of 16 bits, in 65,536ths rounded down, and its position among 16 bits
 pub shifted_fits : (z : ℤ) → SFits w32 z → SFits w16 (int_shr z 16)
 shifted_fits (pos n) fits = record { sfits = let small : n < 2147483648 = fits.sfits in omega arith }
 shifted_fits (negsuc n) fits = record { sfits = let small : n < 2147483648 = fits.sfits in omega arith }
@@ -60,7 +60,7 @@ sine_product x fits = record { sfits = omega (arith, ints, fits.sfits) }
 pub cosine_product : (x : ℤ) → SFits w16 x → SFits w32 (x *ℤ pos 20091)
 cosine_product x fits = record { sfits = omega (arith, ints, fits.sfits) }
 
--- the smaller of the products that make the sine
+-- the smaller of the products of the sine
 pub sine_less : (x : ℤ) → by_sine x ≡ x +ℤ int_shr (x *ℤ negsuc 30067) 16
 unfolding by_sine
 sine_less (pos zero) = refl

@@ -1,4 +1,4 @@
--- What lanes of 16 bits hold behind the first pass.
+-- Lanes of 16 bits after the first pass.
 use Rattle.std.proofs.Common.{◌≡◌, ℕ, ◌+◌, ◌-◌, ◌*◌, ◌%◌, List, [], ◌∷◌, map, refl, ap, sym, ◌∙◌, lit<, ℤ, pos, negsuc, ◌+ℤ◌, ◌-ℤ◌, ◌*ℤ◌, w16, w32, SFits, to_z, of_z}
 use Rattle.std.specs.List.{range_with_len}
 use Rattle.std.specs.Int.{int_shr}
@@ -29,7 +29,7 @@ shifted_small k y x fits factor room = rw (shifted_is k y x fits factor room) (s
 pub cosine_small : (x : ℤ) → SFits w16 x → SFits w16 (shifted 20091 x)
 cosine_small x fits = shifted_small _ _ x fits cosine_factor (cosine_product x fits)
 
--- a number and the part that is added to it
+-- a number and the part added to it
 abbrev pub more_bits : ℕ → ℤ → ℕ
 more_bits k x = (of_z w16 x + of_z w16 (shifted k x)) % 65536
 
@@ -58,7 +58,7 @@ odd_sum x y = (more_bits 20091 x + more_bits 4294937228 y) % 65536
 abbrev pub odd_less : ℤ → ℤ → ℕ
 odd_less x y = (more_bits 4294937228 x + (65536 - more_bits 20091 y)) % 65536
 
--- a lane behind two exchanges
+-- a lane after two interleavings
 abbrev pub lane : ℕ → ℤ
 lane n = to_z w16 (of_z w16 (to_z w16 (of_z w16 (to_z w16 n))))
 

@@ -1,4 +1,4 @@
--- Samples with their residuals in lanes of 16 bits, held within 0 to 255.
+-- Samples with their residuals in lanes of 16 bits, clamped to 0 to 255.
 use Rattle.std.proofs.Common.{◌≡◌, ℕ, ◌+◌, ◌%◌, ◌<◌, min, Bool, true, false, refl, ap, sym, ◌∙◌, arith, ℤ, pos, negsuc, ◌+ℤ◌, w8, w16, Fits, SFits, to_z, of_z}
 use Rattle.std.proofs.lemmas.Bool.Decides.{nat_tests}
 use Rattle.std.proofs.lemmas.Int.{ints, to_z_pos, of_z-to_z}
@@ -10,7 +10,7 @@ use lib.Signed.{lt_z, non_neg}
 use Rattle.vp8_tables.specs.Bounds.{IsWithin, held}
 use Rattle.transforms.proofs.Bits.{Stand, Stand-plus, Stand-of, Stand-fits}
 
--- bits that stand for a number below 0 become 0, and those for one above 255 become 255
+-- bits of a number below 0 become 0, and bits of one above 255 become 255
 abbrev pub not_below : ℕ → ℕ
 not_below n = cond (top 15 (cond (lt_z (to_z w16 n) (pos 0)) 65535 0)) 0 n
 
@@ -33,7 +33,7 @@ held_bits-pos m small = rw (not_below-pos m small, to_z_pos w16 m small, mask_to
 held_bits-neg : (n m : ℕ) → to_z w16 n ≡ negsuc m → held_bits n ≡ 0
 held_bits-neg n m is = rw (not_below-neg n m is) refl
 
--- a number that is no further from 0 than a sum of a sample and a residual
+-- a number that is as small as a sum of a sample and a residual
 sum_fits : (z : ℤ) → IsWithin 16639 z → SFits w16 z
 sum_fits (pos n) within = record { sfits = omega (arith, ints, within.0, within.1) }
 sum_fits (negsuc n) within = record { sfits = omega (arith, ints, within.0, within.1) }

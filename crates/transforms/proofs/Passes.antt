@@ -1,16 +1,16 @@
--- The inverse DCT, and that of a block with a first coefficient alone.
+-- The inverse DCT, also of a block with only a first coefficient.
 use Rattle.std.proofs.Common.{◌≡◌, ℕ, zero, suc, ◌<◌, List, [], ◌∷◌, refl, ap, sym, ◌∙◌, arith, lit<, ℤ, pos, w16, SFits}
 use Rattle.std.specs.Prelude.{slice_index_or, replicate}
 use Rattle.std.proofs.lemmas.Int.{ints, int_wrap_fits, SFits-int_wrap}
 use Rattle.transforms.specs.Transforms.{by_sine, by_cosine, reduced, eighth, dct_pass, dct_column, inverse_dct}
 use Rattle.transforms.proofs.Rows.{below_four}
 
--- what the first pass leaves has 16 bits
+-- the result of the first pass has 16 bits
 pub column_fits : (cs : List ℤ) (column row : ℕ) → SFits w16 (dct_column cs column row)
 unfolding dct_column
 column_fits cs column row = SFits-int_wrap w16 _
 
--- a pass over a first number alone gives it at each place
+-- a pass over a first number only returns it at each index
 pass_first : (x : ℤ) (n : ℕ) → n < 4 → dct_pass n x (pos 0) (pos 0) (pos 0) ≡ x
 unfolding dct_pass by_sine by_cosine
 pass_first x = below_four (λ n. dct_pass n x (pos 0) (pos 0) (pos 0) ≡ x) (omega (arith, ints)) (omega (arith, ints)) (omega (arith, ints)) (omega (arith, ints))
@@ -29,7 +29,7 @@ column_other first row (suc zero) below less = ap reduced (pass_first (pos 0) ro
 column_other first row (suc (suc zero)) below less = ap reduced (pass_first (pos 0) row below) ∙ reduced_zero
 column_other first row (suc (suc (suc k))) below less = absurd (omega arith)
 
--- the residual of a block with a first coefficient alone is the same everywhere
+-- the residual of a block with only a first coefficient is the same everywhere
 pub inverse_dct-first : (first : ℤ) → SFits w16 first → (column row : ℕ) → column < 4 → row < 4 → inverse_dct (first ∷ replicate 15 (pos 0)) column row ≡ eighth first
 unfolding inverse_dct
 inverse_dct-first first fits column row inside below =
@@ -46,6 +46,6 @@ first_row first residual fits is row below column inside = same column inside �
     same : (column : ℕ) → column < 4 → slice_index_or (residual ∷ residual ∷ residual ∷ residual ∷ []) column (pos 0) ≡ residual
     same = below_four (λ column. slice_index_or (residual ∷ residual ∷ residual ∷ residual ∷ []) column (pos 0) ≡ residual) refl refl refl refl
 
--- lists that begin alike and go on alike
+-- lists with equal heads and equal tails
 pub next_same : {x y : ℤ} {xs ys : List ℤ} → x ≡ y → xs ≡ ys → x ∷ xs ≡ y ∷ ys
 next_same {x} {y} {xs} {ys} first rest = ap (λ (z : ℤ). z ∷ xs) first ∙ ap (λ (l : List ℤ). y ∷ l) rest

@@ -1,4 +1,4 @@
--- What lanes of 32 bits hold behind the second pass.
+-- Lanes of 32 bits after the second pass.
 use Rattle.std.proofs.Common.{◌≡◌, ℕ, ◌+◌, ◌-◌, ◌*◌, ◌%◌, ◌<◌, List, [], ◌∷◌, map, refl, ap, sym, ◌∙◌, arith, lit<, ℤ, pos, negsuc, ◌+ℤ◌, ◌-ℤ◌, ◌*ℤ◌, w16, w32, SFits, to_z, of_z}
 use Rattle.std.specs.List.{range_with_len}
 use Rattle.std.specs.Prelude.{slice_index_or}
@@ -33,7 +33,7 @@ wide x = of_z w32 (to_z w16 (of_z w16 x))
 pub wide_stands : (x : ℤ) → SFits w16 x → Stand w32 (wide x) x
 wide_stands x fits = rw (to_z-of_z w16 x fits) (Stand-of w32 x (wider x fits))
 
--- it and a part that is added to it
+-- it and a part added to it
 abbrev pub more_wide : ℕ → ℤ → ℕ
 more_wide k x = (wide x + of_z w32 (int_shr (to_z w32 (wide x * k % 4294967296)) 16)) % 4294967296
 
@@ -63,7 +63,7 @@ wide_odd_sum x y = (more_wide 20091 x + more_wide 4294937228 y) % 4294967296
 abbrev pub wide_odd_less : ℤ → ℤ → ℕ
 wide_odd_less x y = (more_wide 4294937228 x + (4294967296 - more_wide 20091 y)) % 4294967296
 
--- an eighth of what bits stand for
+-- an eighth of the number of some bits
 abbrev pub eighth_of : ℕ → ℤ
 eighth_of n = to_z w32 (of_z w32 (int_shr (to_z w32 ((n + 4) % 4294967296)) 3))
 
@@ -75,7 +75,7 @@ eighth_near : (y : ℤ) → IsWithin 126088 y → IsWithin 16384 (int_shr y 3)
 eighth_near (pos n) within = (omega (arith, ints, within.0, within.1), omega (arith, ints, within.0, within.1))
 eighth_near (negsuc n) within = (omega (arith, ints, within.0, within.1), omega (arith, ints, within.0, within.1))
 
--- a number that a pass makes
+-- a result of a pass
 record IsPassed (n : ℕ) (z : ℤ) : Type 0 where
   stands : Stand w32 n z
   small : IsWithin 126084 z
@@ -150,7 +150,7 @@ sum_within x y s t = (omega (arith, ints, s.0, s.1, t.0, t.1), omega (arith, int
 less_within : (x y : ℤ) → IsWithin 65536 x → IsWithin 60548 y → IsWithin 126084 (x -ℤ y)
 less_within x y s t = (omega (arith, ints, s.0, s.1, t.0, t.1), omega (arith, ints, s.0, s.1, t.0, t.1))
 
--- the numbers that the second pass makes of what the first left in a row
+-- the results of the second pass over a row after the first
 abbrev pub number0 : List ℤ → ℕ → ℕ
 number0 cs row = (wide_sum (dct_column cs 0 row) (dct_column cs 2 row) + wide_odd_sum (dct_column cs 1 row) (dct_column cs 3 row)) % 4294967296
 
@@ -163,7 +163,7 @@ number2 cs row = (wide_less (dct_column cs 0 row) (dct_column cs 2 row) + (42949
 abbrev pub number3 : List ℤ → ℕ → ℕ
 number3 cs row = (wide_sum (dct_column cs 0 row) (dct_column cs 2 row) + (4294967296 - wide_odd_sum (dct_column cs 1 row) (dct_column cs 3 row))) % 4294967296
 
--- what the second pass makes in a column of a row
+-- the result of the second pass in a column of a row
 abbrev passed : List ℤ → ℕ → ℕ → ℤ
 passed cs column row = dct_pass column (dct_column cs 0 row) (dct_column cs 1 row) (dct_column cs 2 row) (dct_column cs 3 row)
 
@@ -223,7 +223,7 @@ pub row_lanes : (cs : List ℤ) (row : ℕ)
 unfolding inverse_dct
 row_lanes cs row = next_same (eighth_lane _ _ (passed0 cs row)) (next_same (eighth_lane _ _ (passed1 cs row)) (next_same (eighth_lane _ _ (passed2 cs row)) (next_same (eighth_lane _ _ (passed3 cs row)) refl)))
 
--- a residual is no further from 0 than its sum with a sample needs
+-- a residual is small enough for its sum with a sample
 pub residual_within : (cs : List ℤ) (row column : ℕ) → column < 4 → IsWithin 16384 (inverse_dct cs column row)
 unfolding inverse_dct
 residual_within cs row = below_four (λ column. IsWithin 16384 (inverse_dct cs column row)) (near_of _ _ (passed0 cs row)) (near_of _ _ (passed1 cs row)) (near_of _ _ (passed2 cs row)) (near_of _ _ (passed3 cs row))

@@ -1,4 +1,4 @@
--- Rows of residuals that are added one after another.
+-- Rows of residuals that are added in sequence.
 use Rattle.std.proofs.Common.{◌≡◌, ℕ, zero, suc, ◌+◌, ◌*◌, ◌<◌, ◌≤◌, ◌⊎◌, inl, inr, List, length, get_or, set, refl, ap, ◌∙◌, arith, add-zero, length-set, get_or-set_same, get_or-set_other, ℤ, pos, ◌+ℤ◌}
 use Rattle.std.specs.Prelude.{slice_index, slice_index_or}
 use Rattle.std.proofs.Math.Nat.{mul-le-mul_left}
@@ -6,7 +6,7 @@ use Rattle.std.proofs.lemmas.Bool.{cases_lt}
 use Rattle.vp8_tables.specs.Bounds.{held}
 use Rattle.transforms.specs.Residuals.{IsAdded, IsRowAdded}
 
--- what holds at 0 to 3 holds below 4
+-- a fact of 0 to 3 holds for all below 4
 pub below_four : (P : ℕ → Type 0) → P 0 → P 1 → P 2 → P 3 → (k : ℕ) → k < 4 → P k
 below_four P at0 at1 at2 at3 zero less = at0
 below_four P at0 at1 at2 at3 (suc zero) less = at1
@@ -14,7 +14,7 @@ below_four P at0 at1 at2 at3 (suc (suc zero)) less = at2
 below_four P at0 at1 at2 at3 (suc (suc (suc zero))) less = at3
 below_four P at0 at1 at2 at3 (suc (suc (suc (suc k)))) less = absurd (omega arith)
 
--- four samples written one after another
+-- four samples written in sequence
 four_set : List ℕ → ℕ → ℕ → ℕ → ℕ → ℕ → List ℕ
 four_set old start v0 v1 v2 v3 = set (set (set (set old start v0) (start + 1) v1) (start + 2) v2) (start + 3) v3
 
@@ -65,7 +65,7 @@ row_before stride row n earlier = grind (arith, mul-le-mul_left)
 row_behind : (stride row n : ℕ) → n ≤ row → n * stride ≤ row * stride
 row_behind stride row n from = grind (arith, mul-le-mul_left)
 
--- what stands right of a block, or below its row n, stands outside of that row
+-- a sample right of a block, or below its row n, is outside that row
 outside_row : (stride n start row column : ℕ) → 4 ≤ stride → start ≡ n * stride → column < stride → (4 ≤ column) ⊎ (n + 1 ≤ row) → (row * stride + column < start) ⊎ (start + 4 ≤ row * stride + column)
 outside_row stride n start row column wide starts inside (inl right) =
     elim (cases_lt row n) [

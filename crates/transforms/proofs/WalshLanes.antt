@@ -1,4 +1,4 @@
--- What lanes hold behind the passes of the inverse WHT.
+-- Lanes after the passes of the inverse WHT.
 use Rattle.std.proofs.Common.{◌≡◌, ℕ, ◌+◌, ◌-◌, ◌%◌, List, [], ◌∷◌, map, refl, ap, ◌∙◌, arith, lit<, ℤ, pos, negsuc, ◌+ℤ◌, ◌-ℤ◌, w16, w32, SFits, to_z, of_z}
 use Rattle.std.specs.List.{range_with_len}
 use Rattle.std.specs.Int.{int_shr}
@@ -49,11 +49,11 @@ pub wht_column_lanes : (cs : List ℤ) (column : ℕ) → SFits w16 (coefficient
 unfolding wht_column
 wht_column_lanes cs column f0 f1 f2 f3 = next_same (pass_lane0 _ _ _ _ f0 f1 f2 f3) (next_same (pass_lane1 _ _ _ _ f0 f1 f2 f3) (next_same (pass_lane2 _ _ _ _ f0 f1 f2 f3) (next_same (pass_lane3 _ _ _ _ f0 f1 f2 f3) refl)))
 
--- an eighth of what bits stand for, with 3 added before
+-- an eighth of the number of some bits, with 3 added before
 abbrev pub part_of : ℕ → ℤ
 part_of n = to_z w32 (of_z w32 (int_shr (to_z w32 ((n + 3) % 4294967296)) 3))
 
--- a number that the second pass makes
+-- a result of the second pass
 record IsPassed (n : ℕ) (z : ℤ) : Type 0 where
   stands : Stand w32 n z
   small : IsWithin 131072 z
@@ -106,7 +106,7 @@ both_within x y s t = (omega (arith, ints, s.0, s.1, t.0, t.1), omega (arith, in
 rest_within : (x y : ℤ) → IsWithin 65536 x → IsWithin 65536 y → IsWithin 131072 (x -ℤ y)
 rest_within x y s t = (omega (arith, ints, s.0, s.1, t.0, t.1), omega (arith, ints, s.0, s.1, t.0, t.1))
 
--- the numbers that the second pass makes of what the first left in a row
+-- the results of the second pass over a row after the first
 abbrev pub walsh0 : List ℤ → ℕ → ℕ
 walsh0 cs row = (wide_sum (wht_column cs 0 row) (wht_column cs 3 row) + wide_sum (wht_column cs 1 row) (wht_column cs 2 row)) % 4294967296
 
@@ -119,7 +119,7 @@ walsh2 cs row = (wide_sum (wht_column cs 0 row) (wht_column cs 3 row) + (4294967
 abbrev pub walsh3 : List ℤ → ℕ → ℕ
 walsh3 cs row = (wide_less (wht_column cs 0 row) (wht_column cs 3 row) + (4294967296 - wide_less (wht_column cs 1 row) (wht_column cs 2 row))) % 4294967296
 
--- what the second pass makes in a column of a row
+-- the result of the second pass in a column of a row
 abbrev passed : List ℤ → ℕ → ℕ → ℤ
 passed cs column row = wht_pass column (wht_column cs 0 row) (wht_column cs 1 row) (wht_column cs 2 row) (wht_column cs 3 row)
 

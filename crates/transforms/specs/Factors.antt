@@ -6,7 +6,7 @@ use Rattle.frame_header.specs.declared.header.Header.{Header}
 use Rattle.transforms.specs.Transforms.{reduced}
 use Rattle.transforms.specs.declared.factor_set.Factors.{Factors}
 
--- a quantizer index held within 0 to 127
+-- a quantizer index clamped to 0 to 127
 abbrev pub held_index : ℤ → ℕ
 held_index (pos n) = min n 127
 held_index (negsuc n) = 0
@@ -36,6 +36,6 @@ factors_of header segment =
       uv_ac = pos (factor AC_QUANTIZERS index changes.uv_ac_delta);
     }
 
--- a block's coefficients times their factors, that of the first and that of all others
+-- a block's coefficients times their factors, one for the first and one for all others
 abbrev pub dequantised : List ℤ → ℤ → ℤ → List ℤ
 dequantised coefficients dc ac = map (λ k. reduced (slice_index_or coefficients k (pos 0) *ℤ (if k == 0 then dc else ac))) (range_with_len 0 16)

@@ -5,7 +5,7 @@ ghost use Rattle.transforms.specs.Residuals.{IsRowAdded};
 use std::simd::prelude::*;
 use std::simd::{i16x4, u8x4};
 
-/// Adds a row of residuals to the four samples from `start` on, and holds each sum within 0 to
+/// Adds a row of residuals to the four samples starting at `start`, and clamps each sum to 0 to
 /// 255.
 #[inline]
 pub fn add_row(samples: &mut [u8], start: usize, residuals: [i16; 4])

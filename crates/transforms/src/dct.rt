@@ -1,4 +1,4 @@
-//! The inverse DCT of a block, four of its columns or rows at once (RFC 6386, section 14.3).
+//! The inverse DCT of a block, four of its columns or rows at a time (RFC 6386, section 14.3).
 
 ghost use Rattle.std.specs.Prelude.{◌≡◌, ◌+◌, ◌*◌, ◌≤◌, length, ◌∷◌, map, replicate, pos};
 ghost use Rattle.std.specs.List.{range_with_len};
@@ -10,13 +10,14 @@ use crate::blocks::add_row;
 use std::simd::prelude::*;
 use std::simd::{i16x4, i32x4};
 
-/// What the square root of 2 times the sine of pi / 8 is less than 1, in 65,536ths: 35468 - 65536.
+/// The square root of 2 times the sine of pi / 8, minus 1, in 65,536ths: `sinpi8sqrt2` of RFC 6386,
+/// 35468, minus 65536.
 const SINE_LESS_ONE: i32 = -30068;
-/// What the square root of 2 times the cosine of pi / 8 is more than 1, in 65,536ths.
+/// The square root of 2 times the cosine of pi / 8, minus 1, in 65,536ths: `cospi8sqrt2minus1`.
 const COSINE_LESS_ONE: i32 = 20091;
 
-/// What the first pass leaves of the coefficients: each of the four columns, with its rows in lanes.
-/// Lanes of 16 bits wrap, and so each number is reduced to its low 16 bits.
+/// The coefficients after the first pass: each of the four columns, with its rows in lanes. Lanes
+/// of 16 bits wrap, so each number is reduced to its low 16 bits.
 #[inline]
 fn columns_passed(coefficients: &[i16; 16]) -> (i16x4, i16x4, i16x4, i16x4)
     ensures first { result.0 ≡ map (dct_column coefficients.now 0) (range_with_len 0 4) }
@@ -90,10 +91,10 @@ fn eighth(x: i16) -> i16
     ((i32::from(x) + 4) >> 3) as i16
 }
 
-/// Adds what the inverse DCT makes of a block's dequantised coefficients to the samples predicted
-/// for it, and holds each sum within 0 to 255 (RFC 6386, sections 14.3 and 14.5).
+/// Adds the inverse DCT of a block's dequantised coefficients to the samples predicted for it, and
+/// clamps each sum to 0 to 255 (RFC 6386, sections 14.3 and 14.5).
 ///
-/// The coefficients stand row by row. The block is 4 by 4 samples: it begins with the first of
+/// The coefficients are in raster order. The block is 4 by 4 samples: it begins with the first of
 /// `samples`, and its rows are `stride` samples apart.
 #[inline(never)]
 pub fn dct_add(coefficients: &[i16; 16], samples: &mut [u8], stride: usize)
@@ -108,7 +109,7 @@ pub fn dct_add(coefficients: &[i16; 16], samples: &mut [u8], stride: usize)
     add_row(samples, 3 * stride, row3);
 }
 
-/// Does what `dct_add` does for a block whose coefficients are 0 but for the first, which is
+/// The same as `dct_add` for a block whose coefficients are 0 except for the first, which is
 /// `first`: each sample gets the same residual (RFC 6386, sections 14.3 and 14.5).
 #[inline]
 pub fn dct_add_first(first: i16, samples: &mut [u8], stride: usize)

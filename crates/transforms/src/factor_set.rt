@@ -1,5 +1,5 @@
-/// What the tokens of each kind of coefficient are multiplied by (RFC 6386, sections 9.6 and
-/// 14.1). Each is 4 to 440.
+/// The factors by which the tokens of each kind of coefficient are multiplied (RFC 6386, sections
+/// 9.6 and 14.1). Each is 4 to 440.
 #[derive(Clone, Copy, Debug, PartialEq, Eq)]
 pub struct Factors {
     /// For the first coefficient of a luma block: 4 to 157.

@@ -8,7 +8,7 @@ use std::simd::i16x8;
 use std::simd::prelude::*;
 use vp8_tables::{AC_QUANTIZERS, DC_QUANTIZERS};
 
-/// The place in the tables of a quantizer index with a change.
+/// The index into the tables for a quantizer index with a change.
 fn changed(index: u8, delta: i8) -> usize
     ensures value { result ≡ held_index (pos index +ℤ delta) }
     ensures small { result ≤ 127 }
@@ -16,7 +16,7 @@ fn changed(index: u8, delta: i8) -> usize
     (i16::from(index) + i16::from(delta)).clamp(0, 127) as usize
 }
 
-/// An index held at 0 or above.
+/// An index clamped to 0 or above.
 fn held(index: i8) -> usize
     ensures value { result ≡ held_index index }
     ensures small { result ≤ 127 }
@@ -24,7 +24,8 @@ fn held(index: i8) -> usize
     if index < 0 { 0 } else { index as usize }
 }
 
-/// What a segment says of the quantizer index, -127 to 127; 0 where there is no such segment.
+/// The quantizer index, or the change of it, of a segment, -127 to 127; 0 if there is no such
+/// segment.
 fn segment_value(header: &Header, segment: u8) -> i8
     ensures { result ≡ slice_index_or header.now.context.segments.quantizers segment (pos 0) }
 {
@@ -69,7 +70,7 @@ fn ac_factor(index: u8, delta: i8) -> u16
     AC_QUANTIZERS[changed(index, delta)]
 }
 
-/// The factors of a frame in a segment, 0 to 3, which only a frame with segments looks at (RFC
+/// The factors of a frame in a segment, 0 to 3, which is only used in a frame with segments (RFC
 /// 6386, sections 9.6 and 14.1).
 #[tactic(auto, unfolding(crate::specs::Factors::factors_of))]
 pub fn factors(header: &Header, segment: u8) -> Factors
@@ -87,8 +88,8 @@ pub fn factors(header: &Header, segment: u8) -> Factors
     }
 }
 
-/// The coefficients that a block's tokens stand for: the first times `dc`, the others times `ac`,
-/// in the low 16 bits of each product (RFC 6386, section 14.1).
+/// The coefficients of a block's tokens: the first times `dc`, the others times `ac`, in the low 16
+/// bits of each product (RFC 6386, section 14.1).
 #[inline]
 pub fn dequantise(coefficients: &[i16; 16], dc: i16, ac: i16) -> [i16; 16]
     ensures { result ≡ dequantised coefficients.now dc ac }

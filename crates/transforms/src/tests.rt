@@ -2,8 +2,8 @@ use super::*;
 use frame_header::{Quantizers, read_header};
 use vp8_tables::Tables;
 
-/// 100 at place 1 stands alone in its column, and the first pass leaves 100 in each row of it. In
-/// each row 100 + (100 * 20091 >> 16) = 130 and 100 * 35468 >> 16 = 54, so that the residuals are
+/// 100 at index 1 is the only coefficient in its column, and the first pass leaves 100 in each row.
+/// In each row 100 + (100 * 20091 >> 16) = 130 and 100 * 35468 >> 16 = 54, so the residuals are
 /// (130 + 4) >> 3 = 16, (54 + 4) >> 3 = 7, (-54 + 4) >> 3 = -7 and (-130 + 4) >> 3 = -16.
 #[test]
 fn a_lone_coefficient_is_as_worked_by_hand(rt: HostRuntime) {
@@ -51,8 +51,8 @@ fn products_keep_sixteen_bits(rt: HostRuntime) {
     let mut tokens = [2048; 16];
     tokens[1] = -2;
     tokens[15] = 1117;
-    // 2048 * 157 = 321536 = 4 * 65536 + 59392, which stands for -6144; 2048 * 440 = 901120 =
-    // 13 * 65536 + 49152, which stands for -16384; 1117 * 440 = 491480 = 7 * 65536 + 32728.
+    // 2048 * 157 = 321536 = 4 * 65536 + 59392, which represents -6144; 2048 * 440 = 901120 = 13 *
+    // 65536 + 49152, which represents -16384; 1117 * 440 = 491480 = 7 * 65536 + 32728.
     let mut expected = [-16384; 16];
     expected[0] = -6144;
     expected[1] = -880;
@@ -112,7 +112,7 @@ fn factors_are_held(rt: HostRuntime) {
     assert_eq!(rt; factors(&header, 0), changed);
 }
 
-/// Factors of luma alone, which tell the index: 4 + index for both while it is below 7.
+/// Factors of luma only, which show the index: 4 + index for both while it is below 7.
 #[test]
 fn segments_change_the_index(rt: HostRuntime) {
     let packet = [0x10, 0, 0, 0x9D, 0x01, 0x2A, 16, 0, 16, 0];
@@ -143,13 +143,13 @@ fn segments_change_the_index(rt: HostRuntime) {
     }
 }
 
-/// The low 16 bits of a number, by its remainder.
+/// The low 16 bits of a number, calculated by its remainder.
 fn plain_reduced(x: i64) -> i64 {
     let low = x.rem_euclid(65536);
     if low < 32768 { low } else { low - 65536 }
 }
 
-/// One pass of the inverse DCT as RFC 6386, section 14.3, has it.
+/// One pass of the inverse DCT as in RFC 6386, section 14.3.
 fn plain_dct(i0: i64, i1: i64, i2: i64, i3: i64) -> [i64; 4] {
     let a = i0.wrapping_add(i2);
     let b = i0.wrapping_sub(i2);
@@ -167,7 +167,7 @@ fn plain_dct(i0: i64, i1: i64, i2: i64, i3: i64) -> [i64; 4] {
     ]
 }
 
-/// One pass of the inverse WHT as RFC 6386, section 14.3, has it.
+/// One pass of the inverse WHT as in RFC 6386, section 14.3.
 fn plain_wht(i0: i64, i1: i64, i2: i64, i3: i64) -> [i64; 4] {
     let a = i0.wrapping_add(i3);
     let b = i1.wrapping_add(i2);
@@ -215,7 +215,7 @@ fn plain_transform(is_dct: bool, coefficients: &[i16; 16]) -> [i64; 16] {
     result
 }
 
-/// Whether both transforms of the coefficients are the plain ones.
+/// Whether both transforms of the coefficients equal the plain ones.
 fn is_plain(coefficients: &[i16; 16], sample: u8) -> bool {
     let mut samples = [sample; 16];
     dct_add(coefficients, &mut samples, 4);
@@ -259,7 +259,7 @@ fn mixed(state: u64) -> u64 {
         .wrapping_add(1442695040888963407)
 }
 
-/// A number of 16 bits down to 5, by the turn.
+/// A number of 16 bits down to 5, depending on the iteration.
 fn narrowed(state: u64, turn: u32) -> i16 {
     let value = i64::from((state >> 48) as u16) - 32768;
     (value >> (turn % 12)) as i16

@@ -1,4 +1,4 @@
-//! The inverse WHT of a block, four of its columns or rows at once (RFC 6386, section 14.3).
+//! The inverse WHT of a block, four of its columns or rows at a time (RFC 6386, section 14.3).
 
 ghost use Rattle.std.specs.Prelude.{◌≡◌, map};
 ghost use Rattle.std.specs.List.{range_with_len};
@@ -7,8 +7,8 @@ ghost use Rattle.transforms.specs.Transforms.{wht_column, inverse_wht};
 use std::simd::prelude::*;
 use std::simd::{i16x4, i32x4};
 
-/// What the first pass leaves of the coefficients: each of the four columns, with its rows in lanes.
-/// Lanes of 16 bits wrap, and so each number is reduced to its low 16 bits.
+/// The coefficients after the first pass: each of the four columns, with its rows in lanes. Lanes
+/// of 16 bits wrap, so each number is reduced to its low 16 bits.
 #[inline]
 fn columns_passed(coefficients: &[i16; 16]) -> (i16x4, i16x4, i16x4, i16x4)
     ensures first { result.0 ≡ map (wht_column coefficients.now 0) (range_with_len 0 4) }
@@ -30,8 +30,8 @@ fn columns_passed(coefficients: &[i16; 16]) -> (i16x4, i16x4, i16x4, i16x4)
     (column0, column1, column2, column3)
 }
 
-/// The first coefficients of the 16 luma blocks, in raster order, that the inverse WHT makes of
-/// the dequantised coefficients of a Y2 block, which stand row by row (RFC 6386, section 14.3).
+/// The first coefficients of the 16 luma blocks, in raster order: the inverse WHT of the
+/// dequantised coefficients of a Y2 block, which are in raster order (RFC 6386, section 14.3).
 pub fn wht(coefficients: &[i16; 16]) -> [i16; 16]
     ensures { result ≡ inverse_wht coefficients.now }
 {

@@ -1,7 +1,7 @@
 use Rattle.std.proofs.Common.{◌≡◌, ℕ, ◌*◌, ◌/◌, arith}
 use Rattle.loop_filter.proofs.laws.sides_tell_macroblocks.Goals as goal
 
--- how often 16 goes into a multiple of it
+-- a multiple of 16, divided by 16
 sixteenth : (side n : ℕ) → side ≡ 16 * n → side / 16 ≡ n
 sixteenth side n is = omega arith
 

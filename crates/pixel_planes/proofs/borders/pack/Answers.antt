@@ -10,7 +10,7 @@ use Rattle.pixel_planes.proofs.Parts.{chunk_from_tail}
 use Rattle.pixel_planes.proofs.BlockRows.{rows_of-suc, row_room}
 use Rattle.pixel_planes.proofs.borders.pack.Goals as goal
 
--- a row is moved to the front, from where it stands or further on
+-- a row is moved to the front, from its position or further right
 record IsMove (first stride width n y : ℕ) (before items new : List ℕ) : Type 0 where
   wide : width ≤ stride
   below : y < n

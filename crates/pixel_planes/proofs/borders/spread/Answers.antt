@@ -23,7 +23,7 @@ record IsRepeated (width height border stride : ℕ) (old mid above rows below :
   above_is : (y : ℕ) → y < border → chunk (y * stride) stride above ≡ chunk 0 stride rows
   below_is : (y : ℕ) → y < border → chunk (y * stride) stride below ≡ chunk ((height - 1) * stride) stride rows
 
--- how many samples the middle part has
+-- the number of samples in the middle part
 rows_len : (width height border stride : ℕ) (old mid above rows below : List ℕ) → IsRepeated width height border stride old mid above rows below → length rows ≡ height * stride
 rows_len width height border stride old mid above rows below r =
     let le : (border + height) * stride ≤ bordered_side height border * stride = mul-le-mul_right stride (omega arith) in
@@ -72,7 +72,7 @@ bordered_at width height border stride old mid above rows below r row within =
 one_more : (n : ℕ) → 0 < n → n ≡ suc (n - 1)
 one_more n some = omega arith
 
--- what the three cuts leave below the plane
+-- the three cuts below the plane
 below_rows : (width height border old mid rest : ℕ) {below : ℕ} → old ≡ bordered_side width border * bordered_side height border → mid ≡ old → rest + border * (width + 2 * border) ≡ mid → below + height * (width + 2 * border) ≡ rest → below ≡ border * (width + 2 * border)
 below_rows width height border old mid rest {below} room len above rows =
     let sides : bordered_side height border * bordered_side width border ≡ height * bordered_side width border + 2 * border * bordered_side width border = add-mul height (2 * border) (bordered_side width border) in

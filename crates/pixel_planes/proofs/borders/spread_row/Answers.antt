@@ -6,7 +6,7 @@ use Rattle.pixel_planes.proofs.Parts.{part_is, chunk_of_take}
 use Rattle.pixel_planes.proofs.BorderedRows.{length-bordered_row}
 use Rattle.pixel_planes.proofs.borders.spread_row.Goals as goal
 
--- a list that is written between a front and what stands behind it
+-- a list that is written between a front and a rest
 written_between : (to n : ℕ) (xs front back out row : List ℕ) → front ≡ take to xs → back ≡ drop to xs → out ≡ row → length row ≡ n → to + n ≤ length xs → front ++ (out ++ drop n back) ≡ put_chunk to xs row
 written_between to n xs front back out row f b o len fits = rw (f, b, o, ← len) (sym (put_chunk_is to xs row (omega arith)))
 

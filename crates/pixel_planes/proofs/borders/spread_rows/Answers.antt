@@ -9,7 +9,7 @@ use Rattle.pixel_planes.proofs.Parts.{part_is, chunk_from_front, chunk_from_tail
 use Rattle.pixel_planes.proofs.BorderedRows.{length-bordered_row}
 use Rattle.pixel_planes.proofs.borders.spread_rows.Goals as goal
 
--- row y is put with its border where it belongs, while the rows above it still stand at the front
+-- row y is written with its border at its position, while the rows above it are still at the front
 record IsStep (width height border y : ℕ) (before samples new : List ℕ) : Type 0 where
   below : y < height
   room : length samples ≡ bordered_side width border * bordered_side height border
@@ -20,7 +20,7 @@ record IsStep (width height border y : ℕ) (before samples new : List ℕ) : Ty
 more : (y w : ℕ) → (y + 1) * w ≡ y * w + w
 more y w = ap (λ k. k * w) (add-one y) ∙ suc-mul y w
 
--- the row at the front is still the one of before
+-- the row at the front is still unchanged
 row_kept : (width height border y : ℕ) (before samples new : List ℕ) → IsStep width height border y before samples new → slice_range samples (y * width) (y * width + width) ≡ slice_range before (y * width) (y * width + width)
 row_kept width height border y before samples new s =
     rw (part_is samples (y * width) width, part_is before (y * width) width)
@@ -30,7 +30,7 @@ row_kept width height border y before samples new s =
 row_ends : (y k s : ℕ) → y < k → y * s + s ≤ k * s
 row_ends y k s below = let le : (y + 1) * s ≤ k * s = mul-le-mul_right s (omega arith) in omega (arith, more y s)
 
--- a row at the front is no longer than one with its border, and stands no further on
+-- a row at the front is no longer than one with its border, and is no further right
 near : (width border y : ℕ) → y * width ≤ (border + y) * bordered_side width border
 near width border y =
     let a : y * width ≤ y * bordered_side width border = mul-le-mul_left y (omega arith) in
