@@ -14,18 +14,7 @@ use Rattle.loop_filter.specs.Blocks.{Shape, luma, chroma, filtered_by}
 use Rattle.loop_filter.specs.declared.blocks.Block.{Block}
 use Rattle.loop_filter.specs.declared.strengths.Strength.{Strength}
 
-<<<<<<< HEAD
--- whether a macroblock of this mode is parted into blocks with modes or vectors of their own
-=======
 -- whether a macroblock of this mode is split into blocks with modes or vectors of their own (`B_PRED` and `SPLITMV` in RFC 6386)
-abbrev pub is_split : VectorMode → Bool
-is_split Zero = false
-is_split Nearest = false
-is_split Near = false
-is_split New = false
-is_split Split = true
-
->>>>>>> e9feafc8cc8800c0941d7786ac5099e25c74c415
 abbrev pub is_parted : YMode → Bool
 is_parted (Whole mode) = false
 is_parted B = true

@@ -1,12 +1,6 @@
-<<<<<<< HEAD
--- One step of decoding: tables, a state or none, and a packet give a state and a picture, or a cause
--- (RFC 6386, section 9).
-use Rattle.std.specs.Prelude.{ℕ, ◌==◌, List, length, Option, Some, None, Result, Ok, Err, ◌≡◌, if◌then◌else◌}
-=======
 -- One step of decoding: tables, a state or none, and a packet determine a state and a picture, or a cause (RFC 6386, section
 -- 9).
-use Rattle.std.specs.Prelude.{ℕ, List, Option, Some, None, Result, Ok, Err, ◌≡◌, if◌then◌else◌}
->>>>>>> e2ad207544980d6406b77c14e0f430d7ae528534
+use Rattle.std.specs.Prelude.{ℕ, ◌==◌, List, length, Option, Some, None, Result, Ok, Err, ◌≡◌, if◌then◌else◌}
 use Rattle.std.specs.Option.{option_map}
 use Rattle.vp8_tables.specs.Tables.{TableEntries}
 use Rattle.frame_header.specs.declared.cause.Cause.{Cause}

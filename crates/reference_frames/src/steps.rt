@@ -96,7 +96,6 @@ fn decode(
     Ok((state, picture))
 }
 
-<<<<<<< HEAD
 /// The same state again, and the picture of its last reference. It takes no memory; `NoMemory` if one of
 /// its parts is shared as often as can be counted.
 fn shown_again(state: &State) -> Result<(State, Picture), NoMemory>
@@ -123,16 +122,6 @@ fn repeat(state: Option<&State>) -> Result<(State, Picture), StepFault>
 
 /// The step of a packet with bytes: its header, and the frame after it.
 fn step_coded(
-=======
-/// One step of decoding (RFC 6386, section 9): the state after `packet` and its picture, from the
-/// state before it, or from none.
-///
-/// `Refused` with the first cause against the packet; `NoMemory` if memory for the modes, the
-/// readers of the token partitions, the flags between macroblocks, a plane, or a shared block is
-/// refused, or the share count of a plane is at its maximum.
-#[tactic(auto, unfolding(crate::specs::Steps::step_of))]
-pub fn step(
->>>>>>> e2ad207544980d6406b77c14e0f430d7ae528534
     alloc: Global,
     tables: &Tables,
     state: Option<&State>,

@@ -1,15 +1,6 @@
 -- Residuals that are added to a block of 4 by 4 samples (RFC 6386, section 14.5).
-<<<<<<< HEAD
 use Rattle.std.specs.Prelude.{◌≡◌, ◌⊎◌, ℕ, ◌+◌, ◌*◌, ◌<◌, ◌≤◌, List, length, slice_index, slice_index_or, ℤ, pos, ◌+ℤ◌}
 use Rattle.vp8_tables.specs.Bounds.{held}
-=======
-use Rattle.std.specs.Prelude.{◌≡◌, ◌⊎◌, ℕ, ◌+◌, ◌*◌, ◌<◌, ◌≤◌, min, List, length, slice_index, slice_index_or, ℤ, pos, negsuc, ◌+ℤ◌}
-
--- a sample clamped to 0 to 255
-abbrev pub held : ℤ → ℕ
-held (pos n) = min n 255
-held (negsuc n) = 0
->>>>>>> e9feafc8cc8800c0941d7786ac5099e25c74c415
 
 -- a residual was added to each sample of the block of 4 by 4 at the start, in rows `stride` samples apart, and every other sample is unchanged
 pub record IsAdded (residual : ℕ → ℕ → ℤ) (stride : ℕ) (old new : List ℕ) : Type 0 where
