@@ -86,19 +86,19 @@ reader_of-byte value left byte bytes range fits =
     reader_same _ _ _ _ _ (rw (bits_of-byte left value byte fits) (append_assoc (bits_of left value) (bits_of 8 byte) (bit_string bytes))) (rw (div-byte left value byte fits) refl)
 
 -- d clamped to the range
-held-low : (low above left : ℕ) (bytes : List ℕ) (range : ℕ) → range ≤ low / 2 ^ left → reader_of low left bytes range ≡ reader_of (low + above * 2 ^ left) left bytes range
-held-low low above left bytes range reached =
+clamped_to_range-low : (low above left : ℕ) (bytes : List ℕ) (range : ℕ) → range ≤ low / 2 ^ left → reader_of low left bytes range ≡ reader_of (low + above * 2 ^ left) left bytes range
+clamped_to_range-low low above left bytes range reached =
     reader_same _ _ _ _ _ (ap (λ bits. bits ++ bit_string bytes) (sym (bits_of-above left low above))) (rw (div-above left low above) (omega arith))
 
-pub reader_of-held : (value left : ℕ) (bytes : List ℕ) (range : ℕ) → range ≤ value / 2 ^ left → reader_of (value - (value / 2 ^ left - range) * 2 ^ left) left bytes range ≡ reader_of value left bytes range
-reader_of-held value left bytes range reached =
+pub reader_of-clamped_to_range : (value left : ℕ) (bytes : List ℕ) (range : ℕ) → range ≤ value / 2 ^ left → reader_of (value - (value / 2 ^ left - range) * 2 ^ left) left bytes range ≡ reader_of value left bytes range
+reader_of-clamped_to_range value left bytes range reached =
     let inside : value / 2 ^ left * 2 ^ left ≤ value = div-mul-le_self value (2 ^ left) in
     let above : ℕ = value / 2 ^ left - range in
     let low : ℕ = value - above * 2 ^ left in
     let fits : above * 2 ^ left ≤ value / 2 ^ left * 2 ^ left = mul-le-mul_right (2 ^ left) (omega arith) in
     let number : low + above * 2 ^ left ≡ value = omega arith in
     let quotient : low / 2 ^ left + above ≡ value / 2 ^ left = sym (div-above left low above) ∙ ap (λ (n : ℕ). n / 2 ^ left) number in
-    held-low low above left bytes range (omega arith) ∙ ap (λ (n : ℕ). reader_of n left bytes range) number
+    clamped_to_range-low low above left bytes range (omega arith) ∙ ap (λ (n : ℕ). reader_of n left bytes range) number
 
 -- a whole shift after the bit that d decides; d reaches the split when the window's value does
 split_reached : (prob range value left : ℕ) → split_of prob range * 2 ^ left ≤ value → split_of prob range ≤ value / 2 ^ left
@@ -141,7 +141,7 @@ above-fits value left above inside fits =
 
 pub hold-same : (value left : ℕ) (bytes : List ℕ) (range : ℕ) → value < 2 ^ 64 → range < value / 2 ^ left → reader_of (value - (value / 2 ^ left - range) * 2 ^ left % 2 ^ 64) left bytes range ≡ reader_of value left bytes range
 hold-same value left bytes range fits reached =
-    rw (above-fits value left (value / 2 ^ left - range) (omega arith) fits) (reader_of-held value left bytes range (omega arith))
+    rw (above-fits value left (value / 2 ^ left - range) (omega arith) fits) (reader_of-clamped_to_range value left bytes range (omega arith))
 
 small_above : (value left range above : ℕ) → value / 2 ^ left ≡ above + range → range ≤ 255 → value - above * 2 ^ left < 2 ^ (left + 8)
 small_above value left range above quotient most =

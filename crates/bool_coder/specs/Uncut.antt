@@ -19,12 +19,12 @@ uncut_read prob r =
     else (false, uncut_renewed 7 (record r { range = split }))
 
 -- a reader with its window clamped to the range
-abbrev pub held : Reader → Reader
-held r = record { rest = r.rest; d = min r.d r.range; range = r.range }
+abbrev pub clamped_to_range : Reader → Reader
+clamped_to_range r = record { rest = r.rest; d = min r.d r.range; range = r.range }
 
 -- the same without the zeros at the end of its bits: the model of a decoder
 abbrev pub settled : Reader → Reader
-settled r = level (held r)
+settled r = level (clamped_to_range r)
 
 -- the bits that a way of reading returns for a list of probabilities
 abbrev pub bits_read : (ℕ → Reading Bool) → List ℕ → Reader → List Bool

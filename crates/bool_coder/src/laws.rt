@@ -46,7 +46,7 @@ pub fn numbers_are_chains(tree: &[i8], probs: &[u8])
 pub fn worked_bits()
     ensures mixed { bits_read read (replicate 3 128) (started (0x9F ∷ 0xC0 ∷ [])) ≡ true ∷ false ∷ true ∷ [] }
     ensures zeros { bits_read read (replicate 20 128) (started []) ≡ replicate 20 false }
-    ensures held { bits_read read (replicate 20 128) (started (replicate 4 255)) ≡ replicate 20 true }
+    ensures clamped_to_range { bits_read read (replicate 20 128) (started (replicate 4 255)) ≡ replicate 20 true }
     ensures unlikely { bits_read read (replicate 20 0) (started (replicate 4 255)) ≡ replicate 20 true }
     ensures likely { bits_read read (replicate 20 255) (started (replicate 4 255)) ≡ replicate 20 true }
 {}

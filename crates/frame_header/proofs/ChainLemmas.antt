@@ -13,7 +13,7 @@ use Rattle.frame_header.specs.declared.context.SignBiases.{SignBiases}
 use Rattle.frame_header.specs.Fields.{four_signed, colors, segment_data, map_probability, map_probabilities, segment_updates, segmentation, filter, delta, four_deltas, deltas, adjustment, partition_count, fields}
 use Rattle.frame_header.specs.InterFields.{reference_probabilities, y_modes, uv_modes, vector_probability, vectors, inter_fields}
 use Rattle.frame_header.specs.References.{golden_copy, altref_copy, inter_refreshes, refreshes}
-use Rattle.frame_header.specs.TrailingFields.{quantizers, updated, skip_probability, behind_skip, trailing_fields}
+use Rattle.frame_header.specs.TrailingFields.{quantizers, updated, skip_probability, after_skip, trailing_fields}
 use Rattle.frame_header.specs.Updates.{first_updated}
 
 four_signed-chain : (count : ℕ) → IsChain (four_signed count)
@@ -146,11 +146,11 @@ inter_fields-chain : (before : Probabilities) → IsChain (inter_fields before)
 unfolding inter_fields
 inter_fields-chain before = search (chains, reference_probabilities-chain, y_modes-chain, uv_modes-chain, vectors-chain) depth 12
 
-behind_skip-chain : (is_key : Bool) (before : Probabilities) → IsChain (behind_skip is_key before)
-behind_skip-chain is_key before = if-chain is_key (give-chain _) (inter_fields-chain before)
+after_skip-chain : (is_key : Bool) (before : Probabilities) → IsChain (after_skip is_key before)
+after_skip-chain is_key before = if-chain is_key (give-chain _) (inter_fields-chain before)
 
 pub trailing_fields-chain : (is_key : Bool) (updates : List ℕ) (before : Context) → AreProbabilities updates → IsChain (trailing_fields is_key updates before)
 unfolding trailing_fields
 trailing_fields-chain is_key updates before small =
     let coefficients : (probs : List ℕ) → IsChain (first_updated updated 1056 updates probs) = λ probs. first_updated-chain updated 1056 updates probs updated-chain small in
-    search (chains, quantizers-chain, refreshes-chain, coefficients, skip_probability-chain, behind_skip-chain) depth 12
+    search (chains, quantizers-chain, refreshes-chain, coefficients, skip_probability-chain, after_skip-chain) depth 12

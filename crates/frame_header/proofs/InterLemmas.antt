@@ -5,8 +5,8 @@ use Rattle.frame_header.specs.Tags.{has_key_tag}
 use Rattle.frame_header.specs.Contexts.{first_context}
 use Rattle.frame_header.specs.Start.{start_of}
 use Rattle.frame_header.specs.Fields.{fields}
-use Rattle.frame_header.specs.Places.{token_places}
-use Rattle.frame_header.specs.Header.{◌>>=◌, first_end, header_behind, header_of}
+use Rattle.frame_header.specs.Places.{token_ranges}
+use Rattle.frame_header.specs.Header.{◌>>=◌, first_end, header_after, header_of}
 use Rattle.frame_header.specs.declared.cause.Cause.{Cause}
 use Rattle.frame_header.specs.declared.context.Context.{Context}
 use Rattle.frame_header.specs.declared.header.Header.{Header}
@@ -17,11 +17,11 @@ use Rattle.frame_header.proofs.KeyLemmas.{IfOk-then}
 abbrev LeavesProbabilities : Context → Header → Type 0
 LeavesProbabilities before header = header.refreshes_entropy ≡ false → header.context_after.probabilities ≡ before.probabilities
 
-leaves_probabilities : (tables : TableEntries) (before : Context) (packet : List ℕ) (first : Result Start Cause) → IfOk (first >>= header_behind tables before packet) (LeavesProbabilities before)
+leaves_probabilities : (tables : TableEntries) (before : Context) (packet : List ℕ) (first : Result Start Cause) → IfOk (first >>= header_after tables before packet) (LeavesProbabilities before)
 unfolding fields
 leaves_probabilities tables before packet first =
     let P : Header → Type 0 = LeavesProbabilities before in
-    IfOk-then P first _ (λ start. IfOk-then P (first_end start packet) _ (λ end. IfOk-then P (token_places packet end _) _ (λ partitions. λ stays. rw stays refl)))
+    IfOk-then P first _ (λ start. IfOk-then P (first_end start packet) _ (λ end. IfOk-then P (token_ranges packet end _) _ (λ partitions. λ stays. rw stays refl)))
 
 first_context-before : (tables : TableEntries) (before : Context) (is_key : Bool) → is_key ≡ false → first_context tables is_key (Some before) ≡ before
 first_context-before tables before is_key tagged = rw tagged refl

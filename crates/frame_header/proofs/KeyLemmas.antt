@@ -7,9 +7,9 @@ use Rattle.frame_header.specs.Contexts.{default_context, first_context}
 use Rattle.frame_header.specs.Start.{key_start, later_start, start_of, tagged_start}
 use Rattle.frame_header.specs.Fields.{fields}
 use Rattle.frame_header.specs.TrailingFields.{trailing_fields}
-use Rattle.frame_header.specs.Places.{token_places}
+use Rattle.frame_header.specs.Places.{token_ranges}
 use Rattle.frame_header.specs.KeyFrames.{key_context_after}
-use Rattle.frame_header.specs.Header.{◌>>=◌, first_end, header_behind, header_of}
+use Rattle.frame_header.specs.Header.{◌>>=◌, first_end, header_after, header_of}
 use Rattle.frame_header.specs.References.{all_refreshed, refreshes}
 use Rattle.frame_header.specs.declared.cause.Cause.{Cause}
 use Rattle.frame_header.specs.declared.cause.Cause.TheVariants.{ShortPacket, Version, StartCode, Size}
@@ -42,11 +42,11 @@ pub IfOk-then : {A B : Type 0} (P : B → Type 0) (first : Result A Cause) (next
 IfOk-then P (Ok x) next each = each x
 IfOk-then P (Err cause) next each = tt
 
-leaves_default : (tables : TableEntries) (packet : List ℕ) (first : Result Start Cause) → IfOk (first >>= header_behind tables (default_context tables) packet) (λ header. header.context_after ≡ key_context_after tables header)
+leaves_default : (tables : TableEntries) (packet : List ℕ) (first : Result Start Cause) → IfOk (first >>= header_after tables (default_context tables) packet) (λ header. header.context_after ≡ key_context_after tables header)
 unfolding fields trailing_fields
 leaves_default tables packet first =
     let P : Header → Type 0 = λ header. header.context_after ≡ key_context_after tables header in
-    IfOk-then P first _ (λ start. IfOk-then P (first_end start packet) _ (λ end. IfOk-then P (token_places packet end _) _ (λ partitions. refl)))
+    IfOk-then P first _ (λ start. IfOk-then P (first_end start packet) _ (λ end. IfOk-then P (token_ranges packet end _) _ (λ partitions. refl)))
 
 pub header_of-leaves : (tables : TableEntries) (before : Option Context) (packet : List ℕ) → has_key_tag packet ≡ true → IfOk (header_of tables before packet) (λ header. header.context_after ≡ key_context_after tables header)
 unfolding header_of
@@ -61,9 +61,9 @@ IfOk-unless P false cause x holds = holds
 IfOk-first : {A : Type 0} (P : A → Type 0) (b : Bool) (x y : Result A Cause) → b ≡ true → IfOk x P → IfOk (if b then x else y) P
 IfOk-first P b x y is holds = rw is holds
 
-IfOk-behind : {A B : Type 0} (Q : A → Type 0) (P : B → Type 0) (first : Result A Cause) (next : A → Result B Cause) → IfOk first Q → ((x : A) → Q x → IfOk (next x) P) → IfOk (first >>= next) P
-IfOk-behind Q P (Ok x) next holds each = each x holds
-IfOk-behind Q P (Err cause) next holds each = tt
+IfOk-following : {A B : Type 0} (Q : A → Type 0) (P : B → Type 0) (first : Result A Cause) (next : A → Result B Cause) → IfOk first Q → ((x : A) → Q x → IfOk (next x) P) → IfOk (first >>= next) P
+IfOk-following Q P (Ok x) next holds each = each x holds
+IfOk-following Q P (Err cause) next holds each = tt
 
 -- the start of a frame with a key tag has one
 abbrev IsKey : Start → Type 0
@@ -84,12 +84,12 @@ start_by-keeps before packet (Some tag) tagged =
     let known : IfOk (if nat_lt 3 tag.version then Err Version else if tag.key then key_start tag packet else later_start tag before) IsKey = IfOk-unless IsKey (nat_lt 3 tag.version) Version _ chosen in
     IfOk-unless IsKey (tag.key && nat_lt (length packet) 10) ShortPacket _ known
 
-refreshes_each : (tables : TableEntries) (context : Context) (packet : List ℕ) (start : Start) → start.tag.key ≡ true → IfOk (header_behind tables context packet start) (λ header. header.references ≡ all_refreshed)
+refreshes_each : (tables : TableEntries) (context : Context) (packet : List ℕ) (start : Start) → start.tag.key ≡ true → IfOk (header_after tables context packet start) (λ header. header.references ≡ all_refreshed)
 unfolding trailing_fields refreshes
 refreshes_each tables context packet start tagged =
     let P : Header → Type 0 = λ header. header.references ≡ all_refreshed in
-    IfOk-then P (first_end start packet) _ (λ end. IfOk-then P (token_places packet end _) _ (λ partitions. rw tagged refl))
+    IfOk-then P (first_end start packet) _ (λ end. IfOk-then P (token_ranges packet end _) _ (λ partitions. rw tagged refl))
 
 pub header_of-refreshes : (tables : TableEntries) (before : Option Context) (packet : List ℕ) → has_key_tag packet ≡ true → IfOk (header_of tables before packet) (λ header. header.references ≡ all_refreshed)
 unfolding header_of start_by
-header_of-refreshes tables before packet tagged = IfOk-behind IsKey (λ header. header.references ≡ all_refreshed) (start_of before packet) _ (start_by-keeps before packet (tag_of packet) tagged) (refreshes_each tables _ packet)
+header_of-refreshes tables before packet tagged = IfOk-following IsKey (λ header. header.references ≡ all_refreshed) (start_of before packet) _ (start_by-keeps before packet (tag_of packet) tagged) (refreshes_each tables _ packet)

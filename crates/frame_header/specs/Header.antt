@@ -5,7 +5,7 @@ use Rattle.bool_coder.specs.Reader.{Reader, started}
 use Rattle.frame_header.specs.Tags.{has_key_tag}
 use Rattle.frame_header.specs.Contexts.{first_context}
 use Rattle.frame_header.specs.Fields.{fields}
-use Rattle.frame_header.specs.Places.{token_places}
+use Rattle.frame_header.specs.Places.{token_ranges}
 use Rattle.frame_header.specs.Start.{start_of}
 use Rattle.frame_header.specs.TrailingFields.{trailing_fields}
 use Rattle.frame_header.specs.declared.cause.Cause.{Cause}
@@ -60,15 +60,15 @@ header_in start (fields, before) partitions ((trailing, context), reader) = reco
 -- the header of a frame after its start, with the context that it begins with, or the first cause against it: the first
 -- partition and its fields up to the number of token partitions, those partitions, and the fields after (RFC 6386, sections
 -- 9.2 to 9.11)
-abbrev pub header_behind : TableEntries → Context → List ℕ → Start → Result Header Cause
-header_behind tables context packet start = do
+abbrev pub header_after : TableEntries → Context → List ℕ → Start → Result Header Cause
+header_after tables context packet start = do
   end ← first_end start packet
   let read = fields start.tag.key context (started (slice_range packet start.place end))
-  partitions ← token_places packet end read.0.0.partition_count
+  partitions ← token_ranges packet end read.0.0.partition_count
   Ok (header_in start read.0 partitions (trailing_fields start.tag.key tables.updates read.0.1 read.1))
 
 -- the header of a packet after a context or none, or the first cause against it (RFC 6386, sections 9 and 19)
 unfoldable pub header_of : TableEntries → Option Context → List ℕ → Result Header Cause
 header_of tables before packet = do
   start ← start_of before packet
-  header_behind tables (first_context tables (has_key_tag packet) before) packet start
+  header_after tables (first_context tables (has_key_tag packet) before) packet start

@@ -26,8 +26,8 @@ unless_past None places = Ok (record { items = places })
 unless_past (Some k) places = Err (TokenPartition k)
 
 -- the positions of the token partitions: the sizes of all but the last precede them (RFC 6386, section 9.5)
-unfoldable pub token_places : List ℕ → ℕ → ℕ → Result (ArrayVec Place) Cause
-token_places packet at count =
+unfoldable pub token_ranges : List ℕ → ℕ → ℕ → Result (ArrayVec Place) Cause
+token_ranges packet at count =
     let first = at + 3 * (count - 1) in
     let places = places_of first (sizes_at (count - 1) at packet) (length packet) in
     if nat_lt (length packet) first then Err TokenSizes else unless_past (position_from (is_past (length packet)) 0 places) places

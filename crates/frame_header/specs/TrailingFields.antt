@@ -37,8 +37,8 @@ skip_probability = do
     give (Some prob)) else give None
 
 -- the probabilities of the references, and the sets with their updates; a key frame has none of these (RFC 6386, section 9.10)
-abbrev pub behind_skip : Bool → Probabilities → Reading (ReferenceProbabilities × Probabilities)
-behind_skip is_key before = if is_key then give (no_reference_probabilities, before) else inter_fields before
+abbrev pub after_skip : Bool → Probabilities → Reading (ReferenceProbabilities × Probabilities)
+after_skip is_key before = if is_key then give (no_reference_probabilities, before) else inter_fields before
 
 -- the fields in order, and the context with their changes (RFC 6386, section 19.2)
 unfoldable pub trailing_fields : Bool → List ℕ → Context → Reading (TrailingFields × Context)
@@ -47,6 +47,6 @@ trailing_fields is_key updates before = do
   kept ← refreshes is_key before.sign_biases
   coefficients ← first_updated updated 1056 updates before.probabilities.coefficients
   skip ← skip_probability
-  inter ← behind_skip is_key (record before.probabilities { coefficients = coefficients })
+  inter ← after_skip is_key (record before.probabilities { coefficients = coefficients })
   let trailing : TrailingFields = record { quantizers = quantizers; references = kept.0.references; refreshes_entropy = kept.0.refreshes_entropy; skip_probability = skip; reference_probabilities = inter.0 }
   give (trailing, record before { probabilities = inter.1; sign_biases = kept.1 })

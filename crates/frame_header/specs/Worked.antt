@@ -12,8 +12,8 @@ use Rattle.frame_header.specs.declared.fields.Fields.{Fields}
 use Rattle.frame_header.specs.declared.header.Header.{Header}
 
 -- the bytes after the tag of a key frame of 16 by 16 samples
-abbrev pub behind_tag : List ℕ
-behind_tag = 0x9D ∷ 0x01 ∷ 0x2A ∷ 0x10 ∷ 0 ∷ 0x10 ∷ 0 ∷ []
+abbrev pub after_tag : List ℕ
+after_tag = 0x9D ∷ 0x01 ∷ 0x2A ∷ 0x10 ∷ 0 ∷ 0x10 ∷ 0 ∷ []
 
 -- a first partition that sets fields of each kind, up to the end of the header, as an encoder of its own wrote it, for the
 -- update probability 255
@@ -78,7 +78,7 @@ written_key_frame = 0x80 ∷ 0x19 ∷ 0x94 ∷ 0xFF ∷ 0x6E ∷ 0xDE ∷ 0x0E �
 
 -- its packet: two token partitions, of which the first has one byte and the second has two
 abbrev pub key_frame_packet : List ℕ
-key_frame_packet = 0x30 ∷ 1 ∷ 0 ∷ behind_tag ++ written_key_frame ++ 1 ∷ 0 ∷ 0 ∷ 0 ∷ 0 ∷ 0 ∷ []
+key_frame_packet = 0x30 ∷ 1 ∷ 0 ∷ after_tag ++ written_key_frame ++ 1 ∷ 0 ∷ 0 ∷ 0 ∷ 0 ∷ 0 ∷ []
 
 -- its context, of which the first coefficient probability is new
 abbrev pub key_frame_context : Context

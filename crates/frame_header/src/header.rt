@@ -7,7 +7,7 @@ use crate::cause::Cause;
 use crate::context::{Context, first_context};
 use crate::fields::{Colors, Filter, Segmentation, read_fields};
 use crate::inter_fields::ReferenceProbabilities;
-use crate::places::{Place, token_places};
+use crate::places::{Place, token_ranges};
 use crate::references::ReferenceUpdates;
 use crate::start::{Start, start_of};
 use crate::trailing_fields::{Quantizers, read_trailing_fields};
@@ -61,7 +61,7 @@ pub struct Header<'a> {
 fn first_end(start: &Start, packet: &[u8]) -> Result<usize, Cause>
     requires { start.now.place ≤ length packet.now }
     ensures value { result ≡ first_end start.now packet.now }
-    ensures behind { IfOk result (λ end. start.now.place ≤ end) }
+    ensures following { IfOk result (λ end. start.now.place ≤ end) }
     ensures inside { IfOk result (λ end. end ≤ length packet.now) }
 {
     let size = start.tag.first_partition as usize;
@@ -86,7 +86,7 @@ pub fn read_header<'a>(
     ensures some { IfOk result (λ header. 0 < length header.partitions.items) }
     ensures key { IfOk result (λ header. header.is_key ≡ has_key_tag packet.now) }
     ensures whole { IfOk result (λ header. IsTrue header.is_key → 10 ≤ length packet.now) }
-    ensures behind { IfOk result (λ header. header.is_key ≡ false → IsSome (option_copied context.entry)) }
+    ensures following { IfOk result (λ header. header.is_key ≡ false → IsSome (option_copied context.entry)) }
 {
     let start = start_of(context, packet)?;
     let end = first_end(&start, packet)?;
@@ -94,7 +94,7 @@ pub fn read_header<'a>(
     let mut reader = Decoder::new(&packet[start.place..end]);
     let mut context = first_context(tables, is_key, context);
     let fields = read_fields(&mut reader, is_key, &mut context);
-    let partitions = token_places(packet, end, fields.partition_count)?;
+    let partitions = token_ranges(packet, end, fields.partition_count)?;
     let probabilities = context.probabilities;
     let trailing = read_trailing_fields(&mut reader, is_key, tables.updates(), &mut context);
     let mut context_after = context;

@@ -11,7 +11,7 @@ ghost use Rattle.frame_header.specs.declared.context.Context.{Context};
 ghost use Rattle.frame_header.specs.KeyFrames.{KeysLeaveDefaults, KeysRefreshAll, KeysTakeNoContext};
 ghost use Rattle.frame_header.specs.InterFrames.{ProbabilitiesComeBack};
 ghost use Rattle.frame_header.specs.WorkedInter.{IsInterWritten, inter_before, inter_packet};
-ghost use Rattle.frame_header.specs.Worked.{IsKeyFrameWritten, behind_tag, key_frame_packet, worked_tables, written_fields, fields_written, context_written, trailing_read, trailing_written, trailing_context};
+ghost use Rattle.frame_header.specs.Worked.{IsKeyFrameWritten, after_tag, key_frame_packet, worked_tables, written_fields, fields_written, context_written, trailing_read, trailing_written, trailing_context};
 ghost use Rattle.frame_header.specs.declared.cause.Cause.TheVariants.{ShortPacket, Version, StartCode, Size, NoKeyFrame, FirstPartition, TokenSizes, TokenPartition};
 
 use crate::context::Context;
@@ -25,13 +25,13 @@ pub fn worked_fields(tables: &Tables)
 
 /// A packet of 16 by 16 samples with empty partitions is accepted.
 pub fn smallest_key_frame(tables: &Tables)
-    ensures { IsOkAnd (header_of tables.now None (0x10 ∷ 0 ∷ 0 ∷ behind_tag)) (λ header. (header.width ≡ 16) × (header.height ≡ 16) × (header.partitions.items ≡ record { start = 10; length = 0 } ∷ [])) }
+    ensures { IsOkAnd (header_of tables.now None (0x10 ∷ 0 ∷ 0 ∷ after_tag)) (λ header. (header.width ≡ 16) × (header.height ≡ 16) × (header.partitions.items ≡ record { start = 10; length = 0 } ∷ [])) }
 {}
 
 /// Segments and a filter level are accepted on frames of both kinds.
 pub fn segments_and_levels(tables: &Tables, context: &Context)
-    ensures segments { IsOkAnd (header_of tables.now None (0x30 ∷ 0 ∷ 0 ∷ behind_tag ++ 0x20 ∷ [])) (λ header. header.segmentation.is_enabled ≡ true) }
-    ensures level { IsOkAnd (header_of tables.now None (0x50 ∷ 0 ∷ 0 ∷ behind_tag ++ 0 ∷ 0x40 ∷ [])) (λ header. header.filter.level ≡ 1) }
+    ensures segments { IsOkAnd (header_of tables.now None (0x30 ∷ 0 ∷ 0 ∷ after_tag ++ 0x20 ∷ [])) (λ header. header.segmentation.is_enabled ≡ true) }
+    ensures level { IsOkAnd (header_of tables.now None (0x50 ∷ 0 ∷ 0 ∷ after_tag ++ 0 ∷ 0x40 ∷ [])) (λ header. header.filter.level ≡ 1) }
     ensures later_segments { IsOkAnd (header_of tables.now (Some context.now) (0x31 ∷ 0 ∷ 0 ∷ 0x80 ∷ [])) (λ header. header.segmentation.is_enabled ≡ true) }
 {}
 
@@ -49,13 +49,13 @@ pub fn worked_inter_frame()
 #[tactic(auto, unfolding(crate::specs::Header::header_of))]
 pub fn worked_causes(tables: &Tables)
     ensures short { header_of tables.now None (0x10 ∷ 0 ∷ 0 ∷ 0x9D ∷ 0x01 ∷ 0x2A ∷ []) ≡ Err ShortPacket }
-    ensures version { header_of tables.now None (0x18 ∷ 0 ∷ 0 ∷ behind_tag) ≡ Err Version }
+    ensures version { header_of tables.now None (0x18 ∷ 0 ∷ 0 ∷ after_tag) ≡ Err Version }
     ensures start_code { header_of tables.now None (0x10 ∷ 0 ∷ 0 ∷ 0x9D ∷ 0x01 ∷ 0x2B ∷ 0 ∷ 0 ∷ 0x10 ∷ 0 ∷ []) ≡ Err StartCode }
     ensures size { header_of tables.now None (0x10 ∷ 0 ∷ 0 ∷ 0x9D ∷ 0x01 ∷ 0x2A ∷ 0 ∷ 0 ∷ 0x10 ∷ 0 ∷ []) ≡ Err Size }
     ensures no_key_frame { header_of tables.now None (0x11 ∷ 0 ∷ 0 ∷ []) ≡ Err NoKeyFrame }
-    ensures first_partition { header_of tables.now None (0x30 ∷ 0 ∷ 0 ∷ behind_tag) ≡ Err FirstPartition }
-    ensures token_sizes { header_of tables.now None (0x50 ∷ 0 ∷ 0 ∷ behind_tag ++ 0 ∷ 1 ∷ []) ≡ Err TokenSizes }
-    ensures token_partition { header_of tables.now None (0x50 ∷ 0 ∷ 0 ∷ behind_tag ++ 0 ∷ 1 ∷ 5 ∷ 0 ∷ 0 ∷ []) ≡ Err (TokenPartition 0) }
+    ensures first_partition { header_of tables.now None (0x30 ∷ 0 ∷ 0 ∷ after_tag) ≡ Err FirstPartition }
+    ensures token_sizes { header_of tables.now None (0x50 ∷ 0 ∷ 0 ∷ after_tag ++ 0 ∷ 1 ∷ []) ≡ Err TokenSizes }
+    ensures token_partition { header_of tables.now None (0x50 ∷ 0 ∷ 0 ∷ after_tag ++ 0 ∷ 1 ∷ 5 ∷ 0 ∷ 0 ∷ []) ≡ Err (TokenPartition 0) }
 {}
 
 /// A key frame leaves its own context, but without `refreshes_entropy` the default probabilities.

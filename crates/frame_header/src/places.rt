@@ -1,5 +1,5 @@
 ghost use Rattle.std.specs.Prelude.{◌≡◌, ◌<◌, ◌≤◌, ◌+◌, length, IfOk, All};
-ghost use Rattle.frame_header.specs.Places.{token_places};
+ghost use Rattle.frame_header.specs.Places.{token_ranges};
 
 use crate::cause::Cause;
 use crate::tags::number_at;
@@ -15,7 +15,7 @@ pub struct Place {
 }
 
 /// The positions of the `count` token partitions, 1 to 8, whose sizes start at index `at`.
-pub(crate) fn token_places(
+pub(crate) fn token_ranges(
     packet: &[u8],
     at: usize,
     count: usize,
@@ -23,7 +23,7 @@ pub(crate) fn token_places(
     requires some { 0 < count }
     requires few { count ≤ 8 }
     requires inside { at ≤ length packet.now }
-    ensures value { result ≡ token_places packet.now at count }
+    ensures value { result ≡ token_ranges packet.now at count }
     ensures some { IfOk result (λ places. 0 < length places.items) }
     ensures inside { IfOk result (λ places. All (λ place. place.start + place.length ≤ length packet.now) places.items) }
 {

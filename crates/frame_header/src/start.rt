@@ -43,7 +43,7 @@ fn key_start(tag: Tag, packet: &[u8]) -> Result<Start, Cause>
 fn later_start(tag: Tag, context: Option<&Context>) -> Result<Start, Cause>
     ensures value { result ≡ later_start tag (option_copied context.entry) }
     ensures place { IfOk result (λ start. start.place ≡ 3) }
-    ensures behind { IfOk result (λ start. IsSome (option_copied context.entry)) }
+    ensures following { IfOk result (λ start. IsSome (option_copied context.entry)) }
     ensures tag { IfOk result (λ start. start.tag ≡ tag) }
 {
     if context.is_none() {
@@ -61,7 +61,7 @@ fn later_start(tag: Tag, context: Option<&Context>) -> Result<Start, Cause>
 /// `ShortPacket` to `NoKeyFrame`.
 pub(crate) fn start_of(context: Option<&Context>, packet: &[u8]) -> Result<Start, Cause>
     ensures value { result ≡ start_of (option_copied context.entry) packet.now }
-    ensures behind { IfOk result (λ start. start.place ≤ length packet.now) }
+    ensures following { IfOk result (λ start. start.place ≤ length packet.now) }
     ensures key { IfOk result (λ start. start.tag.key ≡ has_key_tag packet.now) }
     ensures whole { IfOk result (λ start. IsTrue start.tag.key → 10 ≤ length packet.now) }
     ensures context { IfOk result (λ start. start.tag.key ≡ false → IsSome (option_copied context.entry)) }

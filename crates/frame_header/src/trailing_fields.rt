@@ -4,7 +4,7 @@
 ghost use Rattle.std.specs.Prelude.{◌≡◌};
 ghost use Rattle.frame_header.specs.Updates.{first_updated};
 ghost use Rattle.frame_header.specs.InterFields.{no_reference_probabilities};
-ghost use Rattle.frame_header.specs.TrailingFields.{quantizers, updated, skip_probability, behind_skip, trailing_fields};
+ghost use Rattle.frame_header.specs.TrailingFields.{quantizers, updated, skip_probability, after_skip, trailing_fields};
 
 use crate::context::{Context, Probabilities};
 use crate::fields::read_signed;
@@ -107,12 +107,12 @@ fn no_reference_probabilities() -> ReferenceProbabilities
 }
 
 /// The fields after the probability of skipping, which a key frame does not have.
-fn read_behind_skip(
+fn read_after_skip(
     reader: &mut Decoder,
     is_key: bool,
     probabilities: &mut Probabilities,
 ) -> ReferenceProbabilities
-    ensures { behind_skip is_key probabilities.old reader.old ≡ ((result, probabilities.new), reader.new) }
+    ensures { after_skip is_key probabilities.old reader.old ≡ ((result, probabilities.new), reader.new) }
 {
     if is_key {
         no_reference_probabilities()
@@ -136,7 +136,7 @@ pub(crate) fn read_trailing_fields(
     let kept = read_refreshes(reader, is_key, &mut context.sign_biases);
     read_updates(reader, updates, &mut context.probabilities.coefficients);
     let skip_probability = read_skip_probability(reader);
-    let reference_probabilities = read_behind_skip(reader, is_key, &mut context.probabilities);
+    let reference_probabilities = read_after_skip(reader, is_key, &mut context.probabilities);
     TrailingFields {
         quantizers,
         references: kept.references,

@@ -14,7 +14,7 @@ use Rattle.frame_session.specs.declared.refusal.Refusal.{Refusal}
 use Rattle.frame_session.specs.declared.refusal.Refusal.TheVariants as refusals
 use Rattle.frame_session.specs.declared.size.Size.{Size}
 use Rattle.state_cache.specs.Decoding.{Outcome}
-use Rattle.frame_session.specs.Gives.{Gives}
+use Rattle.frame_session.specs.IsOrNoMemory.{IsOrNoMemory}
 use Rattle.packet_edits.specs.declared.fault.EditFault.TheVariants as faults
 use Rattle.packet_edits.specs.Edits.{Listing}
 use Rattle.packet_edits.specs.Sizes.{size_at}
@@ -23,28 +23,28 @@ use Rattle.packet_forge.specs.declared.faults.ForgeFault.TheVariants as forging
 use Rattle.packet_forge.specs.Packets.{blank_of}
 use Rattle.vp8_tables.specs.declared.tables.Tables.{Tables}
 use Rattle.frame_session.proofs.Forging.{blank_lacks_none, held_lacks_none}
-use Rattle.frame_session.specs.Edits.{edit_of, held_at, refusal_by, refused_forged, unless_refused}
+use Rattle.frame_session.specs.Edits.{edit_of, hold_bytes_at, refusal_by, refused_forged, unless_refused}
 use Rattle.frame_session.specs.Replies.{refused_line, served_line, ok_line, edit_line, count_line, stats_line}
-use Rattle.frame_session.specs.Scripts.{told_script}
-use Rattle.frame_session.specs.Sessions.{Now, after_frame, behind_edit, behind_script, fits, fitted, frame_count, frame_from, frame_made, frame_of, outcome_of, packet_count, picture_from, script_answer, shown_count, size_of, size_served}
-use Rattle.frame_session.specs.Answers.{Answer, Answers, Run, answer_to_frame, told}
+use Rattle.frame_session.specs.Scripts.{script_reported}
+use Rattle.frame_session.specs.Sessions.{Now, after_frame, now_after_edit, now_after_script, fits, fitted, frame_count, frame_from, frame_made, frame_of, outcome_of, packet_count, picture_from, script_answer, shown_count, size_of, size_served}
+use Rattle.frame_session.specs.Answers.{Answer, Answers, Run, answer_to_frame, reply_only}
 use Rattle.frame_session.specs.Laws.{HaveMemory}
 
 -- a frame may have the wanted answer
-chosen_given : (shown : Shown) (b : Bool) → Gives (cond b (Ok shown) (Err refusals.SizeDiffers)) (cond b (Ok shown) (Err refusals.SizeDiffers))
+chosen_given : (shown : Shown) (b : Bool) → IsOrNoMemory (cond b (Ok shown) (Err refusals.SizeDiffers)) (cond b (Ok shown) (Err refusals.SizeDiffers))
 chosen_given shown true = refl
 chosen_given shown false = refl
 
-fitted_given : (size : Option Size) (made : Option Shown) → Gives (fitted size made) (fitted size made)
+fitted_given : (size : Option Size) (made : Option Shown) → IsOrNoMemory (fitted size made) (fitted size made)
 fitted_given size None = refl
 fitted_given size (Some shown) = chosen_given shown (fits size (size_of shown))
 
-made_given : (size : Option Size) (steps : List Step) (o : Option Outcome) → Gives (frame_made size steps (picture_from o)) (frame_made size steps (picture_from o))
+made_given : (size : Option Size) (steps : List Step) (o : Option Outcome) → IsOrNoMemory (frame_made size steps (picture_from o)) (frame_made size steps (picture_from o))
 made_given size steps None = refl
 made_given size steps (Some (Err broken)) = refl
 made_given size steps (Some (Ok decoded)) = fitted_given size (steps_shown steps (shown_in decoded.1))
 
-wanted_given : (old : Now) (from : Option Origin) → Gives (frame_from old from) (frame_from old from)
+wanted_given : (old : Now) (from : Option Origin) → IsOrNoMemory (frame_from old from) (frame_from old from)
 wanted_given old None = refl
 wanted_given old (Some from) = made_given old.size from.steps (outcome_of old from.frame)
 
@@ -93,20 +93,20 @@ wanted_some old (Some from) e = made_some old.size from.steps (outcome_of old fr
 
 -- an edit may have the wanted answer, and its reply is not `refused NoMemory`
 record IsTold (answer : Result ℕ Refusal) : Type 0 where
-  gives : Gives answer answer
+  returned : IsOrNoMemory answer answer
   enough : edit_line answer ≡ refused_line refusals.NoMemory → ⊥
 
 ok_told : (count : ℕ) → IsTold (Ok count)
-ok_told count = record { gives = refl; enough = begins_otherwise (ok_line count) refusals.NoMemory (λ h. omega (arith, h)) }
+ok_told count = record { returned = refl; enough = begins_otherwise (ok_line count) refusals.NoMemory (λ h. omega (arith, h)) }
 
 place_told : IsTold (Err refusals.Place)
-place_told = record { gives = refl; enough = refusal_told refusals.Place (λ h. cc) }
+place_told = record { returned = refl; enough = refusal_told refusals.Place (λ h. cc) }
 
 full_told : IsTold (Err refusals.Full)
-full_told = record { gives = refl; enough = refusal_told refusals.Full (λ h. cc) }
+full_told = record { returned = refl; enough = refusal_told refusals.Full (λ h. cc) }
 
 spent_told : IsTold (Err refusals.Spent)
-spent_told = record { gives = refl; enough = refusal_told refusals.Spent (λ h. cc) }
+spent_told = record { returned = refl; enough = refusal_told refusals.Spent (λ h. cc) }
 
 id_told : (spent : Bool) (count : ℕ) → IsTold (unless_refused (option_map refusal_by (cond spent (Some faults.Spent) None)) count)
 id_told true count = spent_told
@@ -126,10 +126,10 @@ place_or_told true count = ok_told count
 place_or_told false count = place_told
 
 size_told : IsTold (Err refusals.Size)
-size_told = record { gives = refl; enough = refusal_told refusals.Size (λ h. cc) }
+size_told = record { returned = refl; enough = refusal_told refusals.Size (λ h. cc) }
 
 large_told : IsTold (Err refusals.TooLarge)
-large_told = record { gives = refl; enough = refusal_told refusals.TooLarge (λ h. cc) }
+large_told = record { returned = refl; enough = refusal_told refusals.TooLarge (λ h. cc) }
 
 forging_told : (forged : Result (List ℕ) ForgeFault) (count : ℕ) → (forged ≡ Err forging.NoMemory → ⊥) → IsTold (unless_refused (refused_forged None forged) count)
 forging_told (Ok packet) count some = ok_told count
@@ -149,17 +149,17 @@ edit_told tables list (edits.Replace at bytes) = replacement_told _ _ _
 edit_told tables list (edits.Delete at) = place_or_told _ _
 edit_told tables list (edits.Move from to) = place_or_told _ _
 edit_told tables list (edits.Blank at width height) = forged_told _ _ _ (blank_of tables width height) _ (blank_lacks_none tables width height)
-edit_told tables list (edits.Hold at) = forged_told _ _ _ (held_at tables list at) _ (held_lacks_none tables (size_at at list))
+edit_told tables list (edits.Hold at) = forged_told _ _ _ (hold_bytes_at tables list at) _ (held_lacks_none tables (size_at at list))
 
 -- and so a script
-nodes_told : (count : ℕ) (nodes : List Node) (many wrong odd : Bool) → IsTold (told_script count (cond many (Err scripts.Nodes) (cond wrong (Err scripts.Reference) (cond odd (Err scripts.Number) (Ok nodes)))))
-nodes_told count nodes true wrong odd = record { gives = refl; enough = refusal_told refusals.Nodes (λ h. cc) }
-nodes_told count nodes false true odd = record { gives = refl; enough = refusal_told refusals.Reference (λ h. cc) }
-nodes_told count nodes false false true = record { gives = refl; enough = refusal_told refusals.Number (λ h. cc) }
+nodes_told : (count : ℕ) (nodes : List Node) (many wrong odd : Bool) → IsTold (script_reported count (cond many (Err scripts.Nodes) (cond wrong (Err scripts.Reference) (cond odd (Err scripts.Number) (Ok nodes)))))
+nodes_told count nodes true wrong odd = record { returned = refl; enough = refusal_told refusals.Nodes (λ h. cc) }
+nodes_told count nodes false true odd = record { returned = refl; enough = refusal_told refusals.Reference (λ h. cc) }
+nodes_told count nodes false false true = record { returned = refl; enough = refusal_told refusals.Number (λ h. cc) }
 nodes_told count nodes false false false = ok_told count
 
-script_told : (count : ℕ) (nodes : Option (List Node)) → IsTold (told_script count (script_by nodes))
-script_told count None = record { gives = refl; enough = refusal_told refusals.Syntax (λ h. cc) }
+script_told : (count : ℕ) (nodes : Option (List Node)) → IsTold (script_reported count (script_by nodes))
+script_told count None = record { returned = refl; enough = refusal_told refusals.Syntax (λ h. cc) }
 script_told count (Some nodes) = nodes_told count nodes _ _ _
 
 -- an answer to one line, other than `refused NoMemory`, and the state after it
@@ -170,9 +170,9 @@ pub record HasAnswer (old : Now) (line : Line) : Type 0 where
   pub enough : answer.reply ≡ refused_line refusals.NoMemory → ⊥
 
 answered : (old : Now) (line : Line) → HasAnswer old line
-answered old Silent = record { answer = told []; new = old; means = (refl, refl); enough = λ e. cc }
+answered old Silent = record { answer = reply_only []; new = old; means = (refl, refl); enough = λ e. cc }
 answered old Unknown = record {
-  answer = told (refused_line refusals.Line);
+  answer = reply_only (refused_line refusals.Line);
   new = old;
   means = (refl, refl);
   enough = λ e. let other : 76 ≡ 78 = ap (λ (l : List ℕ). get_or l 8 0) e in absurd (omega (arith, other));
@@ -190,40 +190,40 @@ answered old (Insert at stamp bytes) =
     let edit = edits.Insert at stamp bytes in
     let answer = edit_of old.tables old.list edit in
     let is = edit_told old.tables old.list edit in
-    record { answer = told (edit_line answer); new = behind_edit edit old answer; means = (answer, is.gives, (refl, refl)); enough = is.enough }
+    record { answer = reply_only (edit_line answer); new = now_after_edit edit old answer; means = (answer, is.returned, (refl, refl)); enough = is.enough }
 answered old (Replace at bytes) =
     let edit = edits.Replace at bytes in
     let answer = edit_of old.tables old.list edit in
     let is = edit_told old.tables old.list edit in
-    record { answer = told (edit_line answer); new = behind_edit edit old answer; means = (answer, is.gives, (refl, refl)); enough = is.enough }
+    record { answer = reply_only (edit_line answer); new = now_after_edit edit old answer; means = (answer, is.returned, (refl, refl)); enough = is.enough }
 answered old (Blank at width height) =
     let edit = edits.Blank at width height in
     let answer = edit_of old.tables old.list edit in
     let is = edit_told old.tables old.list edit in
-    record { answer = told (edit_line answer); new = behind_edit edit old answer; means = (answer, is.gives, (refl, refl)); enough = is.enough }
+    record { answer = reply_only (edit_line answer); new = now_after_edit edit old answer; means = (answer, is.returned, (refl, refl)); enough = is.enough }
 answered old (Hold at) =
     let edit = edits.Hold at in
     let answer = edit_of old.tables old.list edit in
     let is = edit_told old.tables old.list edit in
-    record { answer = told (edit_line answer); new = behind_edit edit old answer; means = (answer, is.gives, (refl, refl)); enough = is.enough }
+    record { answer = reply_only (edit_line answer); new = now_after_edit edit old answer; means = (answer, is.returned, (refl, refl)); enough = is.enough }
 answered old (Delete at) =
     let edit = edits.Delete at in
     let answer = edit_of old.tables old.list edit in
-    record { answer = told (edit_line answer); new = behind_edit edit old answer; means = (refl, refl); enough = (edit_told old.tables old.list edit).enough }
+    record { answer = reply_only (edit_line answer); new = now_after_edit edit old answer; means = (refl, refl); enough = (edit_told old.tables old.list edit).enough }
 answered old (Move from to) =
     let edit = edits.Move from to in
     let answer = edit_of old.tables old.list edit in
-    record { answer = told (edit_line answer); new = behind_edit edit old answer; means = (refl, refl); enough = (edit_told old.tables old.list edit).enough }
+    record { answer = reply_only (edit_line answer); new = now_after_edit edit old answer; means = (refl, refl); enough = (edit_told old.tables old.list edit).enough }
 answered old (Script text) =
     let set = script_answer old text in
     let is = script_told (packet_count old) (nodes_of text) in
-    record { answer = told (edit_line set); new = behind_script text old set; means = (set, is.gives, (refl, refl)); enough = is.enough }
+    record { answer = reply_only (edit_line set); new = now_after_script text old set; means = (set, is.returned, (refl, refl)); enough = is.enough }
 answered old Count =
     let reply = count_line (packet_count old) (frame_count old) in
-    record { answer = told reply; new = old; means = (refl, refl); enough = begins_otherwise reply refusals.NoMemory (λ h. omega (arith, h)) }
+    record { answer = reply_only reply; new = old; means = (refl, refl); enough = begins_otherwise reply refusals.NoMemory (λ h. omega (arith, h)) }
 answered old Stats =
     let reply = stats_line old.decoded in
-    record { answer = told reply; new = old; means = (refl, refl); enough = begins_otherwise reply refusals.NoMemory (λ h. omega (arith, h)) }
+    record { answer = reply_only reply; new = old; means = (refl, refl); enough = begins_otherwise reply refusals.NoMemory (λ h. omega (arith, h)) }
 
 -- answers to lines, none of which is `refused NoMemory`
 pub record HaveAnswers (old : Now) (lines : List Line) : Type 0 where

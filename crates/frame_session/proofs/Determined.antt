@@ -8,11 +8,11 @@ use Rattle.frame_session.specs.declared.edit.Edit.TheVariants as edits
 use Rattle.frame_session.specs.declared.refusal.Refusal.{Refusal}
 use Rattle.frame_session.specs.declared.refusal.Refusal.TheVariants as refusals
 use Rattle.frame_session.specs.declared.size.Size.{Size}
-use Rattle.frame_session.specs.Gives.{Gives}
+use Rattle.frame_session.specs.IsOrNoMemory.{IsOrNoMemory}
 use Rattle.frame_session.specs.Edits.{edit_of}
 use Rattle.frame_session.specs.Replies.{refused_line, edit_line}
-use Rattle.frame_session.specs.Sessions.{Now, after_frame, behind_edit, behind_script, frame_of, script_answer, size_served}
-use Rattle.frame_session.specs.Answers.{Answer, Answers, AnswersEdit, Run, answer_to_frame, told}
+use Rattle.frame_session.specs.Sessions.{Now, after_frame, now_after_edit, now_after_script, frame_of, script_answer, size_served}
+use Rattle.frame_session.specs.Answers.{Answer, Answers, AnswersEdit, Run, answer_to_frame, reply_only}
 use Rattle.frame_session.specs.Laws.{AllAlike, AreAlike, HaveMemory}
 
 -- another number of steps
@@ -20,23 +20,23 @@ abbrev counted : Now → ℕ → Now
 counted now steps = record now { decoded = steps }
 
 -- the result is the wanted one, unless it is NoMemory
-given : {A : Type 0} (want answer : Result A Refusal) → (answer ≡ Err refusals.NoMemory → ⊥) → Gives want answer → want ≡ answer
-given want (Ok value) enough gives = gives
-given want (Err refusals.NoMemory) enough gives = absurd (enough refl)
-given want (Err refusals.Line) enough gives = gives
-given want (Err refusals.Place) enough gives = gives
-given want (Err refusals.Full) enough gives = gives
-given want (Err refusals.Spent) enough gives = gives
-given want (Err refusals.Size) enough gives = gives
-given want (Err refusals.TooLarge) enough gives = gives
-given want (Err refusals.NoSuchFrame) enough gives = gives
-given want (Err refusals.CropOutside) enough gives = gives
-given want (Err refusals.SizeDiffers) enough gives = gives
-given want (Err refusals.Syntax) enough gives = gives
-given want (Err refusals.Nodes) enough gives = gives
-given want (Err refusals.Reference) enough gives = gives
-given want (Err refusals.Number) enough gives = gives
-given want (Err (refusals.Packet place cause)) enough gives = gives
+given : {A : Type 0} (want answer : Result A Refusal) → (answer ≡ Err refusals.NoMemory → ⊥) → IsOrNoMemory want answer → want ≡ answer
+given want (Ok value) enough returned = returned
+given want (Err refusals.NoMemory) enough returned = absurd (enough refl)
+given want (Err refusals.Line) enough returned = returned
+given want (Err refusals.Place) enough returned = returned
+given want (Err refusals.Full) enough returned = returned
+given want (Err refusals.Spent) enough returned = returned
+given want (Err refusals.Size) enough returned = returned
+given want (Err refusals.TooLarge) enough returned = returned
+given want (Err refusals.NoSuchFrame) enough returned = returned
+given want (Err refusals.CropOutside) enough returned = returned
+given want (Err refusals.SizeDiffers) enough returned = returned
+given want (Err refusals.Syntax) enough returned = returned
+given want (Err refusals.Nodes) enough returned = returned
+given want (Err refusals.Reference) enough returned = returned
+given want (Err refusals.Number) enough returned = returned
+given want (Err (refusals.Packet place cause)) enough returned = returned
 
 -- a reply other than `refused NoMemory` comes from a frame other than NoMemory
 enough_for : (old : Now) (n : ℕ) (answer : Answer) (frame : Result Shown Refusal) → answer ≡ answer_to_frame old n frame → (answer.reply ≡ refused_line refusals.NoMemory → ⊥) → frame ≡ Err refusals.NoMemory → ⊥
@@ -56,34 +56,34 @@ same_answer old steps answer answer' wanted new new' first second =
 -- two answers to an edit with the same result
 same_edit : (old : Now) (steps : ℕ) (edit : Edit) (edited edited' : Result ℕ Refusal) (answer answer' : Answer) (new new' : Now) → edited' ≡ edited → AnswersEdit old edit edited answer new → AnswersEdit (counted old steps) edit edited' answer' new' → (answer' ≡ answer) × (new' ≡ counted new new'.decoded)
 same_edit old steps edit edited edited' answer answer' new new' same first second =
-    let again : new' ≡ counted (behind_edit edit old edited) steps = second.1 ∙ ap (λ (e : Result ℕ Refusal). behind_edit edit (counted old steps) e) same in (
-      second.0 ∙ ap (λ (e : Result ℕ Refusal). told (edit_line e)) same ∙ sym first.0,
+    let again : new' ≡ counted (now_after_edit edit old edited) steps = second.1 ∙ ap (λ (e : Result ℕ Refusal). now_after_edit edit (counted old steps) e) same in (
+      second.0 ∙ ap (λ (e : Result ℕ Refusal). reply_only (edit_line e)) same ∙ sym first.0,
       again ∙ ap (λ (s : Now). counted s steps) (sym first.1) ∙ ap (λ (d : ℕ). counted new d) (sym (ap (λ (s : Now). s.decoded) again)),
     )
 
 -- and two that are not `refused NoMemory`
-told_edit : (edited : Result ℕ Refusal) (answer : Answer) → answer ≡ told (edit_line edited) → (answer.reply ≡ refused_line refusals.NoMemory → ⊥) → edited ≡ Err refusals.NoMemory → ⊥
+told_edit : (edited : Result ℕ Refusal) (answer : Answer) → answer ≡ reply_only (edit_line edited) → (answer.reply ≡ refused_line refusals.NoMemory → ⊥) → edited ≡ Err refusals.NoMemory → ⊥
 told_edit edited answer is enough lacks = enough (ap (λ (a : Answer). a.reply) is ∙ ap edit_line lacks)
 
-one_edit : (old : Now) (steps : ℕ) (edit : Edit) (edited edited' : Result ℕ Refusal) (answer answer' : Answer) (new new' : Now) → Gives (edit_of old.tables old.list edit) edited → Gives (edit_of old.tables old.list edit) edited' → AnswersEdit old edit edited answer new → AnswersEdit (counted old steps) edit edited' answer' new' → (answer.reply ≡ refused_line refusals.NoMemory → ⊥) → (answer'.reply ≡ refused_line refusals.NoMemory → ⊥) → (answer' ≡ answer) × (new' ≡ counted new new'.decoded)
-one_edit old steps edit edited edited' answer answer' new new' gives gives' first second enough enough' =
-    let wanted : edit_of old.tables old.list edit ≡ edited = given (edit_of old.tables old.list edit) edited (told_edit edited answer first.0 enough) gives in
+one_edit : (old : Now) (steps : ℕ) (edit : Edit) (edited edited' : Result ℕ Refusal) (answer answer' : Answer) (new new' : Now) → IsOrNoMemory (edit_of old.tables old.list edit) edited → IsOrNoMemory (edit_of old.tables old.list edit) edited' → AnswersEdit old edit edited answer new → AnswersEdit (counted old steps) edit edited' answer' new' → (answer.reply ≡ refused_line refusals.NoMemory → ⊥) → (answer'.reply ≡ refused_line refusals.NoMemory → ⊥) → (answer' ≡ answer) × (new' ≡ counted new new'.decoded)
+one_edit old steps edit edited edited' answer answer' new new' returned gives' first second enough enough' =
+    let wanted : edit_of old.tables old.list edit ≡ edited = given (edit_of old.tables old.list edit) edited (told_edit edited answer first.0 enough) returned in
     let wanted' : edit_of old.tables old.list edit ≡ edited' = given (edit_of old.tables old.list edit) edited' (told_edit edited' answer' second.0 enough') gives' in
     same_edit old steps edit edited edited' answer answer' new new' (sym wanted' ∙ wanted) first second
 
 -- the same for a script
-script_counted : (old : Now) (steps : ℕ) (text : List ℕ) (set : Result ℕ Refusal) → behind_script text (counted old steps) set ≡ counted (behind_script text old set) steps
+script_counted : (old : Now) (steps : ℕ) (text : List ℕ) (set : Result ℕ Refusal) → now_after_script text (counted old steps) set ≡ counted (now_after_script text old set) steps
 script_counted old steps text (Ok count) = refl
 script_counted old steps text (Err refusal) = refl
 
-one_script : (old : Now) (steps : ℕ) (text : List ℕ) (set set' : Result ℕ Refusal) (answer answer' : Answer) (new new' : Now) → Gives (script_answer old text) set → Gives (script_answer old text) set' → (answer ≡ told (edit_line set)) × (new ≡ behind_script text old set) → (answer' ≡ told (edit_line set')) × (new' ≡ behind_script text (counted old steps) set') → (answer.reply ≡ refused_line refusals.NoMemory → ⊥) → (answer'.reply ≡ refused_line refusals.NoMemory → ⊥) → (answer' ≡ answer) × (new' ≡ counted new new'.decoded)
-one_script old steps text set set' answer answer' new new' gives gives' first second enough enough' =
-    let wanted : script_answer old text ≡ set = given (script_answer old text) set (told_edit set answer first.0 enough) gives in
+one_script : (old : Now) (steps : ℕ) (text : List ℕ) (set set' : Result ℕ Refusal) (answer answer' : Answer) (new new' : Now) → IsOrNoMemory (script_answer old text) set → IsOrNoMemory (script_answer old text) set' → (answer ≡ reply_only (edit_line set)) × (new ≡ now_after_script text old set) → (answer' ≡ reply_only (edit_line set')) × (new' ≡ now_after_script text (counted old steps) set') → (answer.reply ≡ refused_line refusals.NoMemory → ⊥) → (answer'.reply ≡ refused_line refusals.NoMemory → ⊥) → (answer' ≡ answer) × (new' ≡ counted new new'.decoded)
+one_script old steps text set set' answer answer' new new' returned gives' first second enough enough' =
+    let wanted : script_answer old text ≡ set = given (script_answer old text) set (told_edit set answer first.0 enough) returned in
     let wanted' : script_answer old text ≡ set' = given (script_answer old text) set' (told_edit set' answer' second.0 enough') gives' in
     let same : set' ≡ set = sym wanted' ∙ wanted in
-    let again : new' ≡ counted (behind_script text old set) steps = second.1 ∙ ap (λ (e : Result ℕ Refusal). behind_script text (counted old steps) e) same ∙ script_counted old steps text set in
+    let again : new' ≡ counted (now_after_script text old set) steps = second.1 ∙ ap (λ (e : Result ℕ Refusal). now_after_script text (counted old steps) e) same ∙ script_counted old steps text set in
     let steps_are : new'.decoded ≡ steps = ap (λ (s : Now). s.decoded) again in (
-      second.0 ∙ ap (λ (e : Result ℕ Refusal). told (edit_line e)) same ∙ sym first.0,
+      second.0 ∙ ap (λ (e : Result ℕ Refusal). reply_only (edit_line e)) same ∙ sym first.0,
       again ∙ ap (λ (s : Now). counted s steps) (sym first.1) ∙ ap (λ (d : ℕ). counted new d) (sym steps_are),
     )
 

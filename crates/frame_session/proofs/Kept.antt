@@ -8,12 +8,12 @@ use Rattle.frame_session.specs.declared.edit.Edit.TheVariants as edits
 use Rattle.frame_session.specs.declared.refusal.Refusal.{Refusal}
 use Rattle.frame_session.specs.Edits.{edit_of}
 use Rattle.frame_session.specs.Replies.{refused_line, edit_line, ok_line, served_line}
-use Rattle.frame_session.specs.Sessions.{IsAfterFrame, Now, behind_edit, behind_script, size_served}
+use Rattle.frame_session.specs.Sessions.{IsAfterFrame, Now, now_after_edit, now_after_script, size_served}
 use Rattle.frame_session.specs.Answers.{Answer, Answers, Run, answer_to_frame}
 use Rattle.frame_session.proofs.Answered.{begins_otherwise}
 
 -- the state after a script has the same number of steps
-script_counts : (old new : Now) (text : List ℕ) (set : Result ℕ Refusal) → new ≡ behind_script text old set → old.decoded ≤ new.decoded
+script_counts : (old new : Now) (text : List ℕ) (set : Result ℕ Refusal) → new ≡ now_after_script text old set → old.decoded ≤ new.decoded
 script_counts old new text (Ok count) is = rw is (omega arith)
 script_counts old new text (Err refusal) is = rw is (omega arith)
 
@@ -51,28 +51,28 @@ frame_kept old new n (Ok shown) refusal after e = absurd (begins_otherwise (serv
 frame_kept old new n (Err other) refusal after e = after.rest
 
 -- an edit that is refused
-edit_kept : (old new : Now) (edit : Edit) (edited : Result ℕ Refusal) (refusal : Refusal) → new ≡ behind_edit edit old edited → edit_line edited ≡ refused_line refusal → new ≡ record old { decoded = new.decoded }
-edit_kept old new edit (Ok count) refusal after e = absurd (begins_otherwise (ok_line count) refusal (λ h. omega (arith, h)) e)
-edit_kept old new edit (Err other) refusal after e = same old new after
+edit_cached : (old new : Now) (edit : Edit) (edited : Result ℕ Refusal) (refusal : Refusal) → new ≡ now_after_edit edit old edited → edit_line edited ≡ refused_line refusal → new ≡ record old { decoded = new.decoded }
+edit_cached old new edit (Ok count) refusal after e = absurd (begins_otherwise (ok_line count) refusal (λ h. omega (arith, h)) e)
+edit_cached old new edit (Err other) refusal after e = same old new after
 
 -- a script that is refused
-script_kept : (old new : Now) (text : List ℕ) (set : Result ℕ Refusal) (refusal : Refusal) → new ≡ behind_script text old set → edit_line set ≡ refused_line refusal → new ≡ record old { decoded = new.decoded }
+script_kept : (old new : Now) (text : List ℕ) (set : Result ℕ Refusal) (refusal : Refusal) → new ≡ now_after_script text old set → edit_line set ≡ refused_line refusal → new ≡ record old { decoded = new.decoded }
 script_kept old new text (Ok count) refusal after e = absurd (begins_otherwise (ok_line count) refusal (λ h. omega (arith, h)) e)
 script_kept old new text (Err other) refusal after e = same old new after
 
-reply_of : (answer told : Answer) (reply : List ℕ) → answer ≡ told → answer.reply ≡ reply → told.reply ≡ reply
-reply_of answer told reply is e = sym (ap (λ (a : Answer). a.reply) is) ∙ e
+reply_of : (answer reply_only : Answer) (reply : List ℕ) → answer ≡ reply_only → answer.reply ≡ reply → reply_only.reply ≡ reply
+reply_of answer reply_only reply is e = sym (ap (λ (a : Answer). a.reply) is) ∙ e
 
 pub refused_kept : (old new : Now) (line : Line) (answer : Answer) (refusal : Refusal) → Answers old line answer new → answer.reply ≡ refused_line refusal → new ≡ record old { decoded = new.decoded }
 refused_kept old new Silent answer refusal means e = same old new means.1
 refused_kept old new Unknown answer refusal means e = same old new means.1
 refused_kept old new (Frame n) answer refusal means e = frame_kept old new n means.0 refusal means.3 (reply_of answer _ _ means.2 e)
-refused_kept old new (Insert at stamp bytes) answer refusal means e = edit_kept old new (edits.Insert at stamp bytes) means.0 refusal means.2.1 (reply_of answer _ _ means.2.0 e)
-refused_kept old new (Replace at bytes) answer refusal means e = edit_kept old new (edits.Replace at bytes) means.0 refusal means.2.1 (reply_of answer _ _ means.2.0 e)
-refused_kept old new (Blank at width height) answer refusal means e = edit_kept old new (edits.Blank at width height) means.0 refusal means.2.1 (reply_of answer _ _ means.2.0 e)
-refused_kept old new (Hold at) answer refusal means e = edit_kept old new (edits.Hold at) means.0 refusal means.2.1 (reply_of answer _ _ means.2.0 e)
-refused_kept old new (Delete at) answer refusal means e = edit_kept old new (edits.Delete at) (edit_of old.tables old.list (edits.Delete at)) refusal means.1 (reply_of answer _ _ means.0 e)
-refused_kept old new (Move from to) answer refusal means e = edit_kept old new (edits.Move from to) (edit_of old.tables old.list (edits.Move from to)) refusal means.1 (reply_of answer _ _ means.0 e)
+refused_kept old new (Insert at stamp bytes) answer refusal means e = edit_cached old new (edits.Insert at stamp bytes) means.0 refusal means.2.1 (reply_of answer _ _ means.2.0 e)
+refused_kept old new (Replace at bytes) answer refusal means e = edit_cached old new (edits.Replace at bytes) means.0 refusal means.2.1 (reply_of answer _ _ means.2.0 e)
+refused_kept old new (Blank at width height) answer refusal means e = edit_cached old new (edits.Blank at width height) means.0 refusal means.2.1 (reply_of answer _ _ means.2.0 e)
+refused_kept old new (Hold at) answer refusal means e = edit_cached old new (edits.Hold at) means.0 refusal means.2.1 (reply_of answer _ _ means.2.0 e)
+refused_kept old new (Delete at) answer refusal means e = edit_cached old new (edits.Delete at) (edit_of old.tables old.list (edits.Delete at)) refusal means.1 (reply_of answer _ _ means.0 e)
+refused_kept old new (Move from to) answer refusal means e = edit_cached old new (edits.Move from to) (edit_of old.tables old.list (edits.Move from to)) refusal means.1 (reply_of answer _ _ means.0 e)
 refused_kept old new (Script text) answer refusal means e = script_kept old new text means.0 refusal means.2.1 (reply_of answer _ _ means.2.0 e)
 refused_kept old new Count answer refusal means e = same old new means.1
 refused_kept old new Stats answer refusal means e = same old new means.1

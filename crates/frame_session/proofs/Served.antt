@@ -13,110 +13,110 @@ use Rattle.frame_session.specs.declared.edit.Edit.TheVariants as edits
 use Rattle.frame_session.specs.declared.refusal.Refusal.{Refusal}
 use Rattle.frame_session.specs.declared.refusal.Refusal.TheVariants as refusals
 use Rattle.frame_session.specs.Requests.{asked_by}
-use Rattle.frame_session.specs.Gives.{Gives, GivesFrame}
-use Rattle.frame_session.specs.Edits.{EditGives, edit_of}
+use Rattle.frame_session.specs.IsOrNoMemory.{IsOrNoMemory, IsFrameOrNoMemory}
+use Rattle.frame_session.specs.Edits.{EditAnswers, edit_of}
 use Rattle.frame_session.specs.Replies.{refused_line, edit_line, count_line, served_line, stats_line}
-use Rattle.frame_session.specs.Sessions.{IsAfterFrame, Now, behind_edit, behind_script, frame_count, frame_of, head_due, packet_count, script_answer, size_given}
-use Rattle.frame_session.specs.Answers.{Answer, Answers, Run, Runs, Serves, WritesFrameFirst, answer_to_frame, frames_of, opening, replies_of, told}
+use Rattle.frame_session.specs.Sessions.{IsAfterFrame, Now, now_after_edit, now_after_script, frame_count, frame_of, head_due, packet_count, script_answer, size_given}
+use Rattle.frame_session.specs.Answers.{Answer, Answers, Run, Runs, Serves, WritesFrameFirst, answer_to_frame, frames_of, opening, replies_of, reply_only}
 use Rattle.frame_session.proofs.Texts.{text_same}
 
 module _ (old : Now) (f f' r r' : Option (List ℕ)) where
   pub serves_silent : Serves old Silent f f r r old
-  serves_silent = record { answer = told []; means = (refl, refl); shown = Appends-nil f; said = Appends-nil r }
+  serves_silent = record { answer = reply_only []; means = (refl, refl); shown = Appends-nil f; said = Appends-nil r }
 
   pub serves_unknown : Appends r r' (refused_line refusals.Line) → Serves old Unknown f f r r' old
-  serves_unknown said = record { answer = told (refused_line refusals.Line); means = (refl, refl); shown = Appends-nil f; said = said }
+  serves_unknown said = record { answer = reply_only (refused_line refusals.Line); means = (refl, refl); shown = Appends-nil f; said = said }
 
-  pub serves_refused : (n : ℕ) (refusal : Refusal) (new : Now) → Gives (frame_of old n) (Err refusal) → IsAfterFrame old (size_given (Err refusal)) new → Appends r r' (refused_line refusal) → Serves old (Frame n) f f r r' new
-  serves_refused n refusal new gives after said = record {
-    answer = told (refused_line refusal);
-    means = (Err refusal, gives, refl, after);
+  pub serves_refused : (n : ℕ) (refusal : Refusal) (new : Now) → IsOrNoMemory (frame_of old n) (Err refusal) → IsAfterFrame old (size_given (Err refusal)) new → Appends r r' (refused_line refusal) → Serves old (Frame n) f f r r' new
+  serves_refused n refusal new returned after said = record {
+    answer = reply_only (refused_line refusal);
+    means = (Err refusal, returned, refl, after);
     shown = Appends-nil f;
     said = said;
   }
 
-  pub serves_frame : (n : ℕ) (picture : PictureSamples) (new : Now) → GivesFrame (frame_of old n) (Ok picture) → IsAfterFrame old (size_given (Ok picture)) new → Appends f f' (opening (head_due old) picture.width picture.height ++ frame_text picture) → Appends r r' (served_line n) → Serves old (Frame n) f f' r r' new
-  serves_frame n picture new gives after shown said =
+  pub serves_frame : (n : ℕ) (picture : PictureSamples) (new : Now) → IsFrameOrNoMemory (frame_of old n) (Ok picture) → IsAfterFrame old (size_given (Ok picture)) new → Appends f f' (opening (head_due old) picture.width picture.height ++ frame_text picture) → Appends r r' (served_line n) → Serves old (Frame n) f f' r r' new
+  serves_frame n picture new returned after shown said =
       let P : ℕ → ℕ → Type 0 = λ w h. IsAfterFrame old (Some (record { width = w; height = h })) new in
       let Q : ℕ → ℕ → List ℕ → Type 0 = λ w h t. Appends f f' (opening (head_due old) w h ++ t) in
-      let after' : P gives.0.width gives.0.height = subst (λ h. P gives.0.width h) gives.2.high (subst (λ w. P w picture.height) gives.2.wide after) in
-      let shown' : Q gives.0.width gives.0.height (frame_text picture) = subst (λ h. Q gives.0.width h (frame_text picture)) gives.2.high (subst (λ w. Q w picture.height (frame_text picture)) gives.2.wide shown) in
+      let after' : P returned.0.width returned.0.height = subst (λ h. P returned.0.width h) returned.2.high (subst (λ w. P w picture.height) returned.2.wide after) in
+      let shown' : Q returned.0.width returned.0.height (frame_text picture) = subst (λ h. Q returned.0.width h (frame_text picture)) returned.2.high (subst (λ w. Q w picture.height (frame_text picture)) returned.2.wide shown) in
       record {
-        answer = answer_to_frame old n (Ok gives.0);
-        means = (Ok gives.0, gives.1, refl, after');
-        shown = subst (λ t. Q gives.0.width gives.0.height t) (text_same picture gives.0 gives.3 gives.2) shown';
+        answer = answer_to_frame old n (Ok returned.0);
+        means = (Ok returned.0, returned.1, refl, after');
+        shown = subst (λ t. Q returned.0.width returned.0.height t) (text_same picture returned.0 returned.3 returned.2) shown';
         said = said;
       }
 
-  pub serves_script : (text : List ℕ) (set : Result ℕ Refusal) (new : Now) → Gives (script_answer old text) set → new ≡ behind_script text old set → Appends r r' (edit_line set) → Serves old (Script text) f f r r' new
-  serves_script text set new gives after said = record {
-    answer = told (edit_line set);
-    means = (set, gives, (refl, after));
+  pub serves_script : (text : List ℕ) (set : Result ℕ Refusal) (new : Now) → IsOrNoMemory (script_answer old text) set → new ≡ now_after_script text old set → Appends r r' (edit_line set) → Serves old (Script text) f f r r' new
+  serves_script text set new returned after said = record {
+    answer = reply_only (edit_line set);
+    means = (set, returned, (refl, after));
     shown = Appends-nil f;
     said = said;
   }
 
-  pub serves_inserted : (at stamp : ℕ) (bytes : List ℕ) (edited : Result ℕ Refusal) (new : Now) → Gives (edit_of old.tables old.list (edits.Insert at stamp bytes)) edited → new ≡ behind_edit (edits.Insert at stamp bytes) old edited → Appends r r' (edit_line edited) → Serves old (Insert at stamp bytes) f f r r' new
-  serves_inserted at stamp bytes edited new gives after said = record {
-    answer = told (edit_line edited);
-    means = (edited, gives, (refl, after));
+  pub serves_inserted : (at stamp : ℕ) (bytes : List ℕ) (edited : Result ℕ Refusal) (new : Now) → IsOrNoMemory (edit_of old.tables old.list (edits.Insert at stamp bytes)) edited → new ≡ now_after_edit (edits.Insert at stamp bytes) old edited → Appends r r' (edit_line edited) → Serves old (Insert at stamp bytes) f f r r' new
+  serves_inserted at stamp bytes edited new returned after said = record {
+    answer = reply_only (edit_line edited);
+    means = (edited, returned, (refl, after));
     shown = Appends-nil f;
     said = said;
   }
 
-  pub serves_replaced : (at : ℕ) (bytes : List ℕ) (edited : Result ℕ Refusal) (new : Now) → Gives (edit_of old.tables old.list (edits.Replace at bytes)) edited → new ≡ behind_edit (edits.Replace at bytes) old edited → Appends r r' (edit_line edited) → Serves old (Replace at bytes) f f r r' new
-  serves_replaced at bytes edited new gives after said = record {
-    answer = told (edit_line edited);
-    means = (edited, gives, (refl, after));
+  pub serves_replaced : (at : ℕ) (bytes : List ℕ) (edited : Result ℕ Refusal) (new : Now) → IsOrNoMemory (edit_of old.tables old.list (edits.Replace at bytes)) edited → new ≡ now_after_edit (edits.Replace at bytes) old edited → Appends r r' (edit_line edited) → Serves old (Replace at bytes) f f r r' new
+  serves_replaced at bytes edited new returned after said = record {
+    answer = reply_only (edit_line edited);
+    means = (edited, returned, (refl, after));
     shown = Appends-nil f;
     said = said;
   }
 
-  pub serves_deleted : (at : ℕ) (new : Now) → ((edited : Result ℕ Refusal) × EditGives old.tables old.list (edits.Delete at) edited × (new ≡ behind_edit (edits.Delete at) old edited) × Appends r r' (edit_line edited)) → Serves old (Delete at) f f r r' new
+  pub serves_deleted : (at : ℕ) (new : Now) → ((edited : Result ℕ Refusal) × EditAnswers old.tables old.list (edits.Delete at) edited × (new ≡ now_after_edit (edits.Delete at) old edited) × Appends r r' (edit_line edited)) → Serves old (Delete at) f f r r' new
   serves_deleted at new made =
-      let P : Result ℕ Refusal → Type 0 = λ e. (new ≡ behind_edit (edits.Delete at) old e) × Appends r r' (edit_line e) in
+      let P : Result ℕ Refusal → Type 0 = λ e. (new ≡ now_after_edit (edits.Delete at) old e) × Appends r r' (edit_line e) in
       let so = subst P made.1 (made.2, made.3) in
-      record { answer = told (edit_line (edit_of old.tables old.list (edits.Delete at))); means = (refl, so.0); shown = Appends-nil f; said = so.1 }
+      record { answer = reply_only (edit_line (edit_of old.tables old.list (edits.Delete at))); means = (refl, so.0); shown = Appends-nil f; said = so.1 }
 
-  pub serves_moved : (from to : ℕ) (new : Now) → ((edited : Result ℕ Refusal) × EditGives old.tables old.list (edits.Move from to) edited × (new ≡ behind_edit (edits.Move from to) old edited) × Appends r r' (edit_line edited)) → Serves old (Move from to) f f r r' new
+  pub serves_moved : (from to : ℕ) (new : Now) → ((edited : Result ℕ Refusal) × EditAnswers old.tables old.list (edits.Move from to) edited × (new ≡ now_after_edit (edits.Move from to) old edited) × Appends r r' (edit_line edited)) → Serves old (Move from to) f f r r' new
   serves_moved from to new made =
-      let P : Result ℕ Refusal → Type 0 = λ e. (new ≡ behind_edit (edits.Move from to) old e) × Appends r r' (edit_line e) in
+      let P : Result ℕ Refusal → Type 0 = λ e. (new ≡ now_after_edit (edits.Move from to) old e) × Appends r r' (edit_line e) in
       let so = subst P made.1 (made.2, made.3) in
-      record { answer = told (edit_line (edit_of old.tables old.list (edits.Move from to))); means = (refl, so.0); shown = Appends-nil f; said = so.1 }
+      record { answer = reply_only (edit_line (edit_of old.tables old.list (edits.Move from to))); means = (refl, so.0); shown = Appends-nil f; said = so.1 }
 
-  pub serves_blanked : (at width height : ℕ) (new : Now) → ((edited : Result ℕ Refusal) × EditGives old.tables old.list (edits.Blank at width height) edited × (new ≡ behind_edit (edits.Blank at width height) old edited) × Appends r r' (edit_line edited)) → Serves old (Blank at width height) f f r r' new
+  pub serves_blanked : (at width height : ℕ) (new : Now) → ((edited : Result ℕ Refusal) × EditAnswers old.tables old.list (edits.Blank at width height) edited × (new ≡ now_after_edit (edits.Blank at width height) old edited) × Appends r r' (edit_line edited)) → Serves old (Blank at width height) f f r r' new
   serves_blanked at width height new made = record {
-    answer = told (edit_line made.0);
+    answer = reply_only (edit_line made.0);
     means = (made.0, made.1, (refl, made.2));
     shown = Appends-nil f;
     said = made.3;
   }
 
-  pub serves_held : (at : ℕ) (new : Now) → ((edited : Result ℕ Refusal) × EditGives old.tables old.list (edits.Hold at) edited × (new ≡ behind_edit (edits.Hold at) old edited) × Appends r r' (edit_line edited)) → Serves old (Hold at) f f r r' new
+  pub serves_held : (at : ℕ) (new : Now) → ((edited : Result ℕ Refusal) × EditAnswers old.tables old.list (edits.Hold at) edited × (new ≡ now_after_edit (edits.Hold at) old edited) × Appends r r' (edit_line edited)) → Serves old (Hold at) f f r r' new
   serves_held at new made = record {
-    answer = told (edit_line made.0);
+    answer = reply_only (edit_line made.0);
     means = (made.0, made.1, (refl, made.2));
     shown = Appends-nil f;
     said = made.3;
   }
 
   pub serves_count : Appends r r' (count_line (packet_count old) (frame_count old)) → Serves old Count f f r r' old
-  serves_count said = record { answer = told (count_line (packet_count old) (frame_count old)); means = (refl, refl); shown = Appends-nil f; said = said }
+  serves_count said = record { answer = reply_only (count_line (packet_count old) (frame_count old)); means = (refl, refl); shown = Appends-nil f; said = said }
 
   pub serves_stats : Appends r r' (stats_line old.decoded) → Serves old Stats f f r r' old
-  serves_stats said = record { answer = told (stats_line old.decoded); means = (refl, refl); shown = Appends-nil f; said = said }
+  serves_stats said = record { answer = reply_only (stats_line old.decoded); means = (refl, refl); shown = Appends-nil f; said = said }
 
 -- a frame and its reply, written with the head that is due
 module _ (old : Now) (f f' r r' : Option (List ℕ)) (n : ℕ) (picture : PictureSamples) (new : Now) (head : Option Head) where
-  pub frame_and_reply : {E : Type 0} (w : Result (Unit {0}) E) → head ≡ head_due old → GivesFrame (frame_of old n) (Ok picture) → IsAfterFrame old (size_given (Ok picture)) new → OnOk w (Appends f f' (opening head picture.width picture.height ++ frame_text picture)) → OnOk w (Appends r r' (served_line n)) → OnOk w (Serves old (Frame n) f f' r r' new)
-  frame_and_reply (Ok _) is gives after shown said =
-      serves_frame old f f' r r' n picture new gives after (subst (λ (h : Option Head). Appends f f' (opening h picture.width picture.height ++ frame_text picture)) is shown) said
-  frame_and_reply (Err _) is gives after shown said = tt
+  pub frame_and_reply : {E : Type 0} (w : Result (Unit {0}) E) → head ≡ head_due old → IsFrameOrNoMemory (frame_of old n) (Ok picture) → IsAfterFrame old (size_given (Ok picture)) new → OnOk w (Appends f f' (opening head picture.width picture.height ++ frame_text picture)) → OnOk w (Appends r r' (served_line n)) → OnOk w (Serves old (Frame n) f f' r r' new)
+  frame_and_reply (Ok _) is returned after shown said =
+      serves_frame old f f' r r' n picture new returned after (subst (λ (h : Option Head). Appends f f' (opening h picture.width picture.height ++ frame_text picture)) is shown) said
+  frame_and_reply (Err _) is returned after shown said = tt
 
-  pub frame_or_no_reply : head ≡ head_due old → GivesFrame (frame_of old n) (Ok picture) → IsAfterFrame old (size_given (Ok picture)) new → Keeps r r' ⊎ Appends f f' (opening head picture.width picture.height ++ frame_text picture) → WritesFrameFirst old (Frame n) f f' r r' new
-  frame_or_no_reply is gives after (inl kept) = inl kept
-  frame_or_no_reply is gives after (inr shown) =
-      inr (serves_frame old f f' None None n picture new gives after (subst (λ (h : Option Head). Appends f f' (opening h picture.width picture.height ++ frame_text picture)) is shown) tt)
+  pub frame_or_no_reply : head ≡ head_due old → IsFrameOrNoMemory (frame_of old n) (Ok picture) → IsAfterFrame old (size_given (Ok picture)) new → Keeps r r' ⊎ Appends f f' (opening head picture.width picture.height ++ frame_text picture) → WritesFrameFirst old (Frame n) f f' r r' new
+  frame_or_no_reply is returned after (inl kept) = inl kept
+  frame_or_no_reply is returned after (inr shown) =
+      inr (serves_frame old f f' None None n picture new returned after (subst (λ (h : Option Head). Appends f f' (opening h picture.width picture.height ++ frame_text picture)) is shown) tt)
 
 -- one more line
 run_more : (old mid new : Now) (lines : List Line) (answers : List Answer) (line : Line) (answer : Answer) → Run old lines answers mid → Answers mid line answer new → Run old (lines ++ line ∷ []) (answers ++ answer ∷ []) new
@@ -145,10 +145,10 @@ runs_more old mid new lines line f f' f'' r r' r'' ran served =
     }
 
 -- the lines done and the lines left are all lines, with one more line
-pub all_more : (done : List Line) (asked : Line) (line : List ℕ) (left behind : List (List ℕ)) (all : List Line) → asked ≡ asked_by line → left ≡ line ∷ behind → done ++ map asked_by left ≡ all → (done ++ asked ∷ []) ++ map asked_by behind ≡ all
-all_more done asked line left behind all is next whole =
-    append_assoc done (asked ∷ []) (map asked_by behind)
-    ∙ ap (λ (l : Line). done ++ l ∷ map asked_by behind) is
+pub all_more : (done : List Line) (asked : Line) (line : List ℕ) (left following : List (List ℕ)) (all : List Line) → asked ≡ asked_by line → left ≡ line ∷ following → done ++ map asked_by left ≡ all → (done ++ asked ∷ []) ++ map asked_by following ≡ all
+all_more done asked line left following all is next whole =
+    append_assoc done (asked ∷ []) (map asked_by following)
+    ∙ ap (λ (l : Line). done ++ l ∷ map asked_by following) is
     ∙ ap (λ (ls : List (List ℕ)). done ++ map asked_by ls) (sym next)
     ∙ whole
 

@@ -92,9 +92,9 @@ words_of-first (x ∷ xs) h k = by_first (x == 32) refl
         let front : before_first (λ b. b == 32) (x ∷ xs) ≡ x ∷ before_first (λ b. b == 32) xs = rw (e, one_more) refl in
         let some : (length (before_first (λ b. b == 32) (x ∷ xs)) == 0) ≡ false = not_zero _ (omega (arith, ap length front)) in
         let word : List ℕ = before_first (λ b. b == 32) (x ∷ xs) in
-        let behind : List (List ℕ) = filter (λ part. not (length part == 0)) parts.more in
+        let following : List (List ℕ) = filter (λ part. not (length part == 0)) parts.more in
         ap (filter (λ part. not (length part == 0))) parts.split
-        ∙ ap (λ none. cond (not none) (word ∷ behind) behind) some
+        ∙ ap (λ none. cond (not none) (word ∷ following) following) some
         ∙ ap (λ words. word ∷ words) (sym parts.words)
 
 -- a first word is not an empty part
@@ -107,42 +107,42 @@ first_some (x ∷ xs) h k = by_first (x == 32) refl
     by_first false e = rw e (omega arith)
 
 -- the last line, as the code cuts it off
-pub cut_last : (text line behind : List ℕ) (n : ℕ) → 0 < length text → n ≡ position_or_len (λ b. b == 10) text → line ≡ take n text → behind ≡ drop n text → length behind < 1 → lines text ≡ line ∷ lines behind
-cut_last text line behind n some at front back none =
+pub cut_last : (text line following : List ℕ) (n : ℕ) → 0 < length text → n ≡ position_or_len (λ b. b == 10) text → line ≡ take n text → following ≡ drop n text → length following < 1 → lines text ≡ line ∷ lines following
+cut_last text line following n some at front back none =
     let all : length text ≤ n = omega (arith, ap length back, length-drop n text) in
     let whole : line ≡ text = front ∙ take_all n text all in
-    let empty : behind ≡ [] = back ∙ drop_all n text all in
+    let empty : following ≡ [] = back ∙ drop_all n text all in
     lines-last text some (omega (arith, all, at)) ∙ (rw (whole, empty) refl)
 
 -- a line before a newline, as the code cuts it off
-pub cut_first : (text line behind kept : List ℕ) (n : ℕ) → n ≡ position_or_len (λ b. b == 10) text → line ≡ take n text → behind ≡ drop n text → 1 ≤ length behind → kept ≡ strip_carriage_return line → lines text ≡ kept ∷ lines (take (length behind - 1) (drop 1 behind))
-cut_first text line behind kept n at front back some strip =
+pub cut_first : (text line following kept : List ℕ) (n : ℕ) → n ≡ position_or_len (λ b. b == 10) text → line ≡ take n text → following ≡ drop n text → 1 ≤ length following → kept ≡ strip_carriage_return line → lines text ≡ kept ∷ lines (take (length following - 1) (drop 1 following))
+cut_first text line following kept n at front back some strip =
     let more : n < length text = omega (arith, ap length back, length-drop n text) in
     let place : position_or_len (λ b. b == 10) text ≡ n = sym at in
     let kept_is : strip_carriage_return (before_first (λ b. b == 10) text) ≡ kept = ap (λ k. strip_carriage_return (take k text)) place ∙ ap strip_carriage_return (sym front) ∙ sym strip in
-    let all : take (length behind - 1) (drop 1 behind) ≡ drop 1 behind = take_all (length behind - 1) (drop 1 behind) (omega (arith, length-drop 1 behind)) in
-    let rest_is : after_first (λ b. b == 10) text ≡ drop 1 behind = ap (λ k. drop (k + 1) text) place ∙ sym (drop-drop 1 n text) ∙ ap (drop 1) (sym back) in
+    let all : take (length following - 1) (drop 1 following) ≡ drop 1 following = take_all (length following - 1) (drop 1 following) (omega (arith, length-drop 1 following)) in
+    let rest_is : after_first (λ b. b == 10) text ≡ drop 1 following = ap (λ k. drop (k + 1) text) place ∙ sym (drop-drop 1 n text) ∙ ap (drop 1) (sym back) in
     lines-first text (omega (arith, more, at)) ∙ rw (kept_is, rest_is, all) refl
 
 -- the text after the spaces begins with none
 no_space_behind : (line words : List ℕ) (n : ℕ) → n ≡ prefix_len (λ b. b == 32) line → words ≡ drop n line → n < length line → prefix_len (λ b. b == 32) words ≡ 0
-no_space_behind line words n spaces behind within =
+no_space_behind line words n spaces following within =
     let stops : get_or line n 0 == 32 ≡ false = ap (λ k. get_or line k 0 == 32) spaces ∙ prefix_len_stops (λ b. b == 32) line 0 (omega (arith, spaces, within)) in
-    ap (prefix_len (λ b. b == 32)) behind ∙ prefix_len-drop_no (λ b. b == 32) line n 0 within stops
+    ap (prefix_len (λ b. b == 32)) following ∙ prefix_len-drop_no (λ b. b == 32) line n 0 within stops
 
 -- the first word, as the code cuts it off
 pub cut_word : (line words word rest : List ℕ) (n m : ℕ) → n ≡ prefix_len (λ b. b == 32) line → words ≡ drop n line → 0 < length words → m ≡ position_or_len (λ b. b == 32) words → word ≡ take m words → rest ≡ drop m words → (words_of line ≡ word ∷ words_of rest) × (length rest < length line)
-cut_word line words word rest n m spaces behind some at front back =
-    let within : n < length line = omega (arith, ap length behind, length-drop n line) in
-    let begins : prefix_len (λ b. b == 32) words ≡ 0 = no_space_behind line words n spaces behind within in
-    let same : words_of line ≡ words_of words = sym (words_of-spaces line) ∙ ap (λ k. words_of (drop k line)) (sym spaces) ∙ ap words_of (sym behind) in
+cut_word line words word rest n m spaces following some at front back =
+    let within : n < length line = omega (arith, ap length following, length-drop n line) in
+    let begins : prefix_len (λ b. b == 32) words ≡ 0 = no_space_behind line words n spaces following within in
+    let same : words_of line ≡ words_of words = sym (words_of-spaces line) ∙ ap (λ k. words_of (drop k line)) (sym spaces) ∙ ap words_of (sym following) in
     let word_is : before_first (λ b. b == 32) words ≡ word = ap (λ k. take k words) (sym at) ∙ sym front in
     let rest_is : drop (position_or_len (λ b. b == 32) words) words ≡ rest = ap (λ k. drop k words) (sym at) ∙ sym back in
     let first : words_of words ≡ word ∷ words_of rest = words_of-first words some begins ∙ (rw (word_is, rest_is) refl) in
-    (same ∙ first, omega (arith, at, first_some words some begins, ap length back, length-drop m words, ap length behind, length-drop n line))
+    (same ∙ first, omega (arith, at, first_some words some begins, ap length back, length-drop m words, ap length following, length-drop n line))
 
 -- a line of spaces
 pub cut_none : (line words : List ℕ) (n : ℕ) → n ≡ prefix_len (λ b. b == 32) line → words ≡ drop n line → length words ≡ 0 → words_of line ≡ []
-cut_none line words n spaces behind none =
-    let all : length line ≤ n = omega (arith, ap length behind, length-drop n line) in
+cut_none line words n spaces following none =
+    let all : length line ≤ n = omega (arith, ap length following, length-drop n line) in
     sym (words_of-spaces line) ∙ ap (λ k. words_of (drop k line)) (sym spaces) ∙ ap words_of (drop_all n line all)

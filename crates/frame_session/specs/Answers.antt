@@ -18,11 +18,11 @@ use Rattle.frame_session.specs.declared.refusal.Refusal.TheVariants as refusals
 use Rattle.frame_session.specs.declared.serving.RunFault.{RunFault}
 use Rattle.frame_session.specs.declared.serving.RunFault.TheVariants as faults
 use Rattle.frame_session.specs.Requests.{asked_by}
-use Rattle.frame_session.specs.Gives.{Gives}
+use Rattle.frame_session.specs.IsOrNoMemory.{IsOrNoMemory}
 use Rattle.frame_session.specs.Edits.{edit_of}
 use Rattle.frame_session.specs.Frames.{shown_text}
 use Rattle.frame_session.specs.Replies.{refused_line, served_line, edit_line, count_line, stats_line}
-use Rattle.frame_session.specs.Sessions.{IsAfterFrame, Now, behind_edit, behind_script, frame_count, frame_of, head_due, packet_count, script_answer, size_served, start}
+use Rattle.frame_session.specs.Sessions.{IsAfterFrame, Now, now_after_edit, now_after_script, frame_count, frame_of, head_due, packet_count, script_answer, size_served, start}
 
 -- the requests of a text, line by line
 abbrev pub requests_of : List ℕ → List Line
@@ -34,8 +34,8 @@ pub record Answer : Type 0 where
   pub frames : List ℕ
 
 -- only a reply
-abbrev pub told : List ℕ → Answer
-told reply = record { reply = reply; frames = [] }
+abbrev pub reply_only : List ℕ → Answer
+reply_only reply = record { reply = reply; frames = [] }
 
 -- the line that opens the frames, if it is still to be written with a head
 abbrev pub opening : Option Head → ℕ → ℕ → List ℕ
@@ -45,36 +45,36 @@ opening (Some head) width height = y4m_line width height head.rate head.scale
 -- the answer to a request for frame n
 abbrev pub answer_to_frame : Now → ℕ → Result Shown Refusal → Answer
 answer_to_frame now n (Ok shown) = record { reply = served_line n; frames = opening (head_due now) shown.width shown.height ++ shown_text shown }
-answer_to_frame now n (Err refusal) = told (refused_line refusal)
+answer_to_frame now n (Err refusal) = reply_only (refused_line refusal)
 
 -- an edit and its result, with the answer and the new state
 abbrev pub AnswersEdit : Now → Edit → Result ℕ Refusal → Answer → Now → Type 0
-AnswersEdit old edit edited answer new = (answer ≡ told (edit_line edited)) × (new ≡ behind_edit edit old edited)
+AnswersEdit old edit edited answer new = (answer ≡ reply_only (edit_line edited)) × (new ≡ now_after_edit edit old edited)
 
 -- a script and its result, with the answer and the new state
 abbrev pub AnswersScript : Now → List ℕ → Result ℕ Refusal → Answer → Now → Type 0
-AnswersScript old text set answer new = (answer ≡ told (edit_line set)) × (new ≡ behind_script text old set)
+AnswersScript old text set answer new = (answer ≡ reply_only (edit_line set)) × (new ≡ now_after_script text old set)
 
 -- a line, an answer that it may have, and the state after it; a frame, a script, and an insertion may be out of memory
 abbrev pub Answers : Now → Line → Answer → Now → Type 0
-Answers old requests.Silent answer new = (answer ≡ told []) × (new ≡ old)
-Answers old requests.Unknown answer new = (answer ≡ told (refused_line refusals.Line)) × (new ≡ old)
+Answers old requests.Silent answer new = (answer ≡ reply_only []) × (new ≡ old)
+Answers old requests.Unknown answer new = (answer ≡ reply_only (refused_line refusals.Line)) × (new ≡ old)
 Answers old (requests.Frame n) answer new =
-    (frame : Result Shown Refusal) × Gives (frame_of old n) frame × (answer ≡ answer_to_frame old n frame) × IsAfterFrame old (size_served frame) new
+    (frame : Result Shown Refusal) × IsOrNoMemory (frame_of old n) frame × (answer ≡ answer_to_frame old n frame) × IsAfterFrame old (size_served frame) new
 Answers old (requests.Insert at stamp bytes) answer new =
-    (edited : Result ℕ Refusal) × Gives (edit_of old.tables old.list (edits.Insert at stamp bytes)) edited × AnswersEdit old (edits.Insert at stamp bytes) edited answer new
+    (edited : Result ℕ Refusal) × IsOrNoMemory (edit_of old.tables old.list (edits.Insert at stamp bytes)) edited × AnswersEdit old (edits.Insert at stamp bytes) edited answer new
 Answers old (requests.Replace at bytes) answer new =
-    (edited : Result ℕ Refusal) × Gives (edit_of old.tables old.list (edits.Replace at bytes)) edited × AnswersEdit old (edits.Replace at bytes) edited answer new
+    (edited : Result ℕ Refusal) × IsOrNoMemory (edit_of old.tables old.list (edits.Replace at bytes)) edited × AnswersEdit old (edits.Replace at bytes) edited answer new
 Answers old (requests.Delete at) answer new = AnswersEdit old (edits.Delete at) (edit_of old.tables old.list (edits.Delete at)) answer new
 Answers old (requests.Move from to) answer new = AnswersEdit old (edits.Move from to) (edit_of old.tables old.list (edits.Move from to)) answer new
 Answers old (requests.Blank at width height) answer new =
-    (edited : Result ℕ Refusal) × Gives (edit_of old.tables old.list (edits.Blank at width height)) edited × AnswersEdit old (edits.Blank at width height) edited answer new
+    (edited : Result ℕ Refusal) × IsOrNoMemory (edit_of old.tables old.list (edits.Blank at width height)) edited × AnswersEdit old (edits.Blank at width height) edited answer new
 Answers old (requests.Hold at) answer new =
-    (edited : Result ℕ Refusal) × Gives (edit_of old.tables old.list (edits.Hold at)) edited × AnswersEdit old (edits.Hold at) edited answer new
+    (edited : Result ℕ Refusal) × IsOrNoMemory (edit_of old.tables old.list (edits.Hold at)) edited × AnswersEdit old (edits.Hold at) edited answer new
 Answers old (requests.Script text) answer new =
-    (set : Result ℕ Refusal) × Gives (script_answer old text) set × AnswersScript old text set answer new
-Answers old requests.Count answer new = (answer ≡ told (count_line (packet_count old) (frame_count old))) × (new ≡ old)
-Answers old requests.Stats answer new = (answer ≡ told (stats_line old.decoded)) × (new ≡ old)
+    (set : Result ℕ Refusal) × IsOrNoMemory (script_answer old text) set × AnswersScript old text set answer new
+Answers old requests.Count answer new = (answer ≡ reply_only (count_line (packet_count old) (frame_count old))) × (new ≡ old)
+Answers old requests.Stats answer new = (answer ≡ reply_only (stats_line old.decoded)) × (new ≡ old)
 
 -- lines in sequence, answers that they may have, and the state after them
 abbrev pub Run : Now → List Line → List Answer → Now → Type 0

@@ -4,13 +4,13 @@ use Rattle.vp8_tables.specs.declared.tables.Tables.{Tables}
 use Rattle.stream_files.specs.declared.ivf.Ivf.{Ivf}
 use Rattle.packet_edits.specs.Edits.{Listing}
 use Rattle.packet_edits.specs.Marks.{StoreValue, marks_deleted, marks_inserted, marks_moved, marks_pushed, marks_replaced}
-use Rattle.packet_edits.specs.Shown.{shown_places}
+use Rattle.packet_edits.specs.Shown.{shown_indexes}
 use Rattle.pixel_planes.specs.Pictures.{PictureSamples}
 use Rattle.script_nodes.specs.Frames.{traced}
 use Rattle.state_cache.specs.Costs.{Costs}
-use Rattle.state_cache.specs.EditLaws.{IsWithout, StandIn, id_at}
+use Rattle.state_cache.specs.EditLaws.{IsWithout, AreOfPackets, id_at}
 use Rattle.state_cache.specs.Reaching.{CacheValue, view_of}
-use Rattle.state_cache.specs.Views.{IsCoherent, seens}
+use Rattle.state_cache.specs.Views.{IsCoherent, marked_packets}
 use Rattle.frame_session.specs.declared.edit.Edit.{Edit}
 use Rattle.frame_session.specs.declared.edit.Edit.TheVariants.{Insert, Replace, Delete, Move, Blank, Hold}
 use Rattle.frame_session.specs.declared.refusal.Refusal.{Refusal}
@@ -37,13 +37,13 @@ begun tables capacity file = record {
 
 -- the cached outcomes are coherent with the packets and their marks, belong to packets of the list, and are at most as many as the capacity
 pub record IsSound (tables : Tables) (store : StoreValue) (cache : CacheValue) : Type 0 where
-  pub coherent : IsCoherent tables (seens store) (view_of cache)
-  pub stand : StandIn store.list (view_of cache)
+  pub coherent : IsCoherent tables (marked_packets store) (view_of cache)
+  pub of_packets : AreOfPackets store.list (view_of cache)
   pub bounded : length cache.entries ≤ cache.capacity
 
 -- the index of the packet that frame n comes from, if there is such a frame
 abbrev pub place_of : Now → ℕ → Option ℕ
-place_of now n = option_and_then (λ origin. slice_get (shown_places (stream_of now)) origin.frame) (traced (shown_count now) now.script n)
+place_of now n = option_and_then (λ origin. slice_get (shown_indexes (stream_of now)) origin.frame) (traced (shown_count now) now.script n)
 
 -- whether an answer to a frame follows from its packet's picture: the frame, and the two refusals that only the picture decides
 abbrev pub needs_picture : Result PictureSamples Refusal → Bool
@@ -68,13 +68,13 @@ marks_edited (Blank at width height) marks = marks_inserted at marks
 marks_edited (Hold at) marks = marks_inserted at marks
 
 -- the value after an edit with this result: the new value, or the old one if it is refused
-abbrev pub behind_answer : {A : Type 0} → A → A → Result ℕ Refusal → A
-behind_answer made before (Ok count) = made
-behind_answer made before (Err refusal) = before
+abbrev pub after_answer : {A : Type 0} → A → A → Result ℕ Refusal → A
+after_answer made before (Ok count) = made
+after_answer made before (Err refusal) = before
 
 -- the marks after an edit with this result
 abbrev pub marks_after : Edit → List Bool → Result ℕ Refusal → List Bool
-marks_after edit marks answer = behind_answer (marks_edited edit marks) marks answer
+marks_after edit marks answer = after_answer (marks_edited edit marks) marks answer
 
 -- the id of the packet that an edit removes from the list, if it removes one
 abbrev pub leaving : Edit → Listing → Option ℕ
@@ -83,8 +83,8 @@ leaving (Delete at) list = id_at list.entries at
 leaving edit list = None
 
 -- the id that was removed by an edit with this result
-abbrev pub left_behind : Edit → Listing → Result ℕ Refusal → Option ℕ
-left_behind edit list answer = behind_answer (leaving edit list) None answer
+abbrev pub id_removed : Edit → Listing → Result ℕ Refusal → Option ℕ
+id_removed edit list answer = after_answer (leaving edit list) None answer
 
 -- if a packet was removed, nothing is cached for its id and all else is unchanged; if none was, the cache is unchanged
 abbrev pub CacheWithout : Option ℕ → CacheValue → CacheValue → Type 0

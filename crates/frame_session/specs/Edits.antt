@@ -14,7 +14,7 @@ use Rattle.frame_session.specs.declared.edit.Edit.{Edit}
 use Rattle.frame_session.specs.declared.edit.Edit.TheVariants.{Insert, Replace, Delete, Move, Blank, Hold}
 use Rattle.frame_session.specs.declared.refusal.Refusal.{Refusal}
 use Rattle.frame_session.specs.declared.refusal.Refusal.TheVariants as refusals
-use Rattle.frame_session.specs.Gives.{Gives}
+use Rattle.frame_session.specs.IsOrNoMemory.{IsOrNoMemory}
 
 -- the refusal of a request whose edit has an error
 abbrev pub refusal_by : EditFault → Refusal
@@ -34,13 +34,13 @@ abbrev pub stamp_before : ℕ → Listing → ℕ
 stamp_before at list = if at == 0 then 0 else option_map_or (λ entry. entry.stamp) (slice_get list.entries (at - 1)) 0
 
 -- the packet that is forged to hold a picture of this size: an error if there is none
-abbrev pub held : Tables → Option (ℕ × ℕ) → Result (List ℕ) ForgeFault
-held tables None = Err forging.Size
-held tables (Some size) = hold_of tables size.0 size.1
+abbrev pub hold_bytes : Tables → Option (ℕ × ℕ) → Result (List ℕ) ForgeFault
+hold_bytes tables None = Err forging.Size
+hold_bytes tables (Some size) = hold_of tables size.0 size.1
 
 -- the packet that holds the picture at an index: its size is that of the key frames before it
-abbrev pub held_at : Tables → Listing → ℕ → Result (List ℕ) ForgeFault
-held_at tables list at = held tables (size_at at list)
+abbrev pub hold_bytes_at : Tables → Listing → ℕ → Result (List ℕ) ForgeFault
+hold_bytes_at tables list at = hold_bytes tables (size_at at list)
 
 -- a forged packet inserted at an index, with the time stamp of the packet before it
 abbrev pub inserted_forged : ℕ → Result (List ℕ) ForgeFault → Listing → Listing
@@ -53,7 +53,7 @@ edited tables (Replace at bytes) list = replaced at bytes list
 edited tables (Delete at) list = deleted at list
 edited tables (Move from to) list = with_move from to list
 edited tables (Blank at width height) list = inserted_forged at (blank_of tables width height) list
-edited tables (Hold at) list = inserted_forged at (held_at tables list at) list
+edited tables (Hold at) list = inserted_forged at (hold_bytes_at tables list at) list
 
 -- the first refusal of a forged packet: its insertion's, or otherwise its forging's
 abbrev pub refused_forged : Option EditFault → Result (List ℕ) ForgeFault → Option Refusal
@@ -68,7 +68,7 @@ refused_edit tables list (Replace at bytes) = option_map refusal_by (refused_rep
 refused_edit tables list (Delete at) = option_map refusal_by (refused_deletion list at)
 refused_edit tables list (Move from to) = option_map refusal_by (refused_move list from to)
 refused_edit tables list (Blank at width height) = refused_forged (refused_insertion list at) (blank_of tables width height)
-refused_edit tables list (Hold at) = refused_forged (refused_insertion list at) (held_at tables list at)
+refused_edit tables list (Hold at) = refused_forged (refused_insertion list at) (hold_bytes_at tables list at)
 
 -- the result if nothing is refused
 abbrev pub unless_refused : Option Refusal → ℕ → Result ℕ Refusal
@@ -80,11 +80,11 @@ abbrev pub edit_of : Tables → Listing → Edit → Result ℕ Refusal
 edit_of tables list edit = unless_refused (refused_edit tables list edit) (length (edited tables edit list).entries)
 
 -- the results that an edit may have: an insertion may also be out of memory
-abbrev pub EditGives : Tables → Listing → Edit → Result ℕ Refusal → Type 0
-EditGives tables list (Insert at stamp bytes) answer = Gives (edit_of tables list (Insert at stamp bytes)) answer
-EditGives tables list (Blank at width height) answer = Gives (edit_of tables list (Blank at width height)) answer
-EditGives tables list (Hold at) answer = Gives (edit_of tables list (Hold at)) answer
-EditGives tables list edit answer = answer ≡ edit_of tables list edit
+abbrev pub EditAnswers : Tables → Listing → Edit → Result ℕ Refusal → Type 0
+EditAnswers tables list (Insert at stamp bytes) answer = IsOrNoMemory (edit_of tables list (Insert at stamp bytes)) answer
+EditAnswers tables list (Blank at width height) answer = IsOrNoMemory (edit_of tables list (Blank at width height)) answer
+EditAnswers tables list (Hold at) answer = IsOrNoMemory (edit_of tables list (Hold at)) answer
+EditAnswers tables list edit answer = answer ≡ edit_of tables list edit
 
 -- the list after an edit with this result
 abbrev pub after_edit : Tables → Edit → Listing → Result ℕ Refusal → Listing

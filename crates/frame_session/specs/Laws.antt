@@ -6,7 +6,7 @@ use Rattle.frame_session.specs.declared.refusal.Refusal.{Refusal}
 use Rattle.frame_session.specs.declared.refusal.Refusal.TheVariants as refusals
 use Rattle.frame_session.specs.Replies.{refused_line, stats_line}
 use Rattle.frame_session.specs.Sessions.{Now}
-use Rattle.frame_session.specs.Answers.{Answer, Answers, Run, told}
+use Rattle.frame_session.specs.Answers.{Answer, Answers, Run, reply_only}
 
 -- no reply is `refused NoMemory`
 abbrev pub HaveMemory : List Answer → Type 0
@@ -15,7 +15,7 @@ HaveMemory (answer ∷ answers) = (answer.reply ≡ refused_line refusals.NoMemo
 
 -- two answers to a line are the same, except for the number that `stats` reports
 abbrev pub AreAlike : Line → Answer → Answer → Type 0
-AreAlike Stats answer answer' = (steps : ℕ) × (steps' : ℕ) × (answer ≡ told (stats_line steps)) × (answer' ≡ told (stats_line steps'))
+AreAlike Stats answer answer' = (steps : ℕ) × (steps' : ℕ) × (answer ≡ reply_only (stats_line steps)) × (answer' ≡ reply_only (stats_line steps'))
 AreAlike line answer answer' = answer' ≡ answer
 
 abbrev pub AllAlike : List Line → List Answer → List Answer → Type 0

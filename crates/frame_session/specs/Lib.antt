@@ -1,4 +1,4 @@
-pub mod Gives
+pub mod IsOrNoMemory
 pub mod Edits
 pub mod Scripts
 pub mod Frames

@@ -5,7 +5,7 @@ use Rattle.std.specs.Option.{option_map_or}
 use Rattle.std.specs.Str.{bytes_eq}
 use Rattle.frame_session.specs.declared.lines.Line.{Line}
 use Rattle.frame_session.specs.declared.lines.Line.TheVariants.{Silent, Unknown, Frame, Insert, Replace, Delete, Move, Blank, Hold, Script, Count, Stats}
-use Rattle.frame_session.specs.Words.{words_of, number_of, bytes_of, behind_word}
+use Rattle.frame_session.specs.Words.{words_of, number_of, bytes_of, after_word}
 
 -- a line that continues with a number, and with the words after it
 abbrev pub with_number : (ℕ → List (List ℕ) → Line) → List (List ℕ) → Line
@@ -68,4 +68,4 @@ asked_by_words text (command ∷ words) =
 
 -- the request of a line
 abbrev pub asked_by : List ℕ → Line
-asked_by line = asked_by_words (behind_word line) (words_of line)
+asked_by line = asked_by_words (after_word line) (words_of line)

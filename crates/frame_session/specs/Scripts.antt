@@ -22,6 +22,6 @@ refusal_by_apply applies.CropOutside = refusals.CropOutside
 refusal_by_apply applies.NoMemory = refusals.NoMemory
 
 -- the result of a script, when there are this many packets
-abbrev pub told_script : ℕ → Result (List Node) ScriptFault → Result ℕ Refusal
-told_script count (Ok nodes) = Ok count
-told_script count (Err fault) = Err (refusal_by_script fault)
+abbrev pub script_reported : ℕ → Result (List Node) ScriptFault → Result ℕ Refusal
+script_reported count (Ok nodes) = Ok count
+script_reported count (Err fault) = Err (refusal_by_script fault)

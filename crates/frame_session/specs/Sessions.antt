@@ -11,7 +11,7 @@ use Rattle.frame_session.specs.declared.size.Size.{Size}
 use Rattle.frame_session.specs.declared.edit.Edit.{Edit}
 use Rattle.state_cache.specs.Decoding.{Outcome, outcomes}
 use Rattle.packet_edits.specs.Edits.{Listing, listing_of}
-use Rattle.packet_edits.specs.Shown.{shown_places}
+use Rattle.packet_edits.specs.Shown.{shown_indexes}
 use Rattle.script_nodes.specs.declared.nodes.Node.{Node}
 use Rattle.script_nodes.specs.declared.traces.Step.{Step}
 use Rattle.script_nodes.specs.Nodes.{script_of}
@@ -19,7 +19,7 @@ use Rattle.script_nodes.specs.Lengths.{script_length}
 use Rattle.script_nodes.specs.Frames.{Origin, traced}
 use Rattle.script_nodes.specs.Shown.{Shown, shown_in, steps_shown}
 use Rattle.frame_session.specs.Edits.{after_edit}
-use Rattle.frame_session.specs.Scripts.{told_script}
+use Rattle.frame_session.specs.Scripts.{script_reported}
 
 -- the state that answers depend on: the tables, the file's head, the current packet list and script, the number of trailing
 -- bytes of the file, the size that the first frame served has fixed, and the number of steps made
@@ -46,11 +46,11 @@ stream_of now = map (λ entry. entry.bytes) now.list.entries
 
 -- the outcome of shown packet n, if there is one
 abbrev pub outcome_of : Now → ℕ → Option Outcome
-outcome_of now n = option_and_then (λ place. slice_get (outcomes now.tables (stream_of now)) place) (slice_get (shown_places (stream_of now)) n)
+outcome_of now n = option_and_then (λ place. slice_get (outcomes now.tables (stream_of now)) place) (slice_get (shown_indexes (stream_of now)) n)
 
 -- the number of shown packets, which is the number of frames of the script's source
 abbrev pub shown_count : Now → ℕ
-shown_count now = length (shown_places (stream_of now))
+shown_count now = length (shown_indexes (stream_of now))
 
 -- the picture of a packet, or the packet and cause that broke the stream
 abbrev pub picture_from : Option Outcome → Result PictureSamples Refusal
@@ -106,17 +106,17 @@ pub record IsAfterFrame (old : Now) (served : Option Size) (new : Now) : Type 0 
   pub steps : old.decoded ≤ new.decoded
 
 -- the state after an edit with this result
-abbrev pub behind_edit : Edit → Now → Result ℕ Refusal → Now
-behind_edit edit now answer = record now { list = after_edit now.tables edit now.list answer }
+abbrev pub now_after_edit : Edit → Now → Result ℕ Refusal → Now
+now_after_edit edit now answer = record now { list = after_edit now.tables edit now.list answer }
 
 -- the result of a script: the number of packets, or the first error of its text
 abbrev pub script_answer : Now → List ℕ → Result ℕ Refusal
-script_answer now text = told_script (length now.list.entries) (script_of text)
+script_answer now text = script_reported (length now.list.entries) (script_of text)
 
 -- the state after a script with this result: a refused one leaves the one before
-abbrev pub behind_script : List ℕ → Now → Result ℕ Refusal → Now
-behind_script text now (Ok count) = record now { script = result_unwrap_or (script_of text) [] }
-behind_script text now (Err refusal) = now
+abbrev pub now_after_script : List ℕ → Now → Result ℕ Refusal → Now
+now_after_script text now (Ok count) = record now { script = result_unwrap_or (script_of text) [] }
+now_after_script text now (Err refusal) = now
 
 -- the number of packets
 abbrev pub packet_count : Now → ℕ

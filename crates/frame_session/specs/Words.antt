@@ -16,8 +16,8 @@ abbrev pub from_word : List ℕ → List ℕ
 from_word line = drop (prefix_len (λ b. b == 32) line) line
 
 -- the text after the first word, with its spaces
-abbrev pub behind_word : List ℕ → List ℕ
-behind_word line = drop (position_or_len (λ b. b == 32) (from_word line)) (from_word line)
+abbrev pub after_word : List ℕ → List ℕ
+after_word line = drop (position_or_len (λ b. b == 32) (from_word line)) (from_word line)
 
 -- 1 to 20 decimal digits, and nothing else
 abbrev pub is_numeral : List ℕ → Bool

@@ -1,8 +1,8 @@
 ghost use Rattle.std.specs.Prelude.{◌≡◌};
 ghost use Rattle.frame_session.specs.Cached.{marks_after};
 ghost use Rattle.vp8_tables.specs.declared.tables.Tables.{Tables};
-ghost use Rattle.frame_session.specs.Edits.{EditGives, after_edit, edit_of};
-ghost use Rattle.frame_session.specs.Gives.{Gives};
+ghost use Rattle.frame_session.specs.Edits.{EditAnswers, after_edit, edit_of};
+ghost use Rattle.frame_session.specs.IsOrNoMemory.{IsOrNoMemory};
 
 use crate::forged::{insert_blank, insert_hold};
 use crate::refusal::Refusal;
@@ -42,7 +42,7 @@ pub fn make_edit(
     list: &mut Store,
     edit: Edit,
 ) -> Result<u64, Refusal>
-    ensures gives { EditGives tables.now list.old.list edit result }
+    ensures returned { EditAnswers tables.now list.old.list edit result }
     ensures after { list.new.list ≡ after_edit tables.now edit list.old.list result }
     ensures marks { list.new.marks ≡ marks_after edit list.old.marks result }
 {
@@ -57,7 +57,7 @@ pub fn make_edit(
 }
 
 pub(crate) fn insert(list: &mut Store, at: u64, stamp: u64, bytes: Bytes) -> Result<u64, Refusal>
-    ensures gives { (tables : Tables) → Gives (edit_of tables list.old.list (Edit.Insert at stamp bytes)) result }
+    ensures returned { (tables : Tables) → IsOrNoMemory (edit_of tables list.old.list (Edit.Insert at stamp bytes)) result }
     ensures after { (tables : Tables) → list.new.list ≡ after_edit tables (Edit.Insert at stamp bytes) list.old.list result }
     ensures marks { list.new.marks ≡ marks_after (Edit.Insert at stamp bytes) list.old.marks result }
 {
@@ -68,7 +68,7 @@ pub(crate) fn insert(list: &mut Store, at: u64, stamp: u64, bytes: Bytes) -> Res
 }
 
 fn replace(list: &mut Store, at: u64, bytes: Bytes) -> Result<u64, Refusal>
-    ensures gives { (tables : Tables) → result ≡ edit_of tables list.old.list (Edit.Replace at bytes) }
+    ensures returned { (tables : Tables) → result ≡ edit_of tables list.old.list (Edit.Replace at bytes) }
     ensures after { (tables : Tables) → list.new.list ≡ after_edit tables (Edit.Replace at bytes) list.old.list result }
     ensures marks { list.new.marks ≡ marks_after (Edit.Replace at bytes) list.old.marks result }
 {
@@ -79,7 +79,7 @@ fn replace(list: &mut Store, at: u64, bytes: Bytes) -> Result<u64, Refusal>
 }
 
 fn delete(list: &mut Store, at: u64) -> Result<u64, Refusal>
-    ensures gives { (tables : Tables) → result ≡ edit_of tables list.old.list (Edit.Delete at) }
+    ensures returned { (tables : Tables) → result ≡ edit_of tables list.old.list (Edit.Delete at) }
     ensures after { (tables : Tables) → list.new.list ≡ after_edit tables (Edit.Delete at) list.old.list result }
     ensures marks { list.new.marks ≡ marks_after (Edit.Delete at) list.old.marks result }
 {
@@ -90,7 +90,7 @@ fn delete(list: &mut Store, at: u64) -> Result<u64, Refusal>
 }
 
 fn move_to(list: &mut Store, from: u64, to: u64) -> Result<u64, Refusal>
-    ensures gives { (tables : Tables) → result ≡ edit_of tables list.old.list (Edit.Move from to) }
+    ensures returned { (tables : Tables) → result ≡ edit_of tables list.old.list (Edit.Move from to) }
     ensures after { (tables : Tables) → list.new.list ≡ after_edit tables (Edit.Move from to) list.old.list result }
     ensures marks { list.new.marks ≡ marks_after (Edit.Move from to) list.old.marks result }
 {

@@ -2,9 +2,9 @@
 ghost use Rattle.std.specs.Prelude.{◌≡◌, Ok, IfOk, IfErr};
 ghost use Rattle.packet_forge.specs.Faults.{ForgeRefuses};
 ghost use Rattle.packet_forge.specs.Packets.{blank_of, is_side};
-ghost use Rattle.frame_session.specs.Edits.{after_edit, edit_of, held, stamp_before};
+ghost use Rattle.frame_session.specs.Edits.{after_edit, edit_of, hold_bytes, stamp_before};
 ghost use Rattle.frame_session.specs.Cached.{marks_after};
-ghost use Rattle.frame_session.specs.Gives.{Gives};
+ghost use Rattle.frame_session.specs.IsOrNoMemory.{IsOrNoMemory};
 ghost use Rattle.frame_session.specs.declared.edit.Edit.TheVariants.{Blank, Hold};
 
 use crate::edit::insert;
@@ -57,8 +57,8 @@ fn forge_hold(
     tables: &Tables,
     size: Option<(u16, u16)>,
 ) -> Result<Vec<u8>, ForgeFault>
-    ensures bytes { IfOk result (λ packet. held tables.now size ≡ Ok packet.items) }
-    ensures refused { IfErr result (ForgeRefuses (held tables.now size)) }
+    ensures bytes { IfOk result (λ packet. hold_bytes tables.now size ≡ Ok packet.items) }
+    ensures refused { IfErr result (ForgeRefuses (hold_bytes tables.now size)) }
 {
     match size {
         Some((width, height)) => hold(alloc, tables, width, height),
@@ -75,7 +75,7 @@ pub(crate) fn insert_blank(
     width: u64,
     height: u64,
 ) -> Result<u64, Refusal>
-    ensures gives { Gives (edit_of tables.now list.old.list (Blank at width height)) result }
+    ensures returned { IsOrNoMemory (edit_of tables.now list.old.list (Blank at width height)) result }
     ensures after { list.new.list ≡ after_edit tables.now (Blank at width height) list.old.list result }
     ensures marks { list.new.marks ≡ marks_after (Blank at width height) list.old.marks result }
 {
@@ -96,7 +96,7 @@ pub(crate) fn insert_hold(
     list: &mut Store,
     at: u64,
 ) -> Result<u64, Refusal>
-    ensures gives { Gives (edit_of tables.now list.old.list (Hold at)) result }
+    ensures returned { IsOrNoMemory (edit_of tables.now list.old.list (Hold at)) result }
     ensures after { list.new.list ≡ after_edit tables.now (Hold at) list.old.list result }
     ensures marks { list.new.marks ≡ marks_after (Hold at) list.old.marks result }
 {

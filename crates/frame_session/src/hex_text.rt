@@ -43,7 +43,7 @@ impl<'a> Hex<'a> {
         if word.len() % 2 != 0 {
             return None;
         }
-        if !has_hex_digits_alone(word) {
+        if !has_only_hex_digits(word) {
             return None;
         }
         Some(Hex { digits: word })
@@ -66,7 +66,7 @@ fn is_dash(word: &[u8]) -> bool
     word == b"-".as_slice()
 }
 
-fn has_hex_digits_alone(word: &[u8]) -> bool
+fn has_only_hex_digits(word: &[u8]) -> bool
     ensures { result ≡ list_all is_hex_digit word.now }
 {
     word.iter().all(|byte| byte.is_ascii_hexdigit())

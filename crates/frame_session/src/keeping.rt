@@ -6,16 +6,16 @@ ghost use Rattle.packet_edits.specs.Shown.{stream_of};
 ghost use Rattle.state_cache.specs.Costs.{Costs};
 ghost use Rattle.state_cache.specs.Decoding.{outcomes};
 ghost use Rattle.state_cache.specs.EditLaws.{id_at};
-ghost use Rattle.frame_session.specs.Cached.{CacheWithout, IsSound, leaving, left_behind, marks_after, needs_picture};
-ghost use Rattle.frame_session.specs.Edits.{EditGives, after_edit};
-ghost use Rattle.frame_session.specs.Gives.{Gives};
+ghost use Rattle.frame_session.specs.Cached.{CacheWithout, IsSound, leaving, id_removed, marks_after, needs_picture};
+ghost use Rattle.frame_session.specs.Edits.{EditAnswers, after_edit};
+ghost use Rattle.frame_session.specs.IsOrNoMemory.{IsOrNoMemory};
 ghost use Rattle.frame_session.specs.Sessions.{picture_from};
 
 use crate::edit::{Edit, make_edit};
 use crate::refusal::Refusal;
 use packet_edits::Store;
 use pixel_planes::Picture;
-use state_cache::laws::{edits_keep_coherence, edits_keep_ids, next_id_is_not_kept};
+use state_cache::laws::{edits_keep_coherence, edits_keep_ids, next_id_is_not_cached};
 use state_cache::{Cache, ReachFault};
 use std::alloc::Global;
 use vp8_tables::Tables;
@@ -30,7 +30,7 @@ pub(crate) fn picture_at(
 ) -> Result<Picture, Refusal>
     requires place { place < length list.old.list.entries }
     requires sound { IsSound tables.now list.old cache.old }
-    ensures gives { Gives (picture_from (slice_get (outcomes tables.now (stream_of list.old.list)) place)) result }
+    ensures returned { IsOrNoMemory (picture_from (slice_get (outcomes tables.now (stream_of list.old.list)) place)) result }
     ensures list { list.new.list ≡ list.old.list }
     ensures costs { Costs tables.now list.old cache.old place (is_ok result) list.new cache.new }
     ensures reached { needs_picture result ≡ is_ok result }
@@ -93,7 +93,7 @@ pub(crate) fn list_is_well_formed(list: &Store)
 
 /// Makes an edit, drops the cached outcome of a packet that it removes, and returns the new number of
 /// packets. A refused edit changes nothing.
-pub(crate) fn edit_kept(
+pub(crate) fn edit_cached(
     alloc: Global,
     tables: &Tables,
     list: &mut Store,
@@ -101,10 +101,10 @@ pub(crate) fn edit_kept(
     edit: Edit,
 ) -> Result<u64, Refusal>
     requires { IsSound tables.now list.old cache.old }
-    ensures gives { EditGives tables.now list.old.list edit result }
+    ensures returned { EditAnswers tables.now list.old.list edit result }
     ensures after { list.new.list ≡ after_edit tables.now edit list.old.list result }
     ensures marks { list.new.marks ≡ marks_after edit list.old.marks result }
-    ensures cache { CacheWithout (left_behind edit list.old.list result) cache.old cache.new }
+    ensures cache { CacheWithout (id_removed edit list.old.list result) cache.old cache.new }
     ensures capacity { cache.new.capacity ≡ cache.old.capacity }
     ensures steps { cache.new.decoded ≡ cache.old.decoded }
     ensures sound { IsSound tables.now list.new cache.new }
@@ -112,7 +112,7 @@ pub(crate) fn edit_kept(
 {
     edits_keep_coherence(tables);
     edits_keep_ids();
-    next_id_is_not_kept();
+    next_id_is_not_cached();
     list_is_well_formed(list);
     let left = leaving(list, &edit);
     let count = make_edit(alloc, tables, list, edit)?;

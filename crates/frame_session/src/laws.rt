@@ -42,7 +42,7 @@ pub fn worked_edits(tables: &Tables)
     ensures move_down { (edited tables.now (edits.Move 2 1) three).entries ≡ packet 0 10 65 ∷ packet 2 30 67 ∷ packet 1 20 66 ∷ [] }
     ensures stays { (edited tables.now (edits.Move 1 1) three).entries ≡ three.entries }
     ensures next { (edited tables.now (edits.Insert 3 5 []) three).next_id ≡ 4 }
-    ensures told { edit_of tables.now three (edits.Insert 3 5 []) ≡ Ok 4 }
+    ensures reply_only { edit_of tables.now three (edits.Insert 3 5 []) ≡ Ok 4 }
     ensures place { edit_of tables.now (record three { next_id = 0xFFFF_FFFF_FFFF_FFFF }) (edits.Insert 4 5 []) ≡ Err refusals.Place }
     ensures spent { edit_of tables.now (record three { next_id = 0xFFFF_FFFF_FFFF_FFFF }) (edits.Replace 2 []) ≡ Err refusals.Spent }
     ensures stamp { (stamp_before 0 three ≡ 0) × (stamp_before 1 three ≡ 10) × (stamp_before 3 three ≡ 30) }

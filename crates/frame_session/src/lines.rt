@@ -4,7 +4,7 @@ ghost use Rattle.std.specs.Prelude.{◌≡◌, ℕ, List, ◌<◌, ◌≤◌, �
 ghost use Rattle.std.specs.Char.{is_ascii_digit};
 ghost use Rattle.std.specs.List.{list_all, position_or_len, prefix_len};
 ghost use Rattle.std.specs.Str.Lines.{lines, strip_carriage_return};
-ghost use Rattle.frame_session.specs.Words.{words_of, number_of, behind_word};
+ghost use Rattle.frame_session.specs.Words.{words_of, number_of, after_word};
 ghost use Rattle.frame_session.specs.Requests.{with_number, with_bytes, at_end, frame_by, insert_by, replace_by, delete_by, move_by, blank_by, hold_by, script_by, asked_by};
 ghost use Rattle.frame_session.specs.declared.lines.Line.{Line};
 ghost use Rattle.frame_session.specs.declared.lines.Line.TheVariants.{Unknown};
@@ -57,10 +57,10 @@ pub fn next_line(text: &[u8]) -> Option<(&[u8], &[u8])>
         return None;
     }
     let end = length_before(b'\n', text);
-    let (line, behind) = text.split_at(end);
-    match behind {
+    let (line, following) = text.split_at(end);
+    match following {
         [_, rest @ ..] => Some((without_carriage_return(line), rest)),
-        [] => Some((line, behind)),
+        [] => Some((line, following)),
     }
 }
 
@@ -84,7 +84,7 @@ fn without_carriage_return(line: &[u8]) -> &[u8]
 /// byte 32 is a space.
 pub fn next_word(line: &[u8]) -> Option<(&[u8], &[u8])>
     ensures next { MatchOption result (words_of line.now ≡ []) (λ found. words_of line.now ≡ found.0.now ∷ words_of found.1.now) }
-    ensures behind { IfSome result (λ found. found.1.now ≡ behind_word line.now) }
+    ensures following { IfSome result (λ found. found.1.now ≡ after_word line.now) }
     ensures shorter { IfSome result (λ found. length found.1.now < length line.now) }
 {
     let (_, words) = line.split_at(leading_spaces(line));
@@ -108,7 +108,7 @@ pub fn number(word: &[u8]) -> Option<u64>
     if word.len() > MOST_DIGITS {
         return None;
     }
-    if !has_digits_alone(word) {
+    if !has_only_digits(word) {
         return None;
     }
     match str::from_utf8(word) {
@@ -117,7 +117,7 @@ pub fn number(word: &[u8]) -> Option<u64>
     }
 }
 
-fn has_digits_alone(word: &[u8]) -> bool
+fn has_only_digits(word: &[u8]) -> bool
     ensures { result ≡ list_all is_ascii_digit word.now }
 {
     word.iter().all(|byte| byte.is_ascii_digit())

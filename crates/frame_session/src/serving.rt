@@ -2,9 +2,9 @@ ghost use Rattle.std.specs.Prelude.{◌≡◌, ◌⊎◌, ℕ, ◌≤◌, ◌++�
 ghost use Rattle.std.specs.Io.KnownBytes.{Appends, Keeps};
 ghost use Rattle.stream_files.specs.Y4m.{frame_text};
 ghost use Rattle.frame_session.specs.declared.refusal.Refusal.{Refusal};
-ghost use Rattle.frame_session.specs.Edits.{EditGives};
+ghost use Rattle.frame_session.specs.Edits.{EditAnswers};
 ghost use Rattle.frame_session.specs.Replies.{count_line, edit_line, served_line};
-ghost use Rattle.frame_session.specs.Sessions.{behind_edit, frame_count, packet_count};
+ghost use Rattle.frame_session.specs.Sessions.{now_after_edit, frame_count, packet_count};
 ghost use Rattle.frame_session.specs.Answers.{Leaves, Means, RunRefuses, RunStops, Runs, Serves, Stops, WritesFrameFirst, opening, requests_of};
 
 use crate::edit::Edit;
@@ -116,7 +116,7 @@ fn serve_frame<F: Write, R: Write>(
 }
 
 /// Reports the number of packets and the number of frames served.
-fn tell_count<R: Write>(session: &Session, replies: &mut R) -> Result<(), WriteFault>
+fn report_count<R: Write>(session: &Session, replies: &mut R) -> Result<(), WriteFault>
     ensures { OnOk result (Appends (R.contents replies.old) (R.contents replies.new) (count_line (packet_count session.now.now) (frame_count session.now.now))) }
 {
     let (packets, frames) = session.count();
@@ -129,7 +129,7 @@ fn serve_edit<R: Write>(
     edit: Edit,
     replies: &mut R,
 ) -> Result<(), WriteFault>
-    ensures answers { (edited : Result ℕ Refusal) × EditGives session.old.now.tables session.old.now.list edit edited × (session.new.now ≡ behind_edit edit session.old.now edited) × OnOk result (Appends (R.contents replies.old) (R.contents replies.new) (edit_line edited)) }
+    ensures answers { (edited : Result ℕ Refusal) × EditAnswers session.old.now.tables session.old.now.list edit edited × (session.new.now ≡ now_after_edit edit session.old.now edited) × OnOk result (Appends (R.contents replies.old) (R.contents replies.new) (edit_line edited)) }
     ensures capacity { session.new.cache.capacity ≡ session.old.cache.capacity }
 {
     let edited = session.edit(edit);
@@ -169,7 +169,7 @@ fn serve<F: Write, R: Write>(
             let set = session.set_script(text.as_slice());
             write_edited(replies, set)
         }
-        Line::Count => tell_count(session, replies),
+        Line::Count => report_count(session, replies),
         Line::Stats => write_stats(replies, session.decoded()),
     }
 }
@@ -187,11 +187,11 @@ fn serve_all<F: Write, R: Write>(
 {
     let mut rest = requests;
     'lines: loop {
-        let Some((line, behind)) = next_line(rest) else {
+        let Some((line, following)) = next_line(rest) else {
             return Ok(());
         };
         serve(session, read_line(line), frames, replies)?;
-        rest = behind;
+        rest = following;
     }
 }
 

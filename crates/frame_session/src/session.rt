@@ -5,13 +5,13 @@ ghost use Rattle.packet_edits.specs.Saved.{packets_of};
 ghost use Rattle.packet_edits.specs.Shown.{stream_of};
 ghost use Rattle.state_cache.specs.Decoding.{outcomes};
 ghost use Rattle.state_cache.specs.Costs.{Costs};
-ghost use Rattle.frame_session.specs.Gives.{Gives, GivesFrame};
-ghost use Rattle.frame_session.specs.Edits.{EditGives, edit_of};
+ghost use Rattle.frame_session.specs.IsOrNoMemory.{IsOrNoMemory, IsFrameOrNoMemory};
+ghost use Rattle.frame_session.specs.Edits.{EditAnswers, edit_of};
 ghost use Rattle.frame_session.specs.declared.edit.Edit.TheVariants.{Insert, Replace};
 
 use crate::edit::Edit;
 use crate::hex_text::Hex;
-use crate::keeping::{edit_kept, list_is_well_formed, picture_at};
+use crate::keeping::{edit_cached, list_is_well_formed, picture_at};
 use crate::refusal::Refusal;
 use crate::size::Size;
 use packet_edits::Store;
@@ -49,8 +49,8 @@ impl Model for Session {
 }
 
 impl Session {
-    ghost use Rattle.frame_session.specs.Cached.{CacheWithout, FrameCosts, IsSound, begun, left_behind, marks_after, needs_picture, place_of, store_of};
-    ghost use Rattle.frame_session.specs.Sessions.{IsAfterFrame, behind_edit, behind_script, fits, frame_count, frame_of, head_due, packet_count, picture_from, script_answer, shown_count, size_given};
+    ghost use Rattle.frame_session.specs.Cached.{CacheWithout, FrameCosts, IsSound, begun, id_removed, marks_after, needs_picture, place_of, store_of};
+    ghost use Rattle.frame_session.specs.Sessions.{IsAfterFrame, now_after_edit, now_after_script, fits, frame_count, frame_of, head_due, packet_count, picture_from, script_answer, shown_count, size_given};
 
     /// A session over a file's packets, at most 1,048,576. `capacity`, 1 to 4,096, is the most
     /// decoded states that are cached; the cache starts empty. The packets get ids starting at 0, and the script
@@ -93,7 +93,7 @@ impl Session {
     /// The picture of the packet at index `place`.
     fn decoded_at(&mut self, place: usize) -> Result<Picture, Refusal>
         requires { place < length self.old.now.list.entries }
-        ensures gives { Gives (picture_from (slice_get (outcomes self.old.now.tables (stream_of self.old.now.list)) place)) result }
+        ensures returned { IsOrNoMemory (picture_from (slice_get (outcomes self.old.now.tables (stream_of self.old.now.list)) place)) result }
         ensures after { self.new.now ≡ record self.old.now { decoded = self.new.now.decoded } }
         ensures costs { Costs self.old.now.tables (store_of self.old) self.old.cache place (is_ok result) (store_of self.new) self.new.cache }
         ensures reached { needs_picture result ≡ is_ok result }
@@ -121,7 +121,7 @@ impl Session {
     /// `SizeDiffers` if the frame does not have the size of the first frame served; and `NoMemory`, instead
     /// of any of these but the first.
     pub fn frame(&mut self, n: u64) -> Result<Picture, Refusal>
-        ensures gives { GivesFrame (frame_of self.old.now n) result }
+        ensures returned { IsFrameOrNoMemory (frame_of self.old.now n) result }
         ensures after { IsAfterFrame self.old.now (size_given result) self.new.now }
         ensures costs { FrameCosts (place_of self.old.now n) self.old result self.new }
         ensures capacity { self.new.cache.capacity ≡ self.old.cache.capacity }
@@ -154,8 +154,8 @@ impl Session {
     /// Refused as `Syntax`, `Nodes`, `Reference`, `Number` and then `NoMemory`, each over the whole
     /// text: the old script remains then.
     pub fn set_script(&mut self, text: &[u8]) -> Result<u64, Refusal>
-        ensures gives { Gives (script_answer self.old.now text.now) result }
-        ensures after { self.new ≡ record self.old { now = behind_script text.now self.old.now result } }
+        ensures returned { IsOrNoMemory (script_answer self.old.now text.now) result }
+        ensures after { self.new ≡ record self.old { now = now_after_script text.now self.old.now result } }
         ensures refused { OnErr result (self.new ≡ self.old) }
     {
         match Script::parse(self.alloc, text) {
@@ -176,14 +176,14 @@ impl Session {
     /// is no packet at `at`, and `Spent`. A deletion or a move: `Place` if there is no packet at one of its
     /// indices. A refused edit changes nothing.
     pub fn edit(&mut self, edit: Edit) -> Result<u64, Refusal>
-        ensures gives { EditGives self.old.now.tables self.old.now.list edit result }
-        ensures after { self.new.now ≡ behind_edit edit self.old.now result }
+        ensures returned { EditAnswers self.old.now.tables self.old.now.list edit result }
+        ensures after { self.new.now ≡ now_after_edit edit self.old.now result }
         ensures marks { self.new.marks ≡ marks_after edit self.old.marks result }
-        ensures cache { CacheWithout (left_behind edit self.old.now.list result) self.old.cache self.new.cache }
+        ensures cache { CacheWithout (id_removed edit self.old.now.list result) self.old.cache self.new.cache }
         ensures capacity { self.new.cache.capacity ≡ self.old.cache.capacity }
         ensures refused { OnErr result (self.new ≡ self.old) }
     {
-        edit_kept(
+        edit_cached(
             self.alloc,
             &self.tables,
             &mut self.list,
@@ -199,10 +199,10 @@ impl Session {
         stamp: u64,
         bytes: Hex<'_>,
     ) -> Result<u64, Refusal>
-        ensures gives { Gives (edit_of self.old.now.tables self.old.now.list (Insert at stamp bytes.entry)) result }
-        ensures after { self.new.now ≡ behind_edit (Insert at stamp bytes.entry) self.old.now result }
+        ensures returned { IsOrNoMemory (edit_of self.old.now.tables self.old.now.list (Insert at stamp bytes.entry)) result }
+        ensures after { self.new.now ≡ now_after_edit (Insert at stamp bytes.entry) self.old.now result }
         ensures marks { self.new.marks ≡ marks_after (Insert at stamp bytes.entry) self.old.marks result }
-        ensures cache { CacheWithout (left_behind (Insert at stamp bytes.entry) self.old.now.list result) self.old.cache self.new.cache }
+        ensures cache { CacheWithout (id_removed (Insert at stamp bytes.entry) self.old.now.list result) self.old.cache self.new.cache }
         ensures capacity { self.new.cache.capacity ≡ self.old.cache.capacity }
         ensures refused { OnErr result (self.new ≡ self.old) }
     {
@@ -217,10 +217,10 @@ impl Session {
 
     /// Replaces a packet by bytes that are decoded only once nothing else is refused.
     pub(crate) fn replace_written(&mut self, at: u64, bytes: Hex<'_>) -> Result<u64, Refusal>
-        ensures gives { Gives (edit_of self.old.now.tables self.old.now.list (Replace at bytes.entry)) result }
-        ensures after { self.new.now ≡ behind_edit (Replace at bytes.entry) self.old.now result }
+        ensures returned { IsOrNoMemory (edit_of self.old.now.tables self.old.now.list (Replace at bytes.entry)) result }
+        ensures after { self.new.now ≡ now_after_edit (Replace at bytes.entry) self.old.now result }
         ensures marks { self.new.marks ≡ marks_after (Replace at bytes.entry) self.old.marks result }
-        ensures cache { CacheWithout (left_behind (Replace at bytes.entry) self.old.now.list result) self.old.cache self.new.cache }
+        ensures cache { CacheWithout (id_removed (Replace at bytes.entry) self.old.now.list result) self.old.cache self.new.cache }
         ensures capacity { self.new.cache.capacity ≡ self.old.cache.capacity }
         ensures refused { OnErr result (self.new ≡ self.old) }
     {

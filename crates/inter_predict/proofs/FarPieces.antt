@@ -7,7 +7,7 @@ use Rattle.std.proofs.lemmas.List.{get_or_past}
 use Rattle.std.proofs.lemmas.Int.{ints, to_z-of_z}
 use Rattle.vp8_tables.specs.Bounds.{IsWithin}
 use Rattle.pixel_planes.specs.Samples.{Samples, sample_at}
-use Rattle.pixel_planes.specs.ReferenceSamples.{held_place, reference_sample, IsWindow}
+use Rattle.pixel_planes.specs.ReferenceSamples.{clamped_coordinate, reference_sample, IsWindow}
 use Rattle.inter_predict.specs.declared.kinds.Kind.{Kind}
 use Rattle.inter_predict.specs.declared.kinds.Kind.TheVariants.{SixTap, Bilinear}
 use Rattle.inter_predict.specs.declared.taps.Taps.{Taps}
@@ -19,7 +19,7 @@ use Rattle.inter_predict.proofs.TapSums.{six_taps, six_between, two_taps, two_be
 use Rattle.inter_predict.proofs.Twice.{tapped_same}
 
 -- past a side all coordinates are its last
-far_place : (side : ℕ) (a b : ℤ) → pos side ≤ℤ a → pos side ≤ℤ b → held_place side a ≡ held_place side b
+far_place : (side : ℕ) (a b : ℤ) → pos side ≤ℤ a → pos side ≤ℤ b → clamped_coordinate side a ≡ clamped_coordinate side b
 far_place side (pos m) (pos n) far far' = omega (arith, ints)
 far_place side (pos m) (negsuc n) far far' = absurd (omega (arith, ints))
 far_place side (negsuc m) b far far' = absurd (omega (arith, ints))
@@ -31,7 +31,7 @@ between_same Bilinear eighths less line other place place' same = two_between ei
 
 -- at two coordinates along a side the same six samples are read
 abbrev pub AreAlike : ℕ → ℤ → ℤ → Type 0
-AreAlike side a b = (k : ℕ) → k < 6 → held_place side ((a -ℤ pos 2) +ℤ pos k) ≡ held_place side ((b -ℤ pos 2) +ℤ pos k)
+AreAlike side a b = (k : ℕ) → k < 6 → clamped_coordinate side ((a -ℤ pos 2) +ℤ pos k) ≡ clamped_coordinate side ((b -ℤ pos 2) +ℤ pos k)
 
 -- fewer than 8 eighths have no whole sample
 no_whole : (eighths : ℕ) → eighths < 8 → (z : ℤ) → z +ℤ whole_part (pos eighths) ≡ z
@@ -39,7 +39,7 @@ no_whole eighths less z = omega (arith, ints)
 
 alike_behind : (side eighths : ℕ) (a b : ℤ) → eighths < 8 → AreAlike side a b → AreAlike side (a +ℤ whole_part (pos eighths)) (b +ℤ whole_part (pos eighths))
 alike_behind side eighths a b less alike = λ k six.
-    ap (λ (z : ℤ). held_place side ((z -ℤ pos 2) +ℤ pos k)) (no_whole eighths less a) ∙ alike k six ∙ sym (ap (λ (z : ℤ). held_place side ((z -ℤ pos 2) +ℤ pos k)) (no_whole eighths less b))
+    ap (λ (z : ℤ). clamped_coordinate side ((z -ℤ pos 2) +ℤ pos k)) (no_whole eighths less a) ∙ alike k six ∙ sym (ap (λ (z : ℤ). clamped_coordinate side ((z -ℤ pos 2) +ℤ pos k)) (no_whole eighths less b))
 
 -- so the inter samples there are the same
 inter_same : (kind : Kind) (p : Samples) (x y x' y' : ℤ) (right below : ℕ) → right < 8 → below < 8 → AreAlike p.width x x' → AreAlike p.height y y' → inter_sample kind p x y (pos right) (pos below) ≡ inter_sample kind p x' y' (pos right) (pos below)
@@ -51,8 +51,8 @@ inter_same kind p x y x' y' right below right_less below_less wide high =
     let row : ℤ = ((y +ℤ whole_part (pos below)) -ℤ pos 2) +ℤ pos j in
     let row' : ℤ = ((y' +ℤ whole_part (pos below)) -ℤ pos 2) +ℤ pos j in
     between_same kind (fraction (pos right)) (omega arith) (λ c. reference_sample p c row) (λ c. reference_sample p c row') (x +ℤ whole_part (pos right)) (x' +ℤ whole_part (pos right)) (λ i six'.
-    ap (λ (c : ℕ). sample_at p c (held_place p.height row)) (beside i six')
-    ∙ ap (λ (r : ℕ). sample_at p (held_place p.width (((x' +ℤ whole_part (pos right)) -ℤ pos 2) +ℤ pos i)) r) (under j six)))
+    ap (λ (c : ℕ). sample_at p c (clamped_coordinate p.height row)) (beside i six')
+    ∙ ap (λ (r : ℕ). sample_at p (clamped_coordinate p.width (((x' +ℤ whole_part (pos right)) -ℤ pos 2) +ℤ pos i)) r) (under j six)))
 
 -- a piece begins at its first sample, or past the side as that sample is
 alike_piece : (side first k : ℕ) (x from : ℤ) → IsWithin 5000000000 x → from ≡ x +ℤ pos (min first (side + 8589934592)) → AreAlike side (from +ℤ pos k) (x +ℤ pos (first + k))
@@ -60,7 +60,7 @@ alike_piece side first k x from within from_is = λ i six.
     elim (cases_lt first (side + 8589934592)) [
       | inl near ↦
           let same : from +ℤ pos k ≡ x +ℤ pos (first + k) = omega (arith, ints) in
-          ap (λ (z : ℤ). held_place side ((z -ℤ pos 2) +ℤ pos i)) same
+          ap (λ (z : ℤ). clamped_coordinate side ((z -ℤ pos 2) +ℤ pos i)) same
       | inr far ↦ far_place side _ _ (omega (arith, ints)) (omega (arith, ints))
     ]
 

@@ -2,7 +2,7 @@
 use Rattle.std.specs.Prelude.{slice_index_or}
 use Rattle.std.proofs.Common.{◌≡◌, ℕ, suc, ◌+◌, ◌-◌, ◌*◌, ◌<◌, [], ℤ, pos, negsuc, ◌+ℤ◌, ◌-ℤ◌, ◌*ℤ◌, refl, ap, subst, sym, ◌∙◌, ◌/◌, ◌%◌, arith}
 use Rattle.std.proofs.lemmas.Int.{ints}
-use Rattle.vp8_tables.specs.Bounds.{held}
+use Rattle.vp8_tables.specs.Bounds.{clamped_sample}
 use Rattle.vp8_tables.specs.declared.filters.TheConstants.{SIX_TAP_FILTERS}
 use Rattle.pixel_planes.specs.ReferenceSamples.{reference_sample}
 use Rattle.inter_predict.specs.declared.kinds.Kind.{Kind}
@@ -49,7 +49,7 @@ eight_eighths (negsuc n) =
     rw e (ap negsuc d, r)
 
 -- the filtered number is a sample
-held_byte : (z : ℤ) → held z < 256
+held_byte : (z : ℤ) → clamped_sample z < 256
 held_byte (pos n) = omega arith
 held_byte (negsuc n) = omega arith
 

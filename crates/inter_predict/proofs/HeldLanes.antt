@@ -18,10 +18,10 @@ held_rest : (a b : ℕ) → a < 65536 → b < 65536 → (cond (leb 32768 (cond (
 held_rest a b small small' = rw mask_tells (grind (arith, nat_tests))
 
 -- all lanes of differences that are clamped at 0
-pub held_rests : (xs ys : List ℕ) → Each1 (Fits w16) xs → Each1 (Fits w16) ys → zip2 (λ a b. (a + (65536 - b)) % 65536) (sel_l (map (λ m. leb 32768 m) (zip2 (λ a b. cond (ltb a b) 65535 0) xs ys)) ys xs) ys ≡ zip2 (λ a b. a - b) xs ys
-held_rests [] ys fits fits' = refl
-held_rests (x ∷ xs) [] fits fits' = refl
-held_rests (x ∷ xs) (y ∷ ys) fits fits' = same_lanes _ _ _ _ (held_rest x y fits.0.fits fits'.0.fits) (held_rests xs ys fits.1 fits'.1)
+pub clamped_rests : (xs ys : List ℕ) → Each1 (Fits w16) xs → Each1 (Fits w16) ys → zip2 (λ a b. (a + (65536 - b)) % 65536) (sel_l (map (λ m. leb 32768 m) (zip2 (λ a b. cond (ltb a b) 65535 0) xs ys)) ys xs) ys ≡ zip2 (λ a b. a - b) xs ys
+clamped_rests [] ys fits fits' = refl
+clamped_rests (x ∷ xs) [] fits fits' = refl
+clamped_rests (x ∷ xs) (y ∷ ys) fits fits' = same_lanes _ _ _ _ (held_rest x y fits.0.fits fits'.0.fits) (clamped_rests xs ys fits.1 fits'.1)
 
 -- one lane of 128ths, shifted and clamped at 255
 held_sample : (a : ℕ) → cond (leb 32768 (cond (ltb (a / 128) 255) 65535 0)) (a / 128) 255 ≡ min (a / 128) 255
@@ -31,14 +31,14 @@ held_sample a = rw mask_tells (grind (arith, nat_tests))
 abbrev pub shifted_lanes : ℕ → List ℕ → List ℕ
 shifted_lanes n xs = zip2 (λ a b. a / 2 ^ b) xs (replicate n 7)
 
-abbrev pub held_at_255 : ℕ → List ℕ → List ℕ
-held_at_255 n xs = sel_l (map (λ m. leb 32768 m) (zip2 (λ a b. cond (ltb a b) 65535 0) (shifted_lanes n xs) (replicate n 255))) (shifted_lanes n xs) (replicate n 255)
+abbrev pub clamped_at_255 : ℕ → List ℕ → List ℕ
+clamped_at_255 n xs = sel_l (map (λ m. leb 32768 m) (zip2 (λ a b. cond (ltb a b) 65535 0) (shifted_lanes n xs) (replicate n 255))) (shifted_lanes n xs) (replicate n 255)
 
-pub held_samples : (xs : List ℕ) → map (λ (a : ℕ). a) (held_at_255 (length xs) xs) ≡ map (λ (lane : ℕ). min (lane / 128) 255) xs
-held_samples [] = refl
-held_samples (x ∷ xs) = same_lanes _ _ _ _ (held_sample x) (held_samples xs)
+pub clamped_samples : (xs : List ℕ) → map (λ (a : ℕ). a) (clamped_at_255 (length xs) xs) ≡ map (λ (lane : ℕ). min (lane / 128) 255) xs
+clamped_samples [] = refl
+clamped_samples (x ∷ xs) = same_lanes _ _ _ _ (held_sample x) (clamped_samples xs)
 
 -- they fit 8 bits
-pub held_fit : (xs : List ℕ) → Each1 (Fits w8) (held_at_255 (length xs) xs)
+pub held_fit : (xs : List ℕ) → Each1 (Fits w8) (clamped_at_255 (length xs) xs)
 held_fit [] = tt
 held_fit (x ∷ xs) = let small : min (x / 128) 255 < 256 = omega arith in (record { fits = rw (held_sample x) small }, held_fit xs)

@@ -56,7 +56,7 @@ pub block_of_strip : (one other : ℕ → ℕ → ℕ) (width height stride : �
 block_of_strip one other width height stride old new strip same = record {
   whole = strip.whole;
   each = λ column row inside below. ap (λ k. slice_index new (row * stride + k)) (sym (zero-add column)) ∙ strip.each column row inside below ∙ same column row inside below;
-  others = λ column row inside beside. strip.others column row inside (inr (elim beside [ inl behind ↦ inl (omega arith) | inr below ↦ inr below ]));
+  others = λ column row inside beside. strip.others column row inside (inr (elim beside [ inl following ↦ inl (omega arith) | inr below ↦ inr below ]));
 }
 
 -- the whole samples in 32 bits of eighths

@@ -20,7 +20,7 @@ no_rows sample first width stride old = record { whole = refl; each = λ column 
 -- an index that is not written
 kept : (i : ℕ) (xs ys : List ℕ) (p : ℕ) → (p < i) ⊎ (i + length ys ≤ p) → slice_index (put_chunk i xs ys) p ≡ slice_index xs p
 kept i xs ys p (inl before) = get_or-put_chunk_below i xs ys p 0 before
-kept i xs ys p (inr behind) = get_or-put_chunk_above i xs ys p 0 behind
+kept i xs ys p (inr following) = get_or-put_chunk_above i xs ys p 0 following
 
 -- an index outside the written part of row n is before it or after it
 beside_row : (first width n stride column row : ℕ) → first + width ≤ stride → column < stride → (column < first) ⊎ ((first + width ≤ column) ⊎ (n + 1 ≤ row)) → (row * stride + column < n * stride + first) ⊎ (n * stride + first + width ≤ row * stride + column)
@@ -76,12 +76,12 @@ no_columns sample first height stride old = record { whole = refl; each = λ col
 -- an index outside both strips is outside each
 beside_left : (first width total height column row : ℕ) → width ≤ total → (column < first) ⊎ ((first + total ≤ column) ⊎ (height ≤ row)) → (column < first) ⊎ ((first + width ≤ column) ⊎ (height ≤ row))
 beside_left first width total height column row le (inl before) = inl before
-beside_left first width total height column row le (inr (inl behind)) = inr (inl (omega arith))
+beside_left first width total height column row le (inr (inl following)) = inr (inl (omega arith))
 beside_left first width total height column row le (inr (inr below)) = inr (inr below)
 
 beside_right : (first next more total height column row : ℕ) → first ≤ next → next + more ≤ first + total → (column < first) ⊎ ((first + total ≤ column) ⊎ (height ≤ row)) → (column < next) ⊎ ((next + more ≤ column) ⊎ (height ≤ row))
 beside_right first next more total height column row le end (inl before) = inl (omega arith)
-beside_right first next more total height column row le end (inr (inl behind)) = inr (inl (omega arith))
+beside_right first next more total height column row le end (inr (inl following)) = inr (inl (omega arith))
 beside_right first next more total height column row le end (inr (inr below)) = inr (inr below)
 
 -- two strips side by side

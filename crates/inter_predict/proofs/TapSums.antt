@@ -4,7 +4,7 @@ use Rattle.std.specs.Int.{int_shr}
 use Rattle.std.proofs.Common.{◌≡◌, ℕ, zero, suc, ◌+◌, ◌-◌, ◌*◌, ◌/◌, ◌<◌, List, [], ◌∷◌, map, ℤ, pos, negsuc, ◌+ℤ◌, ◌-ℤ◌, ◌*ℤ◌, neg_ℤ, refl, ap, ◌∙◌, arith, lit≤}
 use Rattle.std.proofs.lemmas.Int.{ints}
 use Rattle.vp8_tables.specs.declared.filters.TheConstants.{SIX_TAP_FILTERS, BILINEAR_FILTERS}
-use Rattle.vp8_tables.specs.Bounds.{held}
+use Rattle.vp8_tables.specs.Bounds.{clamped_sample}
 use Rattle.inter_predict.specs.InterSample.{weighed, filtered, between}
 use Rattle.inter_predict.specs.declared.kinds.Kind.TheVariants.{SixTap, Bilinear}
 use Rattle.inter_predict.specs.declared.taps.Taps.{Taps}
@@ -24,7 +24,7 @@ below_eight P at0 at1 at2 at3 at4 at5 at6 at7 (suc (suc (suc (suc (suc (suc (suc
 below_eight P at0 at1 at2 at3 at4 at5 at6 at7 (suc (suc (suc (suc (suc (suc (suc (suc k)))))))) less = absurd (omega arith)
 
 -- a rounded sum, shifted and clamped
-shifted : (sum : ℤ) (added taken : ℕ) → sum +ℤ pos taken ≡ pos (added + 64) → held (int_shr sum 7) ≡ min ((added + 64 - taken) / 128) 255
+shifted : (sum : ℤ) (added taken : ℕ) → sum +ℤ pos taken ≡ pos (added + 64) → clamped_sample (int_shr sum 7) ≡ min ((added + 64 - taken) / 128) 255
 shifted (pos n) added taken same = let e : n ≡ added + 64 - taken = omega (arith, ints) in rw (← e) refl
 shifted (negsuc n) added taken same = let e : added + 64 - taken ≡ 0 = omega (arith, ints) in rw e refl
 

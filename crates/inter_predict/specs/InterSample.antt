@@ -1,7 +1,7 @@
 -- The samples that inter prediction takes from a reference plane (RFC 6386, section 18).
 use Rattle.std.specs.Prelude.{ℕ, ◌+◌, ◌-◌, ◌%◌, List, [], ◌∷◌, map, slice_index_or, ℤ, pos, negsuc, ◌+ℤ◌, ◌-ℤ◌, ◌*ℤ◌}
 use Rattle.std.specs.Int.{int_shr}
-use Rattle.vp8_tables.specs.Bounds.{held}
+use Rattle.vp8_tables.specs.Bounds.{clamped_sample}
 use Rattle.vp8_tables.specs.declared.filters.TheConstants.{SIX_TAP_FILTERS, BILINEAR_FILTERS}
 use Rattle.pixel_planes.specs.Samples.{Samples}
 use Rattle.pixel_planes.specs.ReferenceSamples.{reference_sample}
@@ -24,7 +24,7 @@ weighed (tap ∷ taps) samples = (tap *ℤ pos (samples 0)) +ℤ weighed taps (�
 
 -- the filtered sample: taps in 128ths times their samples, rounded, and clamped to 0..255 (section 18.3)
 unfoldable pub filtered : List ℤ → (ℕ → ℕ) → ℕ
-filtered taps samples = held (int_shr (weighed taps samples +ℤ pos 64) 7)
+filtered taps samples = clamped_sample (int_shr (weighed taps samples +ℤ pos 64) 7)
 
 -- the sample a fraction of eighths after a position on a line of samples: six taps start two samples before the position, two taps at the position (section 18.3)
 unfoldable pub between : Kind → ℕ → (ℤ → ℕ) → ℤ → ℕ

@@ -10,7 +10,7 @@ use std::simd::prelude::*;
 
 /// The lanes of `added` less the lanes of `taken`, clamped at 0.
 #[inline(always)]
-fn held_rests<const N: usize>(added: Simd<u16, N>, taken: Simd<u16, N>) -> Simd<u16, N>
+fn clamped_rests<const N: usize>(added: Simd<u16, N>, taken: Simd<u16, N>) -> Simd<u16, N>
     ensures { result ≡ zip2 (λ a b. a - b) added.entry taken.entry }
 {
     added.saturating_sub(taken)
@@ -18,7 +18,7 @@ fn held_rests<const N: usize>(added: Simd<u16, N>, taken: Simd<u16, N>) -> Simd<
 
 /// The whole numbers in lanes of 128ths, clamped at 255.
 #[inline(always)]
-fn held_samples<const N: usize>(lanes: Simd<u16, N>) -> Simd<u8, N>
+fn clamped_samples<const N: usize>(lanes: Simd<u16, N>) -> Simd<u8, N>
     ensures { result ≡ map (λ lane. min (lane / 128) 255) lanes.entry }
 {
     (lanes >> Simd::<u16, N>::splat(7))
@@ -50,5 +50,5 @@ pub fn tapped<const N: usize>(samples: &[u8], start: usize, step: usize, taps: T
         + f * Simd::<u16, N>::splat(taps.f)
         + Simd::<u16, N>::splat(64);
     let taken = b * Simd::<u16, N>::splat(taps.b) + e * Simd::<u16, N>::splat(taps.e);
-    held_samples(held_rests(added, taken))
+    clamped_samples(clamped_rests(added, taken))
 }

@@ -17,8 +17,8 @@ pub fn filters_keep_what_is_level()
 /// it went down first.
 pub fn worked_filters()
     ensures rising { between SixTap 4 (line_of (0 ∷ 0 ∷ 0 ∷ 255 ∷ 255 ∷ 255 ∷ [])) (pos 2) ≡ 128 }
-    ensures held_at_0 { between SixTap 4 (line_of (255 ∷ 255 ∷ 0 ∷ 0 ∷ 0 ∷ 0 ∷ [])) (pos 2) ≡ 0 }
-    ensures held_at_255 { between SixTap 4 (line_of (0 ∷ 0 ∷ 255 ∷ 255 ∷ 0 ∷ 0 ∷ [])) (pos 2) ≡ 255 }
+    ensures clamped_at_0 { between SixTap 4 (line_of (255 ∷ 255 ∷ 0 ∷ 0 ∷ 0 ∷ 0 ∷ [])) (pos 2) ≡ 0 }
+    ensures clamped_at_255 { between SixTap 4 (line_of (0 ∷ 0 ∷ 255 ∷ 255 ∷ 0 ∷ 0 ∷ [])) (pos 2) ≡ 255 }
     ensures bilinear { between Bilinear 3 (line_of (100 ∷ 200 ∷ [])) (pos 0) ≡ 138 }
     ensures across_first { inter_sample SixTap worked_plane (pos 2) (pos 2) (pos 4) (pos 4) ≡ 128 }
     ensures rounded_down { whole_part (negsuc 0) ≡ negsuc 0 }

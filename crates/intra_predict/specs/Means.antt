@@ -1,6 +1,6 @@
 -- The parts of the formulas of intra prediction (RFC 6386, section 12).
 use Rattle.std.specs.Prelude.{ℕ, ◌+◌, ◌*◌, ◌/◌, List, [], ◌∷◌, length, sum, pos, ◌-ℤ◌}
-use Rattle.vp8_tables.specs.Bounds.{held}
+use Rattle.vp8_tables.specs.Bounds.{clamped_sample}
 
 -- the mean of two samples, rounded
 unfoldable pub mean_of_two : ℕ → ℕ → ℕ
@@ -17,4 +17,4 @@ mean_of (x ∷ xs) = (sum (x ∷ xs) + length (x ∷ xs) / 2) / length (x ∷ xs
 
 -- the prediction of mode TM: left + above - corner, clamped to 0..255
 unfoldable pub gradient : ℕ → ℕ → ℕ → ℕ
-gradient left above corner = held (pos (left + above) -ℤ pos corner)
+gradient left above corner = clamped_sample (pos (left + above) -ℤ pos corner)

@@ -46,7 +46,7 @@ pub fn fill_columns<const N: usize>(left: Simd<u8, N>, out: &mut [u8])
 
 /// The lanes of both added, clamped at 255.
 #[inline]
-fn held_sums<const N: usize>(first: Simd<u8, N>, second: Simd<u8, N>) -> Simd<u8, N>
+fn clamped_sums<const N: usize>(first: Simd<u8, N>, second: Simd<u8, N>) -> Simd<u8, N>
     ensures { result ≡ zip2 (λ a b. min (a + b) 255) first.entry second.entry }
 {
     first.saturating_add(second)
@@ -54,7 +54,7 @@ fn held_sums<const N: usize>(first: Simd<u8, N>, second: Simd<u8, N>) -> Simd<u8
 
 /// The lanes of `first` less the lanes of `second`, clamped at 0.
 #[inline]
-fn held_rests<const N: usize>(first: Simd<u8, N>, second: Simd<u8, N>) -> Simd<u8, N>
+fn clamped_rests<const N: usize>(first: Simd<u8, N>, second: Simd<u8, N>) -> Simd<u8, N>
     ensures { result ≡ zip2 (λ a b. a - b) first.entry second.entry }
 {
     first.saturating_sub(second)
@@ -77,10 +77,10 @@ pub fn fill_gradients<const N: usize>(
 {
     let left = left.to_array();
     let corner = Simd::<u8, N>::splat(corner);
-    let more = held_rests(above, corner);
-    let less = held_rests(corner, above);
+    let more = clamped_rests(above, corner);
+    let less = clamped_rests(corner, above);
     for row in 0..N {
-        let line = held_rests(held_sums(Simd::<u8, N>::splat(left[row]), more), less);
+        let line = clamped_rests(clamped_sums(Simd::<u8, N>::splat(left[row]), more), less);
         line.copy_to_slice(&mut out[row * N..]);
     }
 }

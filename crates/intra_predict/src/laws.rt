@@ -48,7 +48,7 @@ pub fn worked_whole_blocks()
     ensures vertical { whole_sample V (Some (1 ∷ 2 ∷ 3 ∷ [])) None 0 1 7 ≡ 2 }
     ensures below_the_edge { whole_sample V None None 0 1 7 ≡ 127 }
     ensures horizontal { whole_sample H None (Some (1 ∷ 2 ∷ 3 ∷ [])) 0 7 2 ≡ 3 }
-    ensures beside_the_edge { whole_sample H None None 0 7 2 ≡ 129 }
+    ensures next_to_the_edge { whole_sample H None None 0 7 2 ≡ 129 }
     ensures true_motion { whole_sample WholeTm (Some (10 ∷ 60 ∷ [])) (Some (1 ∷ 2 ∷ [])) 9 1 0 ≡ 52 }
     ensures true_motion_low { whole_sample WholeTm (Some (10 ∷ 60 ∷ [])) (Some (1 ∷ 2 ∷ [])) 20 0 1 ≡ 0 }
     ensures true_motion_high { whole_sample WholeTm None None 0 0 0 ≡ 255 }

@@ -1,8 +1,8 @@
 -- One line after each filter, in one lane of each vector.
 use Rattle.std.proofs.Common.{◌≡◌, ℕ, ◌<◌, Bool, true, false, cond, not, refl}
 use Rattle.loop_filter.specs.declared.edge_limits.EdgeLimits.{EdgeLimits}
-use Rattle.loop_filter.specs.Lines.{Line, is_filtered, is_varied, is_small_step, lack, adjusted, outer_adjusted, smoothed, simple_line, inner_line, macroblock_line}
-use Rattle.loop_filter.specs.Lanes.{sum_of, raised_by, lowered_by, difference_of, lack_from, eighth_of, half_of, share_of, step_over_of, variance_over_of, roughness_of, either_of}
+use Rattle.loop_filter.specs.Lines.{Line, is_filtered, has_high_edge_variance, is_small_step, shortfall, adjusted, outer_adjusted, smoothed, simple_line, inner_line, macroblock_line}
+use Rattle.loop_filter.specs.Lanes.{sum_of, raised_by, lowered_by, difference_of, shortfall_from, eighth_of, half_of, share_of, step_over_of, variance_over_of, roughness_of, either_of}
 use Rattle.loop_filter.proofs.Scalars.{off, raised_is, lowered_is, eighth3_is, eighth4_is, half_is, share27_is, share18_is, share9_is, raised_none, lowered_none, raised_first, raised_second, lowered_first, lowered_second, eighth_small, share_small, lack_true, lack_false, lack_small, step_is, filtered_is, varied_is}
 
 -- the four samples next to the edge have 8 bits
@@ -29,11 +29,11 @@ simple_by true n l small p q = moved_is n l small p q
 simple_by false n l small p q = moved_none l p q
 
 pub simple_lane : (limit : ℕ) (l : Line) → limit < 255 → IsNear l
-    → moved (either_of (step_over_of limit l.p1 l.p0 l.q0 l.q1) (lack_from (difference_of l.p1 l.q1) l.p0 l.q0) 128) l ≡ simple_line limit l
+    → moved (either_of (step_over_of limit l.p1 l.p0 l.q0 l.q1) (shortfall_from (difference_of l.p1 l.q1) l.p0 l.q0) 128) l ≡ simple_line limit l
 unfolding simple_line
 simple_lane limit l low near =
     rw (step_is limit l.p1 l.p0 l.q0 l.q1 low, lack_true l near.p1 near.p0 near.q0 near.q1)
-    (simple_by (is_small_step limit l) (lack_from (difference_of l.p1 l.q1) l.p0 l.q0) l (lack_small _ _ _) near.p0 near.q0)
+    (simple_by (is_small_step limit l) (shortfall_from (difference_of l.p1 l.q1) l.p0 l.q0) l (lack_small _ _ _) near.p0 near.q0)
 
 -- the normal filter between blocks of one macroblock
 abbrev pub inner_moved : ℕ → ℕ → Line → Line
@@ -47,27 +47,27 @@ inner_stays_halved : (l : Line) → IsNear l → inner_moved 128 (half_of (eight
 unfolding eighth_of half_of
 inner_stays_halved l near = rw (raised_none 8 l.p1 near.p1, raised_none 16 l.p0 near.p0, lowered_none 16 l.q0 near.q0, lowered_none 8 l.q1 near.q1) refl
 
-inner_varied : (w : ℕ) (l : Line) → w < 256 → IsNear l → inner_moved w 8 l ≡ adjusted (off 128 w) l
-inner_varied w l small near = rw (raised_none 8 l.p1 near.p1, lowered_none 8 l.q1 near.q1) (moved_is w l small near.p0 near.q0)
+inner_high_variance : (w : ℕ) (l : Line) → w < 256 → IsNear l → inner_moved w 8 l ≡ adjusted (off 128 w) l
+inner_high_variance w l small near = rw (raised_none 8 l.p1 near.p1, lowered_none 8 l.q1 near.q1) (moved_is w l small near.p0 near.q0)
 
 inner_even : (w : ℕ) (l : Line) → w < 256 → IsNear l → inner_moved w (half_of (eighth_of 4 w)) l ≡ outer_adjusted (off 128 w) (adjusted (off 128 w) l)
 inner_even w l small near =
     rw (eighth3_is w small, eighth4_is w small, half_is (eighth_of 4 w), raised_is 8 l.p1 (half_of (eighth_of 4 w)) near.p1, raised_is 16 l.p0 (eighth_of 3 w) near.p0, lowered_is 16 l.q0 (eighth_of 4 w) near.q0, lowered_is 8 l.q1 (half_of (eighth_of 4 w)) near.q1) refl
 
 inner_by : (b v : Bool) (l : Line) → IsNear l
-    → inner_moved (cond b (lack_from (cond (not v) 128 (difference_of l.p1 l.q1)) l.p0 l.q0) 128) (cond (not v) (half_of (eighth_of 4 (cond b (lack_from (cond (not v) 128 (difference_of l.p1 l.q1)) l.p0 l.q0) 128))) 8) l
-    ≡ cond b (cond v (adjusted (lack true l) l) (outer_adjusted (lack false l) (adjusted (lack false l) l))) l
-inner_by true true l near = rw (lack_true l near.p1 near.p0 near.q0 near.q1) (inner_varied _ l (lack_small _ _ _) near)
+    → inner_moved (cond b (shortfall_from (cond (not v) 128 (difference_of l.p1 l.q1)) l.p0 l.q0) 128) (cond (not v) (half_of (eighth_of 4 (cond b (shortfall_from (cond (not v) 128 (difference_of l.p1 l.q1)) l.p0 l.q0) 128))) 8) l
+    ≡ cond b (cond v (adjusted (shortfall true l) l) (outer_adjusted (shortfall false l) (adjusted (shortfall false l) l))) l
+inner_by true true l near = rw (lack_true l near.p1 near.p0 near.q0 near.q1) (inner_high_variance _ l (lack_small _ _ _) near)
 inner_by true false l near = rw (lack_false l near.p0 near.q0) (inner_even _ l (lack_small _ _ _) near)
 inner_by false true l near = inner_stays l near
 inner_by false false l near = inner_stays_halved l near
 
 pub inner_lane : (limits : EdgeLimits) (l : Line) → limits.edge < 255 → IsNear l
     → (let v = variance_over_of limits.variance l.p1 l.p0 l.q0 l.q1 in
-    let w = either_of (roughness_of limits l) (lack_from (either_of v 128 (difference_of l.p1 l.q1)) l.p0 l.q0) 128 in
+    let w = either_of (roughness_of limits l) (shortfall_from (either_of v 128 (difference_of l.p1 l.q1)) l.p0 l.q0) 128 in
     inner_moved w (either_of v (half_of (eighth_of 4 w)) 8) l ≡ inner_line limits l)
 unfolding inner_line
-inner_lane limits l low near = rw (filtered_is limits l low, varied_is limits.variance l) (inner_by (is_filtered limits l) (is_varied limits.variance l) l near)
+inner_lane limits l low near = rw (filtered_is limits l low, varied_is limits.variance l) (inner_by (is_filtered limits l) (has_high_edge_variance limits.variance l) l near)
 
 -- the normal filter between macroblocks
 abbrev pub wide_moved : ℕ → ℕ → Line → Line
@@ -140,9 +140,9 @@ wide_by false false n l small wide = wide_stays l wide
 
 pub macroblock_lane : (limits : EdgeLimits) (l : Line) → limits.edge < 255 → IsWide l
     → (let v = variance_over_of limits.variance l.p1 l.p0 l.q0 l.q1 in
-    let w = either_of (roughness_of limits l) (lack_from (difference_of l.p1 l.q1) l.p0 l.q0) 128 in
+    let w = either_of (roughness_of limits l) (shortfall_from (difference_of l.p1 l.q1) l.p0 l.q0) 128 in
     wide_moved (either_of v 128 w) (either_of v w 128) l ≡ macroblock_line limits l)
 unfolding macroblock_line
 macroblock_lane limits l low wide =
     rw (filtered_is limits l low, varied_is limits.variance l, lack_true l wide.near.p1 wide.near.p0 wide.near.q0 wide.near.q1)
-    (wide_by (is_filtered limits l) (is_varied limits.variance l) (lack_from (difference_of l.p1 l.q1) l.p0 l.q0) l (lack_small _ _ _) wide)
+    (wide_by (is_filtered limits l) (has_high_edge_variance limits.variance l) (shortfall_from (difference_of l.p1 l.q1) l.p0 l.q0) l (lack_small _ _ _) wide)

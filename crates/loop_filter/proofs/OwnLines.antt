@@ -115,7 +115,7 @@ columns-apart n start stride wide i j k l earlier below less less' same =
     elim (cases_lt k l) [
       | inl before ↦ (let e = earlier_row stride k l before in omega (arith, e))
       | inr from ↦ elim (cases_lt l k) [
-        | inl behind ↦ (let e = earlier_row stride l k behind in omega (arith, e))
+        | inl following ↦ (let e = earlier_row stride l k following in omega (arith, e))
         | inr upto ↦ (let is : k ≡ l = omega arith in let rows : k * stride ≡ l * stride = ap (λ (n : ℕ). n * stride) is in omega (arith, rows))
       ]
     ]

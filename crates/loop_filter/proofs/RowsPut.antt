@@ -89,7 +89,7 @@ no_rows s start stride (suc m) = put_none (start + m * stride) _ ∙ no_rows s s
 -- a sample that no row is written over
 kept : (at : ℕ) (xs ys : List ℕ) (p : ℕ) → (p < at) ⊎ (at + length ys ≤ p) → slice_index (put_chunk at xs ys) p ≡ slice_index xs p
 kept at xs ys p (inl before) = get_or-put_chunk_below at xs ys p 0 before
-kept at xs ys p (inr behind) = get_or-put_chunk_above at xs ys p 0 behind
+kept at xs ys p (inr following) = get_or-put_chunk_above at xs ys p 0 following
 
 pub rows_put_other : (s : List ℕ) (start stride : ℕ) (row : ℕ → List ℕ) (m p : ℕ) → ((k : ℕ) → k < m → (p < start + k * stride) ⊎ (start + k * stride + length (row k) ≤ p)) → slice_index (rows_put s start stride row m) p ≡ slice_index s p
 unfolding rows_put

@@ -7,15 +7,15 @@ use Rattle.std.proofs.lemmas.List.{get_or_append_left, get_or-append_right}
 front : (a b : List ℕ) (m : ℕ) → length a ≡ 16 → m < 16 → get_or (a ++ b) m 0 ≡ get_or a m 0
 front a b m long less = get_or_append_left a b 0 m (omega (arith, long))
 
-behind : (a b : List ℕ) (m : ℕ) → length a ≡ 16 → get_or (a ++ b) (m + 16) 0 ≡ get_or b m 0
-behind a b m long = get_or-append_right a b 16 (m + 16) 0 long (omega arith) ∙ (let same : m + 16 - 16 ≡ m = omega arith in ap (λ (i : ℕ). get_or b i 0) same)
+following : (a b : List ℕ) (m : ℕ) → length a ≡ 16 → get_or (a ++ b) (m + 16) 0 ≡ get_or b m 0
+following a b m long = get_or-append_right a b 16 (m + 16) 0 long (omega arith) ∙ (let same : m + 16 - 16 ≡ m = omega arith in ap (λ (i : ℕ). get_or b i 0) same)
 
 -- lane m of eight vectors, concatenated four and four
 pub eight_lanes : (a0 a1 a2 a3 b0 b1 b2 b3 : List ℕ) (m : ℕ) (rest rest' : List ℕ) → length a0 ≡ 16 → length a1 ≡ 16 → length a2 ≡ 16 → length a3 ≡ 16 → m < 16 → rest ≡ rest'
     → get_or (a0 ++ b0) m 0 ∷ get_or (a1 ++ b1) m 0 ∷ get_or (a2 ++ b2) m 0 ∷ get_or (a3 ++ b3) m 0 ∷ get_or (a0 ++ b0) (m + 16) 0 ∷ get_or (a1 ++ b1) (m + 16) 0 ∷ get_or (a2 ++ b2) (m + 16) 0 ∷ get_or (a3 ++ b3) (m + 16) 0 ∷ rest
     ≡ get_or a0 m 0 ∷ get_or a1 m 0 ∷ get_or a2 m 0 ∷ get_or a3 m 0 ∷ get_or b0 m 0 ∷ get_or b1 m 0 ∷ get_or b2 m 0 ∷ get_or b3 m 0 ∷ rest'
 eight_lanes a0 a1 a2 a3 b0 b1 b2 b3 m rest rest' l0 l1 l2 l3 less same =
-    rw (front a0 b0 m l0 less, front a1 b1 m l1 less, front a2 b2 m l2 less, front a3 b3 m l3 less, behind a0 b0 m l0, behind a1 b1 m l1, behind a2 b2 m l2, behind a3 b3 m l3, same) refl
+    rw (front a0 b0 m l0 less, front a1 b1 m l1 less, front a2 b2 m l2 less, front a3 b3 m l3 less, following a0 b0 m l0, following a1 b1 m l1, following a2 b2 m l2, following a3 b3 m l3, same) refl
 
 -- two of its lanes, one after the other
 pub sixteen_lanes : (a0 a1 a2 a3 b0 b1 b2 b3 : List ℕ) (m n : ℕ) → length a0 ≡ 16 → length a1 ≡ 16 → length a2 ≡ 16 → length a3 ≡ 16 → m < 16 → n < 16
@@ -83,5 +83,5 @@ woven_even first a b le long =
 
 pub woven_odd : (first : ℕ) (a b : List ℕ) → length a ≡ 16 → (k : ℕ) → k < 8 → slice_index (woven_from first (a ++ b)) (2 * k + 1) ≡ slice_index b (first + k)
 woven_odd first a b long =
-    let at : (m : ℕ) → get_or (a ++ b) (first + m + 16) 0 ≡ get_or b (first + m) 0 = λ (m : ℕ). behind a b (first + m) long in
+    let at : (m : ℕ) → get_or (a ++ b) (first + m + 16) 0 ≡ get_or b (first + m) 0 = λ (m : ℕ). following a b (first + m) long in
     below_eight (λ k. slice_index (woven_from first (a ++ b)) (2 * k + 1) ≡ slice_index b (first + k)) (at 0) (at 1) (at 2) (at 3) (at 4) (at 5) (at 6) (at 7)

@@ -33,8 +33,8 @@ unfoldable pub difference_of : ℕ → ℕ → ℕ
 difference_of x y = sum_of 128 (x - y) - (y - x)
 
 -- three times q0 - p0, added to a number
-unfoldable pub lack_from : ℕ → ℕ → ℕ → ℕ
-lack_from start p0 q0 = sum_of (sum_of (sum_of start (q0 - p0)) (q0 - p0)) (q0 - p0) - (p0 - q0) - (p0 - q0) - (p0 - q0)
+unfoldable pub shortfall_from : ℕ → ℕ → ℕ → ℕ
+shortfall_from start p0 q0 = sum_of (sum_of (sum_of start (q0 - p0)) (q0 - p0)) (q0 - p0) - (p0 - q0) - (p0 - q0) - (p0 - q0)
 
 -- an eighth of a number at offset 128 that n was added to, at offset 16
 unfoldable pub eighth_of : ℕ → ℕ → ℕ

@@ -69,8 +69,8 @@ GoesMacroblockByMacroblock =
     filtered_planes header records flags planes ≡ macroblocks_in_planes header.filter.is_simple (strength_at header records flags) (columns_in planes) planes (columns_in planes * rows_in planes)
 
 -- the sides of planes of so many macroblocks determine their number
-abbrev pub SidesTellMacroblocks : Type 0
-SidesTellMacroblocks = (planes : PlaneSamples) (columns rows : ℕ) → HaveBlocks planes columns rows → (columns_in planes ≡ columns) × (rows_in planes ≡ rows)
+abbrev pub SidesFixMacroblocks : Type 0
+SidesFixMacroblocks = (planes : PlaneSamples) (columns rows : ℕ) → HaveBlocks planes columns rows → (columns_in planes ≡ columns) × (rows_in planes ≡ rows)
 
 -- an edge of `count` lines changed each line by itself, and every sample of no line is unchanged
 pub record ChangesItsLines (filter : Line → Line) (count start between across : ℕ) (old new : List ℕ) : Type 0 where

@@ -12,15 +12,15 @@ use Rattle.mode_parser.specs.declared.records.YMode.{YMode}
 use Rattle.mode_parser.specs.declared.records.YMode.TheVariants.{Whole, B, Inter}
 
 -- a number clamped to 0 to 63
-abbrev pub held_level : ℤ → ℕ
-held_level (pos n) = min n 63
-held_level (negsuc n) = 0
+abbrev pub clamped_level : ℤ → ℕ
+clamped_level (pos n) = min n 63
+clamped_level (negsuc n) = 0
 
 -- the level in one of four segments: the frame's level; or with segments the segment's, which replaces it or is added to it (section 9.3)
 abbrev pub level_in : ℕ → Bool → Segments → ℕ → ℕ
 level_in level has_segments segments segment =
     let of_segment = slice_index_or segments.levels segment (pos 0) in
-    held_level (if has_segments then (if segments.is_absolute then of_segment else pos level +ℤ of_segment) else pos level)
+    clamped_level (if has_segments then (if segments.is_absolute then of_segment else pos level +ℤ of_segment) else pos level)
 
 -- the index of a macroblock's change by reference (`ref_lf_deltas` in libvpx): the first if it is predicted from its own frame (section 9.4)
 abbrev pub number_of_reference : Reference → ℕ
@@ -52,7 +52,7 @@ mode_delta deltas (Inter reference mode) = vector_mode_delta deltas mode
 
 -- a level changed by reference and by mode
 abbrev pub changed_level : FilterDeltas → YMode → ℕ → ℕ
-changed_level deltas mode level = held_level ((pos level +ℤ reference_delta deltas mode) +ℤ mode_delta deltas mode)
+changed_level deltas mode level = clamped_level ((pos level +ℤ reference_delta deltas mode) +ℤ mode_delta deltas mode)
 
 -- the level of a macroblock: the level in its segment, changed if the frame adjusts levels
 unfoldable pub level_of : Header → MbMode → ℕ

@@ -25,12 +25,12 @@ abbrev pub signed : ℕ → ℤ
 signed s = pos s -ℤ pos 128
 
 -- a number clamped to -128 to 127 (`c` in RFC 6386)
-abbrev pub held : ℤ → ℤ
-held z = saturate_to_bits 7 z
+abbrev pub clamped : ℤ → ℤ
+clamped z = saturate_to_bits 7 z
 
 -- the sample of a number, clamped (`s2u` in RFC 6386)
 abbrev pub sample : ℤ → ℕ
-sample z = unsigned_abs (held z +ℤ pos 128)
+sample z = unsigned_abs (clamped z +ℤ pos 128)
 
 -- a sample with a number added, and with a number subtracted
 unfoldable pub raised : ℕ → ℤ → ℕ
@@ -54,16 +54,16 @@ unfoldable pub is_filtered : EdgeLimits → Line → Bool
 is_filtered limits l = is_small_step limits.edge l && is_smooth limits.interior l
 
 -- whether the samples at the edge differ from their neighbours by more than the threshold: high edge variance (`hev` in RFC 6386)
-unfoldable pub is_varied : ℕ → Line → Bool
-is_varied threshold l = nat_lt threshold (abs_diff l.p1 l.p0) || nat_lt threshold (abs_diff l.q1 l.q0)
+unfoldable pub has_high_edge_variance : ℕ → Line → Bool
+has_high_edge_variance threshold l = nat_lt threshold (abs_diff l.p1 l.p0) || nat_lt threshold (abs_diff l.q1 l.q0)
 
 -- three times the difference of the samples at the edge, with or without the difference of the next outer samples (`a` of `common_adjust` in RFC 6386)
-unfoldable pub lack : Bool → Line → ℤ
-lack with_outer l = held ((if with_outer then held (signed l.p1 -ℤ signed l.q1) else pos 0) +ℤ (pos 3 *ℤ (signed l.q0 -ℤ signed l.p0)))
+unfoldable pub shortfall : Bool → Line → ℤ
+shortfall with_outer l = clamped ((if with_outer then clamped (signed l.p1 -ℤ signed l.q1) else pos 0) +ℤ (pos 3 *ℤ (signed l.q0 -ℤ signed l.p0)))
 
 -- an eighth of a number that n was added to, rounded down
 unfoldable pub eighth : ℕ → ℤ → ℤ
-eighth n a = int_shr (held (a +ℤ pos n)) 3
+eighth n a = int_shr (clamped (a +ℤ pos n)) 3
 
 -- the samples at the edge, moved toward each other by an eighth of a number (`common_adjust` in RFC 6386)
 abbrev pub adjusted : ℤ → Line → Line
@@ -77,7 +77,7 @@ outer_adjusted a l =
 
 -- a number times k, in 128ths, rounded
 unfoldable pub share : ℕ → ℤ → ℤ
-share k w = held (int_shr ((pos k *ℤ w) +ℤ pos 63) 7)
+share k w = clamped (int_shr ((pos k *ℤ w) +ℤ pos 63) 7)
 
 -- three samples on either side of the edge, moved toward each other by 27, 18 and 9 128ths of a number
 abbrev pub smoothed : ℤ → Line → Line
@@ -92,20 +92,20 @@ smoothed w l = record l {
 
 -- the simple filter (section 15.2, `simple_segment`)
 unfoldable pub simple_line : ℕ → Line → Line
-simple_line limit l = if is_small_step limit l then adjusted (lack true l) l else l
+simple_line limit l = if is_small_step limit l then adjusted (shortfall true l) l else l
 
 -- the normal filter of an edge between blocks of one macroblock (section 15.3, `subblock_filter`)
 unfoldable pub inner_line : EdgeLimits → Line → Line
 inner_line limits l =
     if is_filtered limits l
-    then (if is_varied limits.variance l then adjusted (lack true l) l else outer_adjusted (lack false l) (adjusted (lack false l) l))
+    then (if has_high_edge_variance limits.variance l then adjusted (shortfall true l) l else outer_adjusted (shortfall false l) (adjusted (shortfall false l) l))
     else l
 
 -- the normal filter of an edge between macroblocks (section 15.3, `MBfilter`)
 unfoldable pub macroblock_line : EdgeLimits → Line → Line
 macroblock_line limits l =
     if is_filtered limits l
-    then (if is_varied limits.variance l then adjusted (lack true l) l else smoothed (lack true l) l)
+    then (if has_high_edge_variance limits.variance l then adjusted (shortfall true l) l else smoothed (shortfall true l) l)
     else l
 
 -- a line after each filter

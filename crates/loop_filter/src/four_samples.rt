@@ -1,7 +1,7 @@
 //! The simple filter on a line of four samples (RFC 6386, section 15.2).
 
 ghost use Rattle.std.specs.Prelude.{◌≡◌, ◌≤◌, ◌≤ℤ◌, ◌+ℤ◌, ◌-ℤ◌, ◌*ℤ◌, pos, negsuc, true};
-ghost use Rattle.loop_filter.specs.Lines.{signed, held, sample, raised, lowered, is_small_step, lack, eighth, line_of_four};
+ghost use Rattle.loop_filter.specs.Lines.{signed, clamped, sample, raised, lowered, is_small_step, shortfall, eighth, line_of_four};
 ghost use Rattle.loop_filter.specs.FourSamples.{simple_four};
 
 /// A sample as a number from -128 to 127.
@@ -13,8 +13,8 @@ fn signed(sample: u8) -> i16
 }
 
 /// A number clamped to -128 to 127.
-fn held(number: i16) -> i16
-    ensures value { result ≡ held number }
+fn clamped(number: i16) -> i16
+    ensures value { result ≡ clamped number }
     ensures within { (negsuc 127 ≤ℤ result) × (result ≤ℤ pos 127) }
 {
     number.clamp(-128, 127)
@@ -24,7 +24,7 @@ fn held(number: i16) -> i16
 fn sample(number: i16) -> u8
     ensures { result ≡ sample number }
 {
-    (held(number) + 128) as u8
+    (clamped(number) + 128) as u8
 }
 
 /// An eighth of a number that `n` was added to, rounded down.
@@ -35,7 +35,7 @@ fn eighth(n: u8, number: i16) -> i16
     ensures value { result ≡ eighth n number }
     ensures within { (negsuc 127 ≤ℤ result) × (result ≤ℤ pos 127) }
 {
-    held(number + i16::from(n)) >> 3
+    clamped(number + i16::from(n)) >> 3
 }
 
 /// A sample with a number added.
@@ -83,25 +83,25 @@ fn thrice(difference: i16) -> i16
 }
 
 /// The sum of two numbers, clamped.
-fn held_sum(first: i16, second: i16) -> i16
+fn clamped_sum(first: i16, second: i16) -> i16
     requires first { (negsuc 127 ≤ℤ first) × (first ≤ℤ pos 127) }
     requires second { (negsuc 767 ≤ℤ second) × (second ≤ℤ pos 765) }
-    ensures value { result ≡ held (first +ℤ second) }
+    ensures value { result ≡ clamped (first +ℤ second) }
     ensures within { (negsuc 127 ≤ℤ result) × (result ≤ℤ pos 127) }
 {
-    held(first + second)
+    clamped(first + second)
 }
 
 /// Three times the difference of the samples at the edge, plus the difference of the outer two: `a`
 /// of `common_adjust` in RFC 6386.
-#[tactic(auto, unfolding(crate::specs::Lines::lack))]
-fn lack(samples: &[u8; 4]) -> i16
-    ensures value { result ≡ lack true (line_of_four samples.now) }
+#[tactic(auto, unfolding(crate::specs::Lines::shortfall))]
+fn shortfall(samples: &[u8; 4]) -> i16
+    ensures value { result ≡ shortfall true (line_of_four samples.now) }
     ensures within { (negsuc 127 ≤ℤ result) × (result ≤ℤ pos 127) }
 {
     let [p1, p0, q0, q1] = *samples;
-    let outer = held(difference(p1, q1));
-    held_sum(outer, thrice(difference(q0, p0)))
+    let outer = clamped(difference(p1, q1));
+    clamped_sum(outer, thrice(difference(q0, p0)))
 }
 
 /// Filters the four samples p1, p0, q0 and q1 of a line across an edge, which is between p0 and q0,
@@ -111,12 +111,12 @@ pub fn simple(samples: &mut [u8; 4], limit: u8)
     ensures { samples.new ≡ simple_four limit samples.old }
 {
     if is_small_step(samples, limit) {
-        let lack = lack(samples);
+        let shortfall = shortfall(samples);
         let [p1, p0, q0, q1] = *samples;
         *samples = [
             p1,
-            raised(p0, eighth(3, lack)),
-            lowered(q0, eighth(4, lack)),
+            raised(p0, eighth(3, shortfall)),
+            lowered(q0, eighth(4, shortfall)),
             q1,
         ];
     }

@@ -12,7 +12,7 @@ const FILTERS: [EdgeFilter; 3] = [
 ];
 
 /// A number clamped to -128 to 127.
-fn held(number: i32) -> i32 {
+fn clamped(number: i32) -> i32 {
     number.clamp(-128, 127)
 }
 
@@ -61,32 +61,36 @@ fn filtered(filter: EdgeFilter, limits: EdgeLimits, samples: [u8; 8]) -> [u8; 8]
         return line;
     }
     let threshold = i32::from(limits.variance);
-    let is_varied = apart(&samples, 2, 3) > threshold || apart(&samples, 4, 5) > threshold;
-    let outer = held(i32::from(samples[2]).wrapping_sub(i32::from(samples[5])));
-    let lack = i32::from(samples[4])
+    let has_high_edge_variance = apart(&samples, 2, 3) > threshold
+        || apart(&samples, 4, 5) > threshold;
+    let outer = clamped(i32::from(samples[2]).wrapping_sub(i32::from(samples[5])));
+    let shortfall = i32::from(samples[4])
         .wrapping_sub(i32::from(samples[3]))
         .wrapping_mul(3);
-    let full = held(outer.wrapping_add(lack));
+    let full = clamped(outer.wrapping_add(shortfall));
     match filter {
-        EdgeFilter::Macroblock if !is_varied => {
+        EdgeFilter::Macroblock if !has_high_edge_variance => {
             for (near, far, k) in [(3, 4, 27), (2, 5, 18), (1, 6, 9)] {
-                let share = held(full.wrapping_mul(k).wrapping_add(63) >> 7);
+                let share = clamped(full.wrapping_mul(k).wrapping_add(63) >> 7);
                 move_both(&mut line, near, far, share);
             }
         }
-        EdgeFilter::Inner if !is_varied => {
-            let number = held(lack);
-            let half = (held(number.wrapping_add(4)) >> 3).wrapping_add(1) >> 1;
-            line[3] = moved(line[3], held(number.wrapping_add(3)) >> 3);
+        EdgeFilter::Inner if !has_high_edge_variance => {
+            let number = clamped(shortfall);
+            let half = (clamped(number.wrapping_add(4)) >> 3).wrapping_add(1) >> 1;
+            line[3] = moved(line[3], clamped(number.wrapping_add(3)) >> 3);
             line[4] = moved(
                 line[4],
-                0i32.wrapping_sub(held(number.wrapping_add(4)) >> 3),
+                0i32.wrapping_sub(clamped(number.wrapping_add(4)) >> 3),
             );
             move_both(&mut line, 2, 5, half);
         }
         _ => {
-            line[3] = moved(line[3], held(full.wrapping_add(3)) >> 3);
-            line[4] = moved(line[4], 0i32.wrapping_sub(held(full.wrapping_add(4)) >> 3));
+            line[3] = moved(line[3], clamped(full.wrapping_add(3)) >> 3);
+            line[4] = moved(
+                line[4],
+                0i32.wrapping_sub(clamped(full.wrapping_add(4)) >> 3),
+            );
         }
     }
     line
@@ -333,8 +337,8 @@ fn rows_of(line: [u8; 8]) -> [u8; 128] {
 #[test]
 fn lines_are_as_worked_by_hand(rt: HostRuntime) {
     let even = [100, 100, 100, 100, 110, 110, 110, 110];
-    let varied = [100, 100, 100, 104, 110, 110, 110, 110];
-    for (filter, edge, before, behind) in [
+    let high_edge_variance = [100, 100, 100, 104, 110, 110, 110, 110];
+    for (filter, edge, before, following) in [
         (
             EdgeFilter::Simple,
             25,
@@ -352,7 +356,7 @@ fn lines_are_as_worked_by_hand(rt: HostRuntime) {
         (
             EdgeFilter::Inner,
             25,
-            varied,
+            high_edge_variance,
             [100, 100, 100, 105, 109, 110, 110, 110],
         ),
         (
@@ -364,7 +368,7 @@ fn lines_are_as_worked_by_hand(rt: HostRuntime) {
         (
             EdgeFilter::Macroblock,
             25,
-            varied,
+            high_edge_variance,
             [100, 100, 100, 105, 109, 110, 110, 110],
         ),
     ] {
@@ -375,6 +379,6 @@ fn lines_are_as_worked_by_hand(rt: HostRuntime) {
         };
         let mut samples = rows_of(before);
         filter_rows(filter, limits, &mut samples, 0, 16);
-        assert_eq!(rt; samples.as_slice(), rows_of(behind).as_slice());
+        assert_eq!(rt; samples.as_slice(), rows_of(following).as_slice());
     }
 }

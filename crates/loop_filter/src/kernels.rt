@@ -6,8 +6,8 @@ ghost use Rattle.loop_filter.specs.Lanes.{line_at, roughness_of};
 
 use crate::edge_limits::{EdgeFilter, EdgeLimits};
 use crate::lanes::{
-    all, difference, eighths_after, either, greater, halves, lack, less, lowered, more, raised,
-    shares, side, step_over, variance_over,
+    all, difference, eighths_after, either, greater, halves, less, lowered, more, raised, shares,
+    shortfall, side, step_over, variance_over,
 };
 use std::simd::u8x16;
 
@@ -46,7 +46,7 @@ fn simple(limit: u8, taps: Taps) -> Taps
     let (p1, p0, q0, q1) = (taps.p1, taps.p0, taps.q0, taps.q1);
     let over = step_over(limit, p1, p0, q0, q1);
     let outer = difference(p1, q1);
-    let full = lack(outer, p0, q0);
+    let full = shortfall(outer, p0, q0);
     let none = all(128);
     let number = either(over, full, none);
     let up = eighths_after(3, number);
@@ -68,8 +68,8 @@ fn roughness(limits: EdgeLimits, taps: Taps) -> u8x16
     let (q3, q2, q1, q0) = (taps.q3, taps.q2, taps.q1, taps.q0);
     let step = step_over(limits.edge, p1, p0, q0, q1);
     let before = side(p3, p2, p1, p0);
-    let behind = side(q3, q2, q1, q0);
-    let sides = greater(before, behind);
+    let following = side(q3, q2, q1, q0);
+    let sides = greater(before, following);
     let interior = all(limits.interior);
     let sides_over = less(sides, interior);
     more(step, sides_over)
@@ -83,17 +83,17 @@ pub fn inner(limits: EdgeLimits, taps: Taps) -> Taps
 {
     let (p1, p0, q0, q1) = (taps.p1, taps.p0, taps.q0, taps.q1);
     let rough = roughness(limits, taps);
-    let varied = variance_over(limits.variance, p1, p0, q0, q1);
+    let high_edge_variance = variance_over(limits.variance, p1, p0, q0, q1);
     let none = all(128);
     let difference = difference(p1, q1);
-    let outer = either(varied, none, difference);
-    let full = lack(outer, p0, q0);
+    let outer = either(high_edge_variance, none, difference);
+    let full = shortfall(outer, p0, q0);
     let number = either(rough, full, none);
     let up = eighths_after(3, number);
     let down = eighths_after(4, number);
     let half = halves(down);
     let stay = all(8);
-    let outer_move = either(varied, half, stay);
+    let outer_move = either(high_edge_variance, half, stay);
     Taps {
         p1: raised(8, p1, outer_move),
         p0: raised(16, p0, up),
@@ -115,13 +115,13 @@ fn macroblock(limits: EdgeLimits, taps: Taps) -> Taps
     let (p2, p1, p0) = (taps.p2, taps.p1, taps.p0);
     let (q2, q1, q0) = (taps.q2, taps.q1, taps.q0);
     let rough = roughness(limits, taps);
-    let varied = variance_over(limits.variance, p1, p0, q0, q1);
+    let high_edge_variance = variance_over(limits.variance, p1, p0, q0, q1);
     let none = all(128);
     let outer = difference(p1, q1);
-    let full = lack(outer, p0, q0);
+    let full = shortfall(outer, p0, q0);
     let number = either(rough, full, none);
-    let narrow = either(varied, none, number);
-    let wide = either(varied, number, none);
+    let narrow = either(high_edge_variance, none, number);
+    let wide = either(high_edge_variance, number, none);
     let up = eighths_after(3, narrow);
     let down = eighths_after(4, narrow);
     let (far, middle, near) = shares(wide);

@@ -3,7 +3,7 @@
 ghost use Rattle.std.specs.Prelude.{◌≡◌, ℕ, ◌+◌, ◌-◌, ◌/◌, ◌<◌, ◌≤◌, max, length, slice_index};
 ghost use Rattle.std.specs.Simd.Lanes.{put_chunk};
 ghost use Rattle.std.specs.Int.{abs_diff};
-ghost use Rattle.loop_filter.specs.Lanes.{Each, Each2, AreSamples, sum_of, raised_by, lowered_by, difference_of, lack_from, eighth_of, half_of, share_of, either_of, step_over_of, side_of, variance_over_of};
+ghost use Rattle.loop_filter.specs.Lanes.{Each, Each2, AreSamples, sum_of, raised_by, lowered_by, difference_of, shortfall_from, eighth_of, half_of, share_of, either_of, step_over_of, side_of, variance_over_of};
 
 use std::simd::prelude::*;
 use std::simd::{u8x16, u16x16};
@@ -138,9 +138,9 @@ pub fn difference(a: u8x16, b: u8x16) -> u8x16
 
 /// Three times `q0 - p0`, added to numbers at offset 128 and clamped to -128 to 127.
 #[inline(always)]
-#[tactic(auto, unfolding(crate::specs::Lanes::lack_from))]
-pub fn lack(start: u8x16, p0: u8x16, q0: u8x16) -> u8x16
-    ensures { (i : ℕ) → i < 16 → slice_index result i ≡ lack_from (slice_index start i) (slice_index p0 i) (slice_index q0 i) }
+#[tactic(auto, unfolding(crate::specs::Lanes::shortfall_from))]
+pub fn shortfall(start: u8x16, p0: u8x16, q0: u8x16) -> u8x16
+    ensures { (i : ℕ) → i < 16 → slice_index result i ≡ shortfall_from (slice_index start i) (slice_index p0 i) (slice_index q0 i) }
 {
     let above = less(q0, p0);
     let below = less(p0, q0);
@@ -229,7 +229,7 @@ pub fn variance_over(threshold: u8, p1: u8x16, p0: u8x16, q0: u8x16, q1: u8x16) 
 {
     let threshold = all(threshold);
     let before = apart(p1, p0);
-    let behind = apart(q1, q0);
-    let most = greater(before, behind);
+    let following = apart(q1, q0);
+    let most = greater(before, following);
     less(most, threshold)
 }

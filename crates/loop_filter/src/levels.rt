@@ -1,12 +1,12 @@
 ghost use Rattle.std.specs.Prelude.{◌≡◌, ◌≤◌, pos, ◌+ℤ◌, slice_index_or};
-ghost use Rattle.loop_filter.specs.Levels.{held_level, level_in, reference_delta, mode_delta, changed_level, level_of};
+ghost use Rattle.loop_filter.specs.Levels.{clamped_level, level_in, reference_delta, mode_delta, changed_level, level_of};
 
 use frame_header::{FilterDeltas, Header, Reference, Segments};
 use mode_parser::{MbMode, VectorMode, YMode};
 
 /// A level clamped to 0 to 63.
-fn held(level: i16) -> u8
-    ensures value { result ≡ held_level level }
+fn clamped(level: i16) -> u8
+    ensures value { result ≡ clamped_level level }
     ensures small { result ≤ 63 }
 {
     level.clamp(0, 63) as u8
@@ -14,11 +14,11 @@ fn held(level: i16) -> u8
 
 /// A level with two changes, clamped.
 fn with_changes(level: u8, by_reference: i8, by_mode: i8) -> u8
-    ensures value { result ≡ held_level ((pos level +ℤ by_reference) +ℤ by_mode) }
+    ensures value { result ≡ clamped_level ((pos level +ℤ by_reference) +ℤ by_mode) }
     ensures small { result ≤ 63 }
 {
     let change = i16::from(by_reference) + i16::from(by_mode);
-    held(i16::from(level) + change)
+    clamped(i16::from(level) + change)
 }
 
 /// The level of one of the four segments; 0 if there is no such segment.
@@ -38,13 +38,13 @@ fn level_in(level: u8, has_segments: bool, segments: &Segments, segment: u8) -> 
 {
     let level = i16::from(level);
     if !has_segments {
-        return held(level);
+        return clamped(level);
     }
     let of_segment = i16::from(level_of_segment(segments, segment));
     if segments.is_absolute {
-        held(of_segment)
+        clamped(of_segment)
     } else {
-        held(level + of_segment)
+        clamped(level + of_segment)
     }
 }
 

@@ -24,14 +24,14 @@ fn interior_limit(level: u8, sharpness: u8) -> u8
     ensures small { level ≤ 63 → result ≤ 63 }
 {
     let most = 9_u8.saturating_sub(sharpness);
-    let held = if sharpness == 0 {
+    let clamped = if sharpness == 0 {
         level
     } else if sharpness <= 4 {
         (level >> 1).min(most)
     } else {
         (level >> 2).min(most)
     };
-    held.max(1)
+    clamped.max(1)
 }
 
 /// The high edge variance threshold.

@@ -16,7 +16,7 @@ use Rattle.mode_parser.specs.declared.records.VectorMode.TheVariants.{Zero, Near
 use Rattle.mode_parser.specs.declared.records.YMode.{YMode}
 use Rattle.mode_parser.specs.declared.records.YMode.TheVariants.{Whole, B, Inter}
 use Rattle.mode_parser.specs.declared.records.MbMode.{MbMode}
-use Rattle.mode_parser.specs.declared.nearby.MbPlace.{MbPlace}
+use Rattle.mode_parser.specs.declared.nearby.MbPosition.{MbPosition}
 use Rattle.mode_parser.specs.declared.nearby.Near.{Near}
 use Rattle.frame_header.specs.declared.references.Reference.{Reference}
 use Rattle.frame_header.specs.declared.references.Reference.TheVariants.{Last, Golden, Altref}
@@ -220,7 +220,7 @@ intra_mode-chain is_skipped probs y uv =
     bind-chain (inter_y_mode-chain probs.y_modes y) (λ mode. bind-chain (inter_sub_modes-chain mode) (λ sub_modes. bind-chain (chroma_mode-chain probs.uv_modes uv) (λ chroma.
     give-chain (record { segment = 0; is_skipped = is_skipped; y_mode = mode; sub_modes = sub_modes; uv_mode = chroma; vectors = no_vectors }))))
 
-referenced_mode-chain : (is_skipped : Bool) (header : Header) (place : MbPlace) (above left above_left : Option MbMode) → header.reference_probabilities.last < 256 → header.reference_probabilities.golden < 256 → AreRows header.context.probabilities.vectors → IsChain (referenced_mode is_skipped header place above left above_left)
+referenced_mode-chain : (is_skipped : Bool) (header : Header) (place : MbPosition) (above left above_left : Option MbMode) → header.reference_probabilities.last < 256 → header.reference_probabilities.golden < 256 → AreRows header.context.probabilities.vectors → IsChain (referenced_mode is_skipped header place above left above_left)
 unfolding referenced_mode
 referenced_mode-chain is_skipped header place above left above_left last golden small =
     let near : Reference → Near = λ (from : Reference). near_of above left above_left from header.context.sign_biases place in
@@ -228,7 +228,7 @@ referenced_mode-chain is_skipped header place above left above_left last golden 
     bind-chain (vectors_by-chain mode (near from) header.context.probabilities.vectors above left small) (λ vectors.
     give-chain (record { segment = 0; is_skipped = is_skipped; y_mode = Inter from mode; sub_modes = no_sub_modes; uv_mode = Dc; vectors = vectors }))))
 
-inter_mode-chain : (tables : TableEntries) (header : Header) (place : MbPlace) (above left above_left : Option MbMode) → HaveProbabilities tables header → IsChain (inter_mode header place above left above_left)
+inter_mode-chain : (tables : TableEntries) (header : Header) (place : MbPosition) (above left above_left : Option MbMode) → HaveProbabilities tables header → IsChain (inter_mode header place above left above_left)
 unfolding inter_mode
 inter_mode-chain tables header place above left above_left have =
     bind-chain (skip-chain header.skip_probability have.skip) (λ is_skipped. bind-chain (read-chain header.reference_probabilities.inter have.inter) (λ is_referenced. if-chain is_referenced

@@ -10,7 +10,7 @@ use Rattle.mode_parser.specs.declared.records.MbMode.{MbMode}
 use Rattle.intra_predict.specs.declared.modes.WholeMode.TheVariants.{Dc}
 use Rattle.frame_header.specs.declared.references.Reference.{Reference}
 use Rattle.frame_header.specs.declared.header.Header.{Header}
-use Rattle.mode_parser.specs.declared.nearby.MbPlace.{MbPlace}
+use Rattle.mode_parser.specs.declared.nearby.MbPosition.{MbPosition}
 use Rattle.mode_parser.specs.declared.nearby.Near.{Near}
 use Rattle.mode_parser.specs.declared.records.VectorMode.{VectorMode}
 use Rattle.mode_parser.specs.declared.records.YMode.TheVariants.{B, Inter}
@@ -53,9 +53,9 @@ block_vector-later start probabilities best above left vectors n d r before insi
     let same : slice_index_or (take n vectors) start zero_vector ≡ slice_index_or vectors start d = get_or-take n vectors start zero_vector before ∙ get_or_default vectors start zero_vector d inside in
     rw (other, same) refl
 
-pub block_vector-first : (start : ℕ) (probabilities : List (List ℕ)) (best : MotionVector) (above left : Option MbMode) (vectors : List MotionVector) (n : ℕ) (beside over here : MotionVector) (r s : Reader) → start ≤ n → n ≤ start → beside ≡ vector_left left (take n vectors) n → over ≡ vector_above above (take n vectors) n → part_vector probabilities best beside over r ≡ (here, s) → block_vector start probabilities best above left (take n vectors) n r ≡ (here, s)
+pub block_vector-first : (start : ℕ) (probabilities : List (List ℕ)) (best : MotionVector) (above left : Option MbMode) (vectors : List MotionVector) (n : ℕ) (neighbour over here : MotionVector) (r s : Reader) → start ≤ n → n ≤ start → neighbour ≡ vector_left left (take n vectors) n → over ≡ vector_above above (take n vectors) n → part_vector probabilities best neighbour over r ≡ (here, s) → block_vector start probabilities best above left (take n vectors) n r ≡ (here, s)
 unfolding block_vector
-block_vector-first start probabilities best above left vectors n beside over here r s most least is_beside is_over told =
+block_vector-first start probabilities best above left vectors n neighbour over here r s most least is_beside is_over told =
     let same : nat_eq start n ≡ true = grind (arith, nat_tests) in
     rw (same, ← is_beside, ← is_over) told
 
@@ -64,6 +64,6 @@ unfolding vector_mode leaf
 vector_mode-leaf counts nodes number r s are told = let there = rw are at told in rw there refl
 
 -- a record with a reference, appended to those before it, by the parts from which the code makes it
-pub referenced_mode-appended : (is_skipped : Bool) (header : Header) (segment : ℕ) (place : MbPlace) (above left above_left : Option MbMode) (before : List MbMode) (from : Reference) (near : Near) (mode : VectorMode) (vectors : List MotionVector) (r s t u : Reader) → which_reference header.reference_probabilities r ≡ (from, s) → near ≡ near_of above left above_left from header.context.sign_biases place → vector_mode near.counts s ≡ (mode, t) → vectors_by mode near header.context.probabilities.vectors above left t ≡ (vectors, u) → appended segment before (referenced_mode is_skipped header place above left above_left) r ≡ (before ++ record { segment = segment; is_skipped = is_skipped; y_mode = Inter from mode; sub_modes = no_sub_modes; uv_mode = Dc; vectors = vectors } ∷ [], u)
+pub referenced_mode-appended : (is_skipped : Bool) (header : Header) (segment : ℕ) (place : MbPosition) (above left above_left : Option MbMode) (before : List MbMode) (from : Reference) (near : Near) (mode : VectorMode) (vectors : List MotionVector) (r s t u : Reader) → which_reference header.reference_probabilities r ≡ (from, s) → near ≡ near_of above left above_left from header.context.sign_biases place → vector_mode near.counts s ≡ (mode, t) → vectors_by mode near header.context.probabilities.vectors above left t ≡ (vectors, u) → appended segment before (referenced_mode is_skipped header place above left above_left) r ≡ (before ++ record { segment = segment; is_skipped = is_skipped; y_mode = Inter from mode; sub_modes = no_sub_modes; uv_mode = Dc; vectors = vectors } ∷ [], u)
 unfolding referenced_mode
 referenced_mode-appended is_skipped header segment place above left above_left before from near mode vectors r s t u is_from is_near is_mode are_vectors = rw (is_from, ← is_near, is_mode, are_vectors) refl

@@ -13,7 +13,7 @@ use Rattle.mode_parser.specs.declared.records.YMode.TheVariants.{Whole, B, Inter
 use Rattle.mode_parser.specs.declared.records.MbMode.{MbMode}
 use Rattle.mode_parser.specs.declared.records.VectorMode.{VectorMode}
 use Rattle.mode_parser.specs.declared.records.VectorMode.TheVariants.{Zero, Nearest, Near as NearMode, New, Split}
-use Rattle.mode_parser.specs.declared.nearby.MbPlace.{MbPlace}
+use Rattle.mode_parser.specs.declared.nearby.MbPosition.{MbPosition}
 use Rattle.mode_parser.specs.declared.nearby.Near.{Near}
 use Rattle.mode_parser.specs.Vectors.{MotionVector}
 use Rattle.mode_parser.specs.SubModes.{first_sub_modes}
@@ -85,11 +85,11 @@ intra_mode-has_shape : (is_skipped : Bool) (probabilities : Probabilities) (r : 
 unfolding intra_mode
 intra_mode-has_shape is_skipped probabilities r = record { sub_modes = inter_sub_modes-length _ _; vectors = refl }
 
-referenced_mode-has_shape : (is_skipped : Bool) (header : Header) (place : MbPlace) (above left above_left : Option MbMode) (r : Reader) → HasShape (referenced_mode is_skipped header place above left above_left r).0
+referenced_mode-has_shape : (is_skipped : Bool) (header : Header) (place : MbPosition) (above left above_left : Option MbMode) (r : Reader) → HasShape (referenced_mode is_skipped header place above left above_left r).0
 unfolding referenced_mode
 referenced_mode-has_shape is_skipped header place above left above_left r = record { sub_modes = refl; vectors = vectors_by-length _ _ _ _ _ _ }
 
-inter_mode-has_shape : (header : Header) (place : MbPlace) (above left above_left : Option MbMode) (r : Reader) → HasShape (inter_mode header place above left above_left r).0
+inter_mode-has_shape : (header : Header) (place : MbPosition) (above left above_left : Option MbMode) (r : Reader) → HasShape (inter_mode header place above left above_left r).0
 unfolding inter_mode
 inter_mode-has_shape header place above left above_left r =
     let skipped = skip header.skip_probability r in

@@ -8,7 +8,7 @@ use Rattle.frame_header.specs.declared.context.SignBiases.{SignBiases}
 use Rattle.mode_parser.specs.declared.records.YMode.{YMode}
 use Rattle.mode_parser.specs.declared.records.YMode.TheVariants.{Whole, B, Inter}
 use Rattle.mode_parser.specs.declared.records.MbMode.{MbMode}
-use Rattle.mode_parser.specs.Vectors.{MotionVector, zero_vector, is_same, toward}
+use Rattle.mode_parser.specs.Vectors.{MotionVector, zero_vector, is_same, with_sign_bias}
 use Rattle.mode_parser.specs.declared.neighbours.Weighted.{Weighted}
 use Rattle.mode_parser.specs.NearVectors.{Listing, no_listing, listed_with, with_vector, vector_of, with_mode, with_neighbour, listed_at, first_in}
 use Rattle.mode_parser.specs.Neighbours.{listed_to, listing_to, listed_weight, weight_in, ThirdWeighs, AreListed}
@@ -49,7 +49,7 @@ counted-again vectors weights (suc n) vector weight is_zero none again inside =
     rw (is_zero, again, get_or-set_other weights (suc n) 0 (slice_index weights (suc n) + weight) 0 other, get_or-set_same weights (suc n) (slice_index weights (suc n) + weight) 0 inside, listed_to-weight vectors weights (suc n) (slice_index weights (suc n) + weight) n less) refl
 
 zeros-kept : (weights : List ℕ) (i weight : ℕ) → 0 < i → slice_index (set weights i weight) 0 ≡ slice_index weights 0
-zeros-kept weights i weight behind = get_or-set_other weights i 0 weight 0 (omega (arith, behind))
+zeros-kept weights i weight following = get_or-set_other weights i 0 weight 0 (omega (arith, following))
 
 counted-next : (vectors : List MotionVector) (weights : List ℕ) (n : ℕ) (vector : MotionVector) (weight : ℕ) → is_same vector zero_vector ≡ false → is_same vector (slice_index_or vectors n zero_vector) ≡ false → suc n < length vectors → suc n < length weights →
     listing_to (set vectors (suc n) vector) (set weights (suc n) weight) (suc n) ≡ with_vector (listing_to vectors weights n) vector weight
@@ -95,7 +95,7 @@ pub with_vector-weight : (before : Listing) (vector : MotionVector) (weight : �
 with_vector-weight before vector weight = listed-weight before.zeros before.listed vector weight (is_same vector zero_vector) refl
 
 mode-weight : (biases : SignBiases) (reference : Reference) (before : Listing) (mode : YMode) (vector : MotionVector) (weight : ℕ) → weight_in (with_mode biases reference before mode vector weight) ≤ weight_in before + weight
-mode-weight biases reference before (Inter other how) vector weight = omega (arith, with_vector-weight before (toward biases reference other vector) weight)
+mode-weight biases reference before (Inter other how) vector weight = omega (arith, with_vector-weight before (with_sign_bias biases reference other vector) weight)
 mode-weight biases reference before (Whole how) vector weight = omega arith
 mode-weight biases reference before B vector weight = omega arith
 
@@ -118,7 +118,7 @@ vector-third before vector weight true told few = rw told (λ three. absurd (ome
 vector-third before vector weight false told few = rw told (listed-third before.listed vector weight few)
 
 mode-third : (biases : SignBiases) (reference : Reference) (before : Listing) (mode : YMode) (vector : MotionVector) (weight : ℕ) → length before.listed < 3 → ThirdWeighs weight (with_mode biases reference before mode vector weight).listed
-mode-third biases reference before (Inter other how) vector weight few = vector-third before (toward biases reference other vector) weight (is_same (toward biases reference other vector) zero_vector) refl few
+mode-third biases reference before (Inter other how) vector weight few = vector-third before (with_sign_bias biases reference other vector) weight (is_same (with_sign_bias biases reference other vector) zero_vector) refl few
 mode-third biases reference before (Whole how) vector weight few = λ three. absurd (omega (arith, three, few))
 mode-third biases reference before B vector weight few = λ three. absurd (omega (arith, three, few))
 
@@ -153,10 +153,10 @@ second-light vectors weights (suc (suc (suc zero))) most light = omega (arith, l
 second-light vectors weights (suc (suc (suc (suc n)))) most light = absurd (omega (arith, most))
 
 -- the neighbours above, to the left, and above and to the left weigh 5 at most
-pub two-weight : (biases : SignBiases) (reference : Reference) (up beside : Option MbMode) (none one two : Listing) → none ≡ no_listing → one ≡ with_neighbour biases reference none up 2 → two ≡ with_neighbour biases reference one beside 2 → weight_in two ≤ 4
-two-weight biases reference up beside none one two is_none is_one is_two =
+pub two-weight : (biases : SignBiases) (reference : Reference) (up neighbour : Option MbMode) (none one two : Listing) → none ≡ no_listing → one ≡ with_neighbour biases reference none up 2 → two ≡ with_neighbour biases reference one neighbour 2 → weight_in two ≤ 4
+two-weight biases reference up neighbour none one two is_none is_one is_two =
     let first : weight_in one ≤ 0 + 2 = subst (λ listing. weight_in listing ≤ 0 + 2) (sym (is_one ∙ ap (λ listing. with_neighbour biases reference listing up 2) is_none)) (with_neighbour-weight biases reference no_listing up 2) in
-    let second : weight_in two ≤ weight_in one + 2 = subst (λ listing. weight_in listing ≤ weight_in one + 2) (sym is_two) (with_neighbour-weight biases reference one beside 2) in
+    let second : weight_in two ≤ weight_in one + 2 = subst (λ listing. weight_in listing ≤ weight_in one + 2) (sym is_two) (with_neighbour-weight biases reference one neighbour 2) in
     omega (arith, first, second)
 
 pub three-weight : (biases : SignBiases) (reference : Reference) (corner : Option MbMode) (two three : Listing) → weight_in two ≤ 4 → three ≡ with_neighbour biases reference two corner 1 → weight_in three ≤ 5

@@ -1,6 +1,6 @@
 -- The next index in raster order
 use Rattle.std.proofs.Common.{◌≡◌, ℕ, ◌+◌, ◌*◌, ◌/◌, ◌%◌, ◌<◌, ◌≤◌, refl, ap, sym, ◌∙◌, arith}
-use Rattle.mode_parser.specs.declared.nearby.MbPlace.{MbPlace}
+use Rattle.mode_parser.specs.declared.nearby.MbPosition.{MbPosition}
 use Rattle.mode_parser.specs.FrameModes.{place_of}
 use Rattle.std.proofs.lemmas.Nat.{div-add-mod', div-mul-add, mod-mul-add}
 
@@ -22,12 +22,12 @@ column-back columns n inside last = ap (λ m. m % columns) (sym (next-row column
 row-down : (columns n : ℕ) → n % columns < columns → columns ≤ n % columns + 1 → (n + 1) / columns ≡ n / columns + 1
 row-down columns n inside last = ap (λ m. m / columns) (sym (next-row columns n inside last)) ∙ div-mul-add (n / columns + 1) columns 0 (omega (arith, inside))
 
-pub place-on : (columns rows column row n : ℕ) → column ≡ n % columns → row ≡ n / columns → column + 1 < columns → ◌≡◌ {A = MbPlace} record { column = column + 1; row = row; columns = columns; rows = rows } (place_of columns rows (n + 1))
+pub place-on : (columns rows column row n : ℕ) → column ≡ n % columns → row ≡ n / columns → column + 1 < columns → ◌≡◌ {A = MbPosition} record { column = column + 1; row = row; columns = columns; rows = rows } (place_of columns rows (n + 1))
 place-on columns rows column row n is_column is_row more =
     let inside = rw is_column at more in
     rw (column-on columns n inside, row-on columns n inside, is_column, is_row) refl
 
-pub place-down : (columns rows column row n : ℕ) → column ≡ n % columns → row ≡ n / columns → column < columns → columns ≤ column + 1 → ◌≡◌ {A = MbPlace} record { column = 0; row = row + 1; columns = columns; rows = rows } (place_of columns rows (n + 1))
+pub place-down : (columns rows column row n : ℕ) → column ≡ n % columns → row ≡ n / columns → column < columns → columns ≤ column + 1 → ◌≡◌ {A = MbPosition} record { column = 0; row = row + 1; columns = columns; rows = rows } (place_of columns rows (n + 1))
 place-down columns rows column row n is_column is_row below last =
     let inside = rw is_column at below in
     let end = rw is_column at last in
@@ -36,7 +36,7 @@ place-down columns rows column row n is_column is_row below last =
 nothing : (columns : ℕ) → 0 * columns + 0 ≡ 0
 nothing columns = omega arith
 
-pub place-start : (columns rows : ℕ) → 1 ≤ columns → ◌≡◌ {A = MbPlace} record { column = 0; row = 0; columns = columns; rows = rows } (place_of columns rows 0)
+pub place-start : (columns rows : ℕ) → 1 ≤ columns → ◌≡◌ {A = MbPosition} record { column = 0; row = 0; columns = columns; rows = rows } (place_of columns rows 0)
 place-start columns rows some =
     let below : 0 < columns = omega (arith, some) in
     let column : 0 % columns ≡ 0 = ap (λ m. m % columns) (sym (nothing columns)) ∙ mod-mul-add 0 columns 0 below in

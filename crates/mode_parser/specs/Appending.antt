@@ -4,7 +4,7 @@ use Rattle.bool_coder.specs.Reading.{Reading, ◌>>=◌, give}
 use Rattle.vp8_tables.specs.Tables.{TableEntries}
 use Rattle.frame_header.specs.declared.header.Header.{Header}
 use Rattle.mode_parser.specs.declared.records.MbMode.{MbMode}
-use Rattle.mode_parser.specs.declared.nearby.MbPlace.{MbPlace}
+use Rattle.mode_parser.specs.declared.nearby.MbPosition.{MbPosition}
 use Rattle.mode_parser.specs.Records.{key_mode}
 use Rattle.mode_parser.specs.InterRecords.{referenced_mode, inter_mode}
 use Rattle.mode_parser.specs.FrameModes.{record_above, record_left, record_above_left, mode_at}
@@ -22,18 +22,18 @@ one_more tables header columns rows map before = do
   give (before ++ mode ∷ [])
 
 -- the record of a macroblock of a key frame at the index after these
-abbrev pub key_mode_at : TableEntries → Option ℕ → MbPlace → List MbMode → Reading MbMode
+abbrev pub key_mode_at : TableEntries → Option ℕ → MbPosition → List MbMode → Reading MbMode
 key_mode_at tables skip_probability place before =
     let here = length before in
     key_mode tables skip_probability (record_above before place.columns here) (record_left before place.columns here)
 
 -- the record of a macroblock with a reference, and of one of an inter frame, at the index after these
-abbrev pub referenced_mode_at : Bool → Header → MbPlace → List MbMode → Reading MbMode
+abbrev pub referenced_mode_at : Bool → Header → MbPosition → List MbMode → Reading MbMode
 referenced_mode_at is_skipped header place before =
     let here = length before in
     referenced_mode is_skipped header place (record_above before place.columns here) (record_left before place.columns here) (record_above_left before place.columns here)
 
-abbrev pub inter_mode_at : Header → MbPlace → List MbMode → Reading MbMode
+abbrev pub inter_mode_at : Header → MbPosition → List MbMode → Reading MbMode
 inter_mode_at header place before =
     let here = length before in
     inter_mode header place (record_above before place.columns here) (record_left before place.columns here) (record_above_left before place.columns here)

@@ -5,7 +5,7 @@ use Rattle.frame_header.specs.declared.references.Reference.{Reference}
 use Rattle.mode_parser.specs.declared.records.VectorMode.{VectorMode}
 use Rattle.mode_parser.specs.declared.records.YMode.TheVariants.{Inter}
 use Rattle.mode_parser.specs.declared.records.MbMode.{MbMode}
-use Rattle.mode_parser.specs.declared.nearby.MbPlace.{MbPlace}
+use Rattle.mode_parser.specs.declared.nearby.MbPosition.{MbPosition}
 use Rattle.mode_parser.specs.declared.nearby.Near.{Near}
 use Rattle.mode_parser.specs.declared.nearby.Candidates.{Candidates}
 use Rattle.mode_parser.specs.Vectors.{MotionVector}
@@ -13,7 +13,7 @@ use Rattle.mode_parser.specs.Records.{no_sub_modes}
 use Rattle.mode_parser.specs.NearVectors.{near_in}
 
 -- the near vectors of a macroblock at a position, by its candidates
-abbrev pub near_by : MbPlace → Candidates → Near
+abbrev pub near_by : MbPosition → Candidates → Near
 near_by place found = near_in place found.zeros found.nearest found.near found.split
 
 -- the weights by which its mode is read

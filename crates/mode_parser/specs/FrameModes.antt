@@ -4,10 +4,10 @@ use Rattle.bool_coder.specs.Reading.{Reading, ◌>>=◌, give}
 use Rattle.vp8_tables.specs.Tables.{TableEntries}
 use Rattle.frame_header.specs.declared.header.Header.{Header}
 use Rattle.mode_parser.specs.declared.records.MbMode.{MbMode}
-use Rattle.mode_parser.specs.declared.nearby.MbPlace.{MbPlace}
+use Rattle.mode_parser.specs.declared.nearby.MbPosition.{MbPosition}
 use Rattle.mode_parser.specs.Records.{key_mode}
 use Rattle.mode_parser.specs.InterRecords.{inter_mode}
-use Rattle.mode_parser.specs.Segments.{segment_at, map_behind}
+use Rattle.mode_parser.specs.Segments.{segment_at, map_after}
 
 -- the records above and to the left of an index, among those before it in a frame of so many columns
 abbrev pub record_above : List MbMode → ℕ → ℕ → Option MbMode
@@ -19,7 +19,7 @@ record_left before columns place = if place % columns == 0 then None else slice_
 abbrev pub record_above_left : List MbMode → ℕ → ℕ → Option MbMode
 record_above_left before columns place = if nat_lt place columns || place % columns == 0 then None else slice_get before (place - columns - 1)
 
-abbrev pub place_of : ℕ → ℕ → ℕ → MbPlace
+abbrev pub place_of : ℕ → ℕ → ℕ → MbPosition
 place_of columns rows place = record { column = place % columns; row = place / columns; columns = columns; rows = rows }
 
 -- the record at the index after those before it, except its segment, in a frame of either kind
@@ -54,4 +54,4 @@ pub record FrameModes : Type 0 where
 abbrev pub modes_of : TableEntries → Header → ℕ → ℕ → Option (List ℕ) → FrameModes
 modes_of tables header columns rows before =
     let records = (first_modes (columns * rows) tables header columns rows before header.reader).0 in
-    record { records = records; segment_map = map_behind header (columns * rows) before records }
+    record { records = records; segment_map = map_after header (columns * rows) before records }

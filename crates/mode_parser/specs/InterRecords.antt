@@ -16,7 +16,7 @@ use Rattle.mode_parser.specs.declared.records.VectorMode.TheVariants.{Zero, Near
 use Rattle.mode_parser.specs.declared.records.YMode.{YMode}
 use Rattle.mode_parser.specs.declared.records.YMode.TheVariants.{Whole, B, Inter}
 use Rattle.mode_parser.specs.declared.records.MbMode.{MbMode}
-use Rattle.mode_parser.specs.declared.nearby.MbPlace.{MbPlace}
+use Rattle.mode_parser.specs.declared.nearby.MbPosition.{MbPosition}
 use Rattle.mode_parser.specs.declared.nearby.Near.{Near}
 use Rattle.mode_parser.specs.SubModes.{sub_mode}
 use Rattle.mode_parser.specs.Records.{skip, y_modes, chroma_mode, no_sub_modes, no_vectors}
@@ -142,7 +142,7 @@ intra_mode is_skipped probabilities = do
   chroma ← chroma_mode probabilities.uv_modes
   give (record { segment = 0; is_skipped = is_skipped; y_mode = y_mode; sub_modes = sub_modes; uv_mode = chroma; vectors = no_vectors })
 
-unfoldable pub referenced_mode : Bool → Header → MbPlace → Option MbMode → Option MbMode → Option MbMode → Reading MbMode
+unfoldable pub referenced_mode : Bool → Header → MbPosition → Option MbMode → Option MbMode → Option MbMode → Reading MbMode
 referenced_mode is_skipped header place above left above_left = do
   from ← which_reference header.reference_probabilities
   let near = near_of above left above_left from header.context.sign_biases place
@@ -151,7 +151,7 @@ referenced_mode is_skipped header place above left above_left = do
   give (record { segment = 0; is_skipped = is_skipped; y_mode = Inter from mode; sub_modes = no_sub_modes; uv_mode = Dc; vectors = vectors })
 
 -- the record of a macroblock at the index after these, in an inter frame, in segment 0 (section 19.3)
-unfoldable pub inter_mode : Header → MbPlace → Option MbMode → Option MbMode → Option MbMode → Reading MbMode
+unfoldable pub inter_mode : Header → MbPosition → Option MbMode → Option MbMode → Option MbMode → Reading MbMode
 inter_mode header place above left above_left = do
   is_skipped ← skip header.skip_probability
   is_referenced ← read header.reference_probabilities.inter

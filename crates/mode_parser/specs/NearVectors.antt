@@ -3,12 +3,12 @@ use Rattle.std.specs.Prelude.{ℕ, ◌+◌, ◌-◌, ◌*◌, Bool, false, ◌&&
 use Rattle.std.specs.Int.{from_bool, int_min, int_max}
 use Rattle.frame_header.specs.declared.references.Reference.{Reference}
 use Rattle.frame_header.specs.declared.context.SignBiases.{SignBiases}
-use Rattle.mode_parser.specs.Vectors.{MotionVector, zero_vector, is_same, toward}
+use Rattle.mode_parser.specs.Vectors.{MotionVector, zero_vector, is_same, with_sign_bias}
 use Rattle.mode_parser.specs.SplitModes.{is_split}
 use Rattle.mode_parser.specs.declared.records.YMode.{YMode}
 use Rattle.mode_parser.specs.declared.records.YMode.TheVariants.{Whole, B, Inter}
 use Rattle.mode_parser.specs.declared.records.MbMode.{MbMode}
-use Rattle.mode_parser.specs.declared.nearby.MbPlace.{MbPlace}
+use Rattle.mode_parser.specs.declared.nearby.MbPosition.{MbPosition}
 use Rattle.mode_parser.specs.declared.neighbours.Weighted.{Weighted}
 use Rattle.mode_parser.specs.declared.nearby.Near.{Near}
 
@@ -38,7 +38,7 @@ vector_of macroblock = slice_index_or macroblock.vectors 15 zero_vector
 
 -- a neighbour outside the frame or without a reference is skipped
 abbrev pub with_mode : SignBiases → Reference → Listing → YMode → MotionVector → ℕ → Listing
-with_mode biases reference before (Inter other mode) vector weight = with_vector before (toward biases reference other vector) weight
+with_mode biases reference before (Inter other mode) vector weight = with_vector before (with_sign_bias biases reference other vector) weight
 with_mode biases reference before (Whole mode) vector weight = before
 with_mode biases reference before B vector weight = before
 
@@ -65,11 +65,11 @@ splits (Some macroblock) = from_bool (is_split_mode macroblock.y_mode)
 
 -- a component of a vector, clamped to move a macroblock along a row or column of so many at most one macroblock out of the
 -- frame, in quarters of a sample (section 5)
-abbrev pub held : ℕ → ℕ → ℤ → ℤ
-held place count z = int_max (neg_ℤ (pos (64 * (place + 1)))) (int_min z (pos (64 * (count - place))))
+abbrev pub clamped_component : ℕ → ℕ → ℤ → ℤ
+clamped_component place count z = int_max (neg_ℤ (pos (64 * (place + 1)))) (int_min z (pos (64 * (count - place))))
 
-abbrev pub clamped : MbPlace → MotionVector → MotionVector
-clamped place v = record { x = held place.column place.columns v.x; y = held place.row place.rows v.y }
+abbrev pub clamped : MbPosition → MotionVector → MotionVector
+clamped place v = record { x = clamped_component place.column place.columns v.x; y = clamped_component place.row place.rows v.y }
 
 -- the n-th vector of `near_mvs`, in the order in which they were found; past the last, a zero vector of weight 0
 abbrev pub unlisted : Weighted
@@ -89,7 +89,7 @@ abbrev pub best_in : ℕ → Weighted → MotionVector
 best_in zeros nearest = if nat_le zeros nearest.weight then nearest.vector else zero_vector
 
 -- the near vectors, if these two weigh most, from the weight of zero vectors and of split neighbours
-abbrev pub near_in : MbPlace → ℕ → Weighted → Weighted → ℕ → Near
+abbrev pub near_in : MbPosition → ℕ → Weighted → Weighted → ℕ → Near
 near_in place zeros nearest near split = record {
   counts = zeros ∷ nearest.weight ∷ near.weight ∷ split ∷ [];
   best = clamped place (best_in zeros nearest);
@@ -98,13 +98,13 @@ near_in place zeros nearest near split = record {
 }
 
 -- the first and the second vector, or the second and the first if the second weighs more
-abbrev pub ranked : MbPlace → Listing → ℕ → Near
+abbrev pub ranked : MbPosition → Listing → ℕ → Near
 ranked place listing split =
     let first = first_in listing.listed in
     let second = listed_at listing.listed 1 in
     if nat_lt first.weight second.weight then near_in place listing.zeros second first split else near_in place listing.zeros first second split
 
 -- the near vectors of a macroblock at a position, which is predicted from a reference
-unfoldable pub near_of : Option MbMode → Option MbMode → Option MbMode → Reference → SignBiases → MbPlace → Near
+unfoldable pub near_of : Option MbMode → Option MbMode → Option MbMode → Reference → SignBiases → MbPosition → Near
 near_of above left above_left reference biases place =
     ranked place (listing_of above left above_left reference biases) (2 * (splits above + splits left) + splits above_left)

@@ -29,6 +29,6 @@ kept_map false count None = replicate count 0
 kept_map false count (Some before) = before
 
 -- the segment map after a frame: its records' segments if it updates the map, and else the one that it keeps
-abbrev pub map_behind : Header → ℕ → Option (List ℕ) → List MbMode → List ℕ
-map_behind header count before records =
+abbrev pub map_after : Header → ℕ → Option (List ℕ) → List MbMode → List ℕ
+map_after header count before records =
     if header.segmentation.updates_map then map (λ macroblock. macroblock.segment) records else kept_map header.is_key count before

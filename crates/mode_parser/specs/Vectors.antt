@@ -35,5 +35,5 @@ is_biased biases Golden = biases.golden
 is_biased biases Altref = biases.altref
 
 -- a vector to another reference with the sign bias applied: negated if the sign biases of the two differ (section 9.7)
-abbrev pub toward : SignBiases → Reference → Reference → MotionVector → MotionVector
-toward biases reference other v = if beq (is_biased biases other) (is_biased biases reference) then v else opposite v
+abbrev pub with_sign_bias : SignBiases → Reference → Reference → MotionVector → MotionVector
+with_sign_bias biases reference other v = if beq (is_biased biases other) (is_biased biases reference) then v else opposite v

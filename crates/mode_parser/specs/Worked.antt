@@ -6,7 +6,7 @@ use Rattle.frame_header.specs.declared.context.SignBiases.{SignBiases}
 use Rattle.mode_parser.specs.declared.records.VectorMode.{VectorMode}
 use Rattle.mode_parser.specs.declared.records.YMode.TheVariants.{Inter}
 use Rattle.mode_parser.specs.declared.records.MbMode.{MbMode}
-use Rattle.mode_parser.specs.declared.nearby.MbPlace.{MbPlace}
+use Rattle.mode_parser.specs.declared.nearby.MbPosition.{MbPosition}
 use Rattle.mode_parser.specs.declared.nearby.Near.{Near}
 use Rattle.mode_parser.specs.Vectors.{MotionVector}
 use Rattle.mode_parser.specs.Records.{no_sub_modes}
@@ -24,7 +24,7 @@ abbrev pub golden_biased : SignBiases
 golden_biased = record { golden = true; altref = false }
 
 -- the second macroblock of the second row of a frame of three by three
-abbrev pub middle : MbPlace
+abbrev pub middle : MbPosition
 middle = record { column = 1; row = 1; columns = 3; rows = 3 }
 
 -- near vectors to the right, with their counts

@@ -6,7 +6,7 @@ ghost use Rattle.mode_parser.specs.FrameModes.{modes_of};
 
 use crate::frame_records::read_records;
 use crate::records::MbMode;
-use crate::segments::map_behind;
+use crate::segments::map_after;
 use bool_coder::NoMemory;
 use frame_header::Header;
 use std::alloc::Global;
@@ -71,7 +71,7 @@ pub fn read_modes(
     ensures segments { IfOk result (λ modes. length modes.segment_map ≡ columns * rows) }
 {
     let records = read_records(alloc, tables, header, columns, rows, map)?;
-    let segment_map = map_behind(alloc, header, columns * rows, map, &records)?;
+    let segment_map = map_after(alloc, header, columns * rows, map, &records)?;
     Ok(Modes {
         records,
         segment_map,

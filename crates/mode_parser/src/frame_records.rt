@@ -7,7 +7,7 @@ ghost use Rattle.mode_parser.specs.Appending.{appended, key_mode_at, one_more};
 
 use crate::inter_modes::push_inter_mode;
 use crate::key_modes::read_key_mode;
-use crate::nearby::MbPlace;
+use crate::nearby::MbPosition;
 use crate::places::{next_place, record_above, record_left};
 use crate::records::MbMode;
 use crate::segments::read_segment;
@@ -24,7 +24,7 @@ fn push_key_mode(
     tables: &Tables,
     skip_probability: Option<u8>,
     segment: u8,
-    place: MbPlace,
+    place: MbPosition,
     records: &mut Vec<MbMode>,
 ) -> Result<(), NoMemory>
     requires { place ≡ place_of place.columns place.rows (length records.old.items) }
@@ -46,7 +46,7 @@ fn push_prediction(
     tables: &Tables,
     header: &Header,
     segment: u8,
-    place: MbPlace,
+    place: MbPosition,
     records: &mut Vec<MbMode>,
 ) -> Result<(), NoMemory>
     requires at { place ≡ place_of place.columns place.rows (length records.old.items) }
@@ -79,7 +79,7 @@ fn push_mode(
     tables: &Tables,
     header: &Header,
     map: Option<&[u8]>,
-    place: MbPlace,
+    place: MbPosition,
     records: &mut Vec<MbMode>,
 ) -> Result<(), NoMemory>
     requires at { place ≡ place_of place.columns place.rows (length records.old.items) }
@@ -111,7 +111,7 @@ pub(crate) fn read_records(
     let mut reader = header.reader.copied();
     let mut records = Vec::with_capacity(alloc, columns * rows)?;
     // The index is incremented: a division for each macroblock is slow.
-    let mut place = MbPlace {
+    let mut place = MbPosition {
         column: 0,
         row: 0,
         columns,

@@ -11,7 +11,7 @@ ghost use Rattle.mode_parser.specs.declared.records.VectorMode.TheVariants.{Spli
 
 use crate::key_modes::{read_skip, read_uv_mode};
 use crate::key_sub_modes::read_sub_mode;
-use crate::nearby::{Candidates, MbPlace, candidates_of};
+use crate::nearby::{Candidates, MbPosition, candidates_of};
 use crate::places::{record_above, record_above_left, record_left};
 use crate::records::{MbMode, VectorMode, YMode};
 use crate::split_vectors::read_split_vectors;
@@ -164,7 +164,7 @@ fn push_referenced_mode(
     is_skipped: bool,
     header: &Header,
     segment: u8,
-    place: MbPlace,
+    place: MbPosition,
     records: &mut Vec<MbMode>,
 ) -> Result<(), NoMemory>
     requires at { place ≡ place_of place.columns place.rows (length records.old.items) }
@@ -222,7 +222,7 @@ pub(crate) fn push_inter_mode(
     reader: &mut Decoder,
     header: &Header,
     segment: u8,
-    place: MbPlace,
+    place: MbPosition,
     records: &mut Vec<MbMode>,
 ) -> Result<(), NoMemory>
     requires at { place ≡ place_of place.columns place.rows (length records.old.items) }

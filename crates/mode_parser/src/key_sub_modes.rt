@@ -150,8 +150,8 @@ pub(crate) fn read_key_sub_modes(
     let mut modes = [SubMode::Dc; 16];
     for n in 0..16usize {
         let over = mode_above(above, &modes, n);
-        let beside = mode_left(left, &modes, n);
-        modes[n] = read_key_sub_mode(reader, tables, over, beside);
+        let neighbour = mode_left(left, &modes, n);
+        modes[n] = read_key_sub_mode(reader, tables, over, neighbour);
     }
     modes
 }

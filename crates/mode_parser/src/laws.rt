@@ -17,7 +17,7 @@ ghost use Rattle.vp8_tables.specs.declared.vectors.TheConstants.{DEFAULT_VECTOR_
 ghost use Rattle.frame_header.specs.declared.references.Reference.TheVariants.{Last, Golden, Altref};
 ghost use Rattle.mode_parser.specs.declared.records.VectorMode.TheVariants.{Zero, New, Split};
 ghost use Rattle.mode_parser.specs.Vectors.{zero_vector};
-ghost use Rattle.mode_parser.specs.NearVectors.{held, near_of};
+ghost use Rattle.mode_parser.specs.NearVectors.{clamped_component, near_of};
 ghost use Rattle.mode_parser.specs.VectorReading.{new_vector};
 ghost use Rattle.mode_parser.specs.InterRecords.{are_starts};
 ghost use Rattle.mode_parser.specs.ChromaVectors.{chroma_component, first_luma, group_vector};
@@ -67,11 +67,11 @@ pub fn worked_near_vectors()
 /// The bounds to which vectors are clamped, in the middle of three columns and rows, and at both
 /// ends.
 pub fn worked_bounds()
-    ensures inside { held 1 3 (pos 127) ≡ pos 127 }
-    ensures right { held 1 3 (pos 129) ≡ pos 128 }
-    ensures left { held 1 3 (neg_ℤ (pos 129)) ≡ neg_ℤ (pos 128) }
-    ensures first { held 0 3 (neg_ℤ (pos 100)) ≡ neg_ℤ (pos 64) }
-    ensures last { held 2 3 (pos 100) ≡ pos 64 }
+    ensures inside { clamped_component 1 3 (pos 127) ≡ pos 127 }
+    ensures right { clamped_component 1 3 (pos 129) ≡ pos 128 }
+    ensures left { clamped_component 1 3 (neg_ℤ (pos 129)) ≡ neg_ℤ (pos 128) }
+    ensures first { clamped_component 0 3 (neg_ℤ (pos 100)) ≡ neg_ℤ (pos 64) }
+    ensures last { clamped_component 2 3 (pos 100) ≡ pos 64 }
 {}
 
 /// Vectors read from endless zeros, from endless ones, and from an encoder's bits.
@@ -155,7 +155,7 @@ pub fn worked_segments()
 pub fn segments_are_kept(tables: &Tables, header: &Header, columns: usize, rows: usize)
     requires { header.now.segmentation.updates_map ≡ false }
     ensures segments { (before : Option (List ℕ)) → map (λ macroblock. macroblock.segment) (modes_of tables.now header.now columns rows before).records ≡ map (λ place. if header.now.segmentation.is_enabled then kept_segment header.now.is_key before place else 0) (range_with_len 0 (columns * rows)) }
-    ensures behind { (before : Option (List ℕ)) → (modes_of tables.now header.now columns rows before).segment_map ≡ kept_map header.now.is_key (columns * rows) before }
+    ensures following { (before : Option (List ℕ)) → (modes_of tables.now header.now columns rows before).segment_map ≡ kept_map header.now.is_key (columns * rows) before }
 {}
 
 /// In a key frame the 16 sub block modes are DC if luma is predicted as a whole, and no macroblock

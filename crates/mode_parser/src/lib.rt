@@ -24,6 +24,6 @@ mod vectors;
 
 pub use chroma_vectors::chroma_vector;
 pub use frame_modes::{Modes, read_modes};
-pub use nearby::{MbPlace, Near, near_vectors};
+pub use nearby::{MbPosition, Near, near_vectors};
 pub use records::{MbMode, VectorMode, YMode};
 pub use vectors::Vector;

@@ -4,7 +4,7 @@
 ghost use Rattle.std.specs.Prelude.{◌≡◌, ◌<◌, ◌≤◌, All};
 ghost use Rattle.std.specs.Option.{option_copied};
 ghost use Rattle.vp8_tables.specs.Bounds.{IsWithin};
-ghost use Rattle.mode_parser.specs.NearVectors.{held, clamped, best_in, near_in, near_of};
+ghost use Rattle.mode_parser.specs.NearVectors.{clamped_component, clamped, best_in, near_in, near_of};
 ghost use Rattle.mode_parser.specs.Candidates.{near_by, AreLight};
 
 use crate::neighbours::{Weighted, neighbours_of};
@@ -14,7 +14,7 @@ use frame_header::{Reference, SignBiases};
 
 /// The position of a macroblock in a frame of so many columns and rows of macroblocks.
 #[derive(Clone, Copy, Debug, PartialEq, Eq)]
-pub struct MbPlace {
+pub struct MbPosition {
     /// Its column, from 0.
     pub column: usize,
     /// Its row, from 0.
@@ -44,10 +44,10 @@ pub struct Near {
 /// A component of a vector, clamped to move a macroblock along a row or column of `count` at most
 /// one macroblock out of the frame.
 #[inline(always)]
-fn held(place: usize, count: usize, component: i32) -> i32
+fn clamped_component(place: usize, count: usize, component: i32) -> i32
     requires inside { place < count }
     requires most { count ≤ 1024 }
-    ensures value { result ≡ held place count component }
+    ensures value { result ≡ clamped_component place count component }
     ensures within { IsWithin 65536 result }
 {
     let least = -64 * (place as i32 + 1);
@@ -57,15 +57,15 @@ fn held(place: usize, count: usize, component: i32) -> i32
 
 /// The vector clamped to move a macroblock at `place` at most one macroblock out of the frame.
 #[inline(always)]
-fn clamped(place: MbPlace, vector: Vector) -> Vector
+fn clamped(place: MbPosition, vector: Vector) -> Vector
     requires across { (place.column < place.columns) × (place.columns ≤ 1024) }
     requires down { (place.row < place.rows) × (place.rows ≤ 1024) }
     ensures value { result ≡ clamped place vector }
     ensures x { IsWithin 65536 result.x }
     ensures y { IsWithin 65536 result.y }
 {
-    let x = held(place.column, place.columns, vector.x());
-    let y = held(place.row, place.rows, vector.y());
+    let x = clamped_component(place.column, place.columns, vector.x());
+    let y = clamped_component(place.row, place.rows, vector.y());
     Vector::new(x, y)
 }
 
@@ -94,7 +94,7 @@ pub(crate) struct Candidates {
 impl Candidates {
     /// The best vector for a macroblock at `place`.
     #[inline(always)]
-    pub(crate) fn best(&self, place: MbPlace) -> Vector
+    pub(crate) fn best(&self, place: MbPosition) -> Vector
         requires across { (place.column < place.columns) × (place.columns ≤ 1024) }
         requires down { (place.row < place.rows) × (place.rows ≤ 1024) }
         ensures value { result ≡ (near_by place self.now).best }
@@ -106,7 +106,7 @@ impl Candidates {
 
     /// The nearest vector for a macroblock at `place`.
     #[inline(always)]
-    pub(crate) fn nearest(&self, place: MbPlace) -> Vector
+    pub(crate) fn nearest(&self, place: MbPosition) -> Vector
         requires across { (place.column < place.columns) × (place.columns ≤ 1024) }
         requires down { (place.row < place.rows) × (place.rows ≤ 1024) }
         ensures { result ≡ (near_by place self.now).nearest }
@@ -116,7 +116,7 @@ impl Candidates {
 
     /// The near vector for a macroblock at `place`.
     #[inline(always)]
-    pub(crate) fn near(&self, place: MbPlace) -> Vector
+    pub(crate) fn near(&self, place: MbPosition) -> Vector
         requires across { (place.column < place.columns) × (place.columns ≤ 1024) }
         requires down { (place.row < place.rows) × (place.rows ≤ 1024) }
         ensures { result ≡ (near_by place self.now).near }
@@ -135,7 +135,7 @@ pub(crate) fn candidates_of(
     reference: Reference,
     biases: SignBiases,
 ) -> Candidates
-    ensures value { (place : MbPlace) → near_by place result ≡ near_of (option_copied above.entry) (option_copied left.entry) (option_copied above_left.entry) reference biases place }
+    ensures value { (place : MbPosition) → near_by place result ≡ near_of (option_copied above.entry) (option_copied left.entry) (option_copied above_left.entry) reference biases place }
     ensures light { AreLight result }
 {
     let neighbours = neighbours_of(above, left, above_left, reference, biases);
@@ -169,7 +169,7 @@ pub fn near_vectors(
     above_left: Option<&MbMode>,
     reference: Reference,
     biases: SignBiases,
-    place: MbPlace,
+    place: MbPosition,
 ) -> Near
     requires across { (place.column < place.columns) × (place.columns ≤ 1024) }
     requires down { (place.row < place.rows) × (place.rows ≤ 1024) }

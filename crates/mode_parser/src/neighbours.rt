@@ -2,7 +2,7 @@
 
 ghost use Rattle.std.specs.Prelude.{◌≡◌, ◌+◌, ◌*◌, ◌<◌, ◌≤◌, replicate};
 ghost use Rattle.std.specs.Option.{option_copied};
-ghost use Rattle.mode_parser.specs.Vectors.{is_biased, toward, zero_vector};
+ghost use Rattle.mode_parser.specs.Vectors.{is_biased, with_sign_bias, zero_vector};
 ghost use Rattle.mode_parser.specs.NearVectors.{with_vector, with_neighbour, listing_of, listed_at, first_in, splits};
 ghost use Rattle.mode_parser.specs.Neighbours.{listing_in, weight_in, ThirdWeighs, AreListed};
 
@@ -44,8 +44,13 @@ fn is_biased(biases: SignBiases, reference: Reference) -> bool
 
 /// A vector to `other` as it counts for `reference`.
 #[inline(always)]
-fn toward(biases: SignBiases, reference: Reference, other: Reference, vector: Vector) -> Vector
-    ensures { result ≡ toward biases reference other vector }
+fn with_sign_bias(
+    biases: SignBiases,
+    reference: Reference,
+    other: Reference,
+    vector: Vector,
+) -> Vector
+    ensures { result ≡ with_sign_bias biases reference other vector }
 {
     if other == reference || is_biased(biases, other) == is_biased(biases, reference) {
         vector
@@ -119,7 +124,7 @@ impl Neighbours {
                 if mode == VectorMode::Split {
                     self.split += weight;
                 }
-                let vector = toward(biases, reference, other, macroblock.vectors[15]);
+                let vector = with_sign_bias(biases, reference, other, macroblock.vectors[15]);
                 self.add_vector(vector, weight);
             }
         }

@@ -4,7 +4,7 @@ ghost use Rattle.std.specs.Prelude.{◌≡◌, ◌<◌, ◌≤◌, ◌+◌, ℕ,
 ghost use Rattle.std.specs.Option.{option_copied};
 ghost use Rattle.mode_parser.specs.FrameModes.{record_above, record_left, record_above_left, place_of};
 
-use crate::nearby::MbPlace;
+use crate::nearby::MbPosition;
 use crate::records::MbMode;
 
 /// The record above the index after these; `None` outside the frame.
@@ -22,7 +22,7 @@ pub(crate) fn record_above(records: &[MbMode], columns: usize) -> Option<&MbMode
 
 /// The record to the left of `place`, the index after these; `None` outside the frame.
 #[inline]
-pub(crate) fn record_left(records: &[MbMode], place: MbPlace) -> Option<&MbMode>
+pub(crate) fn record_left(records: &[MbMode], place: MbPosition) -> Option<&MbMode>
     requires { place ≡ place_of place.columns place.rows (length records.now) }
     ensures { option_copied result ≡ record_left records.now place.columns (length records.now) }
 {
@@ -35,7 +35,7 @@ pub(crate) fn record_left(records: &[MbMode], place: MbPlace) -> Option<&MbMode>
 
 /// The record above and to the left of `place`, the index after these; `None` outside the frame.
 #[inline]
-pub(crate) fn record_above_left(records: &[MbMode], place: MbPlace) -> Option<&MbMode>
+pub(crate) fn record_above_left(records: &[MbMode], place: MbPosition) -> Option<&MbMode>
     requires { place ≡ place_of place.columns place.rows (length records.now) }
     ensures { option_copied result ≡ record_above_left records.now place.columns (length records.now) }
 {
@@ -49,7 +49,7 @@ pub(crate) fn record_above_left(records: &[MbMode], place: MbPlace) -> Option<&M
 
 /// The next index in raster order.
 #[inline]
-pub(crate) fn next_place(place: MbPlace) -> MbPlace
+pub(crate) fn next_place(place: MbPosition) -> MbPosition
     requires across { place.column < place.columns }
     requires wide { place.columns ≤ 1024 }
     requires down { place.row < 1024 }
@@ -57,14 +57,14 @@ pub(crate) fn next_place(place: MbPlace) -> MbPlace
 {
     let column = place.column + 1;
     if column < place.columns {
-        MbPlace {
+        MbPosition {
             column,
             row: place.row,
             columns: place.columns,
             rows: place.rows,
         }
     } else {
-        MbPlace {
+        MbPosition {
             column: 0,
             row: place.row + 1,
             columns: place.columns,

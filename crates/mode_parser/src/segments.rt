@@ -2,7 +2,7 @@
 
 ghost use Rattle.std.specs.Prelude.{◌≡◌, map, IfOk};
 ghost use Rattle.std.specs.Option.{option_copied};
-ghost use Rattle.mode_parser.specs.Segments.{kept_map, kept_segment as kept_segment_of, map_behind, segment_at, segment_number};
+ghost use Rattle.mode_parser.specs.Segments.{kept_map, kept_segment as kept_segment_of, map_after, segment_at, segment_number};
 
 use crate::records::MbMode;
 use bool_coder::{Decoder, NoMemory};
@@ -80,14 +80,14 @@ fn segments_of(alloc: Global, records: &[MbMode]) -> Result<Vec<u8>, NoMemory>
 }
 
 /// The segment map after a frame with these records.
-pub(crate) fn map_behind(
+pub(crate) fn map_after(
     alloc: Global,
     header: &Header,
     count: usize,
     before: Option<&[u8]>,
     records: &[MbMode],
 ) -> Result<Vec<u8>, NoMemory>
-    ensures { IfOk result (λ segments. segments.items ≡ map_behind header.now count (option_copied before.entry) records.now) }
+    ensures { IfOk result (λ segments. segments.items ≡ map_after header.now count (option_copied before.entry) records.now) }
 {
     if header.segmentation.updates_map {
         segments_of(alloc, records)

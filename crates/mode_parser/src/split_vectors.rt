@@ -112,9 +112,9 @@ fn read_block_vector(
     if start < n {
         return vectors[start];
     }
-    let beside = vector_left(left, vectors, n);
+    let neighbour = vector_left(left, vectors, n);
     let over = vector_above(above, vectors, n);
-    read_part_vector(reader, probabilities, best, beside, over)
+    read_part_vector(reader, probabilities, best, neighbour, over)
 }
 
 /// The vectors of all blocks of a macroblock whose parts begin at these blocks.

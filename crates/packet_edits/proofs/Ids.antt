@@ -17,7 +17,7 @@ pub next_not_among : (next : ℕ) (es : List Entry) → HaveOwnIds next es → I
 next_not_among next [] own = tt
 next_not_among next (e ∷ es) own = (λ same. let below : e.id < next = own.0 in omega (arith, below, same), next_not_among next es own.2)
 
--- a packet put in
+-- an inserted packet
 not_among_inserted : (id i : ℕ) (e : Entry) (es : List Entry) → (e.id ≡ id → ⊥) → IsNotAmong id es → IsNotAmong id (insert es i e)
 not_among_inserted id zero e es other rest = (other, rest)
 not_among_inserted id (suc i) e [] other rest = (other, tt)
@@ -28,7 +28,7 @@ own_inserted next zero e es below new own = (below, new, own)
 own_inserted next (suc i) e [] below new own = (below, tt, tt)
 own_inserted next (suc i) e (x ∷ es) below new own = (own.0, not_among_inserted x.id i e es (λ same. new.0 (sym same)) own.1, own_inserted next i e es below new.1 own.2)
 
--- nothing taken out of nothing
+-- nothing removed from an empty list
 nothing : (id i : ℕ) → IsNotAmong id (remove [] i)
 nothing id zero = tt
 nothing id (suc i) = tt
@@ -37,7 +37,7 @@ none_own : (next i : ℕ) → HaveOwnIds next (remove [] i)
 none_own next zero = tt
 none_own next (suc i) = tt
 
--- a packet taken out
+-- a removed packet
 not_among_removed : (id i : ℕ) (es : List Entry) → IsNotAmong id es → IsNotAmong id (remove es i)
 not_among_removed id i [] rest = nothing id i
 not_among_removed id zero (x ∷ es) rest = rest.1
@@ -91,7 +91,7 @@ moved_own next from to es (Some entry) found own =
     let out = taken_out next from entry es own found in
     own_inserted next to entry (remove es from) out.below out.away (own_removed next from es own)
 
--- packets put in at the end
+-- appended packets
 not_among_both : (id : ℕ) (es fs : List Entry) → IsNotAmong id es → IsNotAmong id fs → IsNotAmong id (es ++ fs)
 not_among_both id [] fs a b = b
 not_among_both id (e ∷ es) fs a b = (a.0, not_among_both id es fs a.1 b)

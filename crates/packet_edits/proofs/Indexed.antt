@@ -1,4 +1,4 @@
--- An index that is edited as its packets are still tells which of them are shown.
+-- A frame index that is edited with its packets still says which of them are shown.
 use Rattle.std.proofs.Common.{◌≡◌, ℕ, zero, suc, ◌+◌, ◌<◌, ◌≤◌, Bool, List, [], ◌∷◌, ◌++◌, length, map, take, drop, get_or, slice_get, slice_set, Some, refl, sym, ap, ◌∙◌, arith, length-append}
 use Rattle.std.specs.List.{insert, remove}
 use Rattle.std.proofs.lemmas.List.Edits.{length-insert}
@@ -21,16 +21,16 @@ pub as_many : (es : List Entry) (flags : List Bool) → IsIndexed es flags → l
 as_many es flags is = ap length is.shown ∙ length_flags_of es
 
 pub indexed_insert : (es new : List Entry) (flags shown : List Bool) (at : ℕ) (e : Entry) → IsIndexed es flags → at ≤ length es → length es < 1048576 → new ≡ insert es at e → shown ≡ insert flags at (is_shown e.bytes) → IsIndexed new shown
-indexed_insert es new flags shown at e is within few put told = record {
-  shown = told ∙ ap (λ fs. insert fs at (is_shown e.bytes)) is.shown ∙ sym (map_insert is_shown_at es at e within) ∙ ap flags_of (sym put);
+indexed_insert es new flags shown at e is within few put reported = record {
+  shown = reported ∙ ap (λ fs. insert fs at (is_shown e.bytes)) is.shown ∙ sym (map_insert is_shown_at es at e within) ∙ ap flags_of (sym put);
   few =
       let long : length new ≡ length es + 1 = ap length put ∙ length-insert es at e within in
       omega (arith, long, few);
 }
 
 pub indexed_remove : (es new : List Entry) (flags shown : List Bool) (at : ℕ) → IsIndexed es flags → at < length es → new ≡ remove es at → shown ≡ remove flags at → IsIndexed new shown
-indexed_remove es new flags shown at is within out told = record {
-  shown = told ∙ ap (λ fs. remove fs at) is.shown ∙ sym (map_remove is_shown_at es at within) ∙ ap flags_of (sym out);
+indexed_remove es new flags shown at is within out reported = record {
+  shown = reported ∙ ap (λ fs. remove fs at) is.shown ∙ sym (map_remove is_shown_at es at within) ∙ ap flags_of (sym out);
   few =
       let less : suc (length new) ≡ length es = ap (λ xs. suc (length xs)) out ∙ length_removed es at within in
       let few : length es ≤ 1048576 = is.few in
@@ -38,8 +38,8 @@ indexed_remove es new flags shown at is within out told = record {
 }
 
 pub indexed_set : (es new : List Entry) (flags shown : List Bool) (at : ℕ) (e : Entry) → IsIndexed es flags → new ≡ slice_set es at e → shown ≡ slice_set flags at (is_shown e.bytes) → IsIndexed new shown
-indexed_set es new flags shown at e is put told = record {
-  shown = told ∙ ap (λ fs. slice_set fs at (is_shown e.bytes)) is.shown ∙ sym (map_set is_shown_at es at e) ∙ ap flags_of (sym put);
+indexed_set es new flags shown at e is put reported = record {
+  shown = reported ∙ ap (λ fs. slice_set fs at (is_shown e.bytes)) is.shown ∙ sym (map_set is_shown_at es at e) ∙ ap flags_of (sym put);
   few =
       let same : length new ≡ length es = ap length put ∙ length_set es at e in
       let few : length es ≤ 1048576 = is.few in
@@ -47,8 +47,8 @@ indexed_set es new flags shown at e is put told = record {
 }
 
 pub indexed_move : (es new : List Entry) (flags shown : List Bool) (from to : ℕ) → IsIndexed es flags → from < length es → to < length es → new ≡ moved from to es → shown ≡ moved from to flags → IsIndexed new shown
-indexed_move es new flags shown from to is out in_ put told = record {
-  shown = told ∙ ap (moved from to) is.shown ∙ sym (map_moved is_shown_at es from to out in_) ∙ ap flags_of (sym put);
+indexed_move es new flags shown from to is out in_ put reported = record {
+  shown = reported ∙ ap (moved from to) is.shown ∙ sym (map_moved is_shown_at es from to out in_) ∙ ap flags_of (sym put);
   few =
       let same : length new ≡ length es = ap length put ∙ length_moved from to es out in_ in
       let few : length es ≤ 1048576 = is.few in
@@ -68,18 +68,18 @@ length_numbered id [] = refl
 length_numbered id (packet ∷ packets) = ap suc (length_numbered (id + 1) packets)
 
 pub indexed_push : (es new : List Entry) (flags shown : List Bool) (id : ℕ) (packets : List Packet) → IsIndexed es flags → length es + length packets ≤ 1048576 → new ≡ es ++ numbered id packets → shown ≡ flags ++ map (λ packet. is_shown packet.bytes) packets → IsIndexed new shown
-indexed_push es new flags shown id packets is few put told = record {
-  shown = told ∙ ap (λ fs. fs ++ map (λ packet. is_shown packet.bytes) packets) is.shown ∙ ap (λ fs. flags_of es ++ fs) (sym (flags_numbered id packets)) ∙ sym (flags_appended es (numbered id packets)) ∙ ap flags_of (sym put);
+indexed_push es new flags shown id packets is few put reported = record {
+  shown = reported ∙ ap (λ fs. fs ++ map (λ packet. is_shown packet.bytes) packets) is.shown ∙ ap (λ fs. flags_of es ++ fs) (sym (flags_numbered id packets)) ∙ sym (flags_appended es (numbered id packets)) ∙ ap flags_of (sym put);
   few =
       let long : length new ≡ length es + length (numbered id packets) = ap length put ∙ length-append es (numbered id packets) in
       let more : length (numbered id packets) ≡ length packets = length_numbered id packets in
       omega (arith, long, more, few);
 }
 
--- and one that nothing was done to
+-- and an index that is unchanged
 pub indexed_same : (es new : List Entry) (flags shown : List Bool) → IsIndexed es flags → new ≡ es → shown ≡ flags → IsIndexed new shown
-indexed_same es new flags shown is put told = record {
-  shown = told ∙ is.shown ∙ ap flags_of (sym put);
+indexed_same es new flags shown is put reported = record {
+  shown = reported ∙ is.shown ∙ ap flags_of (sym put);
   few =
       let same : length new ≡ length es = ap length put in
       let few : length es ≤ 1048576 = is.few in
@@ -97,7 +97,7 @@ replaced_is es at id bytes e within is =
     let here : slice_get es at ≡ Some e = get_some es at e within is in
     rw here refl
 
--- a vector whose elements are all written over
+-- a vector whose elements are all overwritten
 pub written_over : (n : ℕ) (new es : List Entry) → length new ≡ n → length es ≡ n → take n (new ++ drop (length new) es) ≡ new
 written_over zero [] es long same = refl
 written_over zero (x ∷ new) es long same = absurd (omega (arith, long))

@@ -19,31 +19,31 @@ last_counts all before e is =
     ∙ ap (λ (xs : List (List ℕ)). last_key_or None xs) (map-append (λ (x : Entry). x.bytes) before (e ∷ []))
     ∙ last_key-push None (map (λ x. x.bytes) before) e.bytes
 
--- where it has no key tag, those before it are searched
+-- if it has no key tag, the packets before it are searched
 pub passed_over : (all before : List Entry) (e : Entry) (wanted : Option (List ℕ)) → all ≡ before ++ e ∷ [] → has_key_tag e.bytes ≡ false → last_key_or None (map (λ x. x.bytes) all) ≡ wanted → last_key_or None (map (λ x. x.bytes) before) ≡ wanted
 passed_over all before e wanted is none was =
     sym (last_counts all before e is ∙ ap (λ (b : Bool). cond b (Some e.bytes) (last_key_or None (map (λ x. x.bytes) before))) none) ∙ was
 
--- where it has one, it is the one
+-- if it has one, it is the result
 pub key_found : (all before : List Entry) (e : Entry) (wanted : Option (List ℕ)) (size : Option (ℕ × ℕ)) → all ≡ before ++ e ∷ [] → has_key_tag e.bytes ≡ true → last_key_or None (map (λ x. x.bytes) all) ≡ wanted → size ≡ key_size_of e.bytes → size ≡ option_and_then key_size_of wanted
-key_found all before e wanted size is some was told =
-    told ∙ ap (λ (o : Option (List ℕ)). option_and_then key_size_of o) (sym (last_counts all before e is ∙ ap (λ (b : Bool). cond b (Some e.bytes) (last_key_or None (map (λ x. x.bytes) before))) some) ∙ was)
+key_found all before e wanted size is some was reported =
+    reported ∙ ap (λ (o : Option (List ℕ)). option_and_then key_size_of o) (sym (last_counts all before e is ∙ ap (λ (b : Bool). cond b (Some e.bytes) (last_key_or None (map (λ x. x.bytes) before))) some) ∙ was)
 
 no_elements : (es : List Entry) → length es ≡ 0 → es ≡ []
 no_elements [] e = refl
 no_elements (x ∷ es) e = cc
 
--- where none is left, there is none
+-- if no packet is left, there is none
 pub none_found : (es : List Entry) (wanted : Option (List ℕ)) → length es ≡ 0 → last_key_or None (map (λ x. x.bytes) es) ≡ wanted → None ≡ option_and_then key_size_of wanted
 none_found es wanted none was =
     ap (λ (o : Option (List ℕ)). option_and_then key_size_of o) (sym (ap (λ (xs : List Entry). last_key_or None (map (λ x. x.bytes) xs)) (no_elements es none)) ∙ was)
 
--- the packets before a place are those of the list
+-- the packets before an index are those of the list
 pub size_told : (list : Listing) (at : ℕ) (es : List Entry) (size : Option (ℕ × ℕ)) → es ≡ take at list.entries → size ≡ option_and_then key_size_of (last_key_or None (map (λ x. x.bytes) es)) → size ≡ size_at at list
-size_told list at es size are told =
-    told ∙ ap (λ (xs : List (List ℕ)). option_and_then key_size_of (last_key_or None xs)) (ap (λ (xs : List Entry). map (λ x. x.bytes) xs) are ∙ sym (take-map (λ (x : Entry). x.bytes) at list.entries))
+size_told list at es size are reported =
+    reported ∙ ap (λ (xs : List (List ℕ)). option_and_then key_size_of (last_key_or None xs)) (ap (λ (xs : List Entry). map (λ x. x.bytes) xs) are ∙ sym (take-map (λ (x : Entry). x.bytes) at list.entries))
 
--- no packet of the first n has a key tag
+-- none of the first n packets has a key tag
 no_key : (before : Option (List ℕ)) (n : ℕ) (xs : List (List ℕ)) → ((p : ℕ) (x : List ℕ) → slice_get xs p ≡ Some x → p < n → has_key_tag x ≡ false) → last_key_or before (take n xs) ≡ before
 no_key before zero xs none = refl
 no_key before (suc n) [] none = refl
@@ -51,7 +51,7 @@ no_key before (suc n) (x ∷ xs) none =
     let plain : has_key_tag x ≡ false = none 0 x refl (omega arith) in
     ap (λ (b : Bool). last_key_or (cond b (Some x) before) (take n xs)) plain ∙ no_key before n xs (λ p y is lt. none (suc p) y is (omega (arith, lt)))
 
--- the last of the first n that has one
+-- the last of the first n packets that has one
 last_key : (before : Option (List ℕ)) (n last : ℕ) (xs : List (List ℕ)) (x : List ℕ) → slice_get xs last ≡ Some x → last < n → has_key_tag x ≡ true
     → ((p : ℕ) (y : List ℕ) → slice_get xs p ≡ Some y → last < p → p < n → has_key_tag y ≡ false) → last_key_or before (take n xs) ≡ Some x
 last_key before zero last xs x is lt key none = absurd (omega (arith, lt))

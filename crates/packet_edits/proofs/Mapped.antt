@@ -1,4 +1,4 @@
--- Edits of a list and of what is told of each of its elements.
+-- Edits of a list and of a function of its elements.
 use Rattle.std.proofs.Common.{◌≡◌, ℕ, zero, suc, ◌+◌, ◌<◌, ◌≤◌, List, [], ◌∷◌, length, map, get_or, slice_get, slice_set, Some, refl, sym, ap, ◌∙◌, arith}
 use Rattle.std.specs.List.{insert, remove}
 use Rattle.std.proofs.lemmas.List.Edits.{length-insert}
@@ -19,7 +19,7 @@ map_set f [] at x = refl
 map_set f (y ∷ xs) zero x = refl
 map_set f (y ∷ xs) (suc at) x = ap (λ ys. f y ∷ ys) (map_set f xs at x)
 
--- the element that stands at a place
+-- the element at an index
 pub record Stands {A : Type 0} (xs : List A) (at : ℕ) : Type 0 where
   pub element : A
   pub here : slice_get xs at ≡ Some element
@@ -34,11 +34,11 @@ get_map f [] at x here = cc
 get_map f (y ∷ xs) zero x here = let is : y ≡ x = cc in ap (λ y. Some (f y)) is
 get_map f (y ∷ xs) (suc at) x here = get_map f xs at x here
 
--- a move, where an element stands
+-- a move of an element that exists
 pub moved_is : {A : Type 0} (from to : ℕ) (xs : List A) (x : A) → slice_get xs from ≡ Some x → moved from to xs ≡ insert (remove xs from) to x
 moved_is from to xs x here = rw here refl
 
--- how many are left behind one that is taken out
+-- the length after a removal
 pub length_removed : {A : Type 0} (xs : List A) (at : ℕ) → at < length xs → suc (length (remove xs at)) ≡ length xs
 length_removed [] at within = absurd (omega arith)
 length_removed (x ∷ xs) zero within = refl
@@ -53,13 +53,13 @@ map_moved f xs from to out in_ =
     ∙ ap (λ ys. insert ys to (f s.element)) (map_remove f xs from out)
     ∙ sym (moved_is from to (map f xs) (f s.element) (get_map f xs from s.element s.here))
 
--- an element put in and written over
+-- an element inserted and overwritten
 pub set_inserted : {A : Type 0} (xs : List A) (at : ℕ) (x y : A) → at ≤ length xs → slice_set (insert xs at x) at y ≡ insert xs at y
 set_inserted xs zero x y within = refl
 set_inserted [] (suc at) x y within = absurd (omega arith)
 set_inserted (z ∷ xs) (suc at) x y within = ap (λ ys. z ∷ ys) (set_inserted xs at x y (omega arith))
 
--- and taken out again
+-- and removed again
 pub remove_inserted : {A : Type 0} (xs : List A) (at : ℕ) (x : A) → at ≤ length xs → remove (insert xs at x) at ≡ xs
 remove_inserted xs zero x within = refl
 remove_inserted [] (suc at) x within = absurd (omega arith)
@@ -71,13 +71,13 @@ before_inserted k xs zero x within = refl
 before_inserted k [] (suc at) x within = absurd (omega arith)
 before_inserted k (z ∷ xs) (suc at) x within = before_inserted z xs at x (omega arith)
 
--- a flag that is set to what it is
+-- a flag that is set to its value
 pub set_same : {A : Type 0} (xs : List A) (at : ℕ) (x : A) → slice_get xs at ≡ Some x → slice_set xs at x ≡ xs
 set_same [] at x here = cc
 set_same (y ∷ xs) zero x here = let is : y ≡ x = cc in ap (λ z. z ∷ xs) (sym is)
 set_same (y ∷ xs) (suc at) x here = ap (λ ys. y ∷ ys) (set_same xs at x here)
 
--- an element written over twice
+-- an element overwritten twice
 pub set_again : {A : Type 0} (xs : List A) (at : ℕ) (x y : A) → slice_set (slice_set xs at x) at y ≡ slice_set xs at y
 set_again [] at x y = refl
 set_again (z ∷ xs) zero x y = refl
@@ -93,7 +93,7 @@ get_set [] at x within = absurd (omega arith)
 get_set (z ∷ xs) zero x within = refl
 get_set (z ∷ xs) (suc at) x within = get_set xs at x (omega arith)
 
--- one that is written over, moved, and written over again is moved
+-- an element that is overwritten, moved and overwritten again
 pub moved_set : {A : Type 0} (from to : ℕ) (xs : List A) (x y : A) → slice_get xs from ≡ Some x → from < length xs → to < length xs → slice_set (moved from to (slice_set xs from y)) to x ≡ moved from to xs
 moved_set from to xs x y here out in_ =
     let left = length_removed xs from out in

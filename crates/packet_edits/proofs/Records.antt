@@ -1,4 +1,4 @@
--- The records of packets, one after another.
+-- The records of packets in sequence.
 use Rattle.std.proofs.Common.{◌≡◌, ℕ, ◌+◌, ◌<◌, List, [], ◌∷◌, ◌++◌, Option, map, length, take, get_or, append-nil, sym, ap, ◌∙◌, subst}
 use Rattle.std.proofs.lemmas.List.{map_more, length-map}
 use Rattle.std.proofs.lemmas.Grind.{flat_map-append}
@@ -19,7 +19,7 @@ records_more es i d within =
     ∙ flat_map-append record_text done (last ∷ [])
     ∙ ap (λ (text : List ℕ). records_text done ++ text) (append-nil (record_text last))
 
--- one record more was written
+-- one more record was written
 pub record_written : (es : List Entry) (i : ℕ) (d e : Entry) (bytes : List ℕ) (a b c : Option (List ℕ)) → i < length es → e ≡ get_or es i d → bytes ≡ e.bytes → Appends a b (records_text (map packet_of (take i es))) → Appends b c (record_text (record { stamp = e.stamp; bytes = bytes })) → Appends a c (records_text (map packet_of (take (i + 1) es)))
 record_written es i d e bytes a b c within is same before here =
     let done : List ℕ = records_text (map packet_of (take i es)) in

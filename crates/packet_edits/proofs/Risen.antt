@@ -1,11 +1,11 @@
--- How counts of shown packets follow what is put in, taken out, moved, shown and hidden.
+-- Running counts after a packet is inserted, removed, moved, shown or hidden.
 use Rattle.std.proofs.Common.{◌≡◌, ℕ, zero, suc, ◌+◌, ◌-◌, ◌<◌, ◌≤◌, Bool, true, false, nat_lt, List, [], ◌∷◌, ◌++◌, length, map, take, drop, get_or, slice_get, slice_set, Some, None, refl, sym, ap, ◌∙◌, subst, arith, rules, add-zero, zero-add, All}
 use Rattle.std.specs.List.{insert, remove}
 use Rattle.packet_edits.specs.Edits.{moved}
-use Rattle.packet_edits.specs.FrameCounts.{AreCounts, count_with, counts_from, flags_from, places_from}
+use Rattle.packet_edits.specs.FrameCounts.{AreCounts, count_with, counts_from, flags_from, indexes_from}
 use Rattle.packet_edits.proofs.Mapped.{before_inserted, length_removed, moved_is, set_inserted, stands}
 
--- a count rises just where a packet is shown
+-- a count rises exactly at a shown packet
 rises : (before : ℕ) (b : Bool) → nat_lt before (count_with before b) ≡ b
 rises before true = search rules
 rises before false = search rules
@@ -18,7 +18,7 @@ pub length_counts : (before : ℕ) (bs : List Bool) → length (counts_from befo
 length_counts before [] = refl
 length_counts before (b ∷ bs) = ap suc (length_counts (count_with before b) bs)
 
--- what is known of an index: its counts are those of its flags
+-- the invariant of an index: its counts are the counts of its flags
 pub counts_of_flags : (counts : List ℕ) (bs : List Bool) → AreCounts counts → flags_from 0 counts ≡ bs → counts ≡ counts_from 0 bs
 counts_of_flags counts bs are seen = sym are.rise ∙ ap (λ flags. counts_from 0 flags) seen
 
@@ -28,7 +28,7 @@ few_flags counts bs are seen =
     let few : length counts ≤ 1048576 = are.few in
     omega (arith, same, few)
 
--- and what an index owes
+-- and what the invariant requires
 pub seen_flags : (counts : List ℕ) (bs : List Bool) → counts ≡ counts_from 0 bs → flags_from 0 counts ≡ bs
 seen_flags counts bs is = ap (λ cs. flags_from 0 cs) is ∙ flags_counts 0 bs
 
@@ -38,7 +38,7 @@ are_counts counts bs is few = record {
   few = let same : length counts ≡ length bs = ap length is ∙ length_counts 0 bs in omega (arith, same, few);
 }
 
--- a hidden packet put in and taken out
+-- a hidden packet inserted and removed
 pub counts_inserted : (k at : ℕ) (bs : List Bool) → at ≤ length bs → counts_from k (insert bs at false) ≡ insert (counts_from k bs) at (get_or (k ∷ counts_from k bs) at 0)
 counts_inserted k zero bs within = refl
 counts_inserted k (suc at) [] within = absurd (omega arith)
@@ -84,7 +84,7 @@ counts_taken k zero bs = refl
 counts_taken k (suc n) [] = refl
 counts_taken k (suc n) (b ∷ bs) = ap (λ cs. count_with k b ∷ cs) (counts_taken (count_with k b) n bs)
 
--- the flag at a place
+-- the flag at an index
 pub flag_at : (k at d : ℕ) (bs : List Bool) → at < length bs → slice_get bs at ≡ Some (nat_lt (get_or (k ∷ counts_from k bs) at 0) (get_or (counts_from k bs) at d))
 flag_at k at d [] within = absurd (omega arith)
 flag_at k zero d (b ∷ bs) within = ap (λ (flag : Bool). Some flag) (sym (rises k b))
@@ -100,8 +100,8 @@ counts_below k m [] less i d within = absurd (omega arith)
 counts_below k m (b ∷ bs) less zero d within = let rest : count_with k b + length bs < m = count_within k b (length bs) m less in omega (arith, rest)
 counts_below k m (b ∷ bs) less (suc i) d within = counts_below (count_with k b) m bs (count_within k b (length bs) m less) i d (omega arith)
 
--- how many are shown in all
-pub frames_counted : (k s : ℕ) (bs : List Bool) → get_or (k ∷ counts_from k bs) (length bs) 0 ≡ k + length (places_from s bs)
+-- the number of shown packets
+pub frames_counted : (k s : ℕ) (bs : List Bool) → get_or (k ∷ counts_from k bs) (length bs) 0 ≡ k + length (indexes_from s bs)
 frames_counted k s [] = sym (add-zero k)
 frames_counted k s (true ∷ bs) = let rest = frames_counted (k + 1) (s + 1) bs in rest ∙ omega arith
 frames_counted k s (false ∷ bs) = frames_counted k (s + 1) bs
@@ -121,23 +121,23 @@ ascending k zero (suc j) (b ∷ bs) order within = least (count_with k b) j bs (
 ascending k (suc i) zero (b ∷ bs) order within = absurd (omega arith)
 ascending k (suc i) (suc j) (b ∷ bs) order within = ascending (count_with k b) i j bs (omega arith) (omega arith)
 
--- the first place with more than n shown up to it is that of shown packet n
-pub place_found : (s k n p : ℕ) (bs : List Bool) → p < length bs → ((i : ℕ) → i < p → get_or (counts_from k bs) i 0 ≤ k + n) → k + n < get_or (counts_from k bs) p 0 → slice_get (places_from s bs) n ≡ Some (s + p)
+-- the first index with more than n shown packets up to it is the index of shown packet n
+pub place_found : (s k n p : ℕ) (bs : List Bool) → p < length bs → ((i : ℕ) → i < p → get_or (counts_from k bs) i 0 ≤ k + n) → k + n < get_or (counts_from k bs) p 0 → slice_get (indexes_from s bs) n ≡ Some (s + p)
 place_found s k n p [] within below above = absurd (omega arith)
 place_found s k zero zero (true ∷ bs) within below above = ap (λ (i : ℕ). Some i) (sym (add-zero s))
 place_found s k (suc n) zero (true ∷ bs) within below above = absurd (omega (arith, above))
 place_found s k n zero (false ∷ bs) within below above = absurd (omega (arith, above))
 place_found s k zero (suc p) (true ∷ bs) within below above = let first = below 0 (omega arith) in absurd (omega (arith, first))
 place_found s k (suc n) (suc p) (true ∷ bs) within below above =
-    let rest : slice_get (places_from (s + 1) bs) n ≡ Some (s + 1 + p) = place_found (s + 1) (k + 1) n p bs (omega arith) (λ i less. let one = below (suc i) (omega arith) in omega (arith, one)) (omega (arith, above)) in
+    let rest : slice_get (indexes_from (s + 1) bs) n ≡ Some (s + 1 + p) = place_found (s + 1) (k + 1) n p bs (omega arith) (λ i less. let one = below (suc i) (omega arith) in omega (arith, one)) (omega (arith, above)) in
     let on : s + 1 + p ≡ s + suc p = omega arith in
     rest ∙ ap (λ (i : ℕ). Some i) on
 place_found s k n (suc p) (false ∷ bs) within below above =
-    let rest : slice_get (places_from (s + 1) bs) n ≡ Some (s + 1 + p) = place_found (s + 1) k n p bs (omega arith) (λ i less. below (suc i) (omega arith)) above in
+    let rest : slice_get (indexes_from (s + 1) bs) n ≡ Some (s + 1 + p) = place_found (s + 1) k n p bs (omega arith) (λ i less. below (suc i) (omega arith)) above in
     let on : s + 1 + p ≡ s + suc p = omega arith in
     rest ∙ ap (λ (i : ℕ). Some i) on
 
-pub no_place : (s k n : ℕ) (bs : List Bool) → ((i : ℕ) → i < length bs → get_or (counts_from k bs) i 0 ≤ k + n) → slice_get (places_from s bs) n ≡ None
+pub no_place : (s k n : ℕ) (bs : List Bool) → ((i : ℕ) → i < length bs → get_or (counts_from k bs) i 0 ≤ k + n) → slice_get (indexes_from s bs) n ≡ None
 no_place s k n [] below = refl
 no_place s k zero (true ∷ bs) below = let first = below 0 (omega arith) in absurd (omega (arith, first))
 no_place s k (suc n) (true ∷ bs) below = no_place (s + 1) (k + 1) n bs (λ i less. let one = below (suc i) (omega arith) in omega (arith, one))
@@ -151,12 +151,12 @@ length_flags before (count ∷ counts) = ap suc (length_flags count counts)
 pub length_seen : (counts : List ℕ) (bs : List Bool) → flags_from 0 counts ≡ bs → length counts ≡ length bs
 length_seen counts bs seen = sym (length_flags 0 counts) ∙ ap length seen
 
--- what an index answers
-pub frames_told : (counts : List ℕ) (bs : List Bool) (n at : ℕ) → AreCounts counts → flags_from 0 counts ≡ bs → at ≡ length counts → n ≡ get_or (0 ∷ counts) at 0 → n ≡ length (places_from 0 bs)
-frames_told counts bs n at are seen end told =
+-- the answers of an index
+pub frames_told : (counts : List ℕ) (bs : List Bool) (n at : ℕ) → AreCounts counts → flags_from 0 counts ≡ bs → at ≡ length counts → n ≡ get_or (0 ∷ counts) at 0 → n ≡ length (indexes_from 0 bs)
+frames_told counts bs n at are seen end reported =
     let is : counts ≡ counts_from 0 bs = counts_of_flags counts bs are seen in
     let long : at ≡ length bs = end ∙ length_seen counts bs seen in
-    told ∙ ap (λ i. get_or (0 ∷ counts) i 0) long ∙ ap (λ cs. get_or (0 ∷ cs) (length bs) 0) is ∙ frames_counted 0 0 bs ∙ zero-add (length (places_from 0 bs))
+    reported ∙ ap (λ i. get_or (0 ∷ counts) i 0) long ∙ ap (λ cs. get_or (0 ∷ cs) (length bs) 0) is ∙ frames_counted 0 0 bs ∙ zero-add (length (indexes_from 0 bs))
 
 pub flag_told : (counts : List ℕ) (bs : List Bool) (at before here : ℕ) → AreCounts counts → flags_from 0 counts ≡ bs → at < length bs → before ≡ get_or (0 ∷ counts) at 0 → here ≡ get_or counts at here → slice_get bs at ≡ Some (nat_lt before here)
 flag_told counts bs at before here are seen within low high =
@@ -165,7 +165,7 @@ flag_told counts bs at before here are seen within low high =
     ∙ ap (λ (i : ℕ). Some (nat_lt i (get_or (counts_from 0 bs) at here))) (ap (λ cs. get_or (0 ∷ cs) at 0) (sym is) ∙ sym low)
     ∙ ap (λ (i : ℕ). Some (nat_lt before i)) (ap (λ cs. get_or cs at here) (sym is) ∙ sym high)
 
-pub place_told : (counts : List ℕ) (bs : List Bool) (n p : ℕ) → AreCounts counts → flags_from 0 counts ≡ bs → p < length counts → ((i : ℕ) → i < p → get_or counts i 0 ≤ n) → n < get_or counts p 0 → Some p ≡ slice_get (places_from 0 bs) n
+pub place_told : (counts : List ℕ) (bs : List Bool) (n p : ℕ) → AreCounts counts → flags_from 0 counts ≡ bs → p < length counts → ((i : ℕ) → i < p → get_or counts i 0 ≤ n) → n < get_or counts p 0 → Some p ≡ slice_get (indexes_from 0 bs) n
 place_told counts bs n p are seen within below above =
     let is : counts ≡ counts_from 0 bs = counts_of_flags counts bs are seen in
     let long : length counts ≡ length bs = length_seen counts bs seen in
@@ -173,7 +173,7 @@ place_told counts bs n p are seen within below above =
     let q : Q (counts_from 0 bs) = subst Q is ((λ i less. let one = below i less in omega (arith, one)), omega (arith, above)) in
     sym (place_found 0 0 n p bs (omega (arith, within, long)) q.0 q.1 ∙ ap (λ (i : ℕ). Some i) (zero-add p))
 
-pub none_told : (counts : List ℕ) (bs : List Bool) (n p : ℕ) → AreCounts counts → flags_from 0 counts ≡ bs → length counts ≤ p → ((i : ℕ) → i < p → get_or counts i 0 ≤ n) → None ≡ slice_get (places_from 0 bs) n
+pub none_told : (counts : List ℕ) (bs : List Bool) (n p : ℕ) → AreCounts counts → flags_from 0 counts ≡ bs → length counts ≤ p → ((i : ℕ) → i < p → get_or counts i 0 ≤ n) → None ≡ slice_get (indexes_from 0 bs) n
 none_told counts bs n p are seen within below =
     let is : counts ≡ counts_from 0 bs = counts_of_flags counts bs are seen in
     let long : length counts ≡ length bs = length_seen counts bs seen in
@@ -192,7 +192,7 @@ length_taken zero bs = omega arith
 length_taken (suc n) [] = omega arith
 length_taken (suc n) (b ∷ bs) = let rest = length_taken n bs in omega (arith, rest)
 
--- what an index holds behind each of its changes
+-- the flags of an index after each of its changes
 pub after_shown : (counts new : List ℕ) (bs : List Bool) (at : ℕ) → AreCounts counts → flags_from 0 counts ≡ bs → slice_get bs at ≡ Some false → new ≡ take at counts ++ map (λ count. count + 1) (drop at counts) → new ≡ counts_from 0 (slice_set bs at true)
 after_shown counts new bs at are seen hidden is = is ∙ ap (λ cs. take at cs ++ map (λ count. count + 1) (drop at cs)) (counts_of_flags counts bs are seen) ∙ sym (counts_shown 0 at bs hidden)
 
@@ -200,8 +200,8 @@ pub after_hidden : (counts new : List ℕ) (bs : List Bool) (at : ℕ) → AreCo
 after_hidden counts new bs at are seen shown is = is ∙ ap (λ cs. take at cs ++ map (λ count. count - 1) (drop at cs)) (counts_of_flags counts bs are seen) ∙ sym (counts_hidden 0 at bs shown)
 
 pub after_inserted : (counts new : List ℕ) (bs : List Bool) (at before : ℕ) → AreCounts counts → flags_from 0 counts ≡ bs → at ≤ length bs → before ≡ get_or (0 ∷ counts) at 0 → new ≡ insert counts at before → new ≡ counts_from 0 (insert bs at false)
-after_inserted counts new bs at before are seen within told is =
-    is ∙ ap (insert counts at) told ∙ ap (λ cs. insert cs at (get_or (0 ∷ cs) at 0)) (counts_of_flags counts bs are seen) ∙ sym (counts_inserted 0 at bs within)
+after_inserted counts new bs at before are seen within reported is =
+    is ∙ ap (insert counts at) reported ∙ ap (λ cs. insert cs at (get_or (0 ∷ cs) at 0)) (counts_of_flags counts bs are seen) ∙ sym (counts_inserted 0 at bs within)
 
 pub after_removed : (counts new : List ℕ) (bs : List Bool) (at : ℕ) → AreCounts counts → flags_from 0 counts ≡ bs → slice_get bs at ≡ Some false → new ≡ remove counts at → new ≡ counts_from 0 (remove bs at)
 after_removed counts new bs at are seen hidden is = is ∙ ap (λ cs. remove cs at) (counts_of_flags counts bs are seen) ∙ sym (counts_removed 0 at bs hidden)

@@ -1,12 +1,12 @@
--- The shown list: its laws, and how an index tells it.
+-- The shown list: its laws, and how an index finds it.
 use Rattle.std.proofs.Common.{◌≡◌, ℕ, suc, zero, ◌+◌, ◌<◌, List, [], ◌∷◌, Bool, true, false, cond, Option, Some, None, IfSome, map, length, slice_get, refl, sym, ap, ◌∙◌, arith, add-zero, zero-add}
 use Rattle.frame_header.specs.Tags.{is_shown}
 use Rattle.packet_edits.specs.declared.entry.Entry.{Entry}
-use Rattle.packet_edits.specs.FrameCounts.{places_from}
-use Rattle.packet_edits.specs.Shown.{shown_from, shown_places}
+use Rattle.packet_edits.specs.FrameCounts.{indexes_from}
+use Rattle.packet_edits.specs.Shown.{shown_from, shown_indexes}
 use Rattle.packet_edits.specs.Stores.{flags_of}
 
--- a place in the shown list of packets of which the first has place `start`, and its packet
+-- an index in the shown list of packets whose first has the index `start`, and its packet
 pub record IsListed (start place : ℕ) (xs : List (List ℕ)) : Type 0 where
   pub index : ℕ
   pub at : place ≡ start + index
@@ -26,13 +26,13 @@ pub listed : (start : ℕ) (xs : List (List ℕ)) (n place : ℕ) → slice_get 
 listed start [] n place e = cc
 listed start (x ∷ xs) n place e = listed_if start x xs n place (is_shown x) (λ m h. listed (start + 1) xs m place h) refl e
 
--- each place of the shown list is that of a shown packet
-pub places_are_shown : (packets : List (List ℕ)) (n place : ℕ) → slice_get (shown_places packets) n ≡ Some place → (packet : List ℕ) × (slice_get packets place ≡ Some packet) × (is_shown packet ≡ true)
-places_are_shown packets n place e =
+-- each index of the shown list is the index of a shown packet
+pub indexes_are_shown : (packets : List (List ℕ)) (n place : ℕ) → slice_get (shown_indexes packets) n ≡ Some place → (packet : List ℕ) × (slice_get packets place ≡ Some packet) × (is_shown packet ≡ true)
+indexes_are_shown packets n place e =
     let l = listed 0 packets n place e in
     (l.packet, ap (λ (i : ℕ). slice_get packets i) (l.at ∙ zero-add l.index) ∙ l.here, l.shown)
 
--- the place of a packet in the shown list
+-- the position of a packet in the shown list
 pub record HasNumber (start index : ℕ) (xs : List (List ℕ)) : Type 0 where
   pub number : ℕ
   pub at : slice_get (shown_from start xs) number ≡ Some (start + index)
@@ -49,47 +49,47 @@ numbered start [] index x e shown = cc
 numbered start (y ∷ ys) zero x e shown = let same : y ≡ x = cc in numbered_first start y ys (ap is_shown same ∙ shown)
 numbered start (y ∷ ys) (suc index) x e shown = numbered_later start index y ys (is_shown y) refl (numbered (start + 1) ys index x e shown)
 
--- each shown packet has its place in the shown list
-pub shown_have_places : (packets : List (List ℕ)) (place : ℕ) (packet : List ℕ) → slice_get packets place ≡ Some packet → is_shown packet ≡ true → (n : ℕ) × (slice_get (shown_places packets) n ≡ Some place)
+-- each shown packet has a position in the shown list
+pub shown_have_places : (packets : List (List ℕ)) (place : ℕ) (packet : List ℕ) → slice_get packets place ≡ Some packet → is_shown packet ≡ true → (n : ℕ) × (slice_get (shown_indexes packets) n ≡ Some place)
 shown_have_places packets place packet e shown =
     let h = numbered 0 packets place packet e shown in
     (h.number, h.at ∙ ap (λ (k : ℕ). Some k) (zero-add place))
 
 -- the shown list ascends
 ascends_if : (start : ℕ) (xs : List (List ℕ)) (n m first later : ℕ) (b : Bool) → ((n' m' : ℕ) → slice_get (shown_from (start + 1) xs) n' ≡ Some first → slice_get (shown_from (start + 1) xs) m' ≡ Some later → n' < m' → first < later) → slice_get (cond b (start ∷ shown_from (start + 1) xs) (shown_from (start + 1) xs)) n ≡ Some first → slice_get (cond b (start ∷ shown_from (start + 1) xs) (shown_from (start + 1) xs)) m ≡ Some later → n < m → first < later
-ascends_if start xs n zero first later b behind e f less = absurd (omega arith)
-ascends_if start xs zero (suc m) first later true behind e f less =
+ascends_if start xs n zero first later b following e f less = absurd (omega arith)
+ascends_if start xs zero (suc m) first later true following e f less =
     let same : start ≡ first = cc in
     let l = listed (start + 1) xs m later f in
     omega (arith, l.at)
-ascends_if start xs (suc n) (suc m) first later true behind e f less = behind n m e f (omega arith)
-ascends_if start xs n (suc m) first later false behind e f less = behind n (suc m) e f less
+ascends_if start xs (suc n) (suc m) first later true following e f less = following n m e f (omega arith)
+ascends_if start xs n (suc m) first later false following e f less = following n (suc m) e f less
 
 ascends_from : (start : ℕ) (xs : List (List ℕ)) (n m first later : ℕ) → slice_get (shown_from start xs) n ≡ Some first → slice_get (shown_from start xs) m ≡ Some later → n < m → first < later
 ascends_from start [] n m first later e f less = cc
 ascends_from start (x ∷ xs) n m first later e f less = ascends_if start xs n m first later (is_shown x) (λ n' m' e' f' less'. ascends_from (start + 1) xs n' m' first later e' f' less') e f less
 
-pub shown_ascend : (packets : List (List ℕ)) (n m first later : ℕ) → slice_get (shown_places packets) n ≡ Some first → slice_get (shown_places packets) m ≡ Some later → n < m → first < later
+pub shown_ascend : (packets : List (List ℕ)) (n m first later : ℕ) → slice_get (shown_indexes packets) n ≡ Some first → slice_get (shown_indexes packets) m ≡ Some later → n < m → first < later
 shown_ascend packets n m first later e f less = ascends_from 0 packets n m first later e f less
 
--- the places that flags tell are those of the shown packets
-pub places_of_flags : (start : ℕ) (es : List Entry) → shown_from start (map (λ e. e.bytes) es) ≡ places_from start (flags_of es)
+-- the indexes that flags give are those of the shown packets
+pub places_of_flags : (start : ℕ) (es : List Entry) → shown_from start (map (λ e. e.bytes) es) ≡ indexes_from start (flags_of es)
 places_of_flags start [] = refl
 places_of_flags start (e ∷ es) = rw (places_of_flags (start + 1) es) refl
 
--- and each of them is a packet's
+-- and each of them is the index of a packet
 packet_within : (es : List Entry) (index : ℕ) (packet : List ℕ) → slice_get (map (λ e. e.bytes) es) index ≡ Some packet → index < length es
 packet_within [] index packet here = cc
 packet_within (e ∷ es) zero packet here = omega arith
 packet_within (e ∷ es) (suc index) packet here = let rest = packet_within es index packet here in omega (arith, rest)
 
-pub place_within : (es : List Entry) (n place : ℕ) → slice_get (shown_places (map (λ e. e.bytes) es)) n ≡ Some place → place < length es
+pub place_within : (es : List Entry) (n place : ℕ) → slice_get (shown_indexes (map (λ e. e.bytes) es)) n ≡ Some place → place < length es
 place_within es n place e =
     let l = listed 0 (map (λ e. e.bytes) es) n place e in
     let at : place ≡ 0 + l.index = l.at in
     let within = packet_within es l.index l.packet l.here in
     omega (arith, at, within)
 
-pub answer_within : (es : List Entry) (n : ℕ) (answer : Option ℕ) → answer ≡ slice_get (shown_places (map (λ e. e.bytes) es)) n → IfSome answer (λ place. place < length es)
-answer_within es n None told = tt
-answer_within es n (Some place) told = place_within es n place (sym told)
+pub answer_within : (es : List Entry) (n : ℕ) (answer : Option ℕ) → answer ≡ slice_get (shown_indexes (map (λ e. e.bytes) es)) n → IfSome answer (λ place. place < length es)
+answer_within es n None reported = tt
+answer_within es n (Some place) reported = place_within es n place (sym reported)

@@ -1,4 +1,4 @@
--- A store is whole behind each edit.
+-- The invariant of a store holds after each edit.
 use Rattle.std.proofs.Common.{◌≡◌, ℕ, suc, ◌+◌, ◌<◌, ◌≤◌, Bool, true, false, List, [], ◌∷◌, ◌++◌, length, map, slice_get, slice_set, refl, sym, ap, subst, ◌∙◌, arith, length-append}
 use Rattle.std.specs.List.{insert, remove}
 use Rattle.std.proofs.lemmas.List.Edits.{length-insert}
@@ -15,16 +15,16 @@ use Rattle.packet_edits.proofs.Mapped.{length_moved, length_removed, length_set}
 
 module _ (es new : List Entry) (id : ℕ) (marks marks' : List Bool) (flags shown : List Bool) (is : IsWhole es id marks flags) where
   pub whole_same : new ≡ es → marks' ≡ marks → shown ≡ flags → IsWhole new id marks' shown
-  whole_same put m told = record {
-    indexed = indexed_same es new flags shown is.indexed put told;
+  whole_same put m reported = record {
+    indexed = indexed_same es new flags shown is.indexed put reported;
     marked = ap length m ∙ is.marked ∙ ap length (sym put);
     own = subst (HaveOwnIds id) (sym put) is.own;
   }
 
   pub whole_insert : (at stamp : ℕ) (bytes : List ℕ) → at ≤ length es → length es < 1048576 → new ≡ insert es at (record { id = id; stamp = stamp; bytes = bytes }) → marks' ≡ marks_inserted at marks → shown ≡ insert flags at (is_shown bytes) → IsWhole new (id + 1) marks' shown
-  whole_insert at stamp bytes within few put m told =
+  whole_insert at stamp bytes within few put m reported =
       let e : Entry = record { id = id; stamp = stamp; bytes = bytes } in record {
-        indexed = indexed_insert es new flags shown at e is.indexed within few put told;
+        indexed = indexed_insert es new flags shown at e is.indexed within few put reported;
         marked =
             let same : length marks ≡ length es = is.marked in
             ap length m ∙ length_set (insert marks at false) (at + 1) true ∙ length-insert marks at false (omega (arith, within, same)) ∙ ap (λ n. n + 1) same ∙ sym (length-insert es at e within) ∙ ap length (sym put);
@@ -32,16 +32,16 @@ module _ (es new : List Entry) (id : ℕ) (marks marks' : List Bool) (flags show
       }
 
   pub whole_set : (at stamp : ℕ) (bytes : List ℕ) → new ≡ slice_set es at (record { id = id; stamp = stamp; bytes = bytes }) → marks' ≡ marks_replaced at marks → shown ≡ slice_set flags at (is_shown bytes) → IsWhole new (id + 1) marks' shown
-  whole_set at stamp bytes put m told =
+  whole_set at stamp bytes put m reported =
       let e : Entry = record { id = id; stamp = stamp; bytes = bytes } in record {
-        indexed = indexed_set es new flags shown at e is.indexed put told;
+        indexed = indexed_set es new flags shown at e is.indexed put reported;
         marked = ap length m ∙ length_set (unmarked_at at marks) (at + 1) true ∙ length_set marks at false ∙ is.marked ∙ sym (length_set es at e) ∙ ap length (sym put);
         own = subst (HaveOwnIds (id + 1)) (sym put) (own_set (id + 1) at e es (omega arith) (next_not_among id es is.own) (above_all id (id + 1) es (omega arith) is.own));
       }
 
   pub whole_remove : (at : ℕ) → at < length es → new ≡ remove es at → marks' ≡ marks_deleted at marks → shown ≡ remove flags at → IsWhole new id marks' shown
-  whole_remove at within put m told = record {
-    indexed = indexed_remove es new flags shown at is.indexed within put told;
+  whole_remove at within put m reported = record {
+    indexed = indexed_remove es new flags shown at is.indexed within put reported;
     marked =
         let same : length marks ≡ length es = is.marked in
         let less : suc (length (remove marks at)) ≡ length marks = length_removed marks at (omega (arith, within, same)) in
@@ -51,11 +51,11 @@ module _ (es new : List Entry) (id : ℕ) (marks marks' : List Bool) (flags show
   }
 
   pub whole_move : (from to : ℕ) → from < length es → to < length es → new ≡ moved from to es → marks' ≡ marks_moved from to marks → shown ≡ moved from to flags → IsWhole new id marks' shown
-  whole_move from to out in_ put m told =
+  whole_move from to out in_ put m reported =
       let same : length marks ≡ length es = is.marked in
       let once : List Bool = marked_at (from + 1) (marked_at from marks) in
       let long : length once ≡ length marks = length_set (marked_at from marks) (from + 1) true ∙ length_set marks from true in record {
-        indexed = indexed_move es new flags shown from to is.indexed out in_ put told;
+        indexed = indexed_move es new flags shown from to is.indexed out in_ put reported;
         marked =
             ap length m ∙ length_set (moved from to once) (to + 1) true ∙ length_moved from to once (omega (arith, long, same, out)) (omega (arith, long, same, in_)) ∙ long ∙ same
             ∙ sym (length_moved from to es out in_) ∙ ap length (sym put);
@@ -71,8 +71,8 @@ module _ (es new : List Entry) (id : ℕ) (marks marks' : List Bool) (flags show
   length_numbered k (p ∷ packets) = ap suc (length_numbered (k + 1) packets)
 
   pub whole_push : (packets : List Packet) → length es + length packets ≤ 1048576 → new ≡ es ++ numbered id packets → marks' ≡ marks_pushed packets marks → shown ≡ flags ++ map (λ packet. is_shown packet.bytes) packets → IsWhole new (id + length packets) marks' shown
-  whole_push packets few put m told = record {
-    indexed = indexed_push es new flags shown id packets is.indexed few put told;
+  whole_push packets few put m reported = record {
+    indexed = indexed_push es new flags shown id packets is.indexed few put reported;
     marked =
         let same : length marks ≡ length es = is.marked in
         let a : length marks' ≡ length marks + length (map (λ (p : Packet). false) packets) = ap length m ∙ length-append marks (map (λ (p : Packet). false) packets) in

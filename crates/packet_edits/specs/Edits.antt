@@ -7,20 +7,20 @@ use Rattle.packet_edits.specs.declared.entry.Entry.{Entry}
 use Rattle.packet_edits.specs.declared.fault.EditFault.{EditFault}
 use Rattle.packet_edits.specs.declared.fault.EditFault.TheVariants.{Place, Full, Spent}
 
--- a packet list: its packets in their order, and the id that the next packet put in gets
+-- a packet list: its packets in their order, and the id of the next inserted packet
 pub record Listing : Type 0 where
   pub entries : List Entry
   pub next_id : ℕ
 
--- the most packets of a list
+-- the greatest number of packets of a list
 abbrev pub most_packets : ℕ
 most_packets = 1048576
 
--- the id that is never given
+-- the id that no packet gets
 abbrev pub spent_id : ℕ
 spent_id = 2 ^ 64 - 1
 
--- packets with ids one after another, from this one on
+-- packets with consecutive ids, starting at this one
 abbrev pub numbered : ℕ → List Packet → List Entry
 numbered id [] = []
 numbered id (packet ∷ packets) = record { id = id; stamp = packet.stamp; bytes = packet.bytes } ∷ numbered (id + 1) packets
@@ -29,71 +29,70 @@ numbered id (packet ∷ packets) = record { id = id; stamp = packet.stamp; bytes
 abbrev pub listing_of : List Packet → Listing
 listing_of packets = record { entries = numbered 0 packets; next_id = length packets }
 
--- no packets, and the id of the first one put in
+-- no packets, and the id of the first inserted one
 abbrev pub starting : ℕ → Listing
 starting first_id = record { entries = []; next_id = first_id }
 
--- packets put in at the end, in their order
+-- packets appended, in their order
 abbrev pub pushed : List Packet → Listing → Listing
 pushed packets list = record { entries = list.entries ++ numbered list.next_id packets; next_id = list.next_id + length packets }
 
--- a packet put in at a place, with the next id
+-- a packet inserted at an index, with the next id
 abbrev pub inserted : ℕ → ℕ → List ℕ → Listing → Listing
 inserted at stamp bytes list = record {
   entries = insert list.entries at (record { id = list.next_id; stamp = stamp; bytes = bytes });
   next_id = list.next_id + 1;
 }
 
--- what is made of the element at a place, and the elements as they stand where there is none
+-- a change made with the element at an index; the list is unchanged if there is none
 abbrev pub with_place : {A : Type 0} → ℕ → (A → List A) → List A → List A
 with_place place change xs = option_map_or change (slice_get xs place) xs
 
--- other bytes for the packet at a place, with the next id; its stamp stays
+-- the bytes of the packet at an index replaced, with the next id; its stamp stays
 abbrev pub replaced : ℕ → List ℕ → Listing → Listing
 replaced at bytes list = record {
   entries = with_place at (λ entry. slice_set list.entries at (record entry { id = list.next_id; bytes = bytes })) list.entries;
   next_id = list.next_id + 1;
 }
 
--- the packet at a place taken out
+-- the packet at an index removed
 abbrev pub deleted : ℕ → Listing → Listing
 deleted at list = record list { entries = remove list.entries at }
 
--- the element at `from` taken out and put in at place `to` of the shortened list
+-- the element at `from` removed and inserted at index `to` of the shortened list
 abbrev pub moved : {A : Type 0} → ℕ → ℕ → List A → List A
 moved from to xs = with_place from (λ x. insert (remove xs from) to x) xs
 
--- the packet at `from` taken out and put in at place `to` of the shortened list
+-- the packet at `from` removed and inserted at index `to` of the shortened list
 abbrev pub with_move : ℕ → ℕ → Listing → Listing
 with_move from to list = record list { entries = moved from to list.entries }
 
--- no id is left for another packet
+-- the error if no id is left for another packet
 abbrev pub refused_id : Listing → Option EditFault
 refused_id list = if list.next_id == spent_id then Some Spent else None
 
--- the first fault of a packet to be put in
+-- the first error of an insertion
 abbrev pub refused_insertion : Listing → ℕ → Option EditFault
 refused_insertion list at =
     if nat_lt (length list.entries) at then Some Place
     else if nat_le most_packets (length list.entries) then Some Full
     else refused_id list
 
--- the first fault of packets to be put in at the end: they are too many, or one of them would get the id that is never
--- given
+-- the first error of appending packets: they are too many, or one of them would get the id that no packet gets
 abbrev pub refused_push : Listing → List Packet → Option EditFault
 refused_push list packets =
     if nat_lt most_packets (length list.entries + length packets) then Some Full
     else if nat_lt spent_id (list.next_id + length packets) then Some Spent
     else None
 
--- the first fault of a replacement
+-- the first error of a replacement
 abbrev pub refused_replacement : Listing → ℕ → Option EditFault
 refused_replacement list at = if nat_lt at (length list.entries) then refused_id list else Some Place
 
--- the fault of a deletion
+-- the error of a deletion
 abbrev pub refused_deletion : Listing → ℕ → Option EditFault
 refused_deletion list at = if nat_lt at (length list.entries) then None else Some Place
 
--- the fault of a move
+-- the error of a move
 abbrev pub refused_move : Listing → ℕ → ℕ → Option EditFault
 refused_move list from to = if nat_lt from (length list.entries) && nat_lt to (length list.entries) then None else Some Place

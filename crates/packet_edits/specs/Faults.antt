@@ -1,21 +1,21 @@
--- The faults of edits, and answers that may lack memory.
+-- The errors of edits, and answers that may be out of memory.
 use Rattle.std.specs.Prelude.{◌≡◌, ℕ, List, codes, Option, Some, None, Result, Ok, Err}
 use Rattle.packet_edits.specs.declared.fault.EditFault.{EditFault}
 use Rattle.packet_edits.specs.declared.fault.EditFault.TheVariants.{Place, Full, Spent, NoMemory}
 
--- the name of a fault
+-- the name of an error
 abbrev pub edit_fault_word : EditFault → List ℕ
 edit_fault_word Place = codes "Place"
 edit_fault_word Full = codes "Full"
 edit_fault_word Spent = codes "Spent"
 edit_fault_word NoMemory = codes "NoMemory"
 
--- the answer to an edit that takes no memory: its first fault, if there is one
+-- the answer to an edit that allocates nothing: its first error, if there is one
 abbrev pub unless_refused : Option EditFault → Result (Unit {0}) EditFault
 unless_refused None = Ok tt
 unless_refused (Some fault) = Err fault
 
--- the answer to an edit that takes memory: its first fault, if there is one; else it may lack memory
+-- the answer to an edit that allocates: its first error, if there is one; else it may be out of memory
 abbrev pub Answers : Option EditFault → Result (Unit {0}) EditFault → Type 0
 Answers first (Ok done) = first ≡ None
 Answers first (Err NoMemory) = first ≡ None

@@ -1,13 +1,13 @@
--- What edits and the shown list come to, as laws over them and on worked lists.
+-- Laws about edits and the shown list, and worked lists.
 use Rattle.std.specs.Prelude.{◌≡◌, ℕ, ◌<◌, ◌≤◌, Bool, true, false, List, [], ◌∷◌, length, Some, None, slice_get}
 use Rattle.frame_header.specs.Tags.{has_key_tag, is_shown, key_size_of}
 use Rattle.stream_files.specs.declared.packets.Packet.{Packet}
 use Rattle.packet_edits.specs.declared.entry.Entry.{Entry}
 use Rattle.packet_edits.specs.Edits.{Listing, deleted, inserted, pushed, replaced, starting, with_move}
-use Rattle.packet_edits.specs.Shown.{shown_places, stream_of}
+use Rattle.packet_edits.specs.Shown.{shown_indexes, stream_of}
 use Rattle.packet_edits.specs.Sizes.{size_at}
 
--- no packet of these has the id
+-- none of these packets has the id
 abbrev pub IsNotAmong : ℕ → List Entry → Type 0
 IsNotAmong id [] = Unit {0}
 IsNotAmong id (entry ∷ entries) = (entry.id ≡ id → ⊥) × IsNotAmong id entries
@@ -17,16 +17,16 @@ abbrev pub HaveOwnIds : ℕ → List Entry → Type 0
 HaveOwnIds next_id [] = Unit {0}
 HaveOwnIds next_id (entry ∷ entries) = (entry.id < next_id) × IsNotAmong entry.id entries × HaveOwnIds next_id entries
 
--- the packets of a list have ids of their own
+-- each packet of a list has its own id
 abbrev pub HasOwnIds : Listing → Type 0
 HasOwnIds list = HaveOwnIds list.next_id list.entries
 
--- what is made of a list leaves its packets ids of their own, and the next id does not fall
+-- a change of lists after which each packet still has its own id, and the next id is not lower
 pub record KeepsIdsOwn (change : Listing → Listing) : Type 0 where
   pub own : (list : Listing) → HasOwnIds list → HasOwnIds (change list)
   pub rises : (list : Listing) → list.next_id ≤ (change list).next_id
 
--- packets have ids of their own from the first on, and each edit leaves it so; the next id never falls
+-- in an empty list each packet has its own id, and each edit keeps this; the next id never falls
 pub record IdsStayOwn : Type 0 where
   pub at_first : (first_id : ℕ) → HasOwnIds (starting first_id)
   pub pushes : (packets : List Packet) → KeepsIdsOwn (pushed packets)
@@ -35,21 +35,21 @@ pub record IdsStayOwn : Type 0 where
   pub deletions : (at : ℕ) → KeepsIdsOwn (deleted at)
   pub moves : (from to : ℕ) → KeepsIdsOwn (with_move from to)
 
--- packets put in at the end are put in one after another
+-- appending packets is inserting them at the end in sequence
 abbrev pub PushesAreInsertions : Type 0
 PushesAreInsertions = (packet : Packet) (packets : List Packet) (list : Listing)
     → pushed (packet ∷ packets) list ≡ pushed packets (inserted (length list.entries) packet.stamp packet.bytes list)
 
--- the shown list has the places of the shown packets, of each of them and of no other, in their order
+-- the shown list has the indexes of exactly the shown packets, in ascending order
 pub record IsShownList : Type 0 where
-  pub each_is_shown : (packets : List (List ℕ)) (n place : ℕ) → slice_get (shown_places packets) n ≡ Some place
+  pub each_is_shown : (packets : List (List ℕ)) (n place : ℕ) → slice_get (shown_indexes packets) n ≡ Some place
       → (packet : List ℕ) × (slice_get packets place ≡ Some packet) × (is_shown packet ≡ true)
   pub each_is_listed : (packets : List (List ℕ)) (place : ℕ) (packet : List ℕ) → slice_get packets place ≡ Some packet → is_shown packet ≡ true
-      → (n : ℕ) × (slice_get (shown_places packets) n ≡ Some place)
-  pub ascends : (packets : List (List ℕ)) (n m first later : ℕ) → slice_get (shown_places packets) n ≡ Some first → slice_get (shown_places packets) m ≡ Some later
+      → (n : ℕ) × (slice_get (shown_indexes packets) n ≡ Some place)
+  pub ascends : (packets : List (List ℕ)) (n m first later : ℕ) → slice_get (shown_indexes packets) n ≡ Some first → slice_get (shown_indexes packets) m ≡ Some later
       → n < m → first < later
 
--- the size before an index is that of the last packet with a key tag before it; there is none when no packet before the
+-- the size before an index is the size in the last packet with a key tag before it; there is none if no packet before the
 -- index has a key tag
 pub record SizeIsOfLastKey : Type 0 where
   pub of_last : (list : Listing) (at last : ℕ) (packet : List ℕ) → slice_get (stream_of list) last ≡ Some packet → last < at → has_key_tag packet ≡ true

@@ -1,4 +1,4 @@
--- The packets of a list as a file has them.
+-- The packets of a list as a file stores them.
 use Rattle.std.specs.Prelude.{List, map}
 use Rattle.stream_files.specs.declared.packets.Packet.{Packet}
 use Rattle.packet_edits.specs.declared.entry.Entry.{Entry}

@@ -1,7 +1,7 @@
 use stream_files::Bytes;
 
-/// A packet of a store: its id, which no other packet of the store has or had, its time stamp, in
-/// units of `scale / rate` seconds, and its bytes.
+/// A packet of a store: an id that no other packet of the store has or had, a time stamp in units
+/// of `scale / rate` seconds, and the bytes.
 #[derive(Debug, Drop)]
 pub struct Entry {
     pub id: u64,

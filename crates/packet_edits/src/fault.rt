@@ -3,14 +3,14 @@ ghost use Rattle.packet_edits.specs.Faults.{edit_fault_word};
 
 use thiserror::Error;
 
-/// Why an edit is refused, in the order in which the faults are checked.
+/// Why an edit is refused. The errors are checked in this order.
 #[derive(Clone, Copy, Debug, PartialEq, Eq, Error)]
 pub enum EditFault {
-    /// No packet stands at the place.
-    #[error("no packet stands at the place")]
+    /// There is no packet at the index.
+    #[error("there is no packet at the index")]
     Place,
-    /// The most packets stand, or would stand.
-    #[error("the most packets stand")]
+    /// The list has 1,048,576 packets, or would have more.
+    #[error("the list has the greatest number of packets")]
     Full,
     /// No id is left for another packet.
     #[error("no id is left")]
@@ -21,7 +21,7 @@ pub enum EditFault {
 }
 
 impl EditFault {
-    /// The fault's name.
+    /// The name of the error.
     pub fn word(self) -> &'static str
         ensures { result.now ≡ edit_fault_word self }
     {

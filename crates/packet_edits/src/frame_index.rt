@@ -1,18 +1,18 @@
 ghost use Rattle.std.specs.Prelude.{◌≡◌, ◌<◌, ◌≤◌, [], Some, false, is_ok, if◌then◌else◌, length, slice_get, slice_set, take};
 ghost use Rattle.std.specs.List.{insert, remove};
 ghost use Rattle.packet_edits.specs.Edits.{moved};
-ghost use Rattle.packet_edits.specs.FrameCounts.{places_from};
+ghost use Rattle.packet_edits.specs.FrameCounts.{indexes_from};
 
 use crate::counts::{count_before, lower, move_repeated, raise};
 use pixel_planes::NoMemory;
 use std::alloc::Global;
 use std::marker::Model;
 
-/// Which packets are shown, kept so that a frame is found without a look at the packets. A contract
-/// sees a flag for each packet.
+/// Which packets are shown. A frame is found without reading the packets. Contracts see one flag
+/// per packet.
 #[derive(Drop)]
 pub struct FrameIndex {
-    /// How many packets are shown up to each place, the packet there included.
+    /// For each index, how many packets are shown up to and including it.
     counts: Vec<u32>,
 }
 
@@ -37,14 +37,14 @@ impl FrameIndex {
         }
     }
 
-    /// How many packets there are.
+    /// The number of packets.
     pub fn len(&self) -> usize
         ensures { result ≡ length self.now }
     {
         self.counts.len()
     }
 
-    /// Whether the packet at place `at` is shown.
+    /// Whether the packet at index `at` is shown.
     fn is_shown(&self, at: usize) -> bool
         requires { at < length self.now }
         ensures { slice_get self.now at ≡ Some result }
@@ -52,7 +52,7 @@ impl FrameIndex {
         count_before(self.counts.as_slice(), at) < self.counts[at]
     }
 
-    /// Makes the packet at place `at` a shown or a hidden one.
+    /// Makes the packet at index `at` shown or hidden.
     pub fn set(&mut self, at: usize, is_shown: bool)
         requires { at < length self.old }
         ensures { self.new ≡ slice_set self.old at is_shown }
@@ -67,7 +67,7 @@ impl FrameIndex {
         }
     }
 
-    /// Puts in a packet at place `at`. Where memory is refused nothing changes.
+    /// Inserts a packet at index `at`. If memory is refused, nothing changes.
     pub fn insert(&mut self, at: usize, is_shown: bool) -> Result<(), NoMemory>
         requires place { at ≤ length self.old }
         requires few { length self.old < 1048576 }
@@ -82,7 +82,7 @@ impl FrameIndex {
         Ok(())
     }
 
-    /// Takes out the packet at place `at`.
+    /// Removes the packet at index `at`.
     pub fn remove(&mut self, at: usize)
         requires { at < length self.old }
         ensures { self.new ≡ remove self.old at }
@@ -91,7 +91,7 @@ impl FrameIndex {
         self.counts.remove(at);
     }
 
-    /// Takes out the packet at place `from` and puts it in at place `to` of the others.
+    /// Moves the packet at index `from` to index `to`.
     pub fn move_to(&mut self, from: usize, to: usize)
         requires { (from < length self.old) × (to < length self.old) }
         ensures { self.new ≡ moved from to self.old }
@@ -102,7 +102,7 @@ impl FrameIndex {
         self.set(to, is_shown);
     }
 
-    /// The same for a hidden packet: up to it as many are shown as up to the one before it.
+    /// Moves a hidden packet, whose count equals the count before it.
     fn move_hidden(&mut self, from: usize, to: usize)
         requires places { (from < length self.old) × (to < length self.old) }
         requires hidden { slice_get self.old from ≡ Some false }
@@ -118,9 +118,9 @@ impl FrameIndex {
         self.counts.truncate(len);
     }
 
-    /// The place of shown packet `n`, counted from 0, or `None` where fewer are shown.
+    /// The index of shown packet `n`, counted from 0, or `None` if fewer are shown.
     pub fn place(&self, n: u64) -> Option<usize>
-        ensures { result ≡ slice_get (places_from 0 self.now) n }
+        ensures { result ≡ slice_get (indexes_from 0 self.now) n }
     {
         let place = self.counts.partition_point(|count| u64::from(*count) <= n);
         if place < self.counts.len() {
@@ -130,9 +130,9 @@ impl FrameIndex {
         }
     }
 
-    /// How many packets are shown.
+    /// The number of shown packets.
     pub fn frames(&self) -> usize
-        ensures { result ≡ length (places_from 0 self.now) }
+        ensures { result ≡ length (indexes_from 0 self.now) }
     {
         count_before(self.counts.as_slice(), self.counts.len()) as usize
     }

@@ -5,7 +5,7 @@ ghost use Rattle.packet_edits.specs.Sizes.{last_key_or};
 use crate::entry::Entry;
 use frame_header::{has_key_tag, key_size};
 
-/// The packets before place `at`.
+/// The packets before index `at`.
 pub(crate) fn before(entries: &[Entry], at: u64) -> &[Entry]
     ensures { result.now ≡ take at entries.now }
 {
@@ -16,7 +16,7 @@ pub(crate) fn before(entries: &[Entry], at: u64) -> &[Entry]
     }
 }
 
-/// The size that the last packet with a key tag tells.
+/// The size in the last packet with a key tag.
 pub(crate) fn last_key_size(entries: &[Entry]) -> Option<(u16, u16)>
     ensures { result ≡ option_and_then key_size_of (last_key_or None (map (λ entry. entry.bytes) entries.now)) }
 {

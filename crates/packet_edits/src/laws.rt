@@ -1,23 +1,24 @@
-//! Laws over the definitions of this crate: each is the contract of a function that does nothing.
+//! Laws about the definitions of this crate. Each law is the contract of a function that does
+//! nothing.
 
 ghost use Rattle.std.specs.Prelude.{◌≡◌, [], ◌∷◌, None, Some, true, false};
 ghost use Rattle.packet_edits.specs.declared.fault.EditFault.TheVariants as faults;
 ghost use Rattle.packet_edits.specs.Edits.{deleted, inserted, pushed, refused_insertion, refused_push, refused_replacement, replaced, starting, with_move};
 ghost use Rattle.packet_edits.specs.Laws.{IdsStayOwn, IsShownList, PushesAreInsertions, SizeIsOfLastKey, packet, three, unmarked};
 ghost use Rattle.packet_edits.specs.Marks.{marks_deleted, marks_inserted, marks_moved, marks_replaced};
-ghost use Rattle.packet_edits.specs.Shown.{shown_places};
+ghost use Rattle.packet_edits.specs.Shown.{shown_indexes};
 
-/// The shown list has the places of the shown packets and no other, in their order.
+/// The shown list has the indexes of exactly the shown packets, in ascending order.
 pub fn shown_list_is_of_shown_packets()
     ensures { IsShownList }
 {}
 
-/// Each packet has an id of its own, whatever is edited.
+/// Each packet has its own id, before and after every edit.
 pub fn ids_stay_own()
     ensures { IdsStayOwn }
 {}
 
-/// Packets put in at the end are put in one after another.
+/// Appending packets is inserting them at the end in sequence.
 pub fn pushes_are_insertions()
     ensures { PushesAreInsertions }
 {}
@@ -27,7 +28,7 @@ pub fn size_is_of_last_key()
     ensures { SizeIsOfLastKey }
 {}
 
-/// Each edit of three packets, and faults in their order.
+/// Worked examples: each edit of three packets, and the order of the errors.
 pub fn worked_edits()
     ensures insert { (inserted 1 5 (68 ∷ []) three).entries ≡ packet 0 10 65 ∷ packet 3 5 68 ∷ packet 1 20 66 ∷ packet 2 30 67 ∷ [] }
     ensures replace { (replaced 1 (68 ∷ []) three).entries ≡ packet 0 10 65 ∷ packet 3 20 68 ∷ packet 2 30 67 ∷ [] }
@@ -43,9 +44,9 @@ pub fn worked_edits()
     ensures one_too_many { refused_push (record three { next_id = 0xFFFF_FFFF_FFFF_FFFE }) (record { stamp = 0; bytes = [] } ∷ record { stamp = 0; bytes = [] } ∷ []) ≡ Some faults.Spent }
 {}
 
-/// What each edit marks, of four packets with no mark: an insertion and a replacement the packet
-/// behind, a deletion the packet now at the place, and a move the packet behind the old place, the
-/// moved packet and the one behind it.
+/// Worked examples: the marks after each edit of four packets. An insertion and a replacement mark
+/// the next packet, a deletion the packet now at the index, and a move the packet after the old
+/// index, the moved packet and the packet after it.
 pub fn worked_marks()
     ensures insert { marks_inserted 1 unmarked ≡ false ∷ false ∷ true ∷ false ∷ false ∷ [] }
     ensures insert_last { marks_inserted 4 unmarked ≡ false ∷ false ∷ false ∷ false ∷ false ∷ [] }
@@ -56,7 +57,7 @@ pub fn worked_marks()
     ensures move_down { marks_moved 2 0 unmarked ≡ true ∷ true ∷ false ∷ true ∷ [] }
 {}
 
-/// A hidden packet between a shown one and an empty one: their tags have the show bit but for the second.
+/// Worked example: a shown packet, a hidden one and an empty one, which counts as shown.
 pub fn worked_shown_list()
-    ensures { shown_places ((0x11 ∷ 0 ∷ 0 ∷ []) ∷ (0x01 ∷ 0 ∷ 0 ∷ []) ∷ [] ∷ []) ≡ 0 ∷ 2 ∷ [] }
+    ensures { shown_indexes ((0x11 ∷ 0 ∷ 0 ∷ []) ∷ (0x01 ∷ 0 ∷ 0 ∷ []) ∷ [] ∷ []) ≡ 0 ∷ 2 ∷ [] }
 {}

@@ -1,4 +1,4 @@
-//! The packets of a stream as they stand, their edits, which of them are shown, and their file.
+//! The current packets of a stream: edits, marks, shown packets and saving them as a file.
 #![tactic(auto)]
 
 mod counts;

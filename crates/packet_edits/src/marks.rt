@@ -1,10 +1,10 @@
-//! Lists of marks, one for each packet.
+//! Lists of marks, one per packet.
 ghost use Rattle.std.specs.Prelude.{◌≡◌, ◌<◌, vec_len};
 ghost use Rattle.packet_edits.specs.Marks.{marked_at, marks_moved};
 
 use crate::moves::move_within;
 
-/// Marks the packet at place `at`, where one stands.
+/// Marks the packet at index `at`, if there is one.
 pub fn mark(marks: &mut Vec<bool>, at: usize)
     ensures { marks.new.items ≡ marked_at at marks.old.items }
 {
@@ -13,8 +13,8 @@ pub fn mark(marks: &mut Vec<bool>, at: usize)
     }
 }
 
-/// Moves the packet at place `from` to place `to`, and marks it, the one that stood behind it and the
-/// one behind it now.
+/// Moves the packet at index `from` to index `to`, and marks it, the packet that followed it and
+/// the packet that follows it now.
 pub fn move_marked(marks: &mut Vec<bool>, from: usize, to: usize)
     requires { (from < vec_len marks.old) × (to < vec_len marks.old) }
     ensures { marks.new.items ≡ marks_moved from to marks.old.items }

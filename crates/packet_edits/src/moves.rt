@@ -1,8 +1,8 @@
 ghost use Rattle.std.specs.Prelude.{◌≡◌, ◌<◌, length};
 ghost use Rattle.packet_edits.specs.Edits.{moved};
 
-/// Takes the element at `from` out and puts it in at place `to` of the shortened list; those between
-/// the two places move by one.
+/// Removes the element at `from` and inserts it at index `to` of the shortened list. The elements
+/// between the two indexes move by one.
 pub fn move_within<T>(items: &mut [T], from: usize, to: usize)
     requires { (from < length items.old) × (to < length items.old) }
     ensures { items.new ≡ moved from to items.old }

@@ -20,13 +20,13 @@ use std::io::Write;
 use std::marker::Model;
 use stream_files::{Bytes, Head, MAX_PACKETS, Packets, WriteFault, ivf_start};
 
-/// The id that is never given.
+/// The id that no packet gets.
 const SPENT_ID: u64 = u64::MAX;
 
-/// Packets in the order of the stream, at most 1,048,576, and the id that the next one put in gets.
+/// The packets of a stream, at most 1,048,576, and the id of the next inserted packet.
 ///
-/// A refused edit changes nothing. Places are counted from 0. Nothing but `push_all` and `insert`
-/// takes memory.
+/// A refused edit changes nothing. Indexes are counted from 0. Only `push_all` and `insert`
+/// allocate.
 #[derive(Drop)]
 pub struct Store {
     entries: Vec<Entry>,
@@ -51,10 +51,10 @@ impl Store {
     ghost use Rattle.packet_edits.specs.Laws.{HasOwnIds};
     ghost use Rattle.packet_edits.specs.Marks.{marked_at, marks_deleted, marks_inserted, marks_moved, marks_replaced, unmarked_at};
     ghost use Rattle.packet_edits.specs.Saved.{packets_of};
-    ghost use Rattle.packet_edits.specs.Shown.{shown_places, stream_of};
+    ghost use Rattle.packet_edits.specs.Shown.{shown_indexes, stream_of};
     ghost use Rattle.packet_edits.specs.Sizes.{size_at};
 
-    /// No packets; the first one put in gets the id `first_id`. No memory is taken.
+    /// An empty store whose first packet gets the id `first_id`. It allocates nothing.
     pub fn starting(alloc: Global, first_id: u64) -> Store
         ensures { result ≡ record { list = starting first_id; marks = [] } }
     {
@@ -66,10 +66,10 @@ impl Store {
         }
     }
 
-    /// Puts packets in at the end, in their order.
+    /// Appends packets, in their order.
     ///
-    /// `Full` where more than 1,048,576 packets would stand, `Spent` where one of them would get the
-    /// id 18,446,744,073,709,551,615, and `NoMemory`, in this order.
+    /// Errors, in this order: `Full` if there would be more than 1,048,576 packets, `Spent` if one
+    /// of them would get the id 18,446,744,073,709,551,615, and `NoMemory`.
     pub fn push_all(&mut self, packets: Packets) -> Result<(), EditFault>
         ensures answers { Answers (refused_push self.old.list packets) result }
         ensures after { self.new.list ≡ (if is_ok result then pushed packets self.old.list else self.old.list) }
@@ -94,11 +94,11 @@ impl Store {
         Ok(())
     }
 
-    /// Puts a packet in at place `at`, which is at most the number of packets. It has no mark, and the
-    /// one behind it is marked.
+    /// Inserts a packet at index `at`, which is at most the number of packets. The packet has no
+    /// mark, and the packet after it is marked.
     ///
-    /// `Place`, `Full` where 1,048,576 packets stand, `Spent` where no id is left, and `NoMemory`, in
-    /// this order.
+    /// Errors, in this order: `Place`, `Full` if there are 1,048,576 packets, `Spent` if no id is
+    /// left, and `NoMemory`.
     pub fn insert(&mut self, at: u64, stamp: u64, bytes: Bytes) -> Result<(), EditFault>
         ensures answers { Answers (refused_insertion self.old.list at) result }
         ensures after { self.new.list ≡ (if is_ok result then inserted at stamp bytes self.old.list else self.old.list) }
@@ -128,12 +128,13 @@ impl Store {
         Ok(())
     }
 
-    /// Gives the packet at place `at` other bytes and a new id; its time stamp stays. It has no mark
-    /// then, and the packet behind it is marked.
+    /// Replaces the bytes of the packet at index `at` and gives it a new id. Its time stamp stays.
+    /// The packet has no mark afterwards, and the packet after it is marked.
     ///
-    /// `Place` where no packet stands there, and `Spent` where no id is left, in this order.
+    /// Errors, in this order: `Place` if there is no packet at the index, and `Spent` if no id is
+    /// left.
     pub fn replace(&mut self, at: u64, bytes: Bytes) -> Result<(), EditFault>
-        ensures told { result ≡ unless_refused (refused_replacement self.old.list at) }
+        ensures reported { result ≡ unless_refused (refused_replacement self.old.list at) }
         ensures after { self.new.list ≡ (if is_ok result then replaced at bytes self.old.list else self.old.list) }
         ensures marks { self.new.marks ≡ (if is_ok result then marks_replaced at self.old.marks else self.old.marks) }
     {
@@ -149,10 +150,10 @@ impl Store {
         Ok(())
     }
 
-    /// Takes the packet at place `at` out, and marks the one that stands there now. `Place` where no
-    /// packet stands there.
+    /// Removes the packet at index `at`, and marks the packet that is at the index now. `Place` if
+    /// there is no packet at the index.
     pub fn delete(&mut self, at: u64) -> Result<(), EditFault>
-        ensures told { result ≡ unless_refused (refused_deletion self.old.list at) }
+        ensures reported { result ≡ unless_refused (refused_deletion self.old.list at) }
         ensures after { self.new.list ≡ (if is_ok result then deleted at self.old.list else self.old.list) }
         ensures marks { self.new.marks ≡ (if is_ok result then marks_deleted at self.old.marks else self.old.marks) }
     {
@@ -166,11 +167,11 @@ impl Store {
         Ok(())
     }
 
-    /// Takes the packet at place `from` out and puts it in at place `to` of the shortened list. It
-    /// keeps its id; it is marked, and so are the packet behind its old place and the one behind it
-    /// now. `Place` where no packet stands at one of the two places.
+    /// Removes the packet at index `from` and inserts it at index `to` of the shortened list. The
+    /// packet keeps its id. It is marked, and so are the packet after its old index and the packet
+    /// after it now. `Place` if there is no packet at one of the two indexes.
     pub fn move_to(&mut self, from: u64, to: u64) -> Result<(), EditFault>
-        ensures told { result ≡ unless_refused (refused_move self.old.list from to) }
+        ensures reported { result ≡ unless_refused (refused_move self.old.list from to) }
         ensures after { self.new.list ≡ (if is_ok result then with_move from to self.old.list else self.old.list) }
         ensures marks { self.new.marks ≡ (if is_ok result then marks_moved from to self.old.marks else self.old.marks) }
     {
@@ -187,7 +188,7 @@ impl Store {
         Ok(())
     }
 
-    /// Why these packets may not be put in at the end: `Full` or `Spent`, in this order.
+    /// Whether these packets may be appended: `Full` or `Spent` if not, in this order.
     fn may_push(&self, packets: &Packets) -> Result<(), EditFault>
         ensures { result ≡ unless_refused (refused_push self.now.list packets.now) }
     {
@@ -200,7 +201,8 @@ impl Store {
         }
     }
 
-    /// Why no packet may be put in at place `at`: `Place`, `Full` or `Spent`, in this order.
+    /// Whether a packet may be inserted at index `at`: `Place`, `Full` or `Spent` if not, in this
+    /// order.
     pub fn may_insert(&self, at: u64) -> Result<(), EditFault>
         ensures { result ≡ unless_refused (refused_insertion self.now.list at) }
     {
@@ -213,7 +215,7 @@ impl Store {
         }
     }
 
-    /// Why the packet at place `at` may not be replaced: `Place` or `Spent`, in this order.
+    /// Whether the packet at index `at` may be replaced: `Place` or `Spent` if not, in this order.
     pub fn may_replace(&self, at: u64) -> Result<(), EditFault>
         ensures { result ≡ unless_refused (refused_replacement self.now.list at) }
     {
@@ -224,7 +226,7 @@ impl Store {
         }
     }
 
-    /// Why no packet may get a new id: `Spent`.
+    /// Whether a packet may get a new id: `Spent` if not.
     fn may_number(&self) -> Result<(), EditFault>
         ensures { result ≡ unless_refused (refused_id self.now.list) }
     {
@@ -235,7 +237,7 @@ impl Store {
         }
     }
 
-    /// How many packets stand, at most 1,048,576.
+    /// The number of packets, at most 1,048,576.
     pub fn len(&self) -> usize
         ensures value { result ≡ length self.now.list.entries }
         ensures few { result ≤ 1048576 }
@@ -245,8 +247,8 @@ impl Store {
         self.entries.len()
     }
 
-    /// Does nothing. It says that there are at most 1,048,576 packets, that each has a mark or none,
-    /// and that each has an id of its own, below the next one.
+    /// Does nothing. Its contract: there are at most 1,048,576 packets, as many marks as packets,
+    /// and each packet has its own id, below the next one.
     pub fn holds_few(&self)
         ensures few { length self.now.list.entries ≤ 1048576 }
         ensures marks { length self.now.marks ≡ length self.now.list.entries }
@@ -255,7 +257,7 @@ impl Store {
         let _entries = &self.entries;
     }
 
-    /// The bytes of the packet at place `i`, where one stands.
+    /// The bytes of the packet at index `i`, which exists.
     pub fn packet(&self, i: usize) -> &[u8]
         requires { i < length self.now.list.entries }
         ensures { slice_get (stream_of self.now.list) i ≡ Some result.now }
@@ -263,8 +265,7 @@ impl Store {
         self.entries[i].bytes.as_slice()
     }
 
-    /// The time stamp of the packet at place `i`, where one stands, in units of `scale / rate`
-    /// seconds.
+    /// The time stamp of the packet at index `i`, which exists, in units of `scale / rate` seconds.
     pub fn stamp(&self, i: usize) -> u64
         requires { i < length self.now.list.entries }
         ensures { option_map (λ entry. entry.stamp) (slice_get self.now.list.entries i) ≡ Some result }
@@ -272,7 +273,7 @@ impl Store {
         self.entries[i].stamp
     }
 
-    /// The id of the packet at place `i`, where one stands.
+    /// The id of the packet at index `i`, which exists.
     pub fn id(&self, i: usize) -> u64
         requires { i < length self.now.list.entries }
         ensures { option_map (λ entry. entry.id) (slice_get self.now.list.entries i) ≡ Some result }
@@ -280,8 +281,8 @@ impl Store {
         self.entries[i].id
     }
 
-    /// Whether the packet at place `i`, where one stands, is marked: what was decoded of it before may
-    /// no longer follow from the packet before it.
+    /// Whether the packet at index `i`, which exists, is marked: its cached outcome may no longer
+    /// follow from the packet before it.
     pub fn marked(&self, i: usize) -> bool
         requires { i < length self.now.list.entries }
         ensures { slice_get self.now.marks i ≡ Some result }
@@ -289,7 +290,7 @@ impl Store {
         self.marks[i]
     }
 
-    /// Marks the packet at place `i`, where one stands.
+    /// Marks the packet at index `i`, which exists.
     pub fn set_mark(&mut self, i: usize)
         requires { i < length self.old.list.entries }
         ensures { self.new ≡ record self.old { marks = marked_at i self.old.marks } }
@@ -297,7 +298,7 @@ impl Store {
         self.marks[i] = true;
     }
 
-    /// Takes the mark off the packet at place `i`, where one stands.
+    /// Removes the mark of the packet at index `i`, which exists.
     pub fn clear_mark(&mut self, i: usize)
         requires { i < length self.old.list.entries }
         ensures { self.new ≡ record self.old { marks = unmarked_at i self.old.marks } }
@@ -305,36 +306,37 @@ impl Store {
         self.marks[i] = false;
     }
 
-    /// The place of shown packet `n`, counted from 0, or `None` where fewer are shown. A packet is
-    /// shown where its tag has the show bit, or where it is under 3 bytes (RFC 6386, section 9.1).
-    /// No packet is looked at: it takes about 20 comparisons at most.
+    /// The index of shown packet `n`, counted from 0, or `None` if fewer are shown. A packet is
+    /// shown if its tag has the show bit, or if it has fewer than 3 bytes (RFC 6386, section 9.1).
+    /// No packet is read: a search makes about 20 comparisons at most.
     pub fn shown(&self, n: u64) -> Option<usize>
-        ensures place { result ≡ slice_get (shown_places (stream_of self.now.list)) n }
+        ensures place { result ≡ slice_get (shown_indexes (stream_of self.now.list)) n }
         ensures within { IfSome result (λ place. place < length self.now.list.entries) }
     {
         self.shown.place(n)
     }
 
-    /// How many packets are shown.
+    /// The number of shown packets.
     pub fn frames(&self) -> usize
-        ensures { result ≡ length (shown_places (stream_of self.now.list)) }
+        ensures { result ≡ length (shown_indexes (stream_of self.now.list)) }
     {
         self.shown.frames()
     }
 
-    /// The width and height, in luma samples, that the last packet with a key tag before place `at`
-    /// tells. `None` where there is none, and where that packet tells no size: it has fewer than 10
-    /// bytes, no start code, or a side of 0. `at` may be any number.
+    /// The width and height, in luma samples, in the last packet with a key tag before index `at`.
+    /// A packet has a key tag if it has 3 bytes or more and bit 0 of the first is 0. `None` if
+    /// there is no such packet, or if it has fewer than 10 bytes, no start code, or a side of 0.
+    /// `at` may be any number.
     pub fn size_at(&self, at: u64) -> Option<(u16, u16)>
         ensures { result ≡ size_at at self.now.list }
     {
         last_key_size(before(&self.entries, at))
     }
 
-    /// Writes the packets as an IVF file with this head: version 0, a header of 32 bytes with the number
-    /// of packets, and a record for each. No memory is taken.
+    /// Writes the packets as an IVF file with this head: version 0, a header of 32 bytes with the
+    /// number of packets, and one record per packet. It allocates nothing.
     ///
-    /// `Write` where the writer gives an error; nothing is told then of how much went out.
+    /// `Write` if the writer returns an error. How much was written is then not known.
     pub fn save<W: Write>(&self, w: &mut W, head: Head) -> Result<(), WriteFault>
         ensures { OnOk result (Appends (W.contents w.old) (W.contents w.new) (written_text head (packets_of self.now.list))) }
     {
@@ -343,8 +345,7 @@ impl Store {
     }
 }
 
-/// Puts in, at the end of an index, which of these packets are shown. Where memory is refused nothing
-/// changes.
+/// Appends to an index which of these packets are shown. If memory is refused, nothing changes.
 fn push_flags(index: &mut FrameIndex, packets: &Packets) -> Result<(), NoMemory>
     requires { length index.old + length packets.now ≤ 1048576 }
     ensures { index.new ≡ (if is_ok result then index.old ++ map (λ packet. is_shown packet.bytes) packets.now else index.old) }
@@ -363,8 +364,7 @@ fn push_flags(index: &mut FrameIndex, packets: &Packets) -> Result<(), NoMemory>
     Ok(())
 }
 
-/// Puts in, at the end of a list of marks, that these packets have none. Where memory is refused
-/// nothing changes.
+/// Appends to a list of marks that these packets have none. If memory is refused, nothing changes.
 fn push_marks(marks: &mut Vec<bool>, packets: &Packets) -> Result<(), NoMemory>
     ensures { marks.new.items ≡ (if is_ok result then marks_pushed packets.now marks.old.items else marks.old.items) }
 {
@@ -378,8 +378,8 @@ fn push_marks(marks: &mut Vec<bool>, packets: &Packets) -> Result<(), NoMemory>
     Ok(())
 }
 
-/// Puts in these packets at the end of a list, with ids from `first_id` on. Where memory is refused
-/// nothing changes.
+/// Appends these packets to a list, with ids starting at `first_id`. If memory is refused, nothing
+/// changes.
 fn push_entries(entries: &mut Vec<Entry>, first_id: u64, packets: Packets) -> Result<(), NoMemory>
     requires { first_id + length packets < 2 ^ 64 }
     ensures { entries.new.items ≡ (if is_ok result then entries.old.items ++ numbered first_id packets else entries.old.items) }

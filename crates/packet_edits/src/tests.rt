@@ -5,7 +5,7 @@ use std::io::{self, ErrorKind, Write};
 use std::test::Fail;
 use stream_files::{Bytes, Head, Packet, Packets, WriteFault};
 
-/// The last number of 64 bits, which is no packet's id.
+/// The greatest `u64`, which is never the id of a packet.
 const LAST: u64 = 18_446_744_073_709_551_615;
 
 /// Tags of a shown and of a hidden packet.
@@ -36,7 +36,7 @@ fn empty_packets(alloc: Global, count: usize) -> Result<Packets, NoMemory> {
     Ok(Packets::new(packets))
 }
 
-/// Whether a store has just these packets, each with its id, its stamp and its bytes.
+/// Whether a store has exactly these packets, each with its id, its stamp and its bytes.
 fn holds(store: &Store, rows: &[(u64, u64, &[u8])]) -> bool {
     store.len() == rows.len()
         && rows.iter().enumerate().all(|(i, (id, stamp, bytes))| {
@@ -44,26 +44,26 @@ fn holds(store: &Store, rows: &[(u64, u64, &[u8])]) -> bool {
         })
 }
 
-/// Whether the packets at these places are marked and no other.
+/// Whether exactly the packets at these indexes are marked.
 fn marks(store: &Store, places: &[usize]) -> bool {
     (0..store.len()).all(|i| store.marked(i) == places.contains(&i))
 }
 
-/// Takes the mark off packet 2, where it stands.
+/// Removes the mark of packet 2, if there is one.
 fn clear_second(store: &mut Store) {
     if 2 < store.len() {
         store.clear_mark(2);
     }
 }
 
-/// Marks the last packet, where one stands.
+/// Marks the last packet, if there is one.
 fn mark_last(store: &mut Store) {
     if 0 < store.len() {
         store.set_mark(store.len() - 1);
     }
 }
 
-/// Whether the packets at these places are shown and no other.
+/// Whether exactly the packets at these indexes are shown.
 fn shows(store: &Store, places: &[usize]) -> bool {
     store.frames() == places.len()
         && places
@@ -94,7 +94,7 @@ fn insertions(rt: HostRuntime) -> Result<(), Fail> {
     Ok(())
 }
 
-/// Each move in turn, with the packets and the shown places behind it.
+/// Moves in sequence, each with the packets and the shown indexes after it.
 #[test]
 fn moves(rt: HostRuntime) -> Result<(), Fail> {
     let alloc = rt.alloc();
@@ -239,7 +239,7 @@ fn the_most_packets(rt: HostRuntime) -> Result<(), Fail> {
     Ok(())
 }
 
-/// What each edit of four packets marks, and marks that are set and taken off.
+/// The marks after each edit of four packets, and marks that are set and removed.
 #[test]
 fn marks_of_edits(rt: HostRuntime) -> Result<(), Fail> {
     let alloc = rt.alloc();
@@ -265,7 +265,7 @@ fn marks_of_edits(rt: HostRuntime) -> Result<(), Fail> {
     Ok(())
 }
 
-/// The size that the last key packet before each place tells.
+/// The size in the last key packet before each index.
 #[test]
 fn sizes_before_places(rt: HostRuntime) -> Result<(), Fail> {
     let alloc = rt.alloc();
@@ -300,7 +300,7 @@ fn sizes_before_places(rt: HostRuntime) -> Result<(), Fail> {
     Ok(())
 }
 
-/// A writer that gives errors alone.
+/// A writer that returns only errors.
 #[derive(Drop)]
 struct Broken {}
 
@@ -321,7 +321,7 @@ const HEAD: Head = Head {
     scale: 1,
 };
 
-/// A header with the number of packets, and a record for each.
+/// A header with the number of packets, and one record per packet.
 const SAVED: [u8; 59] = [
     b'D', b'K', b'I', b'F', 0, 0, 32, 0, b'V', b'P', b'8', b'0', 16, 0, 9, 0, 30, 0, 0, 0, 1, 0, 0,
     0, 2, 0, 0, 0, 0, 0, 0, 0, //

@@ -43,11 +43,11 @@ key_mode-grey : (tables : TableEntries) (above left : Option MbMode) (r s : Read
 unfolding key_mode
 key_mode-grey tables above left r s h =
     let a = h.mid in
-    let d = h.behind.behind.behind.mid in
+    let d = h.following.following.following.mid in
     let skipped : skip (Some 1) r ≡ (true, a) = skip-1 r a h.bit in
-    let luma : key_y_mode a ≡ (Whole Dc, d) = key_y_mode-dc a h.behind.mid h.behind.behind.mid d h.behind.bit h.behind.behind.bit h.behind.behind.behind.bit in
+    let luma : key_y_mode a ≡ (Whole Dc, d) = key_y_mode-dc a h.following.mid h.following.following.mid d h.following.bit h.following.following.bit h.following.following.following.bit in
     let subs : key_sub_modes (Whole Dc) tables above left d ≡ (no_sub_modes, d) = key_sub_modes-whole tables above left d in
-    let chroma : chroma_mode KEY_UV_PROBABILITIES d ≡ (Dc, s) = chroma_mode-dc d s (h.behind.behind.behind.behind.bit ∙ ap (λ (t : Reader). (false, t)) h.behind.behind.behind.behind.behind) in
+    let chroma : chroma_mode KEY_UV_PROBABILITIES d ≡ (Dc, s) = chroma_mode-dc d s (h.following.following.following.following.bit ∙ ap (λ (t : Reader). (false, t)) h.following.following.following.following.following) in
     rw (skipped, luma, subs, chroma) refl
 
 segment_at-blank : (tables : TableEntries) (width height end : ℕ) (reader : Reader) (map : Option (List ℕ)) (place : ℕ) (r : Reader) → segment_at (blank_header_of tables width height end reader) map place r ≡ (0, r)
@@ -66,5 +66,5 @@ first_modes-grey zero tables width height end reader columns rows map r s h = ap
 first_modes-grey (suc count) tables width height end reader columns rows map r s h =
     let both = reads_both (macroblock_pairs (λ place. blank_macroblock) count) blank_macroblock r s h in
     let before = first_modes-grey count tables width height end reader columns rows map r both.mid both.front in
-    let here = mode_at-grey tables width height end reader columns rows map count (replicate count grey_mode) both.mid s both.behind in
+    let here = mode_at-grey tables width height end reader columns rows map count (replicate count grey_mode) both.mid s both.following in
     rw (before, here) (ap (λ (ms : List MbMode). (ms, s)) (replicate-push count grey_mode))

@@ -124,7 +124,7 @@ unfolding blank_header
 reads_blank updates count r all =
     let both = reads_both (blank_header updates) (macroblock_pairs (λ place. blank_macroblock) count) r all.end all.all in
     let parts = reads_both (zeros 16) (zeros 13 ++ zeros_at updates ++ skip_pairs) r both.mid both.front in
-    record { front = parts.mid; header = both.mid; end = all.end; first = parts.front; second = parts.behind; macroblocks = both.behind }
+    record { front = parts.mid; header = both.mid; end = all.end; first = parts.front; second = parts.following; macroblocks = both.following }
 
 -- the bytes of the packet by index
 blank_bytes_header : (tables : TableEntries) (before : Option Context) (first : List ℕ) (width height : ℕ) (m s : Reader) → length first ≤ 524287 → (0 < width) × (width ≤ 16383) → (0 < height) × (height ≤ 16383) → Reads (zeros 16) (started first) m → Reads (zeros 13 ++ zeros_at tables.updates ++ skip_pairs) m s → length tables.updates ≡ 1056 →

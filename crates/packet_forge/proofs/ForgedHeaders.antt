@@ -8,7 +8,7 @@ use Rattle.bool_coder.specs.Reader.{Reader, started}
 use Rattle.frame_header.specs.Contexts.{default_context}
 use Rattle.frame_header.specs.Tags.{number_at, tag_in, tag_of, has_key_tag, has_start_code, width_of, height_of}
 use Rattle.frame_header.specs.Start.{start_of}
-use Rattle.frame_header.specs.Places.{token_places}
+use Rattle.frame_header.specs.Places.{token_ranges}
 use Rattle.frame_header.specs.Header.{header_of}
 use Rattle.frame_header.specs.References.{all_refreshed}
 use Rattle.frame_header.specs.InterFields.{no_reference_probabilities}
@@ -72,9 +72,9 @@ pub start_of-later : (before : Context) (packet : List ℕ) (size : ℕ) → tag
 start_of-later before packet size tag = rw tag refl
 
 -- the only token partition is empty
-pub token_places-one : (packet : List ℕ) (end : ℕ) → length packet ≡ end → token_places packet end 1 ≡ Ok (record { items = record { start = end; length = 0 } ∷ [] })
-unfolding token_places
-token_places-one packet end long =
+pub token_ranges-one : (packet : List ℕ) (end : ℕ) → length packet ≡ end → token_ranges packet end 1 ≡ Ok (record { items = record { start = end; length = 0 } ∷ [] })
+unfolding token_ranges
+token_ranges-one packet end long =
     let none : nat_lt end end ≡ false = le-ltb end end (omega arith) in
     let nothing : end - end ≡ 0 = omega arith in
     let same : end + 0 ≡ end = omega arith in
@@ -114,6 +114,6 @@ header_of-blank tables before packet first width height m s tag long code wide h
     let key : has_key_tag packet ≡ true = rw tag refl in
     let fits : nat_lt (length packet - 10) (length first) ≡ false = first_end-fits 10 (length first) (length packet) long in
     let front = fields-key (default_context tables) (started first) m reads_first in
-    let places = token_places-one packet (10 + length first) long in
-    let behind = trailing-key tables.updates (default_context tables) m s updates reads_second in
-    rw (start, key, fits, range, front, places, behind) refl
+    let places = token_ranges-one packet (10 + length first) long in
+    let following = trailing-key tables.updates (default_context tables) m s updates reads_second in
+    rw (start, key, fits, range, front, places, following) refl

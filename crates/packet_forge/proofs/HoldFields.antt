@@ -39,17 +39,17 @@ inter_refreshes-zeros : (r s : Reader) → Reads (zeros 10) r s → inter_refres
 unfolding inter_refreshes golden_copy altref_copy
 inter_refreshes-zeros r s h =
     let a = reads_both (zeros 2) (zeros 8) r s h in
-    let b = reads_both (zeros 2) (zeros 6) a.mid s a.behind in
-    let c = reads_both (zeros 2) (zeros 4) b.mid s b.behind in
+    let b = reads_both (zeros 2) (zeros 6) a.mid s a.following in
+    let c = reads_both (zeros 2) (zeros 4) b.mid s b.following in
     let first : read 128 r ≡ (false, a.front.mid) = a.front.bit in
-    let second : read 128 a.front.mid ≡ (false, a.mid) = a.front.behind.bit ∙ ap (λ (t : Reader). (false, t)) a.front.behind.behind in
+    let second : read 128 a.front.mid ≡ (false, a.mid) = a.front.following.bit ∙ ap (λ (t : Reader). (false, t)) a.front.following.following in
     let third : literal 2 a.mid ≡ (0, b.mid) = literal-zeros 2 a.mid b.mid b.front in
     let fourth : literal 2 b.mid ≡ (0, c.mid) = literal-zeros 2 b.mid c.mid c.front in
-    let d = c.behind in
+    let d = c.following in
     let fifth : read 128 c.mid ≡ (false, d.mid) = d.bit in
-    let sixth : read 128 d.mid ≡ (false, d.behind.mid) = d.behind.bit in
-    let seventh : read 128 d.behind.mid ≡ (false, d.behind.behind.mid) = d.behind.behind.bit in
-    let eighth : read 128 d.behind.behind.mid ≡ (false, s) = d.behind.behind.behind.bit ∙ ap (λ (t : Reader). (false, t)) d.behind.behind.behind.behind in
+    let sixth : read 128 d.mid ≡ (false, d.following.mid) = d.following.bit in
+    let seventh : read 128 d.following.mid ≡ (false, d.following.following.mid) = d.following.following.bit in
+    let eighth : read 128 d.following.following.mid ≡ (false, s) = d.following.following.following.bit ∙ ap (λ (t : Reader). (false, t)) d.following.following.following.following in
     rw (first, second, third, fourth, fifth, sixth, seventh, eighth) refl
 
 refreshes-inter : (before : SignBiases) (r s : Reader) → Reads (zeros 10) r s → refreshes false before r ≡ ((record { references = no_updates; refreshes_entropy = false }, no_biases), s)
@@ -62,8 +62,8 @@ reference_probabilities-hold r s h =
     let a = reads_both (byte_pairs 1 ++ byte_pairs 255) (byte_pairs 128) r s h in
     let b = reads_both (byte_pairs 1) (byte_pairs 255) r a.mid a.front in
     let first : literal 8 r ≡ (1, b.mid) = literal-1 r b.mid b.front in
-    let second : literal 8 b.mid ≡ (255, a.mid) = literal-255 b.mid a.mid b.behind in
-    let third : literal 8 a.mid ≡ (128, s) = literal-128 a.mid s a.behind in
+    let second : literal 8 b.mid ≡ (255, a.mid) = literal-255 b.mid a.mid b.following in
+    let third : literal 8 a.mid ≡ (128, s) = literal-128 a.mid s a.following in
     rw (first, second, third) refl
 
 y_modes-stay : (before : List ℕ) (r s : Reader) → read 128 r ≡ (false, s) → y_modes before r ≡ (before, s)
@@ -87,7 +87,7 @@ vectors-stay before r s h =
     let row : first_updated vector_probability 19 update_row (slice_index_or before 0 []) r ≡ (slice_index_or before 0 [], both.mid) =
     updates_none vector_probability 19 update_row (slice_index_or before 0 []) r both.mid vector_probability-zero (omega arith) both.front in
     let column : first_updated vector_probability 19 update_column (slice_index_or before 1 []) both.mid ≡ (slice_index_or before 1 [], s) =
-    updates_none vector_probability 19 update_column (slice_index_or before 1 []) both.mid s vector_probability-zero (omega arith) both.behind in
+    updates_none vector_probability 19 update_column (slice_index_or before 1 []) both.mid s vector_probability-zero (omega arith) both.following in
     rw (row, column) refl
 
 inter_fields-hold : (before : Probabilities) (r s : Reader) → Reads (reference_pairs ++ zeros_at vector_updates) r s → inter_fields before r ≡ ((hold_references, record before { vectors = two_rows before.vectors }), s)
@@ -96,9 +96,9 @@ inter_fields-hold before r s h =
     let a = reads_both reference_pairs (zeros_at vector_updates) r s h in
     let b = reads_both (byte_pairs 1 ++ byte_pairs 255 ++ byte_pairs 128) (zeros 2) r a.mid a.front in
     let first : reference_probabilities r ≡ (hold_references, b.mid) = reference_probabilities-hold r b.mid b.front in
-    let second : y_modes before.y_modes b.mid ≡ (before.y_modes, b.behind.mid) = y_modes-stay before.y_modes b.mid b.behind.mid b.behind.bit in
-    let third : uv_modes before.uv_modes b.behind.mid ≡ (before.uv_modes, a.mid) = uv_modes-stay before.uv_modes b.behind.mid a.mid (b.behind.behind.bit ∙ ap (λ (t : Reader). (false, t)) b.behind.behind.behind) in
-    let fourth : vectors before.vectors a.mid ≡ (two_rows before.vectors, s) = vectors-stay before.vectors a.mid s a.behind in
+    let second : y_modes before.y_modes b.mid ≡ (before.y_modes, b.following.mid) = y_modes-stay before.y_modes b.mid b.following.mid b.following.bit in
+    let third : uv_modes before.uv_modes b.following.mid ≡ (before.uv_modes, a.mid) = uv_modes-stay before.uv_modes b.following.mid a.mid (b.following.following.bit ∙ ap (λ (t : Reader). (false, t)) b.following.following.following) in
+    let fourth : vectors before.vectors a.mid ≡ (two_rows before.vectors, s) = vectors-stay before.vectors a.mid s a.following in
     rw (first, second, third, fourth) refl
 
 pub trailing-inter : (updates : List ℕ) (before : Context) (r s : Reader) → length updates ≡ 1056 → Reads (zeros 22 ++ zeros_at updates ++ skip_pairs ++ reference_pairs ++ zeros_at vector_updates) r s →
@@ -111,9 +111,9 @@ trailing-inter updates before r s long h =
     let b = reads_both (zeros 22) (zeros_at updates) r a.mid a.front in
     let c = reads_both (zeros 12) (zeros 10) r b.mid b.front in
     let first : quantizers r ≡ (no_quantizers, c.mid) = quantizers-zeros r c.mid c.front in
-    let second = refreshes-inter before.sign_biases c.mid b.mid c.behind in
-    let third = coefficients-stay updates before.probabilities.coefficients b.mid a.mid long b.behind in
-    let fourth : skip_probability a.mid ≡ (Some 1, d.mid) = skip_probability-1 a.mid d.mid a.behind in
-    let joined = reads_joined reference_pairs (zeros_at vector_updates) d.mid e.mid s d.behind e.behind in
+    let second = refreshes-inter before.sign_biases c.mid b.mid c.following in
+    let third = coefficients-stay updates before.probabilities.coefficients b.mid a.mid long b.following in
+    let fourth : skip_probability a.mid ≡ (Some 1, d.mid) = skip_probability-1 a.mid d.mid a.following in
+    let joined = reads_joined reference_pairs (zeros_at vector_updates) d.mid e.mid s d.following e.following in
     let fifth = inter_fields-hold before.probabilities d.mid s joined in
     rw (first, second, third, fourth, fifth) refl

@@ -13,7 +13,7 @@ use Rattle.packet_forge.specs.Packets.{tag_bytes}
 use Rattle.packet_forge.proofs.Readings.{Reads}
 use Rattle.packet_forge.proofs.HeaderFields.{no_colors, no_segmentation, no_filter, no_quantizers, fields-inter}
 use Rattle.packet_forge.proofs.HoldFields.{no_updates, hold_references, hold_context, trailing-inter}
-use Rattle.packet_forge.proofs.ForgedHeaders.{shown_tag, tag_of-later, start_of-later, token_places-one, first_end-fits}
+use Rattle.packet_forge.proofs.ForgedHeaders.{shown_tag, tag_of-later, start_of-later, token_ranges-one, first_end-fits}
 
 -- the header after a context, with the reader after it
 abbrev pub hold_header_of : Context → ℕ → Reader → Header
@@ -46,9 +46,9 @@ header_of-later tables before packet first m s tag long range reads_first reads_
     let key : has_key_tag packet ≡ false = rw tag refl in
     let fits : nat_lt (length packet - 3) (length first) ≡ false = first_end-fits 3 (length first) (length packet) long in
     let front = fields-inter before (started first) m reads_first in
-    let places = token_places-one packet (3 + length first) long in
-    let behind = trailing-inter tables.updates before m s updates reads_second in
-    rw (start, key, fits, range, front, places, behind) refl
+    let places = token_ranges-one packet (3 + length first) long in
+    let following = trailing-inter tables.updates before m s updates reads_second in
+    rw (start, key, fits, range, front, places, following) refl
 
 pub header_of-hold : (tables : TableEntries) (before : Context) (first : List ℕ) (m s : Reader) → length first ≤ 524287 → Reads (zeros 14) (started first) m → Reads (zeros 22 ++ zeros_at tables.updates ++ skip_pairs ++ reference_pairs ++ zeros_at vector_updates) m s → length tables.updates ≡ 1056 →
     header_of tables (Some before) (tag_bytes 1 (length first) ++ first) ≡ Ok (hold_header_of before (3 + length first) s)

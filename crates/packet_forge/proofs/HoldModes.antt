@@ -10,7 +10,7 @@ use Rattle.intra_predict.specs.declared.modes.WholeMode.TheVariants.{Dc}
 use Rattle.mode_parser.specs.declared.records.YMode.TheVariants.{Inter}
 use Rattle.mode_parser.specs.declared.records.VectorMode.TheVariants.{Zero}
 use Rattle.mode_parser.specs.declared.records.MbMode.{MbMode}
-use Rattle.mode_parser.specs.declared.nearby.MbPlace.{MbPlace}
+use Rattle.mode_parser.specs.declared.nearby.MbPosition.{MbPosition}
 use Rattle.mode_parser.specs.Records.{skip, no_sub_modes, no_vectors}
 use Rattle.mode_parser.specs.InterRecords.{which_reference, vector_mode, counted_probability, counted_probabilities, vectors_by, referenced_mode, inter_mode}
 use Rattle.mode_parser.specs.NearVectors.{near_of, listing_of}
@@ -38,19 +38,19 @@ neighbour true = Some hold_mode
 neighbour false = None
 
 -- the probability of a zero vector between such neighbours
-odds_none : (place : MbPlace) → counted_probability (near_of None None None Last no_biases place).counts 0 ≡ 7
+odds_none : (place : MbPosition) → counted_probability (near_of None None None Last no_biases place).counts 0 ≡ 7
 unfolding near_of listing_of
 odds_none place = refl
 
-odds_left : (place : MbPlace) → counted_probability (near_of None (Some hold_mode) None Last no_biases place).counts 0 ≡ 135
+odds_left : (place : MbPosition) → counted_probability (near_of None (Some hold_mode) None Last no_biases place).counts 0 ≡ 135
 unfolding near_of listing_of
 odds_left place = refl
 
-odds_above : (place : MbPlace) → counted_probability (near_of (Some hold_mode) None None Last no_biases place).counts 0 ≡ 135
+odds_above : (place : MbPosition) → counted_probability (near_of (Some hold_mode) None None Last no_biases place).counts 0 ≡ 135
 unfolding near_of listing_of
 odds_above place = refl
 
-odds_both : (place : MbPlace) → counted_probability (near_of (Some hold_mode) (Some hold_mode) (Some hold_mode) Last no_biases place).counts 0 ≡ 234
+odds_both : (place : MbPosition) → counted_probability (near_of (Some hold_mode) (Some hold_mode) (Some hold_mode) Last no_biases place).counts 0 ≡ 234
 unfolding near_of listing_of
 odds_both place = refl
 
@@ -64,16 +64,16 @@ vector_mode-zero counts r s told =
     let walk = leaf_below-end 7 VECTOR_MODE_TREE (counted_probabilities counts) 0 r s false false told refl refl in
     rw walk refl
 
-inter_mode-hold : (context : Context) (end : ℕ) (reader : Reader) (place : MbPlace) (above left above_left : Option MbMode) (odds : ℕ) (r s : Reader) → counted_probability (near_of above left above_left Last no_biases place).counts 0 ≡ odds → Reads ((true, 1) ∷ (true, 1) ∷ (false, 255) ∷ (false, odds) ∷ []) r s → inter_mode (hold_header_of context end reader) place above left above_left r ≡ (hold_mode, s)
+inter_mode-hold : (context : Context) (end : ℕ) (reader : Reader) (place : MbPosition) (above left above_left : Option MbMode) (odds : ℕ) (r s : Reader) → counted_probability (near_of above left above_left Last no_biases place).counts 0 ≡ odds → Reads ((true, 1) ∷ (true, 1) ∷ (false, 255) ∷ (false, odds) ∷ []) r s → inter_mode (hold_header_of context end reader) place above left above_left r ≡ (hold_mode, s)
 unfolding inter_mode referenced_mode vectors_by
 inter_mode-hold context end reader place above left above_left odds r s odds_are h =
     let a = h.mid in
-    let b = h.behind.mid in
-    let c = h.behind.behind.mid in
+    let b = h.following.mid in
+    let c = h.following.following.mid in
     let skipped : skip (Some 1) r ≡ (true, a) = skip-1 r a h.bit in
-    let referenced : read 1 a ≡ (true, b) = h.behind.bit in
-    let from : which_reference hold_references b ≡ (Last, c) = which_reference-last b c h.behind.behind.bit in
-    let zero_read : read odds c ≡ (false, s) = h.behind.behind.behind.bit ∙ ap (λ (t : Reader). (false, t)) h.behind.behind.behind.behind in
+    let referenced : read 1 a ≡ (true, b) = h.following.bit in
+    let from : which_reference hold_references b ≡ (Last, c) = which_reference-last b c h.following.following.bit in
+    let zero_read : read odds c ≡ (false, s) = h.following.following.following.bit ∙ ap (λ (t : Reader). (false, t)) h.following.following.following.following in
     let mode : vector_mode (near_of above left above_left Last no_biases place).counts c ≡ (Zero, s) = vector_mode-zero (near_of above left above_left Last no_biases place).counts c s (rw odds_are zero_read) in
     rw (skipped, referenced, from, mode) refl
 
@@ -162,5 +162,5 @@ first_modes-hold zero tables context end reader columns rows map r s some h = ap
 first_modes-hold (suc count) tables context end reader columns rows map r s some h =
     let both = reads_both (macroblock_pairs (hold_macroblock columns) count) (hold_macroblock columns count) r s h in
     let before = first_modes-hold count tables context end reader columns rows map r both.mid some both.front in
-    let here = mode_at-hold tables context end reader columns rows map count both.mid s some both.behind in
+    let here = mode_at-hold tables context end reader columns rows map count both.mid s some both.following in
     rw (before, here) (ap (λ (ms : List MbMode). (ms, s)) (replicate-push count hold_mode))

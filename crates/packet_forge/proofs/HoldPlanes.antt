@@ -6,7 +6,7 @@ use Rattle.inter_predict.specs.InterSample.{inter_sample}
 use Rattle.inter_predict.specs.declared.kinds.Kind.TheVariants.{SixTap}
 use Rattle.inter_predict.proofs.FilterLaws.{copies_whole}
 use Rattle.pixel_planes.specs.Samples.{Samples, sample_at}
-use Rattle.pixel_planes.specs.ReferenceSamples.{held_place, reference_sample}
+use Rattle.pixel_planes.specs.ReferenceSamples.{clamped_coordinate, reference_sample}
 use Rattle.pixel_planes.specs.Pictures.{PictureSamples}
 use Rattle.mode_parser.specs.ChromaVectors.{group_vector}
 use Rattle.mode_parser.specs.Records.{no_vectors}
@@ -21,7 +21,7 @@ use Rattle.packet_forge.proofs.Frames.{DoesOne}
 use Rattle.packet_forge.proofs.HoldModes.{hold_mode}
 
 -- a coordinate inside a width or height
-held_inside : (side place : ℕ) → place < side → held_place side (pos place) ≡ place
+held_inside : (side place : ℕ) → place < side → clamped_coordinate side (pos place) ≡ place
 held_inside side place lt = omega arith
 
 reference_inside : (p : Samples) (x y : ℕ) → x < p.width → y < p.height → reference_sample p (pos x) (pos y) ≡ sample_at p x y
@@ -30,7 +30,7 @@ reference_inside p x y a b = rw (held_inside p.width x a, held_inside p.height y
 
 reference_byte : (p : Samples) → AreBytes p → (column row : ℤ) → reference_sample p column row < 256
 unfolding reference_sample
-reference_byte p bytes column row = bytes (held_place p.height row * p.width + held_place p.width column)
+reference_byte p bytes column row = bytes (clamped_coordinate p.height row * p.width + clamped_coordinate p.width column)
 
 -- a zero vector takes the sample as it is
 still_sample : (p : Samples) (x y : ℕ) → AreBytes p → x < p.width → y < p.height → inter_sample SixTap p (pos x) (pos y) (pos 0) (pos 0) ≡ sample_at p x y

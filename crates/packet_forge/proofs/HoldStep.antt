@@ -81,7 +81,7 @@ unfolding hold_header
 reads_hold updates columns rows r all =
     let both = reads_both (hold_header updates) (macroblock_pairs (hold_macroblock columns) (columns * rows)) r all.end all.all in
     let parts = reads_both (zeros 14) (zeros 22 ++ zeros_at updates ++ skip_pairs ++ reference_pairs ++ zeros_at vector_updates) r both.mid both.front in
-    record { front = parts.mid; header = both.mid; end = all.end; first = parts.front; second = parts.behind; macroblocks = both.behind }
+    record { front = parts.mid; header = both.mid; end = all.end; first = parts.front; second = parts.following; macroblocks = both.following }
 
 -- ---- the picture
 

@@ -14,7 +14,7 @@ use Rattle.packet_forge.specs.Pairs.{zeros_at}
 pub record ReadsPair (pair : Bool × ℕ) (r : Reader) (rest : Reader → Type 0) : Type 0 where
   pub mid : Reader
   pub bit : read pair.1 r ≡ (pair.0, mid)
-  pub behind : rest mid
+  pub following : rest mid
 
 -- from r these pairs are read, and s is the reader after them
 abbrev pub Reads : List (Bool × ℕ) → Reader → Reader → Type 0
@@ -35,8 +35,8 @@ reads_bits [] r same = record { end = r; all = refl }
 reads_bits (pair ∷ pairs) r same =
     let first : (read pair.1 r).0 ≡ pair.0 = ap (λ (xs : List Bool). get_or xs 0 false) same in
     let others : bits_read read (map (λ p. p.1) pairs) (read pair.1 r).1 ≡ map (λ p. p.0) pairs = ap (λ (xs : List Bool). drop 1 xs) same in
-    let behind = reads_bits pairs (read pair.1 r).1 others in
-    record { end = behind.end; all = record { mid = (read pair.1 r).1; bit = told pair.1 r pair.0 first; behind = behind.all } }
+    let following = reads_bits pairs (read pair.1 r).1 others in
+    record { end = following.end; all = record { mid = (read pair.1 r).1; bit = told pair.1 r pair.0 first; following = following.all } }
 
 -- the pairs of a code text are read from its start
 pub reads_text : (pairs : List (Bool × ℕ)) → All (λ p. p.1 ≤ 255) pairs → ReadsAll pairs (started (code_text pairs))
@@ -46,13 +46,13 @@ reads_text pairs probable = reads_bits pairs (started (code_text pairs)) (code_t
 pub record ReadsBoth (xs ys : List (Bool × ℕ)) (r s : Reader) : Type 0 where
   pub mid : Reader
   pub front : Reads xs r mid
-  pub behind : Reads ys mid s
+  pub following : Reads ys mid s
 
 pub reads_both : (xs ys : List (Bool × ℕ)) (r s : Reader) → Reads (xs ++ ys) r s → ReadsBoth xs ys r s
-reads_both [] ys r s reads = record { mid = r; front = refl; behind = reads }
+reads_both [] ys r s reads = record { mid = r; front = refl; following = reads }
 reads_both (x ∷ xs) ys r s reads =
-    let rest = reads_both xs ys reads.mid s reads.behind in
-    record { mid = rest.mid; front = record { mid = reads.mid; bit = reads.bit; behind = rest.front }; behind = rest.behind }
+    let rest = reads_both xs ys reads.mid s reads.following in
+    record { mid = rest.mid; front = record { mid = reads.mid; bit = reads.bit; following = rest.front }; following = rest.following }
 
 -- ---- updates that change nothing
 
@@ -74,11 +74,11 @@ updates_none way (suc n) updates before r s keeps fits reads =
     let next : zeros_at (take (suc n) updates) ≡ zeros_at (take n updates) ++ (false, get_or updates n 0) ∷ [] = rw (← add-one) (ap zeros_at (take_more updates n 0 (omega arith)) ∙ map-append (λ p. (false, p)) (take n updates) (get_or updates n 0 ∷ [])) in
     let both = reads_both (zeros_at (take n updates)) ((false, get_or updates n 0) ∷ []) r s (subst (λ ps. Reads ps r s) next reads) in
     let before_is = updates_none way n updates before r both.mid keeps (omega arith) both.front in
-    let here = keeps (get_or updates n 0) (get_or before n 0) both.mid both.behind.mid both.behind.bit in
-    first_updated-suc way n updates before before r both.mid both.behind.mid (get_or before n 0) before_is here
-    ∙ ap (λ (xs : List ℕ). (xs, both.behind.mid)) (set-get_or before n 0) ∙ ap (λ (t : Reader). (before, t)) both.behind.behind
+    let here = keeps (get_or updates n 0) (get_or before n 0) both.mid both.following.mid both.following.bit in
+    first_updated-suc way n updates before before r both.mid both.following.mid (get_or before n 0) before_is here
+    ∙ ap (λ (xs : List ℕ). (xs, both.following.mid)) (set-get_or before n 0) ∙ ap (λ (t : Reader). (before, t)) both.following.following
 
 -- pairs that are read after others are read with them
 pub reads_joined : (xs ys : List (Bool × ℕ)) (r m s : Reader) → Reads xs r m → Reads ys m s → Reads (xs ++ ys) r s
-reads_joined [] ys r m s front behind = subst (λ (t : Reader). Reads ys t s) (sym front) behind
-reads_joined (x ∷ xs) ys r m s front behind = record { mid = front.mid; bit = front.bit; behind = reads_joined xs ys front.mid m s front.behind behind }
+reads_joined [] ys r m s front following = subst (λ (t : Reader). Reads ys t s) (sym front) following
+reads_joined (x ∷ xs) ys r m s front following = record { mid = front.mid; bit = front.bit; following = reads_joined xs ys front.mid m s front.following following }

@@ -33,7 +33,7 @@ in_or_out x y side i j =
     elim (cases_lt i x) [
       | inl before ↦ inr (λ h. absurd (omega (arith, h.0, before)))
       | inr a ↦ elim (cases_lt i (x + side)) [
-        | inr behind ↦ inr (λ h. absurd (omega (arith, h.1, behind)))
+        | inr following ↦ inr (λ h. absurd (omega (arith, h.1, following)))
         | inl b ↦ elim (cases_lt j y) [
           | inl higher ↦ inr (λ h. absurd (omega (arith, h.2, higher)))
           | inr c ↦ elim (cases_lt j (y + side)) [

@@ -29,8 +29,8 @@ sample_in_bordered border column row within =
       | inl before ↦
           let held : min (column - border) (length row - 1) ≡ 0 = omega arith in
           rw held (get_or_append_left (replicate border first) (row ++ replicate border last) 0 column (omega arith) ∙ get_or-replicate border column first 0 before)
-      | inr behind ↦
-          rw (get_or-append_right (replicate border first) (row ++ replicate border last) border column 0 wide behind)
+      | inr following ↦
+          rw (get_or-append_right (replicate border first) (row ++ replicate border last) border column 0 wide following)
           (elim (cases_lt (column - border) (length row)) [
             | inl inside ↦
                 let held : min (column - border) (length row - 1) ≡ column - border = omega arith in

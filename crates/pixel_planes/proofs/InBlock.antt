@@ -8,7 +8,7 @@ use Rattle.std.proofs.lemmas.List.{append-nil, take_all, length-replicate, take-
 use Rattle.std.proofs.lemmas.List.Edits.{length-between, get_or-between}
 use Rattle.std.proofs.lemmas.Simd.{length-chunk, get_or-chunk}
 use Rattle.pixel_planes.specs.Samples.{Samples, PlaneValue, out_of_date, IsWhole, row_of, sample_at, uniform}
-use Rattle.pixel_planes.specs.ReferenceSamples.{held_place, reference_sample, IsSpan, IsWindow}
+use Rattle.pixel_planes.specs.ReferenceSamples.{clamped_coordinate, reference_sample, IsSpan, IsWindow}
 use Rattle.pixel_planes.specs.Layout.{Layout, layout_of, shown_in, IsLaidOut, IsBordered, rows_of, bordered_row, bordered_side, flat_plane}
 use Rattle.pixel_planes.proofs.Parts.{part_is, chunk-chunk, take-put_chunk}
 use Rattle.pixel_planes.proofs.BlockRows.{length-rows_of, chunk_of_rows, sample_of_rows, rows_at_front, same_rows, row_ends}
@@ -50,12 +50,12 @@ sample_of_bordered p border items whole b column row in_row in_block =
     let inside : column < bordered_side (length (row_of p k)) border = omega (arith, len) in
     sym (get_or-chunk (row * stride) stride items column 0 in_row) ∙ ap (λ part. slice_index part column) (sym (part_is items (row * stride) stride) ∙ b.rows row in_block) ∙ sample_in_bordered border column (row_of p k) inside ∙ ap (λ n. slice_index (row_of p k) (min (column - border) (n - 1))) len ∙ sample_of_row p (min (column - border) (p.width - 1)) k (omega (arith, whole.0))
 
-held_go : (side border m : ℕ) (z : ℤ) → z +ℤ pos border ≡ pos m → held_place side z ≡ min (m - border) (side - 1)
+held_go : (side border m : ℕ) (z : ℤ) → z +ℤ pos border ≡ pos m → clamped_coordinate side z ≡ min (m - border) (side - 1)
 held_go side border m (pos n) at = omega (arith, ints)
 held_go side border m (negsuc n) at = omega (arith, ints)
 
 -- a coordinate clamped to the plane, by its index in the block
-pub held_is : (side border found k : ℕ) (x : ℤ) → pos found ≡ x +ℤ pos border → held_place side (x +ℤ pos k) ≡ min (found + k - border) (side - 1)
+pub held_is : (side border found k : ℕ) (x : ℤ) → pos found ≡ x +ℤ pos border → clamped_coordinate side (x +ℤ pos k) ≡ min (found + k - border) (side - 1)
 held_is side border found k x at = held_go side border (found + k) (x +ℤ pos k) (omega (arith, ints))
 
 -- an index of the block by its coordinates

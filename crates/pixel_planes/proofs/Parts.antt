@@ -31,7 +31,7 @@ chunk-chunk i n j m xs fits =
 
 -- two lists with one tail have their later parts in common
 pub chunk_from_tail : (at i n : ℕ) (xs ys : List ℕ) → at ≤ i → drop at xs ≡ drop at ys → chunk i n xs ≡ chunk i n ys
-chunk_from_tail at i n xs ys behind same =
+chunk_from_tail at i n xs ys following same =
     let there : i ≡ at + (i - at) = omega arith in
     ap (λ k. take n (drop k xs)) there ∙ ap (take n) (sym (drop-drop (i - at) at xs) ∙ ap (drop (i - at)) same ∙ drop-drop (i - at) at ys) ∙ ap (λ k. take n (drop k ys)) (sym there)
 
@@ -80,13 +80,13 @@ take_before-put_chunk (suc n) (suc i) (x ∷ xs) ws before = ap (λ (l : List �
 
 -- the part after a write
 pub drop_behind-put_chunk : (n i : ℕ) (xs ws : List ℕ) → i + length ws ≤ n → drop n (put_chunk i xs ws) ≡ drop n xs
-drop_behind-put_chunk n i [] ws behind = refl
-drop_behind-put_chunk zero zero (x ∷ xs) [] behind = refl
-drop_behind-put_chunk zero zero (x ∷ xs) (w ∷ ws) behind = absurd (omega arith)
-drop_behind-put_chunk zero (suc i) (x ∷ xs) ws behind = absurd (omega arith)
-drop_behind-put_chunk (suc n) zero (x ∷ xs) [] behind = refl
-drop_behind-put_chunk (suc n) zero (x ∷ xs) (w ∷ ws) behind = drop_behind-put_chunk n zero xs ws (omega arith)
-drop_behind-put_chunk (suc n) (suc i) (x ∷ xs) ws behind = drop_behind-put_chunk n i xs ws (omega arith)
+drop_behind-put_chunk n i [] ws following = refl
+drop_behind-put_chunk zero zero (x ∷ xs) [] following = refl
+drop_behind-put_chunk zero zero (x ∷ xs) (w ∷ ws) following = absurd (omega arith)
+drop_behind-put_chunk zero (suc i) (x ∷ xs) ws following = absurd (omega arith)
+drop_behind-put_chunk (suc n) zero (x ∷ xs) [] following = refl
+drop_behind-put_chunk (suc n) zero (x ∷ xs) (w ∷ ws) following = drop_behind-put_chunk n zero xs ws (omega arith)
+drop_behind-put_chunk (suc n) (suc i) (x ∷ xs) ws following = drop_behind-put_chunk n i xs ws (omega arith)
 
 -- the list after a write to a part of a slice
 pub mid_is_put : (i k : ℕ) (xs ws : List ℕ) → length ws ≡ k → i + k ≤ length xs → put_mid i k xs ws ≡ put_chunk i xs ws

@@ -3,13 +3,13 @@ use Rattle.std.specs.Prelude.{◌≡◌, ℕ, ◌+◌, ◌-◌, ◌*◌, ◌<◌
 use Rattle.pixel_planes.specs.Samples.{Samples, PlaneValue, sample_at, uniform, bordered, out_of_date}
 
 -- a coordinate clamped to a side: its first index before it, its last index after it
-abbrev pub held_place : ℕ → ℤ → ℕ
-held_place side (pos place) = min place (side - 1)
-held_place side (negsuc before) = 0
+abbrev pub clamped_coordinate : ℕ → ℤ → ℕ
+clamped_coordinate side (pos place) = min place (side - 1)
+clamped_coordinate side (negsuc before) = 0
 
 -- the sample at these coordinates, clamped to the plane: past an edge its samples continue (section 18 of RFC 6386)
 unfoldable pub reference_sample : Samples → ℤ → ℤ → ℕ
-reference_sample p x y = sample_at p (held_place p.width x) (held_place p.height y)
+reference_sample p x y = sample_at p (clamped_coordinate p.width x) (clamped_coordinate p.height y)
 
 -- whether `count` coordinates starting at this one are in a side or in the border on both sides of it
 abbrev pub spans_within : ℕ → ℕ → ℤ → ℕ → Bool

@@ -1,13 +1,13 @@
 //! Rows of samples that are apart from each other in a block, and rows with a border.
 ghost use Rattle.std.specs.Prelude.{◌≡◌, ◌+◌, ◌*◌, ◌<◌, ◌≤◌, length, is_some, IfSome, ℕ, pos, ◌+ℤ◌, slice_range, take};
-ghost use Rattle.pixel_planes.specs.ReferenceSamples.{held_place, spans_within};
+ghost use Rattle.pixel_planes.specs.ReferenceSamples.{clamped_coordinate, spans_within};
 ghost use Rattle.pixel_planes.specs.Layout.{rows_of, bordered_side, bordered_row, flat_plane, IsBordered, HasBorderedRows};
 ghost use Rattle.std.specs.Simd.Lanes.{put_chunk};
 
 /// A coordinate clamped to a side of 1 to 16,384: 0 before it, its last index after it.
 pub(crate) fn held(place: i64, side: usize) -> usize
     requires { (0 < side) × (side ≤ 16384) }
-    ensures value { result ≡ held_place side place }
+    ensures value { result ≡ clamped_coordinate side place }
     ensures within { result < side }
 {
     if place < 0 {
@@ -101,7 +101,7 @@ fn repeat_row(row: &[u8], count: usize, out: &mut [u8])
 /// Copies the row at index `from`, with its border, to index `to`, which is after it.
 fn spread_row(samples: &mut [u8], from: usize, to: usize, width: usize, border: usize)
     requires small { (0 < width) × (width ≤ 16384) × (border ≤ 64) }
-    requires behind { from + width ≤ to }
+    requires following { from + width ≤ to }
     requires room { to + bordered_side width border ≤ length samples.old }
     ensures { samples.new ≡ put_chunk to samples.old (bordered_row border (slice_range samples.old from (from + width))) }
 {

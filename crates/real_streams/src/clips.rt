@@ -1,4 +1,4 @@
-//! What is told of a clip.
+//! What is reported of a clip.
 
 use crate::frame_texts::FrameTexts;
 use frame_session::{RunFault, run};
@@ -12,7 +12,7 @@ use vp8_tables::Tables;
 /// How many states the session keeps.
 const CAPACITY: u16 = 8;
 
-/// Why nothing is told.
+/// Why nothing is reported.
 #[derive(Debug, Drop)]
 pub enum Fault {
     /// A file was not read, or the output not written.
@@ -59,7 +59,7 @@ impl From<AllocError> for Fault {
     }
 }
 
-/// The place of the frame that is asked for as the n-th of so many, out of order: each comes once.
+/// The number of the n-th frame in a request out of order, among this many: each comes once.
 fn shuffled(n: usize, count: usize) -> usize {
     let step = if count % 7 == 0 { 11 } else { 7 };
     n.wrapping_mul(step).wrapping_add(3) % count.max(1)
@@ -119,8 +119,8 @@ fn are_same(in_order: FrameTexts, out_of_order: FrameTexts, count: usize) -> boo
     (0..count).all(|n| out_of_order.samples(n) == in_order.samples(shuffled(n, count)))
 }
 
-/// Tells of one clip: its name, how many frames it has, and the MD5 of their samples.
-pub fn tell<O: Write>(
+/// Reports one clip: its name, how many frames it has, and the MD5 of their samples.
+pub fn report<O: Write>(
     alloc: Global,
     name: &str,
     stream: &[u8],

@@ -6,7 +6,7 @@ const MARK: usize = 6;
 /// A text of frames of one size.
 #[derive(Clone, Copy)]
 pub struct FrameTexts<'a> {
-    /// The text behind its first line.
+    /// The text after its first line.
     frames: &'a [u8],
     /// How many bytes a frame has, its mark included.
     stride: usize,
@@ -26,7 +26,7 @@ impl<'a> FrameTexts<'a> {
         })
     }
 
-    /// The samples of frame `n`; `None` where there is no such frame.
+    /// The samples of frame `n`; `None` if there is no such frame.
     pub fn samples(&self, n: usize) -> Option<&'a [u8]> {
         let start = n.checked_mul(self.stride)?.checked_add(MARK)?;
         let end = n.checked_add(1)?.checked_mul(self.stride)?;

@@ -4,7 +4,7 @@ use Rattle.std.proofs.Common.{◌≡◌, ℕ, zero, suc, ◌+◌, ◌-◌, ◌*�
 use Rattle.std.proofs.lemmas.Bool.{cases_lt}
 use Rattle.std.proofs.lemmas.List.{same_lists, length-replicate, get_or-replicate, length-take-le, get_or-take}
 use Rattle.std.proofs.lemmas.Int.{int_wrap_fits}
-use Rattle.vp8_tables.specs.Bounds.{held}
+use Rattle.vp8_tables.specs.Bounds.{clamped_sample}
 use Rattle.transforms.specs.Residuals.{IsAdded}
 use Rattle.transforms.specs.Transforms.{inverse_dct, dct_pass, dct_column, by_sine, by_cosine, eighth}
 use Rattle.reference_frames.specs.AddedBlocks.{IsAddedAt}
@@ -38,7 +38,7 @@ no_residual column row within =
     rw (pass_of_zeros row, int_wrap_fits w16 (pos 0) fits, pass_of_zeros column) refl
 
 -- a sample with no residual
-pub held_alone : (sample : ℕ) → Fits w8 sample → held (pos sample +ℤ pos 0) ≡ sample
+pub held_alone : (sample : ℕ) → Fits w8 sample → clamped_sample (pos sample +ℤ pos 0) ≡ sample
 held_alone sample fits = rw add-zero (omega arith)
 
 -- samples with a residual of 0 are as they were
@@ -54,17 +54,17 @@ none_added coefficients stride samples none fit = record {
 -- a residual added to the part that begins with a block is added to the block within the samples
 pub added_at : (residual : ℕ → ℕ → ℤ) (across column row : ℕ) (old part rest : List ℕ) → column + 4 ≤ across → (row + 4) * across ≤ length old →
     IsAdded residual across (take (length old - (across * row + column)) (drop (across * row + column) old)) part → rest ≡ drop (length old - (across * row + column)) (drop (across * row + column) old) → IsAddedAt residual across column row old (take (across * row + column) old ++ (part ++ rest))
-added_at residual across column row old part rest wide high is behind =
+added_at residual across column row old part rest wide high is following =
     let start : ℕ = across * row + column in
     let room : start ≤ length old = start_within across 4 column row (length old) (omega arith) wide high in
     record {
-      whole = whole_put old part rest start room is.whole behind;
+      whole = whole_put old part rest start room is.whole following;
       each = λ i j inside.
           let place : j * across + i ≡ start + ((j - row) * across + (i - column)) = index_in across i j column row inside.0 inside.2 in
           let to_i : i < column + 4 = inside.1 in
           let to_j : j < row + 4 = inside.3 in
           let within : start + ((j - row) * across + (i - column)) < length old = omega (arith, high, place, index_within across i j (row + 4) (omega arith) to_j) in
-          rw place (part_new old part rest start ((j - row) * across + (i - column)) is.whole within ∙ is.each (i - column) (j - row) (omega arith) (omega arith) ∙ ap (λ n. held (pos n +ℤ residual (i - column) (j - row))) (part_old old start ((j - row) * across + (i - column)) within));
+          rw place (part_new old part rest start ((j - row) * across + (i - column)) is.whole within ∙ is.each (i - column) (j - row) (omega arith) (omega arith) ∙ ap (λ n. clamped_sample (pos n +ℤ residual (i - column) (j - row))) (part_old old start ((j - row) * across + (i - column)) within));
       others = λ i j a out.
           elim (cases_lt j row) [
             | inl higher ↦ part_before old (part ++ rest) start (j * across + i) room (index_above across i j column row a higher)
@@ -75,11 +75,11 @@ added_at residual across column row old part rest wide high is behind =
                     | inr beside ↦ inl (omega arith)
                     | inl near ↦ elim (cases_lt j (row + 4)) [ inl here ↦ absurd (out (right, near, below, here)) | inr lower ↦ inr (omega arith) ]
                   ] in
-                  part_kept old part rest start ((j - row) * across + (i - column)) (j * across + i) room is.whole behind place (is.others (i - column) (j - row) (omega arith) away)
+                  part_kept old part rest start ((j - row) * across + (i - column)) (j * across + i) room is.whole following place (is.others (i - column) (j - row) (omega arith) away)
               | inl left ↦ elim (cases_lt row j) [
                 | inl lower ↦
                     let place : j * across + i ≡ start + ((j - row - 1) * across + (across + i - column)) = index_before across i j column row (omega arith) lower in
-                    part_kept old part rest start ((j - row - 1) * across + (across + i - column)) (j * across + i) room is.whole behind place (is.others (across + i - column) (j - row - 1) (omega arith) (inl (omega arith)))
+                    part_kept old part rest start ((j - row - 1) * across + (across + i - column)) (j * across + i) room is.whole following place (is.others (across + i - column) (j - row - 1) (omega arith) (inl (omega arith)))
                 | inr same ↦
                     let first : j ≡ row = omega arith in
                     part_before old (part ++ rest) start (j * across + i) room (rw first (omega arith))

@@ -12,7 +12,7 @@ use Rattle.mode_parser.specs.declared.records.MbMode.{MbMode}
 use Rattle.pixel_planes.specs.Pictures.{PictureSamples, macroblocks}
 use Rattle.reference_frames.specs.References.{altref_copied, copied, picture_in, references_after}
 use Rattle.reference_frames.specs.States.{StateValue, HasMap, HasSize, HaveOneSize}
-use Rattle.reference_frames.specs.Steps.{decoded, decoded_picture, frame_modes, height_of, references_before, references_behind, width_of}
+use Rattle.reference_frames.specs.Steps.{decoded, decoded_picture, frame_modes, height_of, references_before, references_after_frame, width_of}
 use Rattle.reference_frames.specs.declared.references.References.{References}
 use Rattle.reference_frames.specs.declared.states.State.{State}
 
@@ -25,11 +25,11 @@ one_high : (b : Bool) (one other : PictureSamples) (n : ℕ) → one.height ≡ 
 one_high true one other n a b = a
 one_high false one other n a b = b
 
-behind_wide : (header : Header) (picture : PictureSamples) (before : Option State) → picture.width ≡ width_of header before → (references_behind header picture before).last.width ≡ width_of header before
+behind_wide : (header : Header) (picture : PictureSamples) (before : Option State) → picture.width ≡ width_of header before → (references_after_frame header picture before).last.width ≡ width_of header before
 behind_wide header picture None is = is
 behind_wide header picture (Some state) is = one_wide header.references.refreshes_last picture state.references.last state.references.last.width is refl
 
-behind_high : (header : Header) (picture : PictureSamples) (before : Option State) → picture.height ≡ height_of header before → (references_behind header picture before).last.height ≡ height_of header before
+behind_high : (header : Header) (picture : PictureSamples) (before : Option State) → picture.height ≡ height_of header before → (references_after_frame header picture before).last.height ≡ height_of header before
 behind_high header picture None is = is
 behind_high header picture (Some state) is = one_high header.references.refreshes_last picture state.references.last state.references.last.height is refl
 
@@ -43,7 +43,7 @@ decoded_high packet header references width height modes = refl
 
 -- the last reference after a frame has the size of the frame, and so the segment map that goes with it
 pub has_map : (packet : List ℕ) (header : Header) (before : Option State) (sources : Option References) (width height columns rows : ℕ) (modes : List MbMode) (picture : PictureSamples) (state : StateValue) →
-    width ≡ width_of header before → height ≡ height_of header before → picture ≡ decoded_picture packet header sources width height modes → state.references ≡ references_behind header picture before → columns ≡ macroblocks width → rows ≡ macroblocks height → length state.segment_map ≡ columns * rows → HasMap state
+    width ≡ width_of header before → height ≡ height_of header before → picture ≡ decoded_picture packet header sources width height modes → state.references ≡ references_after_frame header picture before → columns ≡ macroblocks width → rows ≡ macroblocks height → length state.segment_map ≡ columns * rows → HasMap state
 has_map packet header before sources width height columns rows modes picture state wide high picture_is references_are columns_are rows_are long =
     let across : picture.width ≡ width_of header before = ap (λ (p : PictureSamples). p.width) picture_is ∙ decoded_wide packet header sources width height modes ∙ wide in
     let down : picture.height ≡ height_of header before = ap (λ (p : PictureSamples). p.height) picture_is ∙ decoded_high packet header sources width height modes ∙ high in
@@ -82,7 +82,7 @@ after_sized updates picture references is one =
 
 -- the references after a frame have one size
 pub have_one_size : (packet : List ℕ) (header : Header) (before : Option State) (sources : Option References) (width height : ℕ) (modes : List MbMode) (picture : PictureSamples) (references : References) →
-    width ≡ width_of header before → height ≡ height_of header before → picture ≡ decoded_picture packet header sources width height modes → references ≡ references_behind header picture before → ForSome before (λ s. HaveOneSize s.references) → HaveOneSize references
+    width ≡ width_of header before → height ≡ height_of header before → picture ≡ decoded_picture packet header sources width height modes → references ≡ references_after_frame header picture before → ForSome before (λ s. HaveOneSize s.references) → HaveOneSize references
 have_one_size packet header None sources width height modes picture references wide high picture_is references_are one = rw references_are ((refl, refl), (refl, refl))
 have_one_size packet header (Some state) sources width height modes picture references wide high picture_is references_are one =
     let across : picture.width ≡ width_of header (Some state) = ap (λ (p : PictureSamples). p.width) picture_is ∙ decoded_wide packet header sources width height modes ∙ wide in
@@ -91,6 +91,6 @@ have_one_size packet header (Some state) sources width height modes picture refe
 
 -- the parts of a frame together
 pub decoded_whole : (tables : TableEntries) (packet : List ℕ) (header : Header) (before : Option State) (modes : FrameModes) (picture : PictureSamples) (references : References) (map : List ℕ) (state : StateValue) →
-    modes ≡ frame_modes tables header before → picture ≡ decoded_picture packet header (references_before before) (width_of header before) (height_of header before) modes.records → references ≡ references_behind header picture before → map ≡ modes.segment_map →
+    modes ≡ frame_modes tables header before → picture ≡ decoded_picture packet header (references_before before) (width_of header before) (height_of header before) modes.records → references ≡ references_after_frame header picture before → map ≡ modes.segment_map →
     state ≡ record { context = header.context_after; segment_map = map; references = references } → (state, picture) ≡ decoded tables packet header before
 decoded_whole tables packet header before modes picture references map state modes_are picture_is references_are map_is state_is = rw (state_is, map_is, references_are, picture_is, modes_are) refl

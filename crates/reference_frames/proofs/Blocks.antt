@@ -12,7 +12,7 @@ use Rattle.intra_predict.specs.declared.modes.BlockSize.TheVariants.{Sixteen, Ei
 use Rattle.intra_predict.specs.declared.modes.WholeMode.{WholeMode}
 use Rattle.pixel_planes.specs.Samples.{Samples}
 use Rattle.reference_frames.specs.Restored.{Residual, block_at, restored}
-use Rattle.vp8_tables.specs.Bounds.{held}
+use Rattle.vp8_tables.specs.Bounds.{clamped_sample}
 use Rattle.transforms.specs.Transforms.{inverse_dct}
 use Rattle.reference_frames.specs.Unfiltered.{above_row, left_column, corner, block_row, with_block, with_block_rows, whole_block_sample, predicted_whole}
 
@@ -78,5 +78,5 @@ pub restored_block : (side first : ℕ) (residual : Residual) (sample : ℕ → 
 restored_block side first None sample old new is added = record { whole = added.whole; each = λ column row a b. added.each column row a b ∙ is.each column row a b }
 restored_block side first (Some blocks) sample old new is added = record {
   whole = added.whole;
-  each = λ column row a b. added.each column row a b ∙ ap (λ n. held (pos n +ℤ inverse_dct (slice_index_or blocks (block_at side first column row) []) (column % 4) (row % 4))) (is.each column row a b);
+  each = λ column row a b. added.each column row a b ∙ ap (λ n. clamped_sample (pos n +ℤ inverse_dct (slice_index_or blocks (block_at side first column row) []) (column % 4) (row % 4))) (is.each column row a b);
 }

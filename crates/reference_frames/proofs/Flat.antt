@@ -41,8 +41,8 @@ span_beside p x y i span whole below within out =
     elim (cases_lt i x) [
       | inl before ↦ read ∙ get_or-put_chunk_below x (row_of p y) span i 0 before ∙ row_sample p i y within
       | inr from ↦
-          let behind : x + length span ≤ i = elim (cases_lt i (x + length span)) [ inl lt ↦ absurd (out from lt) | inr le ↦ le ] in
-          read ∙ get_or-put_chunk_above x (row_of p y) span i 0 behind ∙ row_sample p i y within
+          let following : x + length span ≤ i = elim (cases_lt i (x + length span)) [ inl lt ↦ absurd (out from lt) | inr le ↦ le ] in
+          read ∙ get_or-put_chunk_above x (row_of p y) span i 0 following ∙ row_sample p i y within
     ]
 
 -- a sample that was not written
@@ -127,7 +127,7 @@ in_or_out x y side i j =
     elim (cases_lt i x) [
       | inl before ↦ inr (λ a b c d. omega arith)
       | inr a ↦ elim (cases_lt i (x + side)) [
-        | inr behind ↦ inr (λ a b c d. omega arith)
+        | inr following ↦ inr (λ a b c d. omega arith)
         | inl b ↦ elim (cases_lt j y) [
           | inl higher ↦ inr (λ a b c d. omega arith)
           | inr c ↦ elim (cases_lt j (y + side)) [

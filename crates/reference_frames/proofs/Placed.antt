@@ -7,7 +7,7 @@ use Rattle.inter_predict.specs.InterSample.{inter_sample, predicted}
 use Rattle.inter_predict.specs.declared.kinds.Kind.{Kind}
 use Rattle.intra_predict.specs.Blocks.{IsBlock}
 use Rattle.pixel_planes.specs.Samples.{Samples}
-use Rattle.vp8_tables.specs.Bounds.{held}
+use Rattle.vp8_tables.specs.Bounds.{clamped_sample}
 use Rattle.transforms.specs.Transforms.{inverse_dct}
 use Rattle.reference_frames.specs.PlacedBlocks.{IsInSquare, IsPlaced, from_corner, square_from}
 use Rattle.reference_frames.specs.Restored.{Residual, block_at, restored}
@@ -17,11 +17,11 @@ use Rattle.reference_frames.proofs.Squares.{index_in, index_before, index_above,
 pub placed_at : (f g : ℕ → ℕ → ℕ) (across side column row : ℕ) (old part rest : List ℕ) → 0 < side → column + side ≤ across → (row + side) * across ≤ length old →
     ((i j : ℕ) → IsInSquare column row side i j → g (i - column) (j - row) ≡ f i j) →
     IsBlockIn g side side across (take (length old - (across * row + column)) (drop (across * row + column) old)) part → rest ≡ drop (length old - (across * row + column)) (drop (across * row + column) old) → IsPlaced f across side column row old (take (across * row + column) old ++ (part ++ rest))
-placed_at f g across side column row old part rest some wide high same is behind =
+placed_at f g across side column row old part rest some wide high same is following =
     let start : ℕ = across * row + column in
     let room : start ≤ length old = start_within across side column row (length old) some wide high in
     record {
-      whole = whole_put old part rest start room is.whole behind;
+      whole = whole_put old part rest start room is.whole following;
       each = λ i j inside.
           let place : j * across + i ≡ start + ((j - row) * across + (i - column)) = index_in across i j column row inside.0 inside.2 in
           let to_i : i < column + side = inside.1 in
@@ -38,11 +38,11 @@ placed_at f g across side column row old part rest some wide high same is behind
                     | inr beside ↦ inl (omega arith)
                     | inl near ↦ elim (cases_lt j (row + side)) [ inl here ↦ absurd (out (right, near, below, here)) | inr lower ↦ inr (omega arith) ]
                   ] in
-                  part_kept old part rest start ((j - row) * across + (i - column)) (j * across + i) room is.whole behind place (is.others (i - column) (j - row) (omega arith) away)
+                  part_kept old part rest start ((j - row) * across + (i - column)) (j * across + i) room is.whole following place (is.others (i - column) (j - row) (omega arith) away)
               | inl left ↦ elim (cases_lt row j) [
                 | inl lower ↦
                     let place : j * across + i ≡ start + ((j - row - 1) * across + (across + i - column)) = index_before across i j column row (omega arith) lower in
-                    part_kept old part rest start ((j - row - 1) * across + (across + i - column)) (j * across + i) room is.whole behind place (is.others (across + i - column) (j - row - 1) (omega arith) (inl (omega arith)))
+                    part_kept old part rest start ((j - row - 1) * across + (across + i - column)) (j * across + i) room is.whole following place (is.others (across + i - column) (j - row - 1) (omega arith) (inl (omega arith)))
                 | inr same_row ↦
                     let first : j ≡ row = omega arith in
                     part_before old (part ++ rest) start (j * across + i) room (rw first (omega arith))
@@ -119,7 +119,7 @@ moved kind p column row i j right below a b =
 -- the residual of a sample depends on that sample only
 restored_same : (side first : ℕ) (residual : Residual) (one other : ℕ → ℕ → ℕ) (i j : ℕ) → one i j ≡ other i j → restored side first residual one i j ≡ restored side first residual other i j
 restored_same side first None one other i j same = same
-restored_same side first (Some blocks) one other i j same = ap (λ n. held (pos n +ℤ inverse_dct (slice_index_or blocks (block_at side first i j) []) (i % 4) (j % 4))) same
+restored_same side first (Some blocks) one other i j same = ap (λ n. clamped_sample (pos n +ℤ inverse_dct (slice_index_or blocks (block_at side first i j) []) (i % 4) (j % 4))) same
 
 -- a square without a residual stays as it is
 pub none_added_to : (side first across x y : ℕ) (old : List ℕ) → IsPlaced (from_corner x y (restored side first None (square_from old across x y))) across side x y old old

@@ -72,8 +72,8 @@ above_eight_parts p mx my n right_y right within =
     (length-append first last)
     (λ k less. elim (cases_lt k 4) [
       | inl front ↦
-          let held : x + k ≡ min (x + k) (p.width - 1) = omega (arith, within) in
-          get_or_append_left first last 0 k front ∙ get_or-map-range_with_len near 0 4 k k 0 front (omega arith) ∙ ap (λ (column : ℕ). above p column (sub_row my n)) held
+          let clamped_sample : x + k ≡ min (x + k) (p.width - 1) = omega (arith, within) in
+          get_or_append_left first last 0 k front ∙ get_or-map-range_with_len near 0 4 k k 0 front (omega arith) ∙ ap (λ (column : ℕ). above p column (sub_row my n)) clamped_sample
           ∙ ap (λ row. each (x + k) row) (sym (cond-true _ _ _ (lt-ltb k 4 front)))
       | inr back ↦
           let place : x + 4 + (k - 4) ≡ x + k = omega arith in

@@ -76,16 +76,16 @@ part_before old tail start k inside before =
     get_or_append_left (take start old) tail 0 k (omega (arith, front)) ∙ get_or-take start old k 0 before
 
 pub whole_put : (old part rest : List ℕ) (start : ℕ) → start ≤ length old → length part ≡ length (take (length old - start) (drop start old)) → rest ≡ drop (length old - start) (drop start old) → length (take start old ++ (part ++ rest)) ≡ length old
-whole_put old part rest start room whole behind =
+whole_put old part rest start room whole following =
     let front : length (take start old) ≡ start = length-take-le start old room in
     let long : length (take (length old - start) (drop start old)) ≡ length old - start = length-take-le (length old - start) (drop start old) (omega (arith, length-drop start old)) in
-    let none : length rest ≡ 0 = ap (λ (r : List ℕ). length r) behind ∙ length-drop (length old - start) (drop start old) ∙ omega (arith, length-drop start old) in
+    let none : length rest ≡ 0 = ap (λ (r : List ℕ). length r) following ∙ length-drop (length old - start) (drop start old) ∙ omega (arith, length-drop start old) in
     omega (arith, length-append (take start old) (part ++ rest), length-append part rest, front, whole, long, none)
 
 -- a sample after the start of a block that is unchanged in the part is unchanged in the whole
 pub part_kept : (old part rest : List ℕ) (start k n : ℕ) → start ≤ length old → length part ≡ length (take (length old - start) (drop start old)) → rest ≡ drop (length old - start) (drop start old) → n ≡ start + k → slice_index part k ≡ slice_index (take (length old - start) (drop start old)) k → slice_index (take start old ++ (part ++ rest)) n ≡ slice_index old n
-part_kept old part rest start k n room whole behind place same =
-    let long : length (take start old ++ (part ++ rest)) ≡ length old = whole_put old part rest start room whole behind in
+part_kept old part rest start k n room whole following place same =
+    let long : length (take start old ++ (part ++ rest)) ≡ length old = whole_put old part rest start room whole following in
     elim (cases_lt n (length old)) [
       | inl within ↦
           let inside : start + k < length old = omega (arith, place, within) in

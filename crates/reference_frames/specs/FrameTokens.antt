@@ -89,10 +89,10 @@ tokens_at probs state column row mode =
 
 -- the state after it
 abbrev pub state_with : TokenState → ℕ → ℕ → Tokens × Reader → TokenState
-state_with state column row told = record {
-  readers = slice_set state.readers (partition_of state row) told.1;
-  above = slice_set state.above column told.0.above;
-  left = told.0.left;
+state_with state column row tokens_read = record {
+  readers = slice_set state.readers (partition_of state row) tokens_read.1;
+  above = slice_set state.above column tokens_read.0.above;
+  left = tokens_read.0.left;
 }
 
 -- its residual; a macroblock that is skipped has none
@@ -105,33 +105,33 @@ flag_with mode tokens = if mode.is_skipped then false else has_tokens (has_y2 mo
 
 -- ---- all macroblocks
 
-abbrev pub state_behind : Header → ℕ → TokenState → ℕ → Option MbMode → TokenState
-state_behind header columns state place None = state
-state_behind header columns state place (Some mode) =
+abbrev pub state_after : Header → ℕ → TokenState → ℕ → Option MbMode → TokenState
+state_after header columns state place None = state
+state_after header columns state place (Some mode) =
     state_with state (place % columns) (place / columns) (tokens_at header.context.probabilities.coefficients state (place % columns) (place / columns) mode)
 
 -- the state after the first n macroblocks, in raster order
 unfoldable pub token_state : Header → ℕ → TokenState → List MbMode → ℕ → TokenState
 token_state header columns start modes zero = start
-token_state header columns start modes (suc n) = state_behind header columns (token_state header columns start modes n) n (slice_get modes n)
+token_state header columns start modes (suc n) = state_after header columns (token_state header columns start modes n) n (slice_get modes n)
 
-abbrev pub residual_behind : Header → ℕ → TokenState → ℕ → Option MbMode → Residual
-residual_behind header columns state place None = None
-residual_behind header columns state place (Some mode) =
+abbrev pub residual_after : Header → ℕ → TokenState → ℕ → Option MbMode → Residual
+residual_after header columns state place None = None
+residual_after header columns state place (Some mode) =
     residual_with (factors_of header mode.segment) mode (tokens_at header.context.probabilities.coefficients state (place % columns) (place / columns) mode).0
 
 -- the residual of the macroblock at an index
 unfoldable pub residual_at : Header → ℕ → TokenState → List MbMode → ℕ → Residual
-residual_at header columns start modes n = residual_behind header columns (token_state header columns start modes n) n (slice_get modes n)
+residual_at header columns start modes n = residual_after header columns (token_state header columns start modes n) n (slice_get modes n)
 
-abbrev pub flag_behind : Header → ℕ → TokenState → ℕ → Option MbMode → Bool
-flag_behind header columns state place None = false
-flag_behind header columns state place (Some mode) =
+abbrev pub flag_after : Header → ℕ → TokenState → ℕ → Option MbMode → Bool
+flag_after header columns state place None = false
+flag_after header columns state place (Some mode) =
     flag_with mode (tokens_at header.context.probabilities.coefficients state (place % columns) (place / columns) mode).0
 
 -- whether a block of the macroblock at an index has a token
 unfoldable pub flag_at : Header → ℕ → TokenState → List MbMode → ℕ → Bool
-flag_at header columns start modes n = flag_behind header columns (token_state header columns start modes n) n (slice_get modes n)
+flag_at header columns start modes n = flag_after header columns (token_state header columns start modes n) n (slice_get modes n)
 
 -- and of each macroblock, in raster order
 abbrev pub flags_of : Header → ℕ → TokenState → List MbMode → List Bool

@@ -51,15 +51,15 @@ frame_modes tables header before =
     modes_of tables header (macroblocks (width_of header before)) (macroblocks (height_of header before)) (option_map (λ s. s.segment_map) before)
 
 -- a key frame's picture becomes each of the references (section 9.7)
-abbrev pub references_behind : Header → PictureSamples → Option State → References
-references_behind header picture None = record { last = picture; golden = picture; altref = picture }
-references_behind header picture (Some before) = references_after header.references picture before.references
+abbrev pub references_after_frame : Header → PictureSamples → Option State → References
+references_after_frame header picture None = record { last = picture; golden = picture; altref = picture }
+references_after_frame header picture (Some before) = references_after header.references picture before.references
 
 abbrev pub state_with : Header → FrameModes → PictureSamples → Option State → State
 state_with header modes picture before = record {
   context = header.context_after;
   segment_map = modes.segment_map;
-  references = references_behind header picture before;
+  references = references_after_frame header picture before;
 }
 
 -- the state after a frame, and its picture, which is the same whether it refreshes a reference or not

@@ -1,6 +1,6 @@
 ghost use Rattle.std.specs.Prelude.{◌≡◌, false, ◌+◌, ◌<◌, ◌≤◌, ◌*◌, length, All, IfOk, IsTrue, IsSome};
 ghost use Rattle.std.specs.Option.{option_copied, option_map, ForSome};
-ghost use Rattle.reference_frames.specs.Steps.{StepAnswers, coded_step, decoded, height_of, references_before, references_behind, repeated, step_of, width_of};
+ghost use Rattle.reference_frames.specs.Steps.{StepAnswers, coded_step, decoded, height_of, references_before, references_after_frame, repeated, step_of, width_of};
 ghost use Rattle.reference_frames.specs.States.{HasMap, HaveOneSize};
 
 use crate::frames::{decoded_picture, macroblocks};
@@ -15,7 +15,7 @@ use vp8_tables::Tables;
 
 /// The shown size of a frame: its references' size, or a key frame's own.
 fn size_of(header: &Header, before: Option<&State>) -> (u16, u16)
-    requires behind { header.now.is_key ≡ false → IsSome before }
+    requires following { header.now.is_key ≡ false → IsSome before }
     requires wide { IsTrue header.now.is_key → (1 ≤ header.now.width) × (header.now.width ≤ 16383) }
     requires high { IsTrue header.now.is_key → (1 ≤ header.now.height) × (header.now.height ≤ 16383) }
     ensures width { result.0 ≡ width_of header.now (option_copied before.entry) }
@@ -55,12 +55,12 @@ fn references_before(before: Option<&State>) -> Option<&References>
 }
 
 /// The references after a frame of this picture.
-fn references_behind(
+fn references_after_frame(
     header: &Header,
     picture: &Picture,
     before: Option<&State>,
 ) -> Result<References, NoMemory>
-    ensures { IfOk result (λ r. r ≡ references_behind header.now picture.now (option_copied before.entry)) }
+    ensures { IfOk result (λ r. r ≡ references_after_frame header.now picture.now (option_copied before.entry)) }
 {
     match before {
         None => References::all_of(picture),
@@ -76,7 +76,7 @@ fn decode(
     header: &Header,
     before: Option<&State>,
 ) -> Result<(State, Picture), NoMemory>
-    requires behind { header.now.is_key ≡ false → IsSome before }
+    requires following { header.now.is_key ≡ false → IsSome before }
     requires wide { IsTrue header.now.is_key → (1 ≤ header.now.width) × (header.now.width ≤ 16383) }
     requires high { IsTrue header.now.is_key → (1 ≤ header.now.height) × (header.now.height ≤ 16383) }
     requires some { 0 < length header.now.partitions.items }
@@ -90,7 +90,7 @@ fn decode(
     let rows = macroblocks(height);
     let modes = read_modes(alloc, tables, header, columns, rows, map)?;
     let picture = decoded_picture(alloc, packet, header, references, width, height, &modes)?;
-    let references = references_behind(header, &picture, before)?;
+    let references = references_after_frame(header, &picture, before)?;
     let segment_map = modes.into_segment_map();
     let state = State::new(alloc, header.context_after, segment_map, references)?;
     Ok((state, picture))

@@ -3,7 +3,7 @@ use std::alloc::{AllocError, Global};
 use stream_files::{IvfFault, WriteFault};
 use vp8_tables::Tables;
 
-/// A key packet of 16 by 16 samples whose partitions are empty, so that every bit reads 0.
+/// A key packet of 16 by 16 samples whose partitions are empty: every bit reads 0.
 pub const KEY: &[u8] = &[0x10, 0, 0, 0x9D, 1, 0x2A, 0x10, 0, 0x10, 0];
 
 /// The same of 32 by 16 samples.
@@ -15,8 +15,8 @@ pub const INTER: &[u8] = &[0x11, 0, 0];
 /// The same, hidden.
 pub const HIDDEN: &[u8] = &[1, 0, 0];
 
-/// What a run gave: the bytes of the frames and of the replies, and how many bytes stood behind the
-/// file's records, or the run's fault.
+/// The result of a run: the bytes of the frames and of the replies, and the number of bytes after the
+/// file's records, or the run's error.
 #[derive(Drop)]
 pub struct Ran {
     pub frames: Vec<u8>,
@@ -37,7 +37,7 @@ pub fn ivf_of(alloc: Global, packets: &[&[u8]]) -> Result<Vec<u8>, AllocError> {
     Ok(file)
 }
 
-/// Runs requests over the bytes of a file, where so many decoded states may be kept.
+/// Runs requests over the bytes of a file, with a cache of `capacity` states.
 pub fn run_with(alloc: Global, capacity: u16, file: &[u8], requests: &[u8]) -> Ran {
     let mut frames = Vec::new(alloc);
     let mut replies = Vec::new(alloc);
@@ -60,7 +60,7 @@ pub fn run_with(alloc: Global, capacity: u16, file: &[u8], requests: &[u8]) -> R
     }
 }
 
-/// Whether two texts of replies have the same lines, but for the numbers of steps.
+/// Whether two texts of replies have the same lines, except the numbers of steps.
 fn reply_alike(one: &[u8], other: &[u8]) -> bool {
     let mut others = other.split(|byte| *byte == b'\n');
     for line in one.split(|byte| *byte == b'\n') {
@@ -75,9 +75,8 @@ fn reply_alike(one: &[u8], other: &[u8]) -> bool {
     others.next().is_none()
 }
 
-/// Runs requests over the bytes of a file, where 8 decoded states may be kept. Where a run with one
-/// kept state gives anything else, but for numbers of steps, that run is given, so that what it is
-/// compared with shows it.
+/// Runs requests over the bytes of a file, with a cache of 8 states. If a run with one cached state
+/// differs, except in numbers of steps, that run is returned, so the caller's comparison shows it.
 pub fn run_over(alloc: Global, file: &[u8], requests: &[u8]) -> Ran {
     let ran = run_with(alloc, 8, file, requests);
     let one = run_with(alloc, 1, file, requests);

@@ -29,7 +29,7 @@ const SUB: [&[u8]; 10] = [
     b"1111111",
 ];
 
-/// The place of mode B among the luma modes.
+/// The index of mode B among the luma modes.
 pub const B: usize = 4;
 
 /// The modes of a macroblock, by their places in the lists above.
@@ -66,13 +66,13 @@ fn write_macroblock(encoder: &mut Encoder, macroblock: &Macroblock) -> Result<()
     write_pairs(encoder, CHROMA[macroblock.chroma % 4])
 }
 
-/// A key packet with this first partition and these bytes behind it.
+/// A key packet with this first partition and these bytes after it.
 pub fn packet_of(
     alloc: Global,
     width: u16,
     height: u16,
     first: &[u8],
-    behind: &[u8],
+    following: &[u8],
 ) -> Result<Vec<u8>, AllocError> {
     let size = first.len() as u64 % 524_288;
     let mut packet = Vec::new(alloc);
@@ -83,17 +83,17 @@ pub fn packet_of(
     packet.extend_from_slice(&width.to_le_bytes())?;
     packet.extend_from_slice(&height.to_le_bytes())?;
     packet.extend_from_slice(first)?;
-    packet.extend_from_slice(behind)?;
+    packet.extend_from_slice(following)?;
     Ok(packet)
 }
 
-/// The digits of a key frame's header up to the changes of the filter level, where it has neither
+/// The digits of a key frame's header up to the deltas of the filter level, if it has neither
 /// segments nor a loop filter.
 pub const PLAIN: &[u8] = b"00000000000000";
 
-/// Writes a key frame's header: the fields up to the changes of the filter level (14 digits where
+/// Writes a key frame's header: the fields up to the deltas of the filter level (14 digits if
 /// there are no segments), how many token partitions there are (two), the quantizer index (seven), and
-/// what is said of skipping (one, and eight more for a probability).
+/// the skip fields (one, and eight more for a probability).
 fn write_header(
     encoder: &mut Encoder,
     fields: &[u8],
@@ -143,9 +143,9 @@ pub fn first_partition(
     encoder.finish()
 }
 
-/// A key packet with these fields up to the changes of the filter level and this quantizer index
+/// A key packet with these fields up to the deltas of the filter level and this quantizer index
 /// (seven digits), in which no macroblock is skipped. Each of `macroblocks` is a luma mode by its
-/// place, a segment's pairs before it, and the first coefficient of its Y2 block: 1, -1 or none.
+/// index, a segment's pairs before it, and the first coefficient of its Y2 block: 1, -1 or none.
 pub fn filtered_packet(
     alloc: Global,
     width: u16,
@@ -187,8 +187,8 @@ pub fn inter_packet(alloc: Global, macroblocks: &[&[(bool, u8)]]) -> Result<Vec<
     inter_packet_of(alloc, b"000000000000", b"100000001", macroblocks, &[])
 }
 
-/// Such a packet with these fields up to the changes of the filter level (12 digits where there are no
-/// segments), what is said of skipping, and this token partition. The probability of a reference is
+/// Such a packet with these fields up to the deltas of the filter level (12 digits if there are no
+/// segments), the skip fields, and this token partition. The probability of a reference is
 /// 1, that of the last frame 255, golden's 128.
 pub fn inter_packet_of(
     alloc: Global,

@@ -28,7 +28,7 @@ weight_before r i h = grind (arith, nat_tests)
 
 pub weight_behind : (r : Ramp) (i : ℕ) → r.first ≤ i → r.count ≤ i - r.first → r.end ≡ weight_at r i
 unfolding weight_at
-weight_behind r i h behind = grind (arith, nat_tests)
+weight_behind r i h following = grind (arith, nat_tests)
 
 pub weight_between : (r : Ramp) (i : ℕ) → r.first ≤ i → i - r.first < r.count → (r.start * (r.count - (i - r.first)) + r.end * (i - r.first)) / r.count ≡ weight_at r i
 unfolding weight_at

@@ -66,9 +66,9 @@ words_of-first (x ∷ xs) h k = by_first (x == 32) refl
         let front : before_first (λ b. b == 32) (x ∷ xs) ≡ x ∷ before_first (λ b. b == 32) xs = rw (e, one_more) refl in
         let some : (length (before_first (λ b. b == 32) (x ∷ xs)) == 0) ≡ false = not_zero _ (omega (arith, ap length front)) in
         let word : List ℕ = before_first (λ b. b == 32) (x ∷ xs) in
-        let behind : List (List ℕ) = filter (λ part. not (length part == 0)) parts.more in
+        let following : List (List ℕ) = filter (λ part. not (length part == 0)) parts.more in
         ap (filter (λ part. not (length part == 0))) parts.split
-        ∙ ap (λ none. cond (not none) (word ∷ behind) behind) some
+        ∙ ap (λ none. cond (not none) (word ∷ following) following) some
         ∙ ap (λ words. word ∷ words) (sym parts.words)
 
 -- a first word is not an empty part
@@ -82,23 +82,23 @@ first_some (x ∷ xs) h k = by_first (x == 32) refl
 
 -- the text after the spaces begins with none
 no_space_behind : (text words : List ℕ) (n : ℕ) → n ≡ prefix_len (λ b. b == 32) text → words ≡ drop n text → n < length text → prefix_len (λ b. b == 32) words ≡ 0
-no_space_behind text words n spaces behind within =
+no_space_behind text words n spaces following within =
     let stops : get_or text n 0 == 32 ≡ false = ap (λ k. get_or text k 0 == 32) spaces ∙ prefix_len_stops (λ b. b == 32) text 0 (omega (arith, spaces, within)) in
-    ap (prefix_len (λ b. b == 32)) behind ∙ prefix_len-drop_no (λ b. b == 32) text n 0 within stops
+    ap (prefix_len (λ b. b == 32)) following ∙ prefix_len-drop_no (λ b. b == 32) text n 0 within stops
 
 -- the first word, as the code cuts it off
 pub cut_word : (text words word rest : List ℕ) (n m : ℕ) → n ≡ prefix_len (λ b. b == 32) text → words ≡ drop n text → 0 < length words → m ≡ position_or_len (λ b. b == 32) words → word ≡ take m words → rest ≡ drop m words → (words_of text ≡ word ∷ words_of rest) × (length rest < length text)
-cut_word text words word rest n m spaces behind some at front back =
-    let within : n < length text = omega (arith, ap length behind, length-drop n text) in
-    let begins : prefix_len (λ b. b == 32) words ≡ 0 = no_space_behind text words n spaces behind within in
-    let same : words_of text ≡ words_of words = sym (words_of-spaces text) ∙ ap (λ k. words_of (drop k text)) (sym spaces) ∙ ap words_of (sym behind) in
+cut_word text words word rest n m spaces following some at front back =
+    let within : n < length text = omega (arith, ap length following, length-drop n text) in
+    let begins : prefix_len (λ b. b == 32) words ≡ 0 = no_space_behind text words n spaces following within in
+    let same : words_of text ≡ words_of words = sym (words_of-spaces text) ∙ ap (λ k. words_of (drop k text)) (sym spaces) ∙ ap words_of (sym following) in
     let word_is : before_first (λ b. b == 32) words ≡ word = ap (λ k. take k words) (sym at) ∙ sym front in
     let rest_is : drop (position_or_len (λ b. b == 32) words) words ≡ rest = ap (λ k. drop k words) (sym at) ∙ sym back in
     let first : words_of words ≡ word ∷ words_of rest = words_of-first words some begins ∙ (rw (word_is, rest_is) refl) in
-    (same ∙ first, omega (arith, at, first_some words some begins, ap length back, length-drop m words, ap length behind, length-drop n text))
+    (same ∙ first, omega (arith, at, first_some words some begins, ap length back, length-drop m words, ap length following, length-drop n text))
 
 -- a text of spaces
 pub cut_none : (text words : List ℕ) (n : ℕ) → n ≡ prefix_len (λ b. b == 32) text → words ≡ drop n text → length words ≡ 0 → words_of text ≡ []
-cut_none text words n spaces behind none =
-    let all : length text ≤ n = omega (arith, ap length behind, length-drop n text) in
+cut_none text words n spaces following none =
+    let all : length text ≤ n = omega (arith, ap length following, length-drop n text) in
     sym (words_of-spaces text) ∙ ap (λ k. words_of (drop k text)) (sym spaces) ∙ ap words_of (drop_all n text all)

@@ -6,18 +6,18 @@ use Rattle.std.specs.List.{slice_split, position_or_len, before_first, after_fir
 use Rattle.script_nodes.proofs.Splits.{split_whole}
 
 -- the last part, as the code cuts it off
-pub cut_last : (p : ℕ → Bool) (text part behind : List ℕ) (n : ℕ) → n ≡ position_or_len p text → part ≡ take n text → behind ≡ drop n text → length behind < 1 → slice_split p text ≡ part ∷ []
-cut_last p text part behind n at front back none =
+pub cut_last : (p : ℕ → Bool) (text part following : List ℕ) (n : ℕ) → n ≡ position_or_len p text → part ≡ take n text → following ≡ drop n text → length following < 1 → slice_split p text ≡ part ∷ []
+cut_last p text part following n at front back none =
     let all : length text ≤ n = omega (arith, ap length back, length-drop n text) in
     let whole : part ≡ text = front ∙ take_all n text all in
     split_whole p text (omega (arith, all, at)) ∙ ap (λ l. l ∷ []) (sym whole)
 
 -- a part before another, as the code cuts it off
-pub cut_first : (p : ℕ → Bool) (text part behind : List ℕ) (n : ℕ) → n ≡ position_or_len p text → part ≡ take n text → behind ≡ drop n text → 1 ≤ length behind → slice_split p text ≡ part ∷ slice_split p (take (length behind - 1) (drop 1 behind))
-cut_first p text part behind n at front back some =
+pub cut_first : (p : ℕ → Bool) (text part following : List ℕ) (n : ℕ) → n ≡ position_or_len p text → part ≡ take n text → following ≡ drop n text → 1 ≤ length following → slice_split p text ≡ part ∷ slice_split p (take (length following - 1) (drop 1 following))
+cut_first p text part following n at front back some =
     let more : n < length text = omega (arith, ap length back, length-drop n text) in
     let place : position_or_len p text ≡ n = sym at in
     let part_is : before_first p text ≡ part = ap (λ k. take k text) place ∙ sym front in
-    let all : take (length behind - 1) (drop 1 behind) ≡ drop 1 behind = take_all (length behind - 1) (drop 1 behind) (omega (arith, length-drop 1 behind)) in
-    let rest_is : after_first p text ≡ drop 1 behind = ap (λ k. drop (k + 1) text) place ∙ sym (drop-drop 1 n text) ∙ ap (drop 1) (sym back) in
+    let all : take (length following - 1) (drop 1 following) ≡ drop 1 following = take_all (length following - 1) (drop 1 following) (omega (arith, length-drop 1 following)) in
+    let rest_is : after_first p text ≡ drop 1 following = ap (λ k. drop (k + 1) text) place ∙ sym (drop-drop 1 n text) ∙ ap (drop 1) (sym back) in
     slice_split_first p text 0 (omega (arith, more, at)) ∙ rw (part_is, rest_is, all) refl

@@ -42,5 +42,5 @@ abbrev pub RampsMeetTheirEnds : Type 0
 RampsMeetTheirEnds = (ramp : Ramp) → 0 < ramp.count → (weight_at ramp ramp.first ≡ ramp.start) × (weight_at ramp (ramp.first + ramp.count) ≡ ramp.end)
 
 -- the samples of two pictures that show the same are the same
-abbrev pub ShownSamplesAreTold : Type 0
-ShownSamplesAreTold = (p q : PictureSamples) (shown : Shown) (component : Component) → IsWholePicture p → IsWholePicture q → Shows p shown → Shows q shown → shown_plane p component ≡ shown_plane q component
+abbrev pub ShownSamplesAreSame : Type 0
+ShownSamplesAreSame = (p q : PictureSamples) (shown : Shown) (component : Component) → IsWholePicture p → IsWholePicture q → Shows p shown → Shows q shown → shown_plane p component ≡ shown_plane q component

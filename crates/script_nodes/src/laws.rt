@@ -1,6 +1,6 @@
 //! Laws over the definitions of this crate: each is the contract of a function that does nothing.
 
-ghost use Rattle.script_nodes.specs.Laws.{TracesAreFollowed, WorkedSplice, WorkedFaults, WorkedWeights, RampsMeetTheirEnds, ShownSamplesAreTold};
+ghost use Rattle.script_nodes.specs.Laws.{TracesAreFollowed, WorkedSplice, WorkedFaults, WorkedWeights, RampsMeetTheirEnds, ShownSamplesAreSame};
 
 /// A frame of a script is the source's frame with the steps of its trace applied.
 pub fn traces_are_followed()
@@ -28,6 +28,6 @@ pub fn ramps_meet_their_ends()
 {}
 
 /// Pictures that show the same have the same shown samples, row by row.
-pub fn shown_samples_are_told()
-    ensures { ShownSamplesAreTold }
+pub fn shown_samples_are_same()
+    ensures { ShownSamplesAreSame }
 {}

@@ -20,8 +20,8 @@ fn cut_part(text: &[u8]) -> (&[u8], Option<&[u8]>)
     ensures cut { IsCut text.now result.0.now result.1 }
     ensures shorter { IfSome result.1 (λ rest. length rest.now < length text.now) }
 {
-    let (part, behind) = text.split_at(length_before(b';', text));
-    match behind {
+    let (part, following) = text.split_at(length_before(b';', text));
+    match following {
         [_, rest @ ..] => (part, Some(rest)),
         [] => (part, None),
     }
@@ -38,14 +38,14 @@ fn read_parts(text: &[u8]) -> Result<Nodes, ScriptFault>
     let mut has_more = false;
     let mut left = Some(text);
     while let Some(text) = left {
-        let (part, behind) = cut_part(text);
+        let (part, following) = cut_part(text);
         let node = read_node(part).ok_or(ScriptFault::Syntax)?;
         if nodes.is_full() {
             has_more = true;
         } else {
             nodes.push(node);
         }
-        left = behind;
+        left = following;
     }
     if has_more {
         return Err(ScriptFault::Nodes);

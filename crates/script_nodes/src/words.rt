@@ -46,7 +46,7 @@ pub(crate) fn number(word: &[u8]) -> Option<u64>
     if word.len() > MOST_DIGITS {
         return None;
     }
-    if !has_digits_alone(word) {
+    if !has_only_digits(word) {
         return None;
     }
     match str::from_utf8(word) {
@@ -55,7 +55,7 @@ pub(crate) fn number(word: &[u8]) -> Option<u64>
     }
 }
 
-fn has_digits_alone(word: &[u8]) -> bool
+fn has_only_digits(word: &[u8]) -> bool
     ensures { result ≡ list_all is_ascii_digit word.now }
 {
     word.iter().all(|byte| byte.is_ascii_digit())

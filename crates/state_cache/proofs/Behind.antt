@@ -1,27 +1,27 @@
--- Looking on along a run for its last kept place.
+-- Searching forward along a run for its last cached index.
 use Rattle.std.proofs.Common.{◌≡◌, ℕ, ◌+◌, ◌<◌, ◌≤◌, ◌⊎◌, inl, inr, Bool, true, false, cond, List, refl, sym, subst, arith}
 use Rattle.state_cache.specs.Costs.{IsOneRun, cut_at}
-use Rattle.state_cache.specs.Views.{Seen, View, kept_at}
-use Rattle.state_cache.specs.Walks.{IsBehindKept}
+use Rattle.state_cache.specs.Views.{MarkedPacket, View, cached_at}
+use Rattle.state_cache.specs.Walks.{IsAfterCached}
 use Rattle.state_cache.proofs.Runs.{same_or_not, up_to_or_behind}
 
--- the places before n were looked at
-pub record Looked (xs : List Seen) (kept : View) (first place last n : ℕ) : Type 0 where
+-- the indexes before n were looked at
+pub record Looked (xs : List MarkedPacket) (kept : View) (first place last n : ℕ) : Type 0 where
   pub from : first ≤ last
   pub before : last < n
   pub within : n ≤ place + 1
   pub one_run : (p : ℕ) → first < p → p < n → cut_at xs p ≡ false
-  pub is_kept : kept_at xs kept last ≡ true
-  pub greatest : (p : ℕ) → last < p → p < n → kept_at xs kept p ≡ false
+  pub is_cached : cached_at xs kept last ≡ true
+  pub greatest : (p : ℕ) → last < p → p < n → cached_at xs kept p ≡ false
 
-module _ (xs : List Seen) (kept : View) (first place : ℕ) where
-  pub look_first : first ≤ place → kept_at xs kept first ≡ true → Looked xs kept first place first (first + 1)
+module _ (xs : List MarkedPacket) (kept : View) (first place : ℕ) where
+  pub look_first : first ≤ place → cached_at xs kept first ≡ true → Looked xs kept first place first (first + 1)
   look_first up k = record {
     from = omega arith;
     before = omega arith;
     within = omega (arith, up);
     one_run = λ p a b. absurd (omega (arith, a, b));
-    is_kept = k;
+    is_cached = k;
     greatest = λ p a b. absurd (omega (arith, a, b));
   }
 
@@ -33,7 +33,7 @@ module _ (xs : List Seen) (kept : View) (first place : ℕ) where
     run_more : cut_at xs n ≡ false → (p : ℕ) → first < p → p < n + 1 → cut_at xs p ≡ false
     run_more none p a b = at_or_before (λ q. cut_at xs q ≡ false) p none (λ h. l.one_run p a h) b (same_or_not p n)
 
-    more_case : (b : Bool) → kept_at xs kept n ≡ b → n ≤ place → cut_at xs n ≡ false → Looked xs kept first place (cond b n last) (n + 1)
+    more_case : (b : Bool) → cached_at xs kept n ≡ b → n ≤ place → cut_at xs n ≡ false → Looked xs kept first place (cond b n last) (n + 1)
     more_case true k low none =
         let from : first ≤ last = l.from in
         let before : last < n = l.before in
@@ -42,7 +42,7 @@ module _ (xs : List Seen) (kept : View) (first place : ℕ) where
           before = omega arith;
           within = omega (arith, low);
           one_run = run_more none;
-          is_kept = k;
+          is_cached = k;
           greatest = λ p a b. absurd (omega (arith, a, b));
         }
     more_case false k low none =
@@ -52,15 +52,15 @@ module _ (xs : List Seen) (kept : View) (first place : ℕ) where
           before = omega (arith, before);
           within = omega (arith, low);
           one_run = run_more none;
-          is_kept = l.is_kept;
-          greatest = λ p a b. at_or_before (λ q. kept_at xs kept q ≡ false) p k (λ h. l.greatest p a h) b (same_or_not p n);
+          is_cached = l.is_cached;
+          greatest = λ p a b. at_or_before (λ q. cached_at xs kept q ≡ false) p k (λ h. l.greatest p a h) b (same_or_not p n);
         }
 
-    -- one place more, where no run begins
-    pub look_on : (more : ℕ) → more ≡ cond (kept_at xs kept n) n last → n ≤ place → cut_at xs n ≡ false → Looked xs kept first place more (n + 1)
-    look_on more e low none = subst (λ (k : ℕ). Looked xs kept first place k (n + 1)) (sym e) (more_case (kept_at xs kept n) refl low none)
+    -- one more index, at which no run begins
+    pub look_on : (more : ℕ) → more ≡ cond (cached_at xs kept n) n last → n ≤ place → cut_at xs n ≡ false → Looked xs kept first place more (n + 1)
+    look_on more e low none = subst (λ (k : ℕ). Looked xs kept first place k (n + 1)) (sym e) (more_case (cached_at xs kept n) refl low none)
 
-    ends : ((p : ℕ) → last < p → p ≤ place → IsOneRun xs first p → kept_at xs kept p ≡ false) → IsBehindKept xs kept first place (last + 1)
+    ends : ((p : ℕ) → last < p → p ≤ place → IsOneRun xs first p → cached_at xs kept p ≡ false) → IsAfterCached xs kept first place (last + 1)
     ends none =
         let before : last < n = l.before in
         let within : n ≤ place + 1 = l.within in
@@ -70,11 +70,11 @@ module _ (xs : List Seen) (kept : View) (first place : ℕ) where
           from = l.from;
           within = omega (arith, before, within);
           one_run = λ p a b. l.one_run p a (omega (arith, b, before));
-          is_kept = l.is_kept;
+          is_cached = l.is_cached;
           greatest = none;
         }
 
-    cut_case : cut_at xs n ≡ true → (p : ℕ) → last < p → IsOneRun xs first p → (n ≤ p) ⊎ (p < n) → kept_at xs kept p ≡ false
+    cut_case : cut_at xs n ≡ true → (p : ℕ) → last < p → IsOneRun xs first p → (n ≤ p) ⊎ (p < n) → cached_at xs kept p ≡ false
     cut_case cut p a run (inl h) =
         let from : first ≤ last = l.from in
         let before : last < n = l.before in
@@ -83,9 +83,9 @@ module _ (xs : List Seen) (kept : View) (first place : ℕ) where
     cut_case cut p a run (inr h) = l.greatest p a h
 
     -- the next run begins
-    pub look_cut : cut_at xs n ≡ true → IsBehindKept xs kept first place (last + 1)
+    pub look_cut : cut_at xs n ≡ true → IsAfterCached xs kept first place (last + 1)
     look_cut cut = ends (λ p a b run. cut_case cut p a run (up_to_or_behind n p))
 
-    -- or all places were looked at
-    pub look_end : place < n → IsBehindKept xs kept first place (last + 1)
+    -- or all indexes were looked at
+    pub look_end : place < n → IsAfterCached xs kept first place (last + 1)
     look_end up = ends (λ p a b run. l.greatest p a (omega (arith, b, up)))

@@ -1,16 +1,16 @@
--- The places of a walk that are not settled can be listed.
+-- The indexes of a walk that are not settled can be listed.
 use Rattle.std.proofs.Common.{◌≡◌, ℕ, zero, suc, ◌+◌, ◌<◌, ◌≤◌, ◌⊎◌, inl, inr, List, [], ◌∷◌, Some, slice_get, sym, ap, subst, arith}
 use Rattle.vp8_tables.specs.Tables.{TableEntries}
 use Rattle.state_cache.specs.CostLaws.{UnsettledAreListed}
 use Rattle.state_cache.specs.Costs.{AreUnsettled, IsSettled}
-use Rattle.state_cache.specs.Views.{Seen, View}
+use Rattle.state_cache.specs.Views.{MarkedPacket, View}
 use Rattle.state_cache.proofs.Decided.{settled_or_not}
 use Rattle.state_cache.proofs.Runs.{same_or_not, up_to_or_behind}
 
 no_place : (n p : ℕ) → slice_get [] n ≡ Some p → ⊥
 no_place n p h = cc
 
-module _ (tables : TableEntries) (xs : List Seen) (kept : View) (place : ℕ) where
+module _ (tables : TableEntries) (xs : List MarkedPacket) (kept : View) (place : ℕ) where
   abbrev Settled : ℕ → Type 0
   Settled p = IsSettled tables xs kept place p
 
@@ -25,7 +25,7 @@ module _ (tables : TableEntries) (xs : List Seen) (kept : View) (place : ℕ) wh
     at_or_behind : (p : ℕ) → next ≤ p → (p ≡ next → ⊥) → next + 1 ≤ p
     at_or_behind p lo other = omega (arith, lo, other)
 
-    -- a settled place is left out
+    -- a settled index is left out
     settled_listed : Settled next → (p : ℕ) → next ≤ p → p ≤ place → (Settled p → ⊥) → (p ≡ next) ⊎ (p ≡ next → ⊥) → (n : ℕ) × (slice_get places n ≡ Some p)
     settled_listed s p lo hi uns (inl e) = absurd (uns (subst Settled (sym e) s))
     settled_listed s p lo hi uns (inr other) = a.each_is_listed p (at_or_behind p lo other) hi uns

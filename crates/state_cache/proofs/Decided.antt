@@ -1,4 +1,4 @@
--- Whether two states are the same is decided, and so is whether an index is settled.
+-- Equality of states is decidable, and so is whether an index is settled.
 use Rattle.std.proofs.Common.{◌≡◌, ℕ, zero, suc, ◌+◌, ◌<◌, ◌≤◌, ◌⊎◌, inl, inr, Bool, true, false, List, [], ◌∷◌, Option, Some, None, Ok, Err, slice_get, map, refl, sym, ap, subst, ◌∙◌, arith}
 use Rattle.std.specs.Prelude.{ℤ, pos, negsuc}
 use Rattle.vp8_tables.specs.Tables.{TableEntries}
@@ -12,9 +12,9 @@ use Rattle.pixel_planes.specs.Samples.{Samples}
 use Rattle.reference_frames.specs.declared.references.References.{References}
 use Rattle.reference_frames.specs.States.{StateValue}
 use Rattle.state_cache.specs.declared.outcomes.Kept.{Kept}
-use Rattle.state_cache.specs.Costs.{IsKeptAsDecoded, IsOneRun, IsSettled, cut_at, outcome_at}
+use Rattle.state_cache.specs.Costs.{IsCachedAsDecoded, IsOneRun, IsSettled, cut_at, outcome_at}
 use Rattle.state_cache.specs.Decoding.{Outcome, outcomes}
-use Rattle.state_cache.specs.Views.{Seen, View, kept_at}
+use Rattle.state_cache.specs.Views.{MarkedPacket, View, cached_at}
 use Rattle.state_cache.proofs.Runs.{same_or_not, up_to_or_behind}
 
 -- a fact holds or does not
@@ -26,7 +26,7 @@ both A B (inl a) (inl b) = inl (a, b)
 both A B (inl a) (inr unlike) = inr (λ p. unlike p.1)
 both A B (inr unlike) b = inr (λ p. unlike p.0)
 
--- pairs, and what is given by a pair
+-- pairs, and records that are made from pairs
 same_pair : (A B : Type 0) (a x : A) (b y : B) → Decided (a ≡ x) → Decided (b ≡ y) → Decided (let make : A → B → A × B = λ s t. (s, t) in make a b ≡ make x y)
 same_pair A B a x b y (inl e) (inl f) = let make : A → B → A × B = λ s t. (s, t) in inl (ap (λ (s : A). make s b) e ∙ ap (λ (t : B). make x t) f)
 same_pair A B a x b y (inl e) (inr unlike) = inr (λ p. unlike (ap (λ (q : A × B). q.1) p))
@@ -163,7 +163,7 @@ is_false : (b : Bool) → (b ≡ true → ⊥) → b ≡ false
 is_false true unlike = absurd (unlike refl)
 is_false false unlike = refl
 
-module _ (tables : TableEntries) (xs : List Seen) (kept : View) (place : ℕ) where
+module _ (tables : TableEntries) (xs : List MarkedPacket) (kept : View) (place : ℕ) where
   -- a cut between two indexes
   abbrev IsCutBetween : ℕ → ℕ → ℕ → Type 0
   IsCutBetween from to p = (from < p) × (cut_at xs p ≡ true)
@@ -188,15 +188,15 @@ module _ (tables : TableEntries) (xs : List Seen) (kept : View) (place : ℕ) wh
   abbrev good : StateValue → PictureSamples → Option Outcome
   good state picture = Some (Ok (state, picture))
 
-  state_case : (p : ℕ) (k : Kept) (state : StateValue) (picture : PictureSamples) → outcome_at xs kept p ≡ Some k → decoded_at p ≡ Some (Ok (state, picture)) → Decided (k.state ≡ state) → Decided (IsKeptAsDecoded tables xs kept p)
+  state_case : (p : ℕ) (k : Kept) (state : StateValue) (picture : PictureSamples) → outcome_at xs kept p ≡ Some k → decoded_at p ≡ Some (Ok (state, picture)) → Decided (k.state ≡ state) → Decided (IsCachedAsDecoded tables xs kept p)
   state_case p k state picture is was (inl same) = inl (record {
     outcome = k;
     picture = picture;
-    is_kept = is;
+    is_cached = is;
     is_decoded = was ∙ ap (λ (s : StateValue). Some (Ok (s, picture))) (sym same);
   })
   state_case p k state picture is was (inr other) = inr (λ d.
-      let one : Some d.outcome ≡ Some k = sym d.is_kept ∙ is in
+      let one : Some d.outcome ≡ Some k = sym d.is_cached ∙ is in
       let two : good d.outcome.state d.picture ≡ good state picture = sym d.is_decoded ∙ was in
       other (ap (λ (o : Kept). o.state) (sym (some_same Kept d.outcome k one)) ∙ ok_same d.outcome.state state d.picture picture two))
     where
@@ -209,27 +209,27 @@ module _ (tables : TableEntries) (xs : List Seen) (kept : View) (place : ℕ) wh
           let is : pair s q ≡ pair t r = cc in
           ap (λ (p : StateValue × PictureSamples). p.0) is
 
-  decoded_case : (p : ℕ) (k : Kept) (o : Option Outcome) → outcome_at xs kept p ≡ Some k → decoded_at p ≡ o → Decided (IsKeptAsDecoded tables xs kept p)
+  decoded_case : (p : ℕ) (k : Kept) (o : Option Outcome) → outcome_at xs kept p ≡ Some k → decoded_at p ≡ o → Decided (IsCachedAsDecoded tables xs kept p)
   decoded_case p k None is was = inr (λ d. let unlike : None ≡ Some (Ok (d.outcome.state, d.picture)) = sym was ∙ d.is_decoded in cc)
   decoded_case p k (Some (Err broken)) is was = inr (λ d. let unlike : Some (Err broken) ≡ Some (Ok (d.outcome.state, d.picture)) = sym was ∙ d.is_decoded in cc)
   decoded_case p k (Some (Ok decoded)) is was = state_case p k decoded.0 decoded.1 is was (same_state k.state decoded.0)
 
-  kept_case : (p : ℕ) (o : Option Kept) → outcome_at xs kept p ≡ o → Decided (IsKeptAsDecoded tables xs kept p)
-  kept_case p None is = inr (λ d. let unlike : None ≡ Some d.outcome = sym is ∙ d.is_kept in cc)
+  kept_case : (p : ℕ) (o : Option Kept) → outcome_at xs kept p ≡ o → Decided (IsCachedAsDecoded tables xs kept p)
+  kept_case p None is = inr (λ d. let unlike : None ≡ Some d.outcome = sym is ∙ d.is_cached in cc)
   kept_case p (Some k) is = decoded_case p k (decoded_at p) is refl
 
-  as_decoded : (p : ℕ) → Decided (IsKeptAsDecoded tables xs kept p)
+  as_decoded : (p : ℕ) → Decided (IsCachedAsDecoded tables xs kept p)
   as_decoded p = kept_case p (outcome_at xs kept p) refl
 
   -- two indexes that settle one between them
   abbrev Settles : ℕ → ℕ → ℕ → Type 0
-  Settles p from to = ((p ≤ to) × IsOneRun xs from to) × (IsKeptAsDecoded tables xs kept from × (kept_at xs kept to ≡ true))
+  Settles p from to = ((p ≤ to) × IsOneRun xs from to) × (IsCachedAsDecoded tables xs kept from × (cached_at xs kept to ≡ true))
 
   settles : (p from to : ℕ) → Decided (Settles p from to)
   settles p from to =
-      both ((p ≤ to) × IsOneRun xs from to) (IsKeptAsDecoded tables xs kept from × (kept_at xs kept to ≡ true))
+      both ((p ≤ to) × IsOneRun xs from to) (IsCachedAsDecoded tables xs kept from × (cached_at xs kept to ≡ true))
       (both (p ≤ to) (IsOneRun xs from to) (up_to p to) (one_run from to))
-      (both (IsKeptAsDecoded tables xs kept from) (kept_at xs kept to ≡ true) (as_decoded from) (same_bool (kept_at xs kept to) true))
+      (both (IsCachedAsDecoded tables xs kept from) (cached_at xs kept to ≡ true) (as_decoded from) (same_bool (cached_at xs kept to) true))
 
   abbrev SettledFrom : ℕ → ℕ → Type 0
   SettledFrom p from = (to : ℕ) × ((to < place + 1) × Settles p from to)
@@ -243,15 +243,15 @@ module _ (tables : TableEntries) (xs : List Seen) (kept : View) (place : ℕ) wh
         from = found.0;
         to = to.0;
         before = found.1.0;
-        behind = s.0.0;
+        following = s.0.0;
         within = omega (arith, within);
         one_run = s.0.1;
         decoded = s.1.0;
-        is_kept = s.1.1;
+        is_cached = s.1.1;
       })
   settled_case p (inr none) = inr (λ s.
       let within : s.to ≤ place = s.within in
-      none (s.from, (s.before, (s.to, (omega (arith, within), ((s.behind, s.one_run), (s.decoded, s.is_kept)))))))
+      none (s.from, (s.before, (s.to, (omega (arith, within), ((s.following, s.one_run), (s.decoded, s.is_cached)))))))
 
   pub settled_or_not : (p : ℕ) → Decided (IsSettled tables xs kept place p)
   settled_or_not p = settled_case p (some_below (SettledFrom p) (λ from. some_below (Settles p from) (settles p from) (place + 1)) p)

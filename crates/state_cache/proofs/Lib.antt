@@ -10,7 +10,7 @@ pub mod Turns
 pub mod Reached
 pub mod Breaks
 pub mod Edited
-pub mod Standing
+pub mod Progress
 pub mod Runs
 pub mod Settled
 pub mod Passed

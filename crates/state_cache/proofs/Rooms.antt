@@ -1,4 +1,4 @@
--- Room: how many outcomes are kept, and how many are to come on the way.
+-- Room: how many outcomes are cached, and how many new ones come on the way.
 use Rattle.std.proofs.Common.{◌≡◌, ℕ, zero, suc, ◌+◌, ◌-◌, ◌<◌, ◌≤◌, Bool, true, false, cond, List, [], ◌∷◌, Option, Some, None, is_some, is_none, length, take, drop, slice_get, nat_eq, refl, sym, ap, ◌∙◌, arith, add-one}
 use Rattle.std.specs.Prelude.{count_by}
 use Rattle.std.specs.Option.{option_map_or}
@@ -11,11 +11,11 @@ use Rattle.lru.proofs.CallerLemmas.{Contains-lookup_entry}
 use Rattle.lru.specs.LruCache.{LruCache, put_entries}
 use Rattle.packet_edits.specs.declared.entry.Entry.{Entry}
 use Rattle.state_cache.specs.declared.outcomes.Kept.{Kept}
-use Rattle.state_cache.specs.Costs.{unkept_from}
-use Rattle.state_cache.specs.Views.{View, kept_in, with_kept}
+use Rattle.state_cache.specs.Costs.{uncached_from}
+use Rattle.state_cache.specs.Views.{View, cached_in, with_cached}
 use Rattle.state_cache.proofs.Entries.{lookup_dropped}
 
--- one where an outcome is missing
+-- one if an outcome is missing
 abbrev pub one_missing : Option Kept → ℕ
 one_missing o = cond (is_none o) 1 0
 
@@ -31,7 +31,7 @@ missing_less None (Some k) h = omega arith
 missing_less (Some k) None h = let no : false ≡ true = h refl in cc
 missing_less (Some k) (Some l) h = omega arith
 
--- with more kept fewer are missing
+-- with more outcomes cached fewer are missing
 count_less : (kept kept' : View) (es : List Entry) → ((q : ℕ) → is_some (kept q) ≡ true → is_some (kept' q) ≡ true) → count kept' es ≤ count kept es
 count_less kept kept' es still =
     sum_by-le-sum_by (λ (entry : Entry). cond (is_none (kept' entry.id)) 1 0) (λ (entry : Entry). cond (is_none (kept entry.id)) 1 0) es
@@ -46,7 +46,7 @@ drop_less kept (e ∷ es) (suc n) =
     let one = count_cons kept e es in
     omega (arith, rest, one)
 
--- and from a later place on
+-- and starting at a later index
 drops_less : (kept : View) (es : List Entry) (m n : ℕ) → m ≤ n → count kept (drop n es) ≤ count kept (drop m es)
 drops_less kept es zero n h = drop_less kept es n
 drops_less kept [] (suc m) zero h = omega arith
@@ -67,17 +67,17 @@ drop_here (x ∷ es) zero e h = let is : x ≡ e = cc in ap (λ (y : Entry). y �
 drop_here (x ∷ es) (suc i) e h = drop_here es i e h
 
 module _ (es : List Entry) (kept : View) (m place : ℕ) (e : Entry) (h : slice_get es m ≡ Some e) (low : m ≤ place) where
-  -- the places from one on: that place, and those behind it
-  pub unkept_step : unkept_from es kept m place ≡ one_missing (kept e.id) + unkept_from es kept (m + 1) place
+  -- the indexes starting at one: that index, and those after it
+  pub unkept_step : uncached_from es kept m place ≡ one_missing (kept e.id) + uncached_from es kept (m + 1) place
   unkept_step =
       let there : slice_get (take (place + 1) es) m ≡ Some e = take_get es (place + 1) m (omega (arith, low)) ∙ h in
       ap (count kept) (drop_here (take (place + 1) es) m e there)
       ∙ count_cons kept e (drop (suc m) (take (place + 1) es))
       ∙ ap (λ (n : ℕ). one_missing (kept e.id) + count kept (drop n (take (place + 1) es))) (sym (add-one m))
 
-  -- behind a step that is kept fewer are to come
+  -- after a cached step fewer new ones come
   pub unkept_further : (kept' : View) (further : ℕ) → m < further → ((q : ℕ) → is_some (kept q) ≡ true → is_some (kept' q) ≡ true)
-      → one_missing (kept e.id) + unkept_from es kept' further place ≤ unkept_from es kept m place
+      → one_missing (kept e.id) + uncached_from es kept' further place ≤ uncached_from es kept m place
   unkept_further kept' further up still =
       let now = unkept_step in
       let later = drops_less kept (take (place + 1) es) (m + 1) further (omega (arith, up)) in
@@ -89,7 +89,7 @@ module _ (test : ℕ → Bool) where
   found_case true e f es t h ih = omega arith
   found_case false e f es t h ih = let rest = ih h in omega (arith, rest)
 
-  -- an entry that is found and taken out leaves one fewer
+  -- removing an entry that is found leaves one fewer
   pub length_removed : (es : List (ℕ × Kept)) (e : ℕ × Kept) → lookup_entry test es ≡ Some e → length (remove_entry test es) + 1 ≡ length es
   length_removed [] e h = cc
   length_removed (f ∷ es) e h = found_case (test f.0) e f es refl h (λ k. length_removed es e k)
@@ -98,7 +98,7 @@ module _ (test : ℕ → Bool) where
   none_case true f es o e h = refl
   none_case false f es o e h = h
 
-  -- an outcome is found where its entry is
+  -- an outcome is found exactly if its entry is
   pub found_same : (es : List (ℕ × Kept)) → is_none (lookup test es) ≡ is_none (lookup_entry test es)
   found_same [] = refl
   found_same (f ∷ es) = none_case (test f.0) f es (lookup_entry test es) refl (found_same es)
@@ -135,7 +135,7 @@ module _ (c : LruCache ℕ Kept) (k : ℕ) (v : Kept) (few : length c.entries �
   number_case None e = let long = taken_long (c.cap - 1) c.entries (omega (arith, few, some)) in omega (arith, long)
   number_case (Some f) e = let one = length_removed (nat_eq k) c.entries f e in omega (arith, one)
 
-  -- the number of kept outcomes does not fall
+  -- the number of cached outcomes does not fall
   pub put_number : length c.entries ≤ length (put_entries nat_eq c k v)
   put_number = number_case (lookup_entry (nat_eq k) c.entries) refl
 
@@ -143,7 +143,7 @@ module _ (c : LruCache ℕ Kept) (k : ℕ) (v : Kept) (few : length c.entries �
   bounded_case None e = let least = taken_few (c.cap - 1) c.entries in omega (arith, least, some)
   bounded_case (Some f) e = let one = length_removed (nat_eq k) c.entries f e in omega (arith, one, few)
 
-  -- and stays within the capacity
+  -- and is at most the capacity
   pub put_bounded : length (put_entries nat_eq c k v) ≤ c.cap
   put_bounded = bounded_case (lookup_entry (nat_eq k) c.entries) refl
 
@@ -156,7 +156,7 @@ module _ (c : LruCache ℕ Kept) (k : ℕ) (v : Kept) (few : length c.entries �
   missing_is : one_missing (lookup (nat_eq k) c.entries) ≡ cond (is_none (lookup_entry (nat_eq k) c.entries)) 1 0
   missing_is = ap (λ (b : Bool). cond b 1 0) (found_same (nat_eq k) c.entries)
 
-  -- with room for one more, one more is kept
+  -- with room for one more, one more is cached
   pub put_room : length c.entries + one_missing (lookup (nat_eq k) c.entries) ≤ c.cap → length (put_entries nat_eq c k v) ≡ length c.entries + one_missing (lookup (nat_eq k) c.entries)
   put_room room =
       let is = missing_is in
@@ -169,7 +169,7 @@ module _ (c : LruCache ℕ Kept) (k : ℕ) (v : Kept) (few : length c.entries �
   swap_case q true o e = refl
   swap_case q false o e = ap (λ (b : Bool). cond b None o) (other_key q false e refl)
 
-  others_case : IsDistinct nat_eq (keys_of c.entries) → (q : ℕ) (o : Option (ℕ × Kept)) → lookup_entry (nat_eq k) c.entries ≡ o → length c.entries + cond (is_none o) 1 0 ≤ c.cap → lookup (nat_eq q) (put_with c k v o) ≡ with_kept (kept_in c.entries) k v q
+  others_case : IsDistinct nat_eq (keys_of c.entries) → (q : ℕ) (o : Option (ℕ × Kept)) → lookup_entry (nat_eq k) c.entries ≡ o → length c.entries + cond (is_none o) 1 0 ≤ c.cap → lookup (nat_eq q) (put_with c k v o) ≡ with_cached (cached_in c.entries) k v q
   others_case d q None e room =
       let whole : take (c.cap - 1) c.entries ≡ c.entries = taken_whole (c.cap - 1) c.entries (omega (arith, room)) in
       ap (λ (es : List (ℕ × Kept)). lookup (nat_eq q) ((k, v) ∷ es)) whole
@@ -180,5 +180,5 @@ module _ (c : LruCache ℕ Kept) (k : ℕ) (v : Kept) (few : length c.entries �
       ∙ swap_case q (nat_eq q k) (lookup (nat_eq q) c.entries) refl
 
   -- and none is dropped
-  pub put_others : IsDistinct nat_eq (keys_of c.entries) → length c.entries + one_missing (lookup (nat_eq k) c.entries) ≤ c.cap → (q : ℕ) → lookup (nat_eq q) (put_entries nat_eq c k v) ≡ with_kept (kept_in c.entries) k v q
+  pub put_others : IsDistinct nat_eq (keys_of c.entries) → length c.entries + one_missing (lookup (nat_eq k) c.entries) ≤ c.cap → (q : ℕ) → lookup (nat_eq q) (put_entries nat_eq c k v) ≡ with_cached (cached_in c.entries) k v q
   put_others d room q = let is = missing_is in others_case d q (lookup_entry (nat_eq k) c.entries) refl (omega (arith, is, room))

@@ -4,41 +4,41 @@ use Rattle.std.specs.Prelude.{min}
 use Rattle.vp8_tables.specs.Tables.{TableEntries}
 use Rattle.packet_edits.specs.Marks.{StoreValue, unmarked_at}
 use Rattle.state_cache.specs.Costs.{most_steps}
-use Rattle.state_cache.specs.Reaching.{Begins, CacheValue, IsNext, at_key, at_start, behind, passed_marks, view_of}
-use Rattle.state_cache.specs.Views.{Seen, View, is_cut, is_usable, key_at, seens}
+use Rattle.state_cache.specs.Reaching.{Begins, CacheValue, IsNext, at_key, at_start, following, passed_marks, view_of}
+use Rattle.state_cache.specs.Views.{MarkedPacket, View, is_cut, is_usable, key_at, marked_packets}
 use Rattle.state_cache.specs.WalkLaws.{IsAmong, NextIsUnique, WalksStepInOrder}
-use Rattle.state_cache.specs.Walks.{Advances, IsTurned, IsWalk, IsWalkStep, Walks, arrives, is_refused}
+use Rattle.state_cache.specs.Walks.{Advances, IsIteration, IsWalk, IsWalkStep, Walks, arrives, is_refused}
 use Rattle.state_cache.proofs.Runs.{up_to_or_behind}
 
--- a walk from a first index, as far as it has come
+-- a walk from a first index so far
 pub record Walking (old : StoreValue) (before : CacheValue) (place : ℕ) (now : StoreValue) (cache : CacheValue) (next : ℕ) : Type 0 where
   pub first : ℕ
-  pub is_first : IsNext (seens old) (view_of before) place first
+  pub is_first : IsNext (marked_packets old) (view_of before) place first
   pub stepped : List ℕ
   pub walk : Walks old before place first stepped now cache next
 
-pub walking_begins : (old : StoreValue) (before : CacheValue) (place next : ℕ) → IsNext (seens old) (view_of before) place next → Walking old before place old before next
+pub walking_begins : (old : StoreValue) (before : CacheValue) (place next : ℕ) → IsNext (marked_packets old) (view_of before) place next → Walking old before place old before next
 walking_begins old before place next n = record { first = next; is_first = n; stepped = []; walk = (refl, refl, refl) }
 
 pub walking_more : (old now new : StoreValue) (before cache after : CacheValue) (place next further : ℕ) → Walking old before place now cache next → IsWalkStep now cache place next new after further → Walking old before place new after further
 walking_more old now new before cache after place next further w s = record { first = w.first; is_first = w.is_first; stepped = next ∷ w.stepped; walk = (now, (cache, (w.walk, s))) }
 
--- a step that is cached, from what its turn tells
-pub step_is : (tables : TableEntries) (old new : StoreValue) (before after : CacheValue) (place next further : ℕ) (joined : Bool) → IsTurned old before next joined new after → after.decoded ≡ min (before.decoded + 1) most_steps → after.capacity ≡ before.capacity
+-- a cached step, from the contract of `iterate`
+pub step_is : (tables : TableEntries) (old new : StoreValue) (before after : CacheValue) (place next further : ℕ) (joined : Bool) → IsIteration old before next joined new after → after.decoded ≡ min (before.decoded + 1) most_steps → after.capacity ≡ before.capacity
     → next ≤ place → Advances tables old before place next new after further → (joined ≡ false → further ≡ next + 1) → IsWalkStep old before place next new after further
-step_is tables old new before after place next further joined turned counted capacity low a onward = record {
+step_is tables old new before after place next further joined iterated counted capacity low a onward = record {
   joined = joined;
-  turned = turned;
+  iterated = iterated;
   counted = counted;
   capacity = capacity;
   number = a.number;
   low = low;
-  later = a.behind;
+  later = a.following;
   onward = onward;
   continues = a.first;
 }
 
--- a walk that has come to its index
+-- a walk that has reached its index
 pub walk_arrives : (old now : StoreValue) (before cache : CacheValue) (place next : ℕ) (is_ok : Bool) → Walking old before place now cache next → place < next → IsWalk old before place is_ok now cache
 walk_arrives old now before cache place next is_ok w up = record {
   first = w.first;
@@ -69,7 +69,7 @@ walk_refused old now new before cache after place next w low same entries capaci
   ends = is_refused refl low (counted_only cache after (min (cache.decoded + 1) most_steps) entries capacity counted);
 }
 
--- another mark is as it was
+-- other marks are unchanged
 other_mark : (ms : List Bool) (i p : ℕ) (m : Bool) → (p ≡ i → ⊥) → slice_get (slice_set ms i m) p ≡ slice_get ms p
 other_mark [] i p m other = refl
 other_mark (x ∷ ms) zero zero m other = absurd (other refl)
@@ -77,8 +77,8 @@ other_mark (x ∷ ms) zero (suc p) m other = refl
 other_mark (x ∷ ms) (suc i) zero m other = refl
 other_mark (x ∷ ms) (suc i) (suc p) m other = other_mark ms i p m (λ same. other (ap suc same))
 
-passed_other : (cut met joined : Bool) (ms : List Bool) (m further p : ℕ) → joined ≡ (cut && met) → (joined ≡ false → further ≡ m + 1) → (p ≡ m → ⊥) → (p ≡ further → ⊥) → slice_get (passed_marks cut met m ms) p ≡ slice_get ms p
-passed_other false met joined ms m further p is onward other after = refl
+passed_other : (cut converged joined : Bool) (ms : List Bool) (m further p : ℕ) → joined ≡ (cut && converged) → (joined ≡ false → further ≡ m + 1) → (p ≡ m → ⊥) → (p ≡ further → ⊥) → slice_get (passed_marks cut converged m ms) p ≡ slice_get ms p
+passed_other false converged joined ms m further p is onward other after = refl
 passed_other true true joined ms m further p is onward other after = other_mark ms m p false other
 passed_other true false joined ms m further p is onward other after =
     let next : further ≡ m + 1 = onward is in
@@ -86,9 +86,9 @@ passed_other true false joined ms m further p is onward other after =
 
 step_marks : (now new : StoreValue) (cache after : CacheValue) (place m further p : ℕ) → IsWalkStep now cache place m new after further → (p ≡ m → ⊥) → (p ≡ further → ⊥) → slice_get new.marks p ≡ slice_get now.marks p
 step_marks now new cache after place m further p s other later =
-    let t = s.turned in
+    let t = s.iterated in
     ap (λ (store : StoreValue). slice_get store.marks p) t.marks
-    ∙ passed_other (is_cut t.packet) t.has_met s.joined now.marks m further p t.joined_is s.onward other later
+    ∙ passed_other (is_cut t.packet) t.has_converged s.joined now.marks m further p t.joined_is s.onward other later
 
 marks_stay : (old new : StoreValue) (before after : CacheValue) (place first next p : ℕ) (stepped : List ℕ) → Walks old before place first stepped new after next → (IsAmong p stepped → ⊥) → (p ≡ next → ⊥) → slice_get new.marks p ≡ slice_get old.marks p
 marks_stay old new before after place first next p [] w none other = ap (λ (store : StoreValue). slice_get store.marks p) w.0
@@ -121,15 +121,15 @@ in_order old new before after place first next p (m ∷ earlier) w (inr a) =
 pub walks_step_in_order : WalksStepInOrder
 walks_step_in_order = record { in_order = in_order; marks_stay = marks_stay }
 
--- the first index to step is one
-not_later_begins : (xs : List Seen) (kept : View) (place n m : ℕ) → IsNext xs kept place n → n < m → m ≤ place → Begins xs kept m → ⊥
+-- the first index to step is unique
+not_later_begins : (xs : List MarkedPacket) (kept : View) (place n m : ℕ) → IsNext xs kept place n → n < m → m ≤ place → Begins xs kept m → ⊥
 not_later_begins xs kept place n m next lt low (at_start e) = omega (arith, lt, e)
 not_later_begins xs kept place n m next lt low (at_key e) = let off : key_at xs m ≡ false = next.no_key m lt low in cc
-not_later_begins xs kept place n m next lt low (behind u e usable) =
+not_later_begins xs kept place n m next lt low (following u e usable) =
     let off : is_usable xs kept u ≡ false = next.greatest u (omega (arith, lt, e)) (omega (arith, low, e)) in
     cc
 
-not_later_case : (xs : List Seen) (kept : View) (place n m : ℕ) → IsNext xs kept place n → IsNext xs kept place m → n < m → (m ≤ place) ⊎ (place < m) → ⊥
+not_later_case : (xs : List MarkedPacket) (kept : View) (place n m : ℕ) → IsNext xs kept place n → IsNext xs kept place m → n < m → (m ≤ place) ⊎ (place < m) → ⊥
 not_later_case xs kept place n m next other lt (inl low) = not_later_begins xs kept place n m next lt low other.begins
 not_later_case xs kept place n m next other lt (inr up) =
     let within : m ≤ place + 1 = other.within in
@@ -137,7 +137,7 @@ not_later_case xs kept place n m next other lt (inr up) =
     let off : is_usable xs kept place ≡ false = next.greatest place (omega (arith, lt, within)) (omega arith) in
     cc
 
-not_later : (xs : List Seen) (kept : View) (place n m : ℕ) → IsNext xs kept place n → IsNext xs kept place m → n < m → ⊥
+not_later : (xs : List MarkedPacket) (kept : View) (place n m : ℕ) → IsNext xs kept place n → IsNext xs kept place m → n < m → ⊥
 not_later xs kept place n m next other lt = not_later_case xs kept place n m next other lt (up_to_or_behind m place)
 
 pub next_is_unique : NextIsUnique

@@ -1,4 +1,4 @@
--- A walk as far as it has come, and what it costs in the end.
+-- A walk so far, and its cost in the end.
 use Rattle.std.proofs.Common.{◌≡◌, ℕ, zero, suc, ◌+◌, ◌<◌, ◌≤◌, ◌⊎◌, inl, inr, Bool, true, false, List, [], ◌∷◌, Option, Some, None, is_some, length, slice_get, refl, sym, ap, subst, ◌∙◌, arith}
 use Rattle.std.specs.Prelude.{IsSome, min}
 use Rattle.std.specs.Option.{option_map_or}
@@ -9,56 +9,56 @@ use Rattle.packet_edits.specs.Marks.{StoreValue}
 use Rattle.state_cache.specs.declared.outcomes.Kept.{Kept}
 use Rattle.state_cache.specs.Costs.{AreStepped, AreUnsettled, Costs, HasRoom, IsIdOf, IsSettled, most_steps}
 use Rattle.state_cache.specs.Reaching.{CacheValue, IsNext, view_of}
-use Rattle.state_cache.specs.Views.{View, is_usable, kept_at, kept_in, seens, seens_of}
+use Rattle.state_cache.specs.Views.{View, is_usable, cached_at, cached_in, marked_packets, marked_packets_of}
 use Rattle.state_cache.specs.Walks.{Advances}
 use Rattle.state_cache.proofs.Reached.{beyond}
 use Rattle.state_cache.proofs.Unsettled.{none_left, some_left}
 
--- the places that are not settled yet, and the number of steps that were counted on the way
+-- the indexes that are not settled yet, and the number of steps counted on the way
 pub record Left (tables : TableEntries) (now : StoreValue) (cache : CacheValue) (place next decoded places : ℕ) : Type 0 where
   pub rest : List ℕ
   pub done : ℕ
   pub all : done + length rest ≡ places
   pub counted : cache.decoded ≡ min (decoded + done) most_steps
-  pub unsettled : AreUnsettled tables (seens now) (view_of cache) next place rest
+  pub unsettled : AreUnsettled tables (marked_packets now) (view_of cache) next place rest
 
--- what holds of a walk to `place` that goes on at `next`
+-- the facts about a walk to `place` that continues at `next`
 pub record SoFar (tables : TableEntries) (old : StoreValue) (before : CacheValue) (place : ℕ) (now : StoreValue) (cache : CacheValue) (next : ℕ) : Type 0 where
   pub first : ℕ
-  pub is_first : IsNext (seens old) (view_of before) place first
+  pub is_first : IsNext (marked_packets old) (view_of before) place first
   pub small : cache.decoded ≤ most_steps
   pub steps : cache.decoded + first ≤ before.decoded + next
   pub rises : before.decoded ≤ cache.decoded
-  pub free : is_usable (seens old) (view_of before) place ≡ true → (cache ≡ before) × (now ≡ old) × (place + 1 ≤ next)
+  pub free : is_usable (marked_packets old) (view_of before) place ≡ true → (cache ≡ before) × (now ≡ old) × (place + 1 ≤ next)
   pub number : length before.entries ≤ length cache.entries
   pub capacity : cache.capacity ≡ before.capacity
-  pub stand : (id : ℕ) → IsSome (view_of cache id) → IsSome (view_of before id) ⊎ IsIdOf old.list id
+  pub of_packets : (id : ℕ) → IsSome (view_of cache id) → IsSome (view_of before id) ⊎ IsIdOf old.list id
   pub room : HasRoom old.list before first place → HasRoom now.list cache next place
   pub stays : HasRoom old.list before first place → (id : ℕ) → IsSome (view_of before id) → IsSome (view_of cache id)
-  pub keeps : HasRoom old.list before first place → (p : ℕ) → first ≤ p → p ≤ place → (IsSettled tables (seens old) (view_of before) place p → ⊥)
-      → (kept_at (seens now) (view_of cache) p ≡ true) ⊎ ((next ≤ p) × (IsSettled tables (seens now) (view_of cache) place p → ⊥))
-  pub meets : HasRoom old.list before first place → (places : List ℕ) → AreUnsettled tables (seens old) (view_of before) first place places → Left tables now cache place next before.decoded (length places)
+  pub keeps : HasRoom old.list before first place → (p : ℕ) → first ≤ p → p ≤ place → (IsSettled tables (marked_packets old) (view_of before) place p → ⊥)
+      → (cached_at (marked_packets now) (view_of cache) p ≡ true) ⊎ ((next ≤ p) × (IsSettled tables (marked_packets now) (view_of cache) place p → ⊥))
+  pub converges : HasRoom old.list before first place → (places : List ℕ) → AreUnsettled tables (marked_packets old) (view_of before) first place places → Left tables now cache place next before.decoded (length places)
 
 -- a walk that begins
-pub walk_begins : (tables : TableEntries) (old : StoreValue) (before : CacheValue) (place next : ℕ) → IsNext (seens old) (view_of before) place next → before.decoded ≤ most_steps → SoFar tables old before place old before next
+pub walk_begins : (tables : TableEntries) (old : StoreValue) (before : CacheValue) (place next : ℕ) → IsNext (marked_packets old) (view_of before) place next → before.decoded ≤ most_steps → SoFar tables old before place old before next
 walk_begins tables old before place next n small = record {
   first = next;
   is_first = n;
   small = small;
   steps = omega arith;
   rises = omega arith;
-  free = λ u. (refl, refl, beyond (seens old) (view_of before) place next place n (omega arith) u);
+  free = λ u. (refl, refl, beyond (marked_packets old) (view_of before) place next place n (omega arith) u);
   number = omega arith;
   capacity = refl;
-  stand = λ id k. inl k;
+  of_packets = λ id k. inl k;
   room = λ r. r;
   stays = λ r id k. k;
   keeps = λ r p lo hi uns. inr (lo, uns);
-  meets = λ r places a. record { rest = places; done = 0; all = omega arith; counted = omega (arith, small); unsettled = a };
+  converges = λ r places a. record { rest = places; done = 0; all = omega arith; counted = omega (arith, small); unsettled = a };
 }
 
--- whether a place is kept does not hang on marks
-kept_entry : (es : List Entry) (ms : List Bool) (kept : View) (p : ℕ) → kept_at (seens_of es ms) kept p ≡ option_map_or (λ (e : Entry). is_some (kept e.id)) (slice_get es p) false
+-- whether an index is cached does not depend on marks
+kept_entry : (es : List Entry) (ms : List Bool) (kept : View) (p : ℕ) → cached_at (marked_packets_of es ms) kept p ≡ option_map_or (λ (e : Entry). is_some (kept e.id)) (slice_get es p) false
 kept_entry [] ms kept p = refl
 kept_entry (e ∷ es) [] kept zero = refl
 kept_entry (e ∷ es) (m ∷ ms) kept zero = refl
@@ -70,7 +70,7 @@ still_case : (kept kept' : View) (o : Option Entry) → ((q : ℕ) → is_some (
 still_case kept kept' None still h = h
 still_case kept kept' (Some e) still h = still e.id h
 
-still_kept_at : (now new : StoreValue) (kept kept' : View) (p : ℕ) → new.list ≡ now.list → ((q : ℕ) → is_some (kept q) ≡ true → is_some (kept' q) ≡ true) → kept_at (seens now) kept p ≡ true → kept_at (seens new) kept' p ≡ true
+still_kept_at : (now new : StoreValue) (kept kept' : View) (p : ℕ) → new.list ≡ now.list → ((q : ℕ) → is_some (kept q) ≡ true → is_some (kept' q) ≡ true) → cached_at (marked_packets now) kept p ≡ true → cached_at (marked_packets new) kept' p ≡ true
 still_kept_at now new kept kept' p e still h =
     kept_entry new.list.entries new.marks kept' p
     ∙ ap (λ (l : Listing). option_map_or (λ (e : Entry). is_some (kept' e.id)) (slice_get l.entries p) false) e
@@ -79,11 +79,11 @@ still_kept_at now new kept kept' p e still h =
 module _ (tables : TableEntries) (old now : StoreValue) (before cache : CacheValue) (place next : ℕ) (s : SoFar tables old before place now cache next) (low : next ≤ place) (listed : now.list ≡ old.list) where
   module _ (new : StoreValue) (after : CacheValue) (further : ℕ) (a : Advances tables now cache place next new after further) (counted : after.decoded ≡ min (cache.decoded + 1) most_steps) (capacity : after.capacity ≡ cache.capacity) (same : new.list ≡ now.list) where
     stand_more : (id : ℕ) → IsSome (view_of cache id) ⊎ IsIdOf now.list id → IsSome (view_of before id) ⊎ IsIdOf old.list id
-    stand_more id (inl k) = s.stand id k
+    stand_more id (inl k) = s.of_packets id k
     stand_more id (inr stood) = inr (subst (λ (l : Listing). IsIdOf l id) listed stood)
 
-    keeps_more : HasRoom old.list before s.first place → (p : ℕ) → p ≤ place → (kept_at (seens now) (view_of cache) p ≡ true) ⊎ ((next ≤ p) × (IsSettled tables (seens now) (view_of cache) place p → ⊥))
-        → (kept_at (seens new) (view_of after) p ≡ true) ⊎ ((further ≤ p) × (IsSettled tables (seens new) (view_of after) place p → ⊥))
+    keeps_more : HasRoom old.list before s.first place → (p : ℕ) → p ≤ place → (cached_at (marked_packets now) (view_of cache) p ≡ true) ⊎ ((next ≤ p) × (IsSettled tables (marked_packets now) (view_of cache) place p → ⊥))
+        → (cached_at (marked_packets new) (view_of after) p ≡ true) ⊎ ((further ≤ p) × (IsSettled tables (marked_packets new) (view_of after) place p → ⊥))
     keeps_more r p hi (inl k) = inl (still_kept_at now new (view_of cache) (view_of after) p same (a.stays (s.room r)) k)
     keeps_more r p hi (inr rest) = a.keeps (s.room r) p rest.0 hi rest.1
 
@@ -101,10 +101,10 @@ module _ (tables : TableEntries) (old now : StoreValue) (before cache : CacheVal
           unsettled = one.2;
         }
 
-    -- one step more
+    -- one more step
     pub walk_more : SoFar tables old before place new after further
     walk_more =
-        let up : next < further = a.behind in
+        let up : next < further = a.following in
         let was = s.steps in
         let rose = s.rises in
         let grown = a.number in
@@ -119,25 +119,25 @@ module _ (tables : TableEntries) (old now : StoreValue) (before cache : CacheVal
           free = λ u. let far = (s.free u).2 in absurd (omega (arith, far, low));
           number = omega (arith, grown, grew);
           capacity = capacity ∙ s.capacity;
-          stand = λ id k. stand_more id (a.stand id k);
+          of_packets = λ id k. stand_more id (a.of_packets id k);
           room = λ r. a.room (s.room r);
           stays = λ r id k. a.stays (s.room r) id (s.stays r id k);
           keeps = λ r p lo hi uns. keeps_more r p hi (s.keeps r p lo hi uns);
-          meets = λ r places u. meets_more r places (s.meets r places u);
+          converges = λ r places u. meets_more r places (s.converges r places u);
         }
 
-  module _ (new : StoreValue) (after : CacheValue) (unsettled : IsSettled tables (seens now) (view_of cache) place next → ⊥) (counted : after.decoded ≡ min (cache.decoded + 1) most_steps) (same : after.entries ≡ cache.entries) (capacity : after.capacity ≡ cache.capacity) (bounded : length after.entries ≤ after.capacity) where
+  module _ (new : StoreValue) (after : CacheValue) (unsettled : IsSettled tables (marked_packets now) (view_of cache) place next → ⊥) (counted : after.decoded ≡ min (cache.decoded + 1) most_steps) (same : after.entries ≡ cache.entries) (capacity : after.capacity ≡ cache.capacity) (bounded : length after.entries ≤ after.capacity) where
     view_is : view_of after ≡ view_of cache
-    view_is = ap kept_in same
+    view_is = ap cached_in same
 
     refused_steps : HasRoom old.list before s.first place → (places : List ℕ) → Left tables now cache place next before.decoded (length places) → AreStepped before.decoded false after.decoded (length places)
     refused_steps r places l =
-        let some = some_left tables (seens now) (view_of cache) next place l.rest l.unsettled low unsettled in
+        let some = some_left tables (marked_packets now) (view_of cache) next place l.rest l.unsettled low unsettled in
         let all = l.all in
         let was = l.counted in
         record { at_most = omega (arith, counted, was, all, some); exactly = λ ok. cc }
 
-    -- a walk that ends with a step that is not kept
+    -- a walk that ends with a refused step
     pub walk_refused : Costs tables old before place false new after
     walk_refused =
         let was = s.steps in
@@ -154,25 +154,25 @@ module _ (tables : TableEntries) (old now : StoreValue) (before cache : CacheVal
           number = subst (λ (es : List (ℕ × Kept)). length before.entries ≤ length es) (sym same) grew;
           bounded = bounded;
           capacity = capacity ∙ s.capacity;
-          stand = λ id k. s.stand id (subst (λ (v : View). IsSome (v id)) view_is k);
-          meets = λ r places u. refused_steps r places (s.meets r places u);
+          of_packets = λ id k. s.of_packets id (subst (λ (v : View). IsSome (v id)) view_is k);
+          converges = λ r places u. refused_steps r places (s.converges r places u);
           stays = λ r id k. subst (λ (v : View). IsSome (v id)) (sym view_is) (s.stays r id k);
           keeps = λ r ok. cc;
         }
 
-module _ (tables : TableEntries) (old now : StoreValue) (before cache : CacheValue) (place next : ℕ) (s : SoFar tables old before place now cache next) (n : IsNext (seens now) (view_of cache) place next) (up : place < next) (bounded : length cache.entries ≤ cache.capacity) where
+module _ (tables : TableEntries) (old now : StoreValue) (before cache : CacheValue) (place next : ℕ) (s : SoFar tables old before place now cache next) (n : IsNext (marked_packets now) (view_of cache) place next) (up : place < next) (bounded : length cache.entries ≤ cache.capacity) where
   reached_steps : (is_ok : Bool) (places : List ℕ) → Left tables now cache place next before.decoded (length places) → AreStepped before.decoded is_ok cache.decoded (length places)
   reached_steps is_ok places l =
-      let none : length l.rest ≡ 0 = ap length (none_left tables (seens now) (view_of cache) next place l.rest l.unsettled up) in
+      let none : length l.rest ≡ 0 = ap length (none_left tables (marked_packets now) (view_of cache) next place l.rest l.unsettled up) in
       let all = l.all in
       let was = l.counted in
       record { at_most = omega (arith, was, all, none); exactly = λ ok. omega (arith, was, all, none) }
 
-  keeps_all : (p : ℕ) → p ≤ place → (kept_at (seens now) (view_of cache) p ≡ true) ⊎ ((next ≤ p) × (IsSettled tables (seens now) (view_of cache) place p → ⊥)) → kept_at (seens now) (view_of cache) p ≡ true
+  keeps_all : (p : ℕ) → p ≤ place → (cached_at (marked_packets now) (view_of cache) p ≡ true) ⊎ ((next ≤ p) × (IsSettled tables (marked_packets now) (view_of cache) place p → ⊥)) → cached_at (marked_packets now) (view_of cache) p ≡ true
   keeps_all p hi (inl k) = k
   keeps_all p hi (inr rest) = let lo : next ≤ p = rest.0 in absurd (omega (arith, lo, hi, up))
 
-  -- a walk that has come to its place
+  -- a walk that has reached its index
   pub walk_ends : (is_ok : Bool) → Costs tables old before place is_ok now cache
   walk_ends is_ok =
       let was = s.steps in
@@ -187,8 +187,8 @@ module _ (tables : TableEntries) (old now : StoreValue) (before cache : CacheVal
         number = s.number;
         bounded = bounded;
         capacity = s.capacity;
-        stand = s.stand;
-        meets = λ r places u. reached_steps is_ok places (s.meets r places u);
+        of_packets = s.of_packets;
+        converges = λ r places u. reached_steps is_ok places (s.converges r places u);
         stays = s.stays;
         keeps = λ r ok p lo hi uns. keeps_all p hi (s.keeps r p lo hi uns);
       }

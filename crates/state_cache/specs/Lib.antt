@@ -6,7 +6,7 @@ pub mod Searches
 pub mod Costs
 pub mod EditLaws
 pub mod Walks
-pub mod KeptViews
+pub mod CacheViews
 pub mod CostLaws
 pub mod WalkLaws
 pub mod Faults

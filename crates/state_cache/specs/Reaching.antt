@@ -1,4 +1,4 @@
--- Reaching a place, and what it costs.
+-- Reaching an index: where steps begin, marks after a step, and the answer.
 use Rattle.std.specs.Prelude.{◌≡◌, ℕ, zero, suc, cond, option_map, option_and_then, ◌+◌, ◌<◌, ◌≤◌, Bool, true, false, List, slice_get, Option, Some, None, Result, Ok, Err}
 use Rattle.vp8_tables.specs.Tables.{TableEntries}
 use Rattle.frame_header.specs.declared.cause.Cause.{Cause}
@@ -12,45 +12,45 @@ use Rattle.state_cache.specs.declared.outcomes.Kept.{Kept}
 use Rattle.state_cache.specs.declared.outcomes.ReachFault.{ReachFault}
 use Rattle.state_cache.specs.declared.outcomes.ReachFault.TheVariants.{Refused, NoMemory}
 use Rattle.state_cache.specs.Decoding.{Outcome, outcomes}
-use Rattle.state_cache.specs.Views.{Seen, View, is_usable, key_at, kept_in, told}
+use Rattle.state_cache.specs.Views.{MarkedPacket, View, is_usable, key_at, cached_in, step_result}
 
--- what a cache holds: the outcomes kept, by the ids of their packets, how many there may be, and the number of steps made
+-- the value of a cache: outcomes by the ids of their packets, the capacity, and the number of steps made
 pub record CacheValue : Type 0 where
   pub entries : List (ℕ × Kept)
   pub capacity : ℕ
   pub decoded : ℕ
 
 abbrev pub view_of : CacheValue → View
-view_of cache = kept_in cache.entries
+view_of cache = cached_in cache.entries
 
--- where steps begin: place 0, a key tag, or behind a usable place
-pub data Begins (packets : List Seen) (kept : View) (place : ℕ) : Type 0 where
+-- where steps begin: at index 0, at a key tag, or after a usable index
+pub data Begins (packets : List MarkedPacket) (kept : View) (place : ℕ) : Type 0 where
   at_start : place ≡ 0 → Begins packets kept place
   at_key : key_at packets place ≡ true → Begins packets kept place
-  behind : (before : ℕ) → place ≡ before + 1 → is_usable packets kept before ≡ true → Begins packets kept place
+  following : (before : ℕ) → place ≡ before + 1 → is_usable packets kept before ≡ true → Begins packets kept place
 
--- the state that is kept for the packet before a place
-abbrev pub state_before : List Seen → View → ℕ → Option State
+-- the state cached for the packet before an index
+abbrev pub state_before : List MarkedPacket → View → ℕ → Option State
 state_before packets kept zero = None
 state_before packets kept (suc before) = option_map (λ outcome. outcome.state) (option_and_then (λ packet. kept packet.id) (slice_get packets before))
 
--- the state from which the packet at a place is stepped: none where it has a key tag
-abbrev pub state_from : List Seen → View → ℕ → Option State
+-- the state from which the packet at an index is stepped: none if it has a key tag
+abbrev pub state_from : List MarkedPacket → View → ℕ → Option State
 state_from packets kept place = cond (key_at packets place) None (state_before packets kept place)
 
--- the marks behind a step that was kept: a cut by a mark loses it where the new state is the one that was kept there, and
--- passes it to the packet behind where it is not
+-- the marks after a cached step. A cut because of a mark loses it if the new state equals the one cached there before, and
+-- passes it to the next packet otherwise
 abbrev pub passed_marks : Bool → Bool → ℕ → List Bool → List Bool
-passed_marks is_cut has_met place marks =
-    cond is_cut (cond has_met (unmarked_at place marks) (marked_at (place + 1) (unmarked_at place marks))) marks
+passed_marks is_cut has_converged place marks =
+    cond is_cut (cond has_converged (unmarked_at place marks) (marked_at (place + 1) (unmarked_at place marks))) marks
 
--- where the states met, one was kept there, and it is the new one
-abbrev pub Met : Bool → Option Kept → Kept → Type 0
-Met has_met before new = has_met ≡ true → (old : Kept) × (before ≡ Some old) × (old.state ≡ new.state)
+-- if the states converge, a state was cached there, and it equals the new one
+abbrev pub Converged : Bool → Option Kept → Kept → Type 0
+Converged has_converged before new = has_converged ≡ true → (old : Kept) × (before ≡ Some old) × (old.state ≡ new.state)
 
--- the place that is stepped first on the way to another: the one behind the greatest usable place from the last key tag
--- on, and with no such place that key tag's own, or place 0
-pub record IsNext (packets : List Seen) (kept : View) (place next : ℕ) : Type 0 where
+-- the first index to step on the way to another: the one after the greatest usable index since the last key tag; with no
+-- such index, the index of that key tag, or 0
+pub record IsNext (packets : List MarkedPacket) (kept : View) (place next : ℕ) : Type 0 where
   pub within : next ≤ place + 1
   pub begins : Begins packets kept next
   pub arrived : place < next → is_usable packets kept place ≡ true
@@ -59,31 +59,31 @@ pub record IsNext (packets : List Seen) (kept : View) (place next : ℕ) : Type 
 
 -- the answer is this outcome, or that there was no memory
 abbrev pub ReachAnswers : Outcome → Result Kept ReachFault → Type 0
-ReachAnswers want (Ok kept) = want ≡ Ok (told kept)
+ReachAnswers want (Ok kept) = want ≡ Ok (step_result kept)
 ReachAnswers want (Err (Refused broken)) = want ≡ Err broken
 ReachAnswers want (Err NoMemory) = Unit {0}
 
--- the answer is decoding's outcome at a place, or that there was no memory
+-- the answer is the outcome of decoding at an index, or that there was no memory
 abbrev pub Reaches : TableEntries → Listing → ℕ → Result Kept ReachFault → Type 0
 Reaches tables list place result = (want : Outcome) × (slice_get (outcomes tables (stream_of list)) place ≡ Some want) × ReachAnswers want result
 
--- a step's answer at a place: its good outcome, its cause with that place, or that there was no memory
-abbrev pub GivesAt : ℕ → Result (State × PictureSamples) Cause → Result Kept ReachFault → Type 0
-GivesAt place want (Ok kept) = want ≡ Ok (told kept)
-GivesAt place want (Err (Refused broken)) = (want ≡ Err broken.cause) × (broken.place ≡ place)
-GivesAt place want (Err NoMemory) = Unit {0}
+-- the answer of a step at an index: its good outcome, its cause with that index, or that there was no memory
+abbrev pub AnswersAt : ℕ → Result (State × PictureSamples) Cause → Result Kept ReachFault → Type 0
+AnswersAt place want (Ok kept) = want ≡ Ok (step_result kept)
+AnswersAt place want (Err (Refused broken)) = (want ≡ Err broken.cause) × (broken.place ≡ place)
+AnswersAt place want (Err NoMemory) = Unit {0}
 
--- the answer is that of the step of the packet at a place
-abbrev pub StepGives : TableEntries → List Seen → View → ℕ → Result Kept ReachFault → Type 0
-StepGives tables packets kept place result = (packet : Seen) × (slice_get packets place ≡ Some packet) × GivesAt place (step_of tables (state_from packets kept place) packet.bytes) result
+-- the answer is the answer of the step of the packet at an index
+abbrev pub IterationAnswers : TableEntries → List MarkedPacket → View → ℕ → Result Kept ReachFault → Type 0
+IterationAnswers tables packets kept place result = (packet : MarkedPacket) × (slice_get packets place ≡ Some packet) × AnswersAt place (step_of tables (state_from packets kept place) packet.bytes) result
 
--- a refusal tells where decoding has the stream broken
-abbrev pub Tells : TableEntries → Listing → ℕ → ReachFault → Type 0
-Tells tables list place (Refused broken) = slice_get (outcomes tables (stream_of list)) place ≡ Some (Err broken)
-Tells tables list place NoMemory = Unit {0}
+-- a refusal names the index at which decoding finds the stream broken
+abbrev pub Reports : TableEntries → Listing → ℕ → ReachFault → Type 0
+Reports tables list place (Refused broken) = slice_get (outcomes tables (stream_of list)) place ≡ Some (Err broken)
+Reports tables list place NoMemory = Unit {0}
 
--- the answer is what is kept at a place, or that there was no memory
-abbrev pub KeptAnswers : List Seen → View → ℕ → Result Kept ReachFault → Type 0
-KeptAnswers packets kept place (Ok outcome) = option_and_then (λ packet. kept packet.id) (slice_get packets place) ≡ Some outcome
-KeptAnswers packets kept place (Err (Refused broken)) = ⊥
-KeptAnswers packets kept place (Err NoMemory) = Unit {0}
+-- the answer is the outcome cached at an index, or that there was no memory
+abbrev pub CachedAnswers : List MarkedPacket → View → ℕ → Result Kept ReachFault → Type 0
+CachedAnswers packets kept place (Ok outcome) = option_and_then (λ packet. kept packet.id) (slice_get packets place) ≡ Some outcome
+CachedAnswers packets kept place (Err (Refused broken)) = ⊥
+CachedAnswers packets kept place (Err NoMemory) = Unit {0}

@@ -1,76 +1,76 @@
--- A walk of steps to a place: one turn, and where the walk goes on.
+-- A walk to an index: one step, where the walk continues, and how it ends.
 use Rattle.std.specs.Prelude.{◌≡◌, ℕ, ◌+◌, ◌<◌, ◌≤◌, ◌&&◌, ◌⊎◌, Bool, true, false, cond, min, List, [], ◌∷◌, length, slice_get, Option, Some, is_none, IsSome}
 use Rattle.vp8_tables.specs.Tables.{TableEntries}
 use Rattle.packet_edits.specs.Marks.{StoreValue}
 use Rattle.state_cache.specs.declared.outcomes.Kept.{Kept}
 use Rattle.state_cache.specs.Costs.{AreUnsettled, HasRoom, IsIdOf, IsOneRun, IsSettled, most_steps}
-use Rattle.state_cache.specs.Reaching.{CacheValue, IsNext, Met, passed_marks, view_of}
-use Rattle.state_cache.specs.Views.{Drops, Seen, View, is_cut, kept_at, seens, with_kept}
+use Rattle.state_cache.specs.Reaching.{CacheValue, IsNext, Converged, passed_marks, view_of}
+use Rattle.state_cache.specs.Views.{Drops, MarkedPacket, View, is_cut, cached_at, marked_packets, with_cached}
 
--- where an outcome with the new one's state was kept, the states met
-abbrev pub MeetsSame : Bool → Option Kept → Kept → Type 0
-MeetsSame has_met before new = (old : Kept) → before ≡ Some old → old.state ≡ new.state → has_met ≡ true
+-- if an outcome with the same state was cached, the states converge
+abbrev pub ConvergesWithSame : Bool → Option Kept → Kept → Type 0
+ConvergesWithSame has_converged before new = (old : Kept) → before ≡ Some old → old.state ≡ new.state → has_converged ≡ true
 
--- how many outcomes are kept once one is kept for an id
+-- the number of cached outcomes once one is cached for an id
 abbrev pub entries_with : CacheValue → ℕ → ℕ
 entries_with cache id = length cache.entries + cond (is_none (view_of cache id)) 1 0
 
--- one outcome was kept, and none dropped
+-- one outcome was cached, and none dropped
 pub record IsPut (before : CacheValue) (id : ℕ) (outcome : Kept) (after : CacheValue) : Type 0 where
   pub number : length after.entries ≡ entries_with before id
-  pub others : (q : ℕ) → view_of after q ≡ with_kept (view_of before) id outcome q
+  pub others : (q : ℕ) → view_of after q ≡ with_cached (view_of before) id outcome q
 
--- a turn at a place: the outcome of its packet is kept, and its mark passed; the runs are joined where it was a cut by a
--- mark and the states met
-pub record IsTurned (old : StoreValue) (before : CacheValue) (place : ℕ) (joined : Bool) (new : StoreValue) (after : CacheValue) : Type 0 where
-  pub packet : Seen
+-- one step at an index: the outcome of its packet is cached, and its mark passed. The runs are joined if the packet was a cut
+-- because of a mark and the states converge
+pub record IsIteration (old : StoreValue) (before : CacheValue) (place : ℕ) (joined : Bool) (new : StoreValue) (after : CacheValue) : Type 0 where
+  pub packet : MarkedPacket
   pub outcome : Kept
-  pub has_met : Bool
-  pub stands : slice_get (seens old) place ≡ Some packet
-  pub marks : new ≡ record old { marks = passed_marks (is_cut packet) has_met place old.marks }
-  pub joined_is : joined ≡ (is_cut packet && has_met)
-  pub met : Met has_met (view_of before packet.id) outcome
-  pub meets_same : MeetsSame has_met (view_of before packet.id) outcome
+  pub has_converged : Bool
+  pub packet_is : slice_get (marked_packets old) place ≡ Some packet
+  pub marks : new ≡ record old { marks = passed_marks (is_cut packet) has_converged place old.marks }
+  pub joined_is : joined ≡ (is_cut packet && has_converged)
+  pub converged : Converged has_converged (view_of before packet.id) outcome
+  pub converges_with_same : ConvergesWithSame has_converged (view_of before packet.id) outcome
   pub kept : view_of after packet.id ≡ Some outcome
-  pub drops : (q : ℕ) → Drops (view_of after q) (with_kept (view_of before) packet.id outcome q)
+  pub drops : (q : ℕ) → Drops (view_of after q) (with_cached (view_of before) packet.id outcome q)
   -- with room for it, nothing else is dropped
   pub room : entries_with before packet.id ≤ before.capacity → IsPut before packet.id outcome after
 
--- the place behind the last kept one of a run, from its place `first` up to `place`
-pub record IsBehindKept (packets : List Seen) (kept : View) (first place next : ℕ) : Type 0 where
+-- the index after the last cached one of a run, from `first` up to `place`
+pub record IsAfterCached (packets : List MarkedPacket) (kept : View) (first place next : ℕ) : Type 0 where
   pub last : ℕ
   pub next_is : next ≡ last + 1
   pub from : first ≤ last
   pub within : last ≤ place
   pub one_run : IsOneRun packets first last
-  pub is_kept : kept_at packets kept last ≡ true
-  pub greatest : (p : ℕ) → last < p → p ≤ place → IsOneRun packets first p → kept_at packets kept p ≡ false
+  pub is_cached : cached_at packets kept last ≡ true
+  pub greatest : (p : ℕ) → last < p → p ≤ place → IsOneRun packets first p → cached_at packets kept p ≡ false
 
--- a step that is kept on the way to a place: the walk goes on behind it, and just one place fewer is not settled
+-- a cached step on the way to an index: the walk continues after it, and exactly one index fewer is not settled
 pub record Advances (tables : TableEntries) (old : StoreValue) (before : CacheValue) (place next : ℕ) (new : StoreValue) (after : CacheValue) (further : ℕ) : Type 0 where
-  pub first : IsNext (seens new) (view_of after) place further
-  pub behind : next < further
+  pub first : IsNext (marked_packets new) (view_of after) place further
+  pub following : next < further
   pub number : length before.entries ≤ length after.entries
-  pub stand : (id : ℕ) → IsSome (view_of after id) → IsSome (view_of before id) ⊎ IsIdOf old.list id
+  pub of_packets : (id : ℕ) → IsSome (view_of after id) → IsSome (view_of before id) ⊎ IsIdOf old.list id
   pub room : HasRoom old.list before next place → HasRoom new.list after further place
   pub stays : HasRoom old.list before next place → (id : ℕ) → IsSome (view_of before id) → IsSome (view_of after id)
-  pub keeps : HasRoom old.list before next place → (p : ℕ) → next ≤ p → p ≤ place → (IsSettled tables (seens old) (view_of before) place p → ⊥)
-      → (kept_at (seens new) (view_of after) p ≡ true) ⊎ ((further ≤ p) × (IsSettled tables (seens new) (view_of after) place p → ⊥))
-  pub fewer : HasRoom old.list before next place → (places : List ℕ) → AreUnsettled tables (seens old) (view_of before) next place places
-      → (rest : List ℕ) × (places ≡ next ∷ rest) × AreUnsettled tables (seens new) (view_of after) further place rest
+  pub keeps : HasRoom old.list before next place → (p : ℕ) → next ≤ p → p ≤ place → (IsSettled tables (marked_packets old) (view_of before) place p → ⊥)
+      → (cached_at (marked_packets new) (view_of after) p ≡ true) ⊎ ((further ≤ p) × (IsSettled tables (marked_packets new) (view_of after) place p → ⊥))
+  pub fewer : HasRoom old.list before next place → (places : List ℕ) → AreUnsettled tables (marked_packets old) (view_of before) next place places
+      → (rest : List ℕ) × (places ≡ next ∷ rest) × AreUnsettled tables (marked_packets new) (view_of after) further place rest
 
 -- one step of a walk to `place`: the packet at `next` is stepped, its outcome is cached and its mark passed. The walk
 -- continues at `further`, which is the next index unless two runs were joined
 pub record IsWalkStep (old : StoreValue) (before : CacheValue) (place next : ℕ) (new : StoreValue) (after : CacheValue) (further : ℕ) : Type 0 where
   pub joined : Bool
-  pub turned : IsTurned old before next joined new after
+  pub iterated : IsIteration old before next joined new after
   pub counted : after.decoded ≡ min (before.decoded + 1) most_steps
   pub capacity : after.capacity ≡ before.capacity
   pub number : length before.entries ≤ length after.entries
   pub low : next ≤ place
   pub later : next < further
   pub onward : joined ≡ false → further ≡ next + 1
-  pub continues : IsNext (seens new) (view_of after) place further
+  pub continues : IsNext (marked_packets new) (view_of after) place further
 
 -- a walk to `place` that began at `first`: these indexes were stepped, the latest one first, and `next` is the index to step
 -- then
@@ -88,7 +88,7 @@ pub data Ends (place next : ℕ) (cache : CacheValue) (is_ok : Bool) (after : Ca
 -- marks and the cached outcomes as they were before that step
 pub record IsWalk (old : StoreValue) (before : CacheValue) (place : ℕ) (is_ok : Bool) (new : StoreValue) (after : CacheValue) : Type 0 where
   pub first : ℕ
-  pub is_first : IsNext (seens old) (view_of before) place first
+  pub is_first : IsNext (marked_packets old) (view_of before) place first
   pub stepped : List ℕ
   pub next : ℕ
   pub cache : CacheValue

@@ -5,10 +5,10 @@ ghost use Rattle.pixel_planes.specs.Pictures.{PictureSamples};
 ghost use Rattle.reference_frames.specs.Steps.{StepAnswers};
 ghost use Rattle.reference_frames.specs.States.{StateValue};
 ghost use Rattle.state_cache.specs.Costs.{Costs, cut_at, most_steps};
-ghost use Rattle.state_cache.specs.Reaching.{Begins, GivesAt, IsNext, KeptAnswers, Met, Reaches, StepGives, Tells, passed_marks, state_from, view_of};
+ghost use Rattle.state_cache.specs.Reaching.{Begins, AnswersAt, IsNext, CachedAnswers, Converged, Reaches, IterationAnswers, Reports, passed_marks, state_from, view_of};
 ghost use Rattle.state_cache.specs.Searches.{looked, mark_at, next_of};
-ghost use Rattle.state_cache.specs.Walks.{Advances, IsBehindKept, IsPut, IsTurned, IsWalk, IsWalkStep, MeetsSame, entries_with};
-ghost use Rattle.state_cache.specs.Views.{Drops, IsCoherent, is_usable, kept_at, kept_in, key_at, seens, with_kept};
+ghost use Rattle.state_cache.specs.Walks.{Advances, IsAfterCached, IsPut, IsIteration, IsWalk, IsWalkStep, ConvergesWithSame, entries_with};
+ghost use Rattle.state_cache.specs.Views.{Drops, IsCoherent, is_usable, cached_at, cached_in, key_at, marked_packets, with_cached};
 
 use crate::counter::Counter;
 use crate::outcomes::{Broken, Kept, ReachFault};
@@ -22,7 +22,7 @@ use std::marker::Model;
 use std::num::NonZeroUsize;
 use vp8_tables::Tables;
 
-/// Good outcomes of packets, kept by the packets' ids, and the number of steps made.
+/// Good outcomes of packets, cached by the packets' ids, and the number of steps made.
 #[derive(Drop)]
 pub struct Cache {
     alloc: Global,
@@ -39,9 +39,9 @@ impl Model for Cache {
 }
 
 impl Cache {
-    /// A cache of at most `capacity` outcomes, 1 to 4,096, of which none is kept yet.
+    /// An empty cache of at most `capacity` outcomes, 1 to 4,096.
     ///
-    /// `NoMemory` where memory for its table was refused.
+    /// `NoMemory` if memory for its table was refused.
     pub fn new(alloc: Global, capacity: u16) -> Result<Cache, NoMemory>
         requires { (1 ≤ capacity) × (capacity ≤ 4096) }
         ensures { IfOk result (λ cache. cache ≡ record { entries = []; capacity = capacity; decoded = 0 }) }
@@ -59,7 +59,8 @@ impl Cache {
         }
     }
 
-    /// How many steps of decoding were made, whatever they answered; at most 18,446,744,073,709,551,615.
+    /// The number of decoding steps made, refused ones included; at most
+    /// 18,446,744,073,709,551,615.
     pub fn decoded(&self) -> u64
         ensures value { result ≡ self.now.decoded }
         ensures most { result ≤ most_steps }
@@ -67,8 +68,8 @@ impl Cache {
         self.steps.made()
     }
 
-    /// Does nothing. It says that the capacity bounds the cached outcomes, and the greatest `u64` the
-    /// steps.
+    /// Does nothing. Its contract: there are at most `capacity` cached outcomes, and the number of
+    /// steps is a `u64`.
     fn holds_few(&self)
         ensures bounded { length self.now.entries ≤ self.now.capacity }
         ensures most { self.now.decoded ≤ most_steps }
@@ -77,16 +78,17 @@ impl Cache {
         let _most = self.steps.made();
     }
 
-    /// The outcome at `place`, a place that stands in the store: what decoding from the stream's start
-    /// gives there. It goes on from what is kept, one step at a time.
+    /// The outcome at index `place`, which exists: the result of decoding from the start of the
+    /// stream up to this packet. It continues from cached outcomes, one step at a time.
     ///
-    /// It makes no more steps than places lie from the first one that it steps up to `place`, and none
-    /// where `place` is usable. Where all that comes on the way can be kept besides what is kept, it
-    /// makes just one step for each place on the way that is not settled, and drops nothing.
+    /// Each packet after the greatest usable index, up to `place`, is stepped at most once, and
+    /// none if `place` is usable. If the new outcomes fit next to the cached ones, exactly the
+    /// indexes that are not settled are stepped, and nothing is dropped.
     ///
-    /// `Refused` where decoding finds the stream broken, with the place and the cause of the break;
-    /// `NoMemory` where a growth or a share was refused before. Whatever it answers, it changes no
-    /// packet, what is kept stays true, and no fewer outcomes are kept.
+    /// `Refused` if the stream is broken there, with the index and the cause of the break;
+    /// `NoMemory` if memory or a share was refused first. In every case the packets are unchanged,
+    /// the cache stays valid and has no fewer outcomes. A refused step changes only the number of
+    /// steps.
     pub fn reach(
         &mut self,
         tables: &Tables,
@@ -94,10 +96,10 @@ impl Cache {
         place: usize,
     ) -> Result<Kept, ReachFault>
         requires place { place < length store.old.list.entries }
-        requires coherent { IsCoherent tables.now (seens store.old) (view_of self.old) }
+        requires coherent { IsCoherent tables.now (marked_packets store.old) (view_of self.old) }
         ensures reaches { Reaches tables.now store.old.list place result }
         ensures list { store.new.list ≡ store.old.list }
-        ensures coherent { IsCoherent tables.now (seens store.new) (view_of self.new) }
+        ensures coherent { IsCoherent tables.now (marked_packets store.new) (view_of self.new) }
         ensures costs { Costs tables.now store.old self.old place (is_ok result) store.new self.new }
         ensures walks { IsWalk store.old self.old place (is_ok result) store.new self.new }
     {
@@ -112,10 +114,10 @@ impl Cache {
         self.answer(store, place)
     }
 
-    /// What is kept for the packet at `place`, which is usable.
+    /// The cached outcome of the packet at `place`, which is usable.
     fn answer(&self, store: &Store, place: usize) -> Result<Kept, ReachFault>
         requires place { place < length store.now.list.entries }
-        ensures kept { KeptAnswers (seens store.now) (view_of self.now) place result }
+        ensures kept { CachedAnswers (marked_packets store.now) (view_of self.now) place result }
         ensures bounded { length self.now.entries ≤ self.now.capacity }
     {
         self.holds_few();
@@ -129,8 +131,8 @@ impl Cache {
         }
     }
 
-    /// Steps the packet at `next`, which is stepped first on the way to `place`, and gives the place to
-    /// step then.
+    /// Steps the packet at `next`, the first index to step on the way to `place`, and returns the
+    /// index to step next.
     fn advance(
         &mut self,
         tables: &Tables,
@@ -139,12 +141,12 @@ impl Cache {
         next: usize,
     ) -> Result<usize, ReachFault>
         requires place { place < length store.old.list.entries }
-        requires coherent { IsCoherent tables.now (seens store.old) (view_of self.old) }
-        requires first { IsNext (seens store.old) (view_of self.old) place next }
+        requires coherent { IsCoherent tables.now (marked_packets store.old) (view_of self.old) }
+        requires first { IsNext (marked_packets store.old) (view_of self.old) place next }
         requires low { next ≤ place }
         ensures list { store.new.list ≡ store.old.list }
-        ensures coherent { IsCoherent tables.now (seens store.new) (view_of self.new) }
-        ensures told { IfErr result (λ fault. Tells tables.now store.old.list next fault) }
+        ensures coherent { IsCoherent tables.now (marked_packets store.new) (view_of self.new) }
+        ensures step_result { IfErr result (λ fault. Reports tables.now store.old.list next fault) }
         ensures refused { OnErr result ((store.new ≡ store.old) × (self.new.entries ≡ self.old.entries)) }
         ensures counted { self.new.decoded ≡ min (self.old.decoded + 1) most_steps }
         ensures capacity { self.new.capacity ≡ self.old.capacity }
@@ -153,34 +155,39 @@ impl Cache {
         ensures walks { IfOk result (λ further. IsWalkStep store.old self.old place next store.new self.new further) }
     {
         store.holds_few();
-        let is_joined = match self.turn(tables, store, next) {
+        let is_joined = match self.iterate(tables, store, next) {
             Ok(is_joined) => is_joined,
             Err(fault) => return Err(fault),
         };
         if is_joined {
-            Ok(self.behind_kept(store, next, place))
+            Ok(self.after_cached(store, next, place))
         } else {
             Ok(next + 1)
         }
     }
 
-    /// Steps the packet at `place`, keeps its outcome, and passes its mark. It says whether the packet
-    /// was a cut by its mark that is none any more.
-    fn turn(&mut self, tables: &Tables, store: &mut Store, place: usize) -> Result<bool, ReachFault>
+    /// Steps the packet at `place`, caches its outcome and passes its mark. Returns whether its
+    /// mark was a cut and is removed because the states converge.
+    fn iterate(
+        &mut self,
+        tables: &Tables,
+        store: &mut Store,
+        place: usize,
+    ) -> Result<bool, ReachFault>
         requires place { place < length store.old.list.entries }
-        requires coherent { IsCoherent tables.now (seens store.old) (view_of self.old) }
-        requires begins { Begins (seens store.old) (view_of self.old) place }
-        requires missing { is_usable (seens store.old) (view_of self.old) place ≡ false }
+        requires coherent { IsCoherent tables.now (marked_packets store.old) (view_of self.old) }
+        requires begins { Begins (marked_packets store.old) (view_of self.old) place }
+        requires missing { is_usable (marked_packets store.old) (view_of self.old) place ≡ false }
         ensures list { store.new.list ≡ store.old.list }
-        ensures coherent { IsCoherent tables.now (seens store.new) (view_of self.new) }
-        ensures usable { OnOk result (is_usable (seens store.new) (view_of self.new) place ≡ true) }
-        ensures told { IfErr result (λ fault. Tells tables.now store.old.list place fault) }
+        ensures coherent { IsCoherent tables.now (marked_packets store.new) (view_of self.new) }
+        ensures usable { OnOk result (is_usable (marked_packets store.new) (view_of self.new) place ≡ true) }
+        ensures step_result { IfErr result (λ fault. Reports tables.now store.old.list place fault) }
         ensures refused { OnErr result ((store.new ≡ store.old) × (self.new.entries ≡ self.old.entries)) }
         ensures counted { self.new.decoded ≡ min (self.old.decoded + 1) most_steps }
         ensures capacity { self.new.capacity ≡ self.old.capacity }
         ensures bounded { length self.new.entries ≤ self.new.capacity }
         ensures number { length self.old.entries ≤ length self.new.entries }
-        ensures turned { IfOk result (λ joined. IsTurned store.old self.old place joined store.new self.new) }
+        ensures iterated { IfOk result (λ joined. IsIteration store.old self.old place joined store.new self.new) }
     {
         store.holds_few();
         self.holds_few();
@@ -189,17 +196,17 @@ impl Cache {
             Err(fault) => return Err(fault),
         };
         let is_cut = is_cut(store, place);
-        let Ok(has_met) = self.keep(store.id(place), new) else {
+        let Ok(has_converged) = self.keep(store.id(place), new) else {
             return Err(ReachFault::NoMemory);
         };
-        Ok(pass_mark(store, place, is_cut, has_met))
+        Ok(pass_mark(store, place, is_cut, has_converged))
     }
 
-    /// The place behind the last kept one of a run, from `first`, which is kept, up to `place`.
-    fn behind_kept(&self, store: &Store, first: usize, place: usize) -> usize
+    /// The index after the last cached one of a run, from `first`, which is cached, up to `place`.
+    fn after_cached(&self, store: &Store, first: usize, place: usize) -> usize
         requires within { (first ≤ place) × (place < length store.now.list.entries) }
-        requires kept { kept_at (seens store.now) (view_of self.now) first ≡ true }
-        ensures { IsBehindKept (seens store.now) (view_of self.now) first place result }
+        requires kept { cached_at (marked_packets store.now) (view_of self.now) first ≡ true }
+        ensures { IsAfterCached (marked_packets store.now) (view_of self.now) first place result }
     {
         store.holds_few();
         let mut last = first;
@@ -208,16 +215,16 @@ impl Cache {
             if begins_run(store, at) {
                 return last + 1;
             }
-            last = self.later_kept(store, last, at);
+            last = self.later_cached(store, last, at);
             at += 1;
         }
         last + 1
     }
 
-    /// `place` where an outcome of its packet is kept, and `last` where none is.
-    fn later_kept(&self, store: &Store, last: usize, place: usize) -> usize
+    /// `place` if an outcome of its packet is cached, else `last`.
+    fn later_cached(&self, store: &Store, last: usize, place: usize) -> usize
         requires { place < length store.now.list.entries }
-        ensures { result ≡ cond (kept_at (seens store.now) (view_of self.now) place) place last }
+        ensures { result ≡ cond (cached_at (marked_packets store.now) (view_of self.now) place) place last }
     {
         if self.holds(store, place) {
             place
@@ -229,7 +236,7 @@ impl Cache {
     /// Steps the packet at `place`, and counts the step.
     fn stepped(&mut self, tables: &Tables, store: &Store, place: usize) -> Result<Kept, ReachFault>
         requires { place < length store.now.list.entries }
-        ensures gives { StepGives tables.now (seens store.now) (view_of self.old) place result }
+        ensures gives { IterationAnswers tables.now (marked_packets store.now) (view_of self.old) place result }
         ensures counted { self.new ≡ record self.old { decoded = min (self.old.decoded + 1) most_steps } }
     {
         let state = state_before(&self.kept, store, place);
@@ -237,13 +244,13 @@ impl Cache {
         outcome_at(place, self.steps.step(self.alloc, tables, state, packet))
     }
 
-    /// Keeps an outcome, and says whether one with its state was kept there. Where memory is refused
-    /// nothing changes.
+    /// Caches an outcome. Returns whether an outcome with the same state was cached for this id. If
+    /// memory is refused, nothing changes.
     fn keep(&mut self, id: u64, new: Kept) -> Result<bool, NoMemory>
-        ensures drops { OnOk result ((q : ℕ) → Drops (view_of self.new q) (with_kept (view_of self.old) id new q)) }
+        ensures drops { OnOk result ((q : ℕ) → Drops (view_of self.new q) (with_cached (view_of self.old) id new q)) }
         ensures kept { OnOk result (view_of self.new id ≡ Some new) }
-        ensures met { IfOk result (λ met. Met met (view_of self.old id) new) }
-        ensures meets_same { IfOk result (λ met. MeetsSame met (view_of self.old id) new) }
+        ensures converged { IfOk result (λ converged. Converged converged (view_of self.old id) new) }
+        ensures converges_with_same { IfOk result (λ converged. ConvergesWithSame converged (view_of self.old id) new) }
         ensures room { OnOk result (entries_with self.old id ≤ self.old.capacity → IsPut self.old id new self.new) }
         ensures number { length self.old.entries ≤ length self.new.entries }
         ensures bounded { length self.new.entries ≤ self.new.capacity }
@@ -251,17 +258,17 @@ impl Cache {
         ensures rest { (self.new.capacity ≡ self.old.capacity) × (self.new.decoded ≡ self.old.decoded) }
     {
         is_valid(&self.kept);
-        let has_met = self.meets(id, &new);
+        let has_converged = self.converges(id, &new);
         match self.kept.put(id, new) {
-            Ok(_) => Ok(has_met),
+            Ok(_) => Ok(has_converged),
             Err(_) => Err(NoMemory),
         }
     }
 
-    /// Whether the outcome kept for an id has this outcome's state.
-    fn meets(&self, id: u64, new: &Kept) -> bool
-        ensures met { Met result (view_of self.now id) new.now }
-        ensures meets_same { MeetsSame result (view_of self.now id) new.now }
+    /// Whether the outcome cached for an id has the same state as this outcome.
+    fn converges(&self, id: u64, new: &Kept) -> bool
+        ensures converged { Converged result (view_of self.now id) new.now }
+        ensures converges_with_same { ConvergesWithSame result (view_of self.now id) new.now }
     {
         match self.kept.peek(&id) {
             Some(old) => same_state(&old.state, &new.state),
@@ -269,7 +276,7 @@ impl Cache {
         }
     }
 
-    /// Drops what is kept for an id.
+    /// Drops the outcome cached for an id.
     pub fn edited(&mut self, id: u64)
         ensures dropped { view_of self.new id ≡ None }
         ensures others { (q : ℕ) → (q ≡ id → ⊥) → view_of self.new q ≡ view_of self.old q }
@@ -280,20 +287,20 @@ impl Cache {
         self.kept.pop(&id);
     }
 
-    /// Whether an outcome of the packet at `place` is kept.
+    /// Whether an outcome of the packet at `place` is cached.
     fn holds(&self, store: &Store, place: usize) -> bool
         requires { place < length store.now.list.entries }
-        ensures { result ≡ kept_at (seens store.now) (view_of self.now) place }
+        ensures { result ≡ cached_at (marked_packets store.now) (view_of self.now) place }
     {
         let id = store.id(place);
         self.kept.contains(&id)
     }
 
-    /// The greatest place that is kept with no mark behind it, after a look at one place more. A mark
-    /// on a packet with a key tag counts for nothing.
+    /// The greatest cached index with no mark after it, once one more index is looked at. A mark on
+    /// a packet with a key tag has no effect.
     fn look(&self, store: &Store, place: usize, is_key: bool, found: Option<usize>) -> Option<usize>
         requires { place < length store.now.list.entries }
-        ensures { result ≡ looked is_key (mark_at (seens store.now) place) (kept_at (seens store.now) (view_of self.now) place) place found }
+        ensures { result ≡ looked is_key (mark_at (marked_packets store.now) place) (cached_at (marked_packets store.now) (view_of self.now) place) place found }
     {
         if !is_key {
             if is_marked(store, place) {
@@ -312,10 +319,11 @@ impl Cache {
         }
     }
 
-    /// The place to step first on the way to `place`. It looks back from there to the last key tag.
+    /// The first index to step on the way to `place`. It looks back from `place` to the last key
+    /// tag.
     fn next_step(&self, store: &Store, place: usize) -> usize
         requires { place < length store.now.list.entries }
-        ensures { IsNext (seens store.now) (view_of self.now) place result }
+        ensures { IsNext (marked_packets store.now) (view_of self.now) place result }
     {
         store.holds_few();
         let mut found = None;
@@ -325,24 +333,24 @@ impl Cache {
             let is_key = has_key(store, at);
             found = self.look(store, at, is_key, found);
             if is_key {
-                return next_behind(found, at);
+                return next_after(found, at);
             }
         }
-        next_behind(found, at)
+        next_after(found, at)
     }
 }
 
-/// Does nothing. It says that a map has no id twice and no more outcomes than its capacity, which is
-/// not 0.
+/// Does nothing. Its contract: a map has no id twice and no more outcomes than its capacity, which
+/// is not 0.
 fn is_valid(kept: &LruCache<u64, Kept>)
     ensures { IsValid nat_eq kept.now }
 {
     let _few = kept.len();
 }
 
-/// The answer of a step at `place`, as an outcome of its packet.
+/// The answer of the step at `place` as an outcome of its packet.
 fn outcome_at(place: usize, answer: Result<(State, Picture), StepFault>) -> Result<Kept, ReachFault>
-    ensures { (want : Result (StateValue × PictureSamples) Cause) → StepAnswers want answer → GivesAt place want result }
+    ensures { (want : Result (StateValue × PictureSamples) Cause) → StepAnswers want answer → AnswersAt place want result }
 {
     match answer {
         Ok((state, picture)) => Ok(Kept { state, picture }),
@@ -354,7 +362,7 @@ fn outcome_at(place: usize, answer: Result<(State, Picture), StepFault>) -> Resu
 /// The state from which the packet at `place` is stepped.
 fn state_before<'a>(kept: &'a LruCache<u64, Kept>, store: &Store, place: usize) -> Option<&'a State>
     requires { place < length store.now.list.entries }
-    ensures { option_copied result ≡ state_from (seens store.now) (kept_in kept.now.entries) place }
+    ensures { option_copied result ≡ state_from (marked_packets store.now) (cached_in kept.now.entries) place }
 {
     if has_key(store, place) {
         return None;
@@ -372,7 +380,7 @@ fn state_before<'a>(kept: &'a LruCache<u64, Kept>, store: &Store, place: usize) 
 /// Whether the packet at `place` has a key tag.
 fn has_key(store: &Store, place: usize) -> bool
     requires { place < length store.now.list.entries }
-    ensures { result ≡ key_at (seens store.now) place }
+    ensures { result ≡ key_at (marked_packets store.now) place }
 {
     has_key_tag(store.packet(place))
 }
@@ -380,25 +388,25 @@ fn has_key(store: &Store, place: usize) -> bool
 /// Whether the packet at `place` is marked.
 fn is_marked(store: &Store, place: usize) -> bool
     requires { place < length store.now.list.entries }
-    ensures { result ≡ mark_at (seens store.now) place }
+    ensures { result ≡ mark_at (marked_packets store.now) place }
 {
     store.marked(place)
 }
 
-/// Whether the packet at `place` is a cut by a mark.
+/// Whether the packet at `place` is a cut because of its mark: marked, with no key tag.
 fn is_cut(store: &Store, place: usize) -> bool
     requires { place < length store.now.list.entries }
-    ensures { result ≡ (mark_at (seens store.now) place && not (key_at (seens store.now) place)) }
+    ensures { result ≡ (mark_at (marked_packets store.now) place && not (key_at (marked_packets store.now) place)) }
 {
     let is_key = has_key(store, place);
     is_marked(store, place) && !is_key
 }
 
-/// Whether a run begins at `place`, which is not the first: its packet is marked, or has a key tag.
+/// Whether a run begins at `place`, which is not 0: its packet is marked or has a key tag.
 fn begins_run(store: &Store, place: usize) -> bool
     requires place { place < length store.now.list.entries }
     requires first { 0 < place }
-    ensures { result ≡ cut_at (seens store.now) place }
+    ensures { result ≡ cut_at (marked_packets store.now) place }
 {
     if has_key(store, place) {
         return true;
@@ -406,18 +414,18 @@ fn begins_run(store: &Store, place: usize) -> bool
     is_marked(store, place)
 }
 
-/// Passes the mark of a packet that was stepped. It says whether the runs on both sides of the packet
-/// are one now.
-fn pass_mark(store: &mut Store, place: usize, is_cut: bool, has_met: bool) -> bool
+/// Passes the mark of a packet that was stepped: removes it if the states converge, else moves it
+/// to the next packet. Returns whether the runs on both sides of the packet are now one.
+fn pass_mark(store: &mut Store, place: usize, is_cut: bool, has_converged: bool) -> bool
     requires { place < length store.old.list.entries }
-    ensures marks { store.new ≡ record store.old { marks = passed_marks is_cut has_met place store.old.marks } }
-    ensures joined { result ≡ (is_cut && has_met) }
+    ensures marks { store.new ≡ record store.old { marks = passed_marks is_cut has_converged place store.old.marks } }
+    ensures joined { result ≡ (is_cut && has_converged) }
 {
     if !is_cut {
         return false;
     }
     store.clear_mark(place);
-    if has_met {
+    if has_converged {
         return true;
     }
     let len = store.len();
@@ -427,8 +435,8 @@ fn pass_mark(store: &mut Store, place: usize, is_cut: bool, has_met: bool) -> bo
     false
 }
 
-/// The place behind what a search found, or where it ended.
-fn next_behind(found: Option<usize>, place: usize) -> usize
+/// The index after the one that a search found, or the index at which it ended.
+fn next_after(found: Option<usize>, place: usize) -> usize
     requires { IfSome found (λ found. found < 2 ^ 63) }
     ensures { result ≡ next_of found place }
 {

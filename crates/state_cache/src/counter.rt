@@ -1,4 +1,4 @@
-//! Steps of decoding, and how many were made.
+//! Counted decoding steps.
 ghost use Rattle.std.specs.Prelude.{◌≡◌, ◌+◌, ◌≤◌, min};
 ghost use Rattle.std.specs.Option.{option_copied};
 ghost use Rattle.reference_frames.specs.Steps.{StepAnswers, step_of};
@@ -10,8 +10,8 @@ use std::alloc::Global;
 use std::marker::Model;
 use vp8_tables::Tables;
 
-/// The number of steps of decoding that were made, at most 18,446,744,073,709,551,615. Its `step` is
-/// the only call of this crate that decodes a packet, so each step is counted.
+/// The number of decoding steps made, at most 18,446,744,073,709,551,615. Its `step` is the only
+/// function of this crate that decodes a packet, so each step is counted.
 #[derive(Drop)]
 pub struct Counter {
     made: u64,
@@ -26,14 +26,14 @@ impl Model for Counter {
 }
 
 impl Counter {
-    /// No step was made yet.
+    /// A counter at 0.
     pub fn new() -> Counter
         ensures { result ≡ 0 }
     {
         Counter { made: 0 }
     }
 
-    /// How many steps were made.
+    /// The number of steps made.
     pub fn made(&self) -> u64
         ensures value { result ≡ self.now }
         ensures most { result ≤ most_steps }
@@ -41,7 +41,7 @@ impl Counter {
         self.made
     }
 
-    /// One step, as `reference_frames::step` makes it. It is counted, whatever it answers.
+    /// Decodes a packet by `reference_frames::step` and counts the step, refused or not.
     pub fn step(
         &mut self,
         alloc: Global,

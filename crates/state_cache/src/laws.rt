@@ -1,9 +1,10 @@
-//! Laws over the definitions of this crate: each is the contract of a function that does nothing.
+//! Laws about the definitions of this crate. Each law is the contract of a function that does
+//! nothing.
 
 ghost use Rattle.state_cache.specs.CostLaws.{UnsettledAreListed};
-ghost use Rattle.state_cache.specs.DecodingLaws.{BreaksAreNamed, EachHasOutcome, KeysBeginAnew};
-ghost use Rattle.state_cache.specs.EditLaws.{EditsKeepCoherence, EditsKeepIds, LaterIdsAreNotKept, NextIdIsNotKept};
-ghost use Rattle.state_cache.specs.KeptViews.{CoherentIsKeptView};
+ghost use Rattle.state_cache.specs.DecodingLaws.{BreaksAreNamed, EachHasOutcome, KeysDependOnNothing};
+ghost use Rattle.state_cache.specs.EditLaws.{EditsKeepCoherence, EditsKeepIds, LaterIdsAreNotCached, NextIdIsNotCached};
+ghost use Rattle.state_cache.specs.CacheViews.{CoherentIsCacheView};
 ghost use Rattle.state_cache.specs.WalkLaws.{NextIsUnique, WalksStepInOrder};
 
 use vp8_tables::Tables;
@@ -18,52 +19,51 @@ pub fn breaks_are_named()
     ensures { BreaksAreNamed }
 {}
 
-/// The outcome of a packet with a key tag depends on nothing before it.
-pub fn keys_begin_anew()
-    ensures { KeysBeginAnew }
+/// The outcome of a packet with a key tag does not depend on the packets before it.
+pub fn keys_depend_on_nothing()
+    ensures { KeysDependOnNothing }
 {}
 
-/// Behind each edit of the packets what is kept is coherent with the packets and marks as they are
-/// then, where nothing is kept any more for a packet that left.
+/// After each edit the cache is coherent with the new packets and marks, once the outcomes of
+/// removed packets are dropped.
 pub fn edits_keep_coherence(tables: &Tables)
     ensures { EditsKeepCoherence tables.now }
 {}
 
-/// Behind each edit outcomes are kept for packets that stand, and for no other.
+/// After each edit outcomes are cached only for packets of the list.
 pub fn edits_keep_ids()
     ensures { EditsKeepIds }
 {}
 
-/// Where outcomes are kept for packets that stand alone, none is kept for the id that the next packet
-/// gets.
-pub fn next_id_is_not_kept()
-    ensures { NextIdIsNotKept }
+/// If outcomes are cached only for packets of the list, none is cached for the next id.
+pub fn next_id_is_not_cached()
+    ensures { NextIdIsNotCached }
 {}
 
-/// Nor is one kept for any later id, so that packets put in at the end have none.
-pub fn later_ids_are_not_kept()
-    ensures { LaterIdsAreNotKept }
+/// Nor is one cached for any later id, so appended packets have none.
+pub fn later_ids_are_not_cached()
+    ensures { LaterIdsAreNotCached }
 {}
 
-/// A view is coherent just where each kept outcome is what the steps give from the nearest kept one
-/// before it in its run, and, with none kept before it, from none, where its run begins at a key tag
-/// or at place 0 with no mark.
-pub fn coherent_views_are_kept_views()
-    ensures { CoherentIsKeptView }
+/// A view is coherent exactly if each cached outcome results from the nearest one cached before it
+/// in its run by steps. With none cached before it, it results from no state if its run begins at a
+/// key tag or at index 0 with no mark.
+pub fn coherent_views_are_cache_views()
+    ensures { CoherentIsCacheView }
 {}
 
-/// The places of a walk that are not settled have a list.
-pub fn unsettled_places_are_listed()
+/// The indexes of a walk that are not settled have a list.
+pub fn unsettled_indexes_are_listed()
     ensures { UnsettledAreListed }
 {}
 
-/// There is one index to step first on the way to an index.
+/// The first index to step on the way to an index is unique.
 pub fn next_is_unique()
     ensures { NextIsUnique }
 {}
 
-/// A walk steps its indexes in ascending order, and changes the marks of these and of the index after
-/// the last one only.
+/// A walk steps its indexes in ascending order, and changes only the marks of these indexes and of
+/// the index after the last one.
 pub fn walks_step_in_order()
     ensures { WalksStepInOrder }
 {}

@@ -6,17 +6,17 @@ use pixel_planes::{NoMemory, Picture};
 use reference_frames::State;
 use thiserror::Error;
 
-/// Where a stream is broken: at the packet at `place`, counted from 0, by its `cause`.
+/// A break of the stream: the index of the packet, counted from 0, and the cause.
 #[derive(Clone, Copy, Debug, PartialEq, Eq)]
 pub struct Broken {
     pub place: usize,
     pub cause: Cause,
 }
 
-/// Why a place is not reached.
+/// Why an index is not reached.
 #[derive(Clone, Copy, Debug, PartialEq, Eq, Error)]
 pub enum ReachFault {
-    /// The stream is broken there.
+    /// The stream is broken at the index.
     #[error("the stream is broken at packet {}: {}", .0.place, .0.cause)]
     Refused(Broken),
     /// Memory was refused.
@@ -36,7 +36,7 @@ impl ReachFault {
     }
 }
 
-/// The good outcome of a packet: the state behind it and its picture.
+/// The good outcome of a packet: the state after it and its picture.
 #[derive(Debug, Drop)]
 pub struct Kept {
     pub state: State,
@@ -44,8 +44,8 @@ pub struct Kept {
 }
 
 impl Kept {
-    /// The same outcome once more, which shares its planes and takes no memory. `NoMemory` where one
-    /// of its parts is shared as often as can be counted.
+    /// Another handle to the same outcome. It shares the planes and allocates nothing. `NoMemory`
+    /// if the share count of one of its parts is full.
     pub fn again(&self) -> Result<Kept, NoMemory>
         ensures { IfOk result (λ kept. kept ≡ self.now) }
     {

@@ -16,16 +16,16 @@ regrouped : (m v l f w h r s c u p t : List ℕ)
 regrouped m v l f w h r s c u p t = simp append_assoc
 
 -- the bytes after the part at an index
-next : (k n : ℕ) (text part behind : List ℕ) → drop k text ≡ part ++ behind → length part ≡ n → drop (k + n) text ≡ behind
-next k n text part behind here len = sym (drop-drop n k text) ∙ ap (drop n) here ∙ drop_at part behind n len
+next : (k n : ℕ) (text part following : List ℕ) → drop k text ≡ part ++ following → length part ≡ n → drop (k + n) text ≡ following
+next k n text part following here len = sym (drop-drop n k text) ∙ ap (drop n) here ∙ drop_at part following n len
 
 -- the part at the front
-front : (n : ℕ) (text part behind : List ℕ) → text ≡ part ++ behind → length part ≡ n → take n text ≡ part
-front n text part behind here len = ap (take n) here ∙ take_at part behind n len
+front : (n : ℕ) (text part following : List ℕ) → text ≡ part ++ following → length part ≡ n → take n text ≡ part
+front n text part following here len = ap (take n) here ∙ take_at part following n len
 
 -- the number at an index
-told : (k n x : ℕ) (text behind : List ℕ) → drop k text ≡ little_bytes n x ++ behind → x < 256 ^ n → little_number n (drop k text) ≡ x
-told k n x text behind here fits = ap (little_number n) here ∙ little_number-reads_back n x behind fits
+reported : (k n x : ℕ) (text following : List ℕ) → drop k text ≡ little_bytes n x ++ following → x < 256 ^ n → little_number n (drop k text) ≡ x
+reported k n x text following here fits = ap (little_number n) here ∙ little_number-reads_back n x following fits
 
 -- what a text of this form has at each index
 record Places (text : List ℕ) (len : ℕ) (head : Head) (t : List ℕ) : Type 0 where
@@ -36,7 +36,7 @@ record Places (text : List ℕ) (len : ℕ) (head : Head) (t : List ℕ) : Type 
   height : little_number 2 (drop 14 text) ≡ head.height
   rate : little_number 4 (drop 16 text) ≡ head.rate
   scale : little_number 4 (drop 20 text) ≡ head.scale
-  behind : drop len text ≡ t
+  following : drop len text ≡ t
   long : len ≤ length text
 
 places : (v len : ℕ) (head : Head) (c : ℕ) (u t text : List ℕ) → FieldsFit v len head c → len ≡ 28 + length u → 4 ≤ length u
@@ -59,12 +59,12 @@ places v len head c u t text fit long least e0 =
     record {
       magic = front 4 text (codes "DKIF") _ e0 refl;
       four_cc = front 4 (drop 8 text) (codes "VP80") _ e8 refl;
-      told_len = told 6 2 len text _ e6 fit.header;
-      width = told 12 2 head.width text _ e12 fit.width;
-      height = told 14 2 head.height text _ e14 fit.height;
-      rate = told 16 4 head.rate text _ e16 fit.rate;
-      scale = told 20 4 head.scale text _ e20 fit.scale;
-      behind = rw long end;
+      told_len = reported 6 2 len text _ e6 fit.header;
+      width = reported 12 2 head.width text _ e12 fit.width;
+      height = reported 14 2 head.height text _ e14 fit.height;
+      rate = reported 16 4 head.rate text _ e16 fit.rate;
+      scale = reported 20 4 head.scale text _ e20 fit.scale;
+      following = rw long end;
       long = omega (arith, size, length-drop 28 text);
     }
 
@@ -76,11 +76,11 @@ pub text_is_ivf : (bytes : List ℕ) (file : Ivf) → IsIvfText bytes file → I
 text_is_ivf bytes file is =
     let len = 28 + length is.unused in
     let head = file.head in
-    let behind = records_text file.packets ++ is.rest in
+    let following = records_text file.packets ++ is.rest in
     let whole = is.spelled
     ∙ regrouped (codes "DKIF") (little_bytes 2 is.version) (little_bytes 2 len) (codes "VP80") (little_bytes 2 head.width) (little_bytes 2 head.height) (little_bytes 4 head.rate) (little_bytes 4 head.scale) (little_bytes 4 is.count) is.unused (records_text file.packets) is.rest in
-    let at = places is.version len head is.count is.unused behind bytes is.fields refl is.least whole in
-    let body_is : behind ≡ body bytes = sym at.behind ∙ ap (λ n. drop n bytes) (sym at.told_len) in
+    let at = places is.version len head is.count is.unused following bytes is.fields refl is.least whole in
+    let body_is : following ≡ body bytes = sym at.following ∙ ap (λ n. drop n bytes) (sym at.told_len) in
     record {
       header = (omega (arith, at.long, is.least), at.magic, at.four_cc, (omega (arith, at.told_len, is.least), omega (arith, at.told_len, at.long)));
       head = same_head head _ _ _ _ at.width at.height at.rate at.scale;
@@ -115,7 +115,7 @@ ivf_is_text bytes file are is =
     let ends : len ≤ length bytes = is.header.3.1 in
     let unused = take (len - 28) (drop 28 bytes) in
     let size : length unused ≡ len - 28 = length-take-le (len - 28) (drop 28 bytes) (omega (arith, length-drop 28 bytes)) in
-    let told : 28 + length unused ≡ len = omega arith in
+    let reported : 28 + length unused ≡ len = omega arith in
     let last : 28 + (len - 28) ≡ len = omega arith in
     let records = records_spelled (body bytes) file.packets is.rest (bytes-drop len bytes are) is.records in
     let e28 : drop 28 bytes ≡ unused ++ body bytes = part_at 28 (len - 28) bytes unused refl ∙ ap (λ n. unused ++ drop n bytes) last in
@@ -136,7 +136,7 @@ ivf_is_text bytes file are is =
       count = below 4 24;
     } in
     let P : ℕ → Head → Type 0 = λ n h. (bytes ≡ fields_text version n h count ++ unused ++ records_text file.packets ++ is.rest) × FieldsFit version n h count in
-    let at_len : P (28 + length unused) head = subst (λ n. P n head) (sym told) (spelled, fit) in
+    let at_len : P (28 + length unused) head = subst (λ n. P n head) (sym reported) (spelled, fit) in
     let at_head : P (28 + length unused) file.head = subst (P (28 + length unused)) (sym is.head) at_len in
     record {
       version = version;

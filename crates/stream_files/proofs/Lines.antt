@@ -13,8 +13,8 @@ pub rate_text-zero : (rate scale : ℕ) → (rate ≡ 0) ⊎ ((rate ≡ 0 → �
 rate_text-zero rate scale (inl none) = rw none thirty
 rate_text-zero rate scale (inr none) =
     let e : scale ≡ 0 = none.1 in
-    let told : rate_text rate 0 ≡ codes "30:1" = grind (arith, common_steps) in
-    rw e (told ∙ thirty)
+    let reported : rate_text rate 0 ≡ codes "30:1" = grind (arith, common_steps) in
+    rw e (reported ∙ thirty)
 
 joined : (a w b h c r d s e f : List ℕ) → a ++ (w ++ (b ++ (h ++ (c ++ (r ++ (d ++ (s ++ (e ++ f)))))))) ≡ a ++ w ++ b ++ h ++ c ++ (r ++ d ++ s) ++ e ++ f
 joined a w b h c r d s e f = simp append_assoc

@@ -27,13 +27,13 @@ abbrev pub first_packet : List ℕ → Packet
 first_packet text = record { stamp = little_number 8 (drop 4 text); bytes = take (little_number 4 text) (drop 12 text) }
 
 -- the bytes after the record at the front
-abbrev pub behind_first : List ℕ → List ℕ
-behind_first text = drop (little_number 4 text) (drop 12 text)
+abbrev pub after_first : List ℕ → List ℕ
+after_first text = drop (little_number 4 text) (drop 12 text)
 
 -- a text is the records of these packets, and then the rest
 abbrev pub Records : List ℕ → List Packet → List ℕ → Type 0
 Records text [] rest = text ≡ rest
-Records text (packet ∷ packets) rest = HasRecord text × (packet ≡ first_packet text) × Records (behind_first text) packets rest
+Records text (packet ∷ packets) rest = HasRecord text × (packet ≡ first_packet text) × Records (after_first text) packets rest
 
 -- the length that the header gives for itself
 abbrev pub header_length : List ℕ → ℕ
@@ -94,9 +94,9 @@ IvfRefuses bytes TooMany = HasHeader bytes × HasTooMany (body bytes)
 IvfRefuses bytes NoMemory = (file : Ivf) × IsIvf bytes file
 
 -- the result of reading a file
-abbrev pub IvfGives : List ℕ → Result Ivf IvfFault → Type 0
-IvfGives bytes (Ok file) = IsIvf bytes file
-IvfGives bytes (Err fault) = IvfRefuses bytes fault
+abbrev pub IvfAnswers : List ℕ → Result Ivf IvfFault → Type 0
+IvfAnswers bytes (Ok file) = IsIvf bytes file
+IvfAnswers bytes (Err fault) = IvfRefuses bytes fault
 
 -- the number of whole records at the front
 pub record IsRecordCount (text : List ℕ) (count : ℕ) : Type 0 where

@@ -43,8 +43,8 @@ PacketsFit [] = Unit {0}
 PacketsFit (packet ∷ packets) = PacketFits packet × PacketsFit packets
 
 -- the numbers of a header fit its fields
-pub record FieldsFit (told len : ℕ) (head : Head) (packets : ℕ) : Type 0 where
-  pub version : told < 2 ^ 16
+pub record FieldsFit (reported len : ℕ) (head : Head) (packets : ℕ) : Type 0 where
+  pub version : reported < 2 ^ 16
   pub header : len < 2 ^ 16
   pub width : head.width < 2 ^ 16
   pub height : head.height < 2 ^ 16

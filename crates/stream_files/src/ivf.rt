@@ -1,6 +1,6 @@
 // Reads IVF files.
 ghost use Rattle.std.specs.Prelude.{◌≡◌, IfOk, IfErr, drop};
-ghost use Rattle.stream_files.specs.Ivf.{HasHeader, IvfGives, IvfRefuses, body, head_of};
+ghost use Rattle.stream_files.specs.Ivf.{HasHeader, IvfAnswers, IvfRefuses, body, head_of};
 ghost use Rattle.stream_files.specs.Ivf.{ivf_fault_word};
 
 use super::packets::Packets;
@@ -111,7 +111,7 @@ fn read_head(bytes: &[u8]) -> Result<(Head, &[u8]), IvfFault>
 /// version and frame count are ignored, and so are header bytes after the first 32. Each packet's bytes
 /// are copied into memory of their own.
 pub fn ivf_read(alloc: Global, bytes: &[u8]) -> Result<Ivf, IvfFault>
-    ensures { IvfGives bytes.now result }
+    ensures { IvfAnswers bytes.now result }
 {
     let (head, text) = read_head(bytes)?;
     let Some(count) = records::count_records(text) else {

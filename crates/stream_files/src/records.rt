@@ -1,7 +1,7 @@
 // The records of an IVF file.
 ghost use Rattle.std.specs.Prelude.{◌≡◌, ◌≤◌, List, length, IfOk, IfNone, IfSome};
 ghost use Rattle.stream_files.specs.Ivf.{HasRecord, HasTooMany, IsRecordCount, Records};
-ghost use Rattle.stream_files.specs.Ivf.{behind_first, first_packet};
+ghost use Rattle.stream_files.specs.Ivf.{after_first, first_packet};
 ghost use Rattle.stream_files.specs.declared.packets.Packet.{Packet};
 
 use super::packets::{Bytes, MAX_PACKETS, Packet, Packets};
@@ -17,7 +17,7 @@ const RECORD_HEAD: usize = 12;
 struct Record<'a> {
     stamp: u64,
     bytes: &'a [u8],
-    behind: &'a [u8],
+    following: &'a [u8],
 }
 
 /// The record at the front, or `None` if there is no whole one.
@@ -26,7 +26,7 @@ fn first_record(text: &[u8]) -> Option<Record<'_>>
     ensures whole { IfSome result (λ first. HasRecord text.now) }
     ensures packet { IfSome result (λ first.
         record { stamp = first.stamp; bytes = first.bytes.now } ≡ first_packet text.now) }
-    ensures behind { IfSome result (λ first. first.behind.now ≡ behind_first text.now) }
+    ensures following { IfSome result (λ first. first.following.now ≡ after_first text.now) }
 {
     if text.len() < RECORD_HEAD {
         return None;
@@ -37,11 +37,11 @@ fn first_record(text: &[u8]) -> Option<Record<'_>>
     if rest.len() < size {
         return None;
     }
-    let (bytes, behind) = rest.split_at(size);
+    let (bytes, following) = rest.split_at(size);
     Some(Record {
         stamp,
         bytes,
-        behind,
+        following,
     })
 }
 
@@ -58,7 +58,7 @@ pub(crate) fn count_records(text: &[u8]) -> Option<usize>
             return None;
         }
         count += 1;
-        rest = record.behind;
+        rest = record.following;
     }
     Some(count)
 }
@@ -80,7 +80,7 @@ pub(crate) fn read_records(
             stamp: record.stamp,
             bytes: Bytes::from_slice(alloc, record.bytes)?,
         })?;
-        rest = record.behind;
+        rest = record.following;
     }
     Ok((Packets::new(packets), rest))
 }

@@ -99,8 +99,8 @@ fn refuses_what_is_no_file(rt: HostRuntime) {
         (&long, "HeaderLength"),
     ];
     for (bytes, word) in wrong {
-        let told = ivf_read(rt.alloc(), bytes).err().map(|fault| fault.word());
-        assert_eq!(rt; told, Some(word));
+        let reported = ivf_read(rt.alloc(), bytes).err().map(|fault| fault.word());
+        assert_eq!(rt; reported, Some(word));
     }
 }
 

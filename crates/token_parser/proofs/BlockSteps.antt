@@ -24,7 +24,7 @@ is_read false k from = grind (arith, nat_tests, from)
 -- the others are read
 first_blocks-suc : (k : ℕ) (probs : List ℕ) (has_y2 : Bool) (before here there : Tokens) (r s t : Reader) → first_blocks k probs has_y2 before r ≡ (here, s) → (nat_lt 0 k || has_y2) ≡ true → block probs (place_of has_y2 k) here s ≡ (there, t) → first_blocks (suc k) probs has_y2 before r ≡ (there, t)
 unfolding first_blocks
-first_blocks-suc k probs has_y2 before here there r s t done is told = rw (done, is, told) refl
+first_blocks-suc k probs has_y2 before here there r s t done is tokens_read = rw (done, is, tokens_read) refl
 
 pub first_blocks-more : (k : ℕ) (probs : List ℕ) (has_y2 : Bool) (before here there : Tokens) (r s t : Reader) → first_blocks k probs has_y2 before r ≡ (here, s) → (nat_lt 0 k || has_y2) ≡ true → block probs (place_of has_y2 k) here s ≡ (there, t) → first_blocks (k + 1) probs has_y2 before r ≡ (there, t)
-first_blocks-more k probs has_y2 before here there r s t done is told = rw add-one (first_blocks-suc k probs has_y2 before here there r s t done is told)
+first_blocks-more k probs has_y2 before here there r s t done is tokens_read = rw add-one (first_blocks-suc k probs has_y2 before here there r s t done is tokens_read)

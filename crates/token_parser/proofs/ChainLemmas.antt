@@ -6,7 +6,7 @@ use Rattle.bool_coder.proofs.Chains.{chains, are_bytes, probabilities, part-prob
 use Rattle.std.specs.Int.{from_bool}
 use Rattle.token_parser.specs.declared.places.TheConstants.{ZIGZAG}
 use Rattle.token_parser.specs.declared.tokens.Tokens.{Tokens}
-use Rattle.token_parser.specs.declared.block_place.BlockPlace.{BlockPlace}
+use Rattle.token_parser.specs.declared.block_position.BlockPosition.{BlockPosition}
 use Rattle.token_parser.specs.TokenTree.{end_of_block, categories, token, more_extra_bits, size_in, size_of}
 use Rattle.token_parser.specs.Tokens.{nodes_at, signed_size, tokens_from}
 use Rattle.token_parser.specs.Blocks.{block, first_blocks, place_of}
@@ -53,7 +53,7 @@ tokens_from-chain (suc more) probs kind place context after_zero coefficients sm
     bind-chain here (λ t. if-chain (t == end_of_block) (give-chain (coefficients, place)) (if-chain (t == 0) (later (place + 1) 0 true coefficients) (
     bind-chain (size_of-chain t) (λ size. bind-chain (signed_size-chain size) (λ value. later (place + 1) (min size 2) false (slice_set coefficients (slice_index ZIGZAG place) value))))))
 
-block-chain : (probs : List ℕ) (at : BlockPlace) (before : Tokens) → AreProbabilities probs → IsChain (block probs at before)
+block-chain : (probs : List ℕ) (at : BlockPosition) (before : Tokens) → AreProbabilities probs → IsChain (block probs at before)
 unfolding block
 block-chain probs at before small =
     let tokens : (more kind place context : ℕ) (after_zero : Bool) (coefficients : List ℤ) → IsChain (tokens_from more probs kind place context after_zero coefficients) = λ more kind place context after_zero coefficients. tokens_from-chain more probs kind place context after_zero coefficients small in

@@ -10,12 +10,12 @@ use Rattle.token_parser.specs.TokenTree.{more_extra_bits, size_in}
 
 more_extra_bits-cons : (prob : ℕ) (probs : List ℕ) (value : ℕ) (r s : Reader) (bit : Bool) → read prob r ≡ (bit, s) → more_extra_bits (prob ∷ probs) value r ≡ more_extra_bits probs (2 * value + from_bool bit) s
 unfolding more_extra_bits
-more_extra_bits-cons prob probs value r s bit told = rw told refl
+more_extra_bits-cons prob probs value r s bit tokens_read = rw tokens_read refl
 
 -- one more bit, of which i are read
 pub more_extra_bits-step : (probs : List ℕ) (i value : ℕ) (r s : Reader) (bit : Bool) → i < length probs → read (slice_index probs i) r ≡ (bit, s) → more_extra_bits (drop i probs) value r ≡ more_extra_bits (drop (i + 1) probs) (2 * value + from_bool bit) s
-more_extra_bits-step probs i value r s bit below told =
-    rw (drop-cons probs i 0 below, add-one) (more_extra_bits-cons _ _ _ _ _ _ told)
+more_extra_bits-step probs i value r s bit below tokens_read =
+    rw (drop-cons probs i 0 below, add-one) (more_extra_bits-cons _ _ _ _ _ _ tokens_read)
 
 -- none is left
 pub more_extra_bits-end : (probs : List ℕ) (i value : ℕ) (r : Reader) → length probs ≤ i → more_extra_bits (drop i probs) value r ≡ (value, r)
@@ -25,7 +25,7 @@ more_extra_bits-end probs i value r past = rw (drop_all i probs past) refl
 -- the size of a category
 pub size_in-extra : (least : ℕ) (probs : List ℕ) (extra : ℕ) (r s : Reader) → more_extra_bits probs 0 r ≡ (extra, s) → size_in least probs r ≡ (least + extra, s)
 unfolding size_in
-size_in-extra least probs extra r s told = rw told refl
+size_in-extra least probs extra r s tokens_read = rw tokens_read refl
 
 from_bool-le_one : (bit : Bool) → from_bool bit ≤ 1
 from_bool-le_one false = omega arith

@@ -9,12 +9,12 @@ use Rattle.token_parser.proofs.Leaves.{leaf_below-more, leaf_below-test}
 use Rattle.std.proofs.lemmas.List.{get_or-set_other}
 use Rattle.bool_coder.specs.Reading.{give}
 use Rattle.token_parser.specs.declared.tokens.Tokens.{Tokens}
-use Rattle.token_parser.specs.declared.block_place.BlockPlace.{BlockPlace}
+use Rattle.token_parser.specs.declared.block_position.BlockPosition.{BlockPosition}
 use Rattle.token_parser.specs.Worked.{HasSameY2}
 use Rattle.token_parser.specs.Blocks.{place_of, block, first_blocks}
 
-pub token-behind_zero : (nodes : List ℕ) (r : Reader) → (token nodes true r).0 < end_of_block
-token-behind_zero nodes r =
+pub token-after_a_zero : (nodes : List ℕ) (r : Reader) → (token nodes true r).0 < end_of_block
+token-after_a_zero nodes r =
     let small : nat_lt (leaf_below 7 token_tree nodes 2 r).0 11 ≡ true = leaf_below-test 7 token_tree (λ t. nat_lt t 11) nodes 2 r refl in
     rw (leaf_below-more 7 15 token_tree (λ t. true) nodes 2 r refl) (grind (arith, nat_tests, small))
 
@@ -45,7 +45,7 @@ written-y2 before above left index x y coefficients end is_above is_left is_inde
   end = keeps before.ends index 24 end 0 is_index;
 }
 
-block-y2 : (probs : List ℕ) (at : BlockPlace) (before : Tokens) (r : Reader) → at.above < 8 → at.left < 8 → at.index < 24 → HasSameY2 before (block probs at before r).0
+block-y2 : (probs : List ℕ) (at : BlockPosition) (before : Tokens) (r : Reader) → at.above < 8 → at.left < 8 → at.index < 24 → HasSameY2 before (block probs at before r).0
 unfolding block
 block-y2 probs at before r above left index = written-y2 before at.above at.left at.index _ _ _ _ above left index
 

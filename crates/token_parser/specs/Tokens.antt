@@ -1,14 +1,14 @@
 -- The tokens of a block (RFC 6386, section 13).
 use Rattle.std.specs.Prelude.{ℕ, zero, suc, ◌+◌, Bool, true, false, ◌==◌, min, ℤ, pos, neg_ℤ, List, slice_index, slice_range, slice_set, if◌then◌else◌}
 use Rattle.bool_coder.specs.Reading.{Reading, ◌>>=◌, give, flag}
-use Rattle.vp8_tables.specs.Tables.{coefficient_place}
+use Rattle.vp8_tables.specs.Tables.{coefficient_index}
 use Rattle.token_parser.specs.declared.places.TheConstants.{BANDS, ZIGZAG}
 use Rattle.token_parser.specs.TokenTree.{end_of_block, token, size_of}
 
 -- the probabilities of the tree's nodes for a kind of block, an index in it and the last token there (`coeff_probs` by block type, band and context, section 13.3)
 abbrev pub nodes_at : List ℕ → ℕ → ℕ → ℕ → List ℕ
 nodes_at probs kind place context =
-    let start = coefficient_place kind (slice_index BANDS place) context 0 in slice_range probs start (start + 11)
+    let start = coefficient_index kind (slice_index BANDS place) context 0 in slice_range probs start (start + 11)
 
 -- a coefficient of a size, followed by its sign, where 1 is minus
 unfoldable pub signed_size : ℕ → Reading ℤ

@@ -7,10 +7,10 @@ use Rattle.token_parser.specs.declared.tokens.Tokens.{Tokens}
 use Rattle.token_parser.specs.TokenTree.{token_tree}
 
 -- the entry of the token tree to which the bits of a walk lead from a node
-abbrev pub entry_behind : ℕ → List Bool → ℤ
-entry_behind node [] = pos node
-entry_behind node (bit ∷ []) = slice_index_or token_tree (node + from_bool bit) (pos 0)
-entry_behind node (bit ∷ bits) = entry_behind (unsigned_abs (slice_index_or token_tree (node + from_bool bit) (pos 0))) bits
+abbrev pub entry_after : ℕ → List Bool → ℤ
+entry_after node [] = pos node
+entry_after node (bit ∷ []) = slice_index_or token_tree (node + from_bool bit) (pos 0)
+entry_after node (bit ∷ bits) = entry_after (unsigned_abs (slice_index_or token_tree (node + from_bool bit) (pos 0))) bits
 
 -- a reader of bits that were written at even odds
 abbrev pub reader_of : List Bool → Reader

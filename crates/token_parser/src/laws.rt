@@ -8,28 +8,28 @@ ghost use Rattle.token_parser.specs.declared.tokens.Tokens.{Tokens};
 ghost use Rattle.token_parser.specs.TokenTree.{end_of_block, token, size_in, size_of};
 ghost use Rattle.token_parser.specs.Tokens.{tokens_from};
 ghost use Rattle.token_parser.specs.Blocks.{place_of, block, macroblock, no_tokens, skipped, has_tokens};
-ghost use Rattle.token_parser.specs.Worked.{entry_behind, reader_of, even_odds, three_tokens, HasSameY2};
+ghost use Rattle.token_parser.specs.Worked.{entry_after, reader_of, even_odds, three_tokens, HasSameY2};
 
 /// The bits of each token, as RFC 6386, section 13.2 lists them with its tree.
 pub fn worked_tree()
-    ensures end_of_block { entry_behind 0 (false ∷ []) ≡ negsuc 10 }
-    ensures zero { entry_behind 0 (true ∷ false ∷ []) ≡ pos 0 }
-    ensures one { entry_behind 0 (true ∷ true ∷ false ∷ []) ≡ negsuc 0 }
-    ensures two { entry_behind 0 (true ∷ true ∷ true ∷ false ∷ false ∷ []) ≡ negsuc 1 }
-    ensures three { entry_behind 0 (true ∷ true ∷ true ∷ false ∷ true ∷ false ∷ []) ≡ negsuc 2 }
-    ensures four { entry_behind 0 (true ∷ true ∷ true ∷ false ∷ true ∷ true ∷ []) ≡ negsuc 3 }
-    ensures category_1 { entry_behind 0 (true ∷ true ∷ true ∷ true ∷ false ∷ false ∷ []) ≡ negsuc 4 }
-    ensures category_2 { entry_behind 0 (true ∷ true ∷ true ∷ true ∷ false ∷ true ∷ []) ≡ negsuc 5 }
-    ensures category_3 { entry_behind 0 (true ∷ true ∷ true ∷ true ∷ true ∷ false ∷ false ∷ []) ≡ negsuc 6 }
-    ensures category_4 { entry_behind 0 (true ∷ true ∷ true ∷ true ∷ true ∷ false ∷ true ∷ []) ≡ negsuc 7 }
-    ensures category_5 { entry_behind 0 (true ∷ true ∷ true ∷ true ∷ true ∷ true ∷ false ∷ []) ≡ negsuc 8 }
-    ensures category_6 { entry_behind 0 (true ∷ true ∷ true ∷ true ∷ true ∷ true ∷ true ∷ []) ≡ negsuc 9 }
+    ensures end_of_block { entry_after 0 (false ∷ []) ≡ negsuc 10 }
+    ensures zero { entry_after 0 (true ∷ false ∷ []) ≡ pos 0 }
+    ensures one { entry_after 0 (true ∷ true ∷ false ∷ []) ≡ negsuc 0 }
+    ensures two { entry_after 0 (true ∷ true ∷ true ∷ false ∷ false ∷ []) ≡ negsuc 1 }
+    ensures three { entry_after 0 (true ∷ true ∷ true ∷ false ∷ true ∷ false ∷ []) ≡ negsuc 2 }
+    ensures four { entry_after 0 (true ∷ true ∷ true ∷ false ∷ true ∷ true ∷ []) ≡ negsuc 3 }
+    ensures category_1 { entry_after 0 (true ∷ true ∷ true ∷ true ∷ false ∷ false ∷ []) ≡ negsuc 4 }
+    ensures category_2 { entry_after 0 (true ∷ true ∷ true ∷ true ∷ false ∷ true ∷ []) ≡ negsuc 5 }
+    ensures category_3 { entry_after 0 (true ∷ true ∷ true ∷ true ∷ true ∷ false ∷ false ∷ []) ≡ negsuc 6 }
+    ensures category_4 { entry_after 0 (true ∷ true ∷ true ∷ true ∷ true ∷ false ∷ true ∷ []) ≡ negsuc 7 }
+    ensures category_5 { entry_after 0 (true ∷ true ∷ true ∷ true ∷ true ∷ true ∷ false ∷ []) ≡ negsuc 8 }
+    ensures category_6 { entry_after 0 (true ∷ true ∷ true ∷ true ∷ true ∷ true ∷ true ∷ []) ≡ negsuc 9 }
 {}
 
 /// After a 0 no block ends, whatever the bits and the probabilities are, and every token is one of
 /// the twelve.
 pub fn tokens_are_leaves()
-    ensures behind_zero { (nodes : List ℕ) (r : Reader) → (token nodes true r).0 < end_of_block }
+    ensures after_a_zero { (nodes : List ℕ) (r : Reader) → (token nodes true r).0 < end_of_block }
     ensures any { (nodes : List ℕ) (r : Reader) → (token nodes false r).0 ≤ end_of_block }
 {}
 
@@ -44,14 +44,14 @@ pub fn worked_places()
 pub fn worked_block()
     ensures three { (tokens_from 16 even_odds 3 0 0 false (replicate 16 (pos 0)) (reader_of three_tokens)).0 ≡ (negsuc 1 ∷ pos 0 ∷ pos 0 ∷ pos 0 ∷ pos 4 ∷ replicate 11 (pos 0), 3) }
     ensures zeros { (tokens_from 16 even_odds 3 0 0 false (replicate 16 (pos 0)) (reader_of (true ∷ replicate 16 false))).0 ≡ (replicate 16 (pos 0), 16) }
-    ensures behind_y2 { (tokens_from 15 even_odds 0 1 0 false (replicate 16 (pos 0)) (reader_of three_tokens)).0 ≡ (pos 0 ∷ negsuc 1 ∷ pos 0 ∷ pos 0 ∷ pos 0 ∷ pos 0 ∷ pos 0 ∷ pos 0 ∷ pos 4 ∷ replicate 7 (pos 0), 4) }
+    ensures after_y2 { (tokens_from 15 even_odds 0 1 0 false (replicate 16 (pos 0)) (reader_of three_tokens)).0 ≡ (pos 0 ∷ negsuc 1 ∷ pos 0 ∷ pos 0 ∷ pos 0 ∷ pos 0 ∷ pos 0 ∷ pos 0 ∷ pos 4 ∷ replicate 7 (pos 0), 4) }
 {}
 
 /// A block of only zeros has tokens, and its flags are set; one that ends immediately has none.
 pub fn worked_flags()
     ensures zeros { (block even_odds (place_of false 1) no_tokens (reader_of (true ∷ replicate 16 false))).0 ≡ record no_tokens { above = slice_set no_tokens.above 0 true; left = slice_set no_tokens.left 0 true; ends = slice_set no_tokens.ends 0 16 } }
     ensures none { (block even_odds (place_of false 1) no_tokens (reader_of (false ∷ []))).0 ≡ no_tokens }
-    ensures luma_behind_y2 { (block even_odds (place_of true 1) no_tokens (reader_of (false ∷ []))).0 ≡ record no_tokens { ends = slice_set no_tokens.ends 0 1 } }
+    ensures luma_after_y2 { (block even_odds (place_of true 1) no_tokens (reader_of (false ∷ []))).0 ≡ record no_tokens { ends = slice_set no_tokens.ends 0 1 } }
 {}
 
 /// A block whose end is past the index of its first token has one: luma after Y2 begins at index 1,
@@ -59,7 +59,7 @@ pub fn worked_flags()
 pub fn worked_tokens()
     ensures none { has_tokens false no_tokens ≡ false }
     ensures luma { has_tokens false (record no_tokens { ends = slice_set no_tokens.ends 15 1 }) ≡ true }
-    ensures luma_behind_y2 { has_tokens true (record no_tokens { ends = replicate 16 1 ++ replicate 9 0 }) ≡ false }
+    ensures luma_after_y2 { has_tokens true (record no_tokens { ends = replicate 16 1 ++ replicate 9 0 }) ≡ false }
     ensures chroma { has_tokens true (record no_tokens { ends = slice_set no_tokens.ends 16 1 }) ≡ true }
     ensures y2 { has_tokens true (record no_tokens { ends = slice_set no_tokens.ends 24 1 }) ≡ true }
 {}

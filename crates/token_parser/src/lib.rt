@@ -1,7 +1,7 @@
 //! The coefficient tokens of a macroblock (RFC 6386, section 13).
 #![tactic(auto)]
 
-mod block_place;
+mod block_position;
 mod block_tokens;
 pub mod laws;
 mod macroblocks;

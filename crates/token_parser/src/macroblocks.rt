@@ -1,9 +1,9 @@
 //! The blocks of a macroblock, in the order of their tokens.
 
 ghost use Rattle.std.specs.Prelude.{◌≡◌, ◌<◌};
-ghost use Rattle.token_parser.specs.Blocks.{place_of, IsInside, block, macroblock, no_flags, skipped, no_tokens, cleared, first_place, has_tokens};
+ghost use Rattle.token_parser.specs.Blocks.{place_of, IsInside, block, macroblock, no_flags, skipped, no_tokens, cleared, first_position, has_tokens};
 
-use crate::block_place::BlockPlace;
+use crate::block_position::BlockPosition;
 use crate::block_tokens::read_tokens;
 use crate::tokens::Tokens;
 use bool_coder::Decoder;
@@ -63,7 +63,7 @@ impl Tokens {
     {
         let mut found = false;
         for k in 0..25usize {
-            found = found || usize::from(self.ends[k]) > first_place(has_y2, k);
+            found = found || usize::from(self.ends[k]) > first_position(has_y2, k);
         }
         found
     }
@@ -71,21 +71,21 @@ impl Tokens {
 
 /// The index of a block's first token: luma after Y2 begins at index 1.
 #[inline]
-fn first_place(has_y2: bool, index: usize) -> usize
-    ensures { result ≡ first_place has_y2 index }
+fn first_position(has_y2: bool, index: usize) -> usize
+    ensures { result ≡ first_position has_y2 index }
 {
     if has_y2 && index < 16 { 1 } else { 0 }
 }
 
 /// The position of the block whose tokens follow those of `k` others.
 #[inline]
-fn place_of(has_y2: bool, k: usize) -> BlockPlace
+fn place_of(has_y2: bool, k: usize) -> BlockPosition
     requires { k < 25 }
     ensures value { result ≡ place_of has_y2 k }
     ensures inside { IsInside result }
 {
     let kind = KINDS[has_y2 as usize][k] as usize;
-    BlockPlace {
+    BlockPosition {
         kind,
         first: (kind == 0) as usize,
         index: INDICES[k] as usize,
@@ -97,7 +97,7 @@ fn place_of(has_y2: bool, k: usize) -> BlockPlace
 /// One block.
 #[inline]
 #[tactic(auto, unfolding(crate::specs::Blocks::block))]
-fn read_block(reader: &mut Decoder, probs: &[u8; 1056], at: BlockPlace, tokens: &mut Tokens)
+fn read_block(reader: &mut Decoder, probs: &[u8; 1056], at: BlockPosition, tokens: &mut Tokens)
     requires { IsInside at }
     ensures { block probs.now at tokens.old reader.old ≡ (tokens.new, reader.new) }
 {

@@ -7,7 +7,7 @@ use lib.Dec.{T}
 use lib.IntN.{nat_abs}
 use lib.Lanes.{top}
 use lib.Signed.{lt_z, non_neg}
-use Rattle.vp8_tables.specs.Bounds.{IsWithin, held}
+use Rattle.vp8_tables.specs.Bounds.{IsWithin, clamped_sample}
 use Rattle.transforms.proofs.Bits.{Stand, Stand-plus, Stand-of, Stand-fits}
 
 -- bits of a number below 0 become 0, and bits of one above 255 become 255
@@ -38,7 +38,7 @@ sum_fits : (z : ℤ) → IsWithin 16639 z → SFits w16 z
 sum_fits (pos n) within = record { sfits = omega (arith, ints, within.0, within.1) }
 sum_fits (negsuc n) within = record { sfits = omega (arith, ints, within.0, within.1) }
 
-held_lane : (n : ℕ) (z : ℤ) → Stand w16 n z → IsWithin 16639 z → to_z w16 (held_bits n) ≡ pos (held z)
+held_lane : (n : ℕ) (z : ℤ) → Stand w16 n z → IsWithin 16639 z → to_z w16 (held_bits n) ≡ pos (clamped_sample z)
 held_lane n (pos m) s within =
     let is : to_z w16 n ≡ pos m = Stand-fits w16 n (pos m) s (sum_fits _ within) in
     let same : n ≡ m = sym (of_z-to_z w16 n s.below) ∙ ap (of_z w16) is in
@@ -48,7 +48,7 @@ held_lane n (negsuc m) s within =
     let is : to_z w16 n ≡ negsuc m = Stand-fits w16 n (negsuc m) s (sum_fits _ within) in
     ap (to_z w16) (held_bits-neg n m is)
 
-held_small : (z : ℤ) → held z < 256
+held_small : (z : ℤ) → clamped_sample z < 256
 held_small (pos n) = omega arith
 held_small (negsuc n) = omega arith
 
@@ -60,13 +60,13 @@ residual_fits : (z : ℤ) → IsWithin 16384 z → SFits w16 z
 residual_fits (pos n) within = record { sfits = omega (arith, ints, within.0, within.1) }
 residual_fits (negsuc n) within = record { sfits = omega (arith, ints, within.0, within.1) }
 
-sum_lane : (sample : ℕ) (residual : ℤ) → sample < 256 → IsWithin 16384 residual → to_z w16 (held_bits (sum_bits sample residual)) ≡ pos (held (pos sample +ℤ residual))
+sum_lane : (sample : ℕ) (residual : ℤ) → sample < 256 → IsWithin 16384 residual → to_z w16 (held_bits (sum_bits sample residual)) ≡ pos (clamped_sample (pos sample +ℤ residual))
 sum_lane sample residual small within =
     let sample_fits : SFits w16 (pos sample) = record { sfits = omega arith } in
     let stands : Stand w16 (sum_bits sample residual) (pos sample +ℤ residual) = Stand-plus w16 _ _ (pos sample) residual (Stand-of w16 (pos sample) sample_fits) (Stand-of w16 residual (residual_fits residual within)) in
     held_lane _ _ stands (omega (arith, ints, within.0, within.1), omega (arith, ints, within.0, within.1))
 
-pub sum_is : (sample : ℕ) (residual : ℤ) → sample < 256 → IsWithin 16384 residual → nat_abs (to_z w16 (held_bits (sum_bits sample residual))) ≡ held (pos sample +ℤ residual)
+pub sum_is : (sample : ℕ) (residual : ℤ) → sample < 256 → IsWithin 16384 residual → nat_abs (to_z w16 (held_bits (sum_bits sample residual))) ≡ clamped_sample (pos sample +ℤ residual)
 sum_is sample residual small within = ap nat_abs (sum_lane sample residual small within)
 
 -- and it fits a sample

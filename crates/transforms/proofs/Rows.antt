@@ -3,7 +3,7 @@ use Rattle.std.proofs.Common.{◌≡◌, ℕ, zero, suc, ◌+◌, ◌*◌, ◌<�
 use Rattle.std.specs.Prelude.{slice_index, slice_index_or}
 use Rattle.std.proofs.Math.Nat.{mul-le-mul_left}
 use Rattle.std.proofs.lemmas.Bool.{cases_lt}
-use Rattle.vp8_tables.specs.Bounds.{held}
+use Rattle.vp8_tables.specs.Bounds.{clamped_sample}
 use Rattle.transforms.specs.Residuals.{IsAdded, IsRowAdded}
 
 -- a fact of 0 to 3 holds for all below 4
@@ -29,7 +29,7 @@ four-other old start v0 v1 v2 v3 place (inr above) = get_or-set_other _ (start +
 
 -- a row of four samples, each with its residual
 pub row_added : (old : List ℕ) (start : ℕ) (rs : List ℤ) (v0 v1 v2 v3 : ℕ) → start + 4 ≤ length old
-    → v0 ≡ held (pos (get_or old start 0) +ℤ get_or rs 0 (pos 0)) → v1 ≡ held (pos (get_or old (start + 1) 0) +ℤ get_or rs 1 (pos 0)) → v2 ≡ held (pos (get_or old (start + 2) 0) +ℤ get_or rs 2 (pos 0)) → v3 ≡ held (pos (get_or old (start + 3) 0) +ℤ get_or rs 3 (pos 0))
+    → v0 ≡ clamped_sample (pos (get_or old start 0) +ℤ get_or rs 0 (pos 0)) → v1 ≡ clamped_sample (pos (get_or old (start + 1) 0) +ℤ get_or rs 1 (pos 0)) → v2 ≡ clamped_sample (pos (get_or old (start + 2) 0) +ℤ get_or rs 2 (pos 0)) → v3 ≡ clamped_sample (pos (get_or old (start + 3) 0) +ℤ get_or rs 3 (pos 0))
     → IsRowAdded rs start old (set (set (set (set old start v0) (start + 1) v1) (start + 2) v2) (start + 3) v3)
 unfolding four_set
 row_added old start rs v0 v1 v2 v3 room is0 is1 is2 is3 =
@@ -40,7 +40,7 @@ row_added old start rs v0 v1 v2 v3 room is0 is1 is2 is3 =
     let at1 : get_or (four_set old start v0 v1 v2 v3) (start + 1) 0 ≡ v1 = get_or-set_other _ (start + 3) (start + 1) v3 0 (omega arith) ∙ get_or-set_other _ (start + 2) (start + 1) v2 0 (omega arith) ∙ get_or-set_same _ (start + 1) v1 0 room1 in
     let at2 : get_or (four_set old start v0 v1 v2 v3) (start + 2) 0 ≡ v2 = get_or-set_other _ (start + 3) (start + 2) v3 0 (omega arith) ∙ get_or-set_same _ (start + 2) v2 0 (omega (arith, long1)) in
     let at3 : get_or (four_set old start v0 v1 v2 v3) (start + 3) 0 ≡ v3 = get_or-set_same _ (start + 3) v3 0 (omega (arith, long2)) in
-    let P : ℕ → Type 0 = λ k. get_or (four_set old start v0 v1 v2 v3) (start + k) 0 ≡ held (pos (get_or old (start + k) 0) +ℤ slice_index_or rs k (pos 0)) in
+    let P : ℕ → Type 0 = λ k. get_or (four_set old start v0 v1 v2 v3) (start + k) 0 ≡ clamped_sample (pos (get_or old (start + k) 0) +ℤ slice_index_or rs k (pos 0)) in
     record {
       whole = length-four old start v0 v1 v2 v3;
       each = below_four P (rw (add-zero start) (at0 ∙ is0)) (at1 ∙ is1) (at2 ∙ is2) (at3 ∙ is3);
@@ -50,7 +50,7 @@ row_added old start rs v0 v1 v2 v3 room is0 is1 is2 is3 =
 -- the first n rows have their residuals
 pub record RowsAdded (residual : ℕ → ℕ → ℤ) (stride n : ℕ) (old new : List ℕ) : Type 0 where
   pub whole : length new ≡ length old
-  pub each : (column row : ℕ) → column < 4 → row < n → slice_index new (row * stride + column) ≡ held (pos (slice_index old (row * stride + column)) +ℤ residual column row)
+  pub each : (column row : ℕ) → column < 4 → row < n → slice_index new (row * stride + column) ≡ clamped_sample (pos (slice_index old (row * stride + column)) +ℤ residual column row)
   pub others : (column row : ℕ) → column < stride → (4 ≤ column) ⊎ (n ≤ row) → slice_index new (row * stride + column) ≡ slice_index old (row * stride + column)
 
 -- no row
@@ -89,9 +89,9 @@ one_more residual stride n start residuals old between new wide starts before ro
             | inl earlier ↦ row_is.others (row * stride + column) (inl (let apart = row_before stride row n earlier in omega arith)) ∙ before.each column row inside earlier
             | inr from ↦
                 let is : row ≡ n = omega arith in
-                let at : slice_index new (n * stride + column) ≡ held (pos (slice_index between (n * stride + column)) +ℤ slice_index_or residuals column (pos 0)) = rw (← starts) (row_is.each column inside) in
+                let at : slice_index new (n * stride + column) ≡ clamped_sample (pos (slice_index between (n * stride + column)) +ℤ slice_index_or residuals column (pos 0)) = rw (← starts) (row_is.each column inside) in
                 let kept : slice_index between (n * stride + column) ≡ slice_index old (n * stride + column) = before.others column n (omega arith) (inr (omega arith)) in
-                rw is (at ∙ ap (λ (k : ℕ). held (pos k +ℤ slice_index_or residuals column (pos 0))) kept ∙ ap (λ (r : ℤ). held (pos (slice_index old (n * stride + column)) +ℤ r)) (same column inside))
+                rw is (at ∙ ap (λ (k : ℕ). clamped_sample (pos k +ℤ slice_index_or residuals column (pos 0))) kept ∙ ap (λ (r : ℤ). clamped_sample (pos (slice_index old (n * stride + column)) +ℤ r)) (same column inside))
           ];
       others = λ column row inside out. row_is.others (row * stride + column) (outside_row stride n start row column wide starts inside out) ∙ before.others column row inside (outside_fewer n row column out);
     }

@@ -7,20 +7,20 @@ use Rattle.transforms.specs.Transforms.{reduced}
 use Rattle.transforms.specs.declared.factor_set.Factors.{Factors}
 
 -- a quantizer index clamped to 0 to 127
-abbrev pub held_index : ℤ → ℕ
-held_index (pos n) = min n 127
-held_index (negsuc n) = 0
+abbrev pub clamped_index : ℤ → ℕ
+clamped_index (pos n) = min n 127
+clamped_index (negsuc n) = 0
 
 -- the factor in a table at an index changed by a delta
 abbrev pub factor : List ℕ → ℕ → ℤ → ℕ
-factor table index delta = slice_index table (held_index (pos index +ℤ delta))
+factor table index delta = slice_index table (clamped_index (pos index +ℤ delta))
 
 -- the quantizer index of a segment: in a frame with segments its own value, or the frame's index changed by it (section 9.6)
 abbrev pub index_of : Header → ℕ → ℕ
 index_of header segment =
     let value = slice_index_or header.context.segments.quantizers segment (pos 0) in
     let frame = pos header.quantizers.y_ac_index in
-    held_index (if header.segmentation.is_enabled then (if header.context.segments.is_absolute then value else frame +ℤ value) else frame)
+    clamped_index (if header.segmentation.is_enabled then (if header.context.segments.is_absolute then value else frame +ℤ value) else frame)
 
 -- the factors of a frame in a segment
 unfoldable pub factors_of : Header → ℕ → Factors

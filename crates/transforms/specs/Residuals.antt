@@ -1,15 +1,15 @@
 -- Residuals that are added to a block of 4 by 4 samples (RFC 6386, section 14.5).
 use Rattle.std.specs.Prelude.{◌≡◌, ◌⊎◌, ℕ, ◌+◌, ◌*◌, ◌<◌, ◌≤◌, List, length, slice_index, slice_index_or, ℤ, pos, ◌+ℤ◌}
-use Rattle.vp8_tables.specs.Bounds.{held}
+use Rattle.vp8_tables.specs.Bounds.{clamped_sample}
 
 -- a residual was added to each sample of the block of 4 by 4 at the start, in rows `stride` samples apart, and every other sample is unchanged
 pub record IsAdded (residual : ℕ → ℕ → ℤ) (stride : ℕ) (old new : List ℕ) : Type 0 where
   pub whole : length new ≡ length old
-  pub each : (column row : ℕ) → column < 4 → row < 4 → slice_index new (row * stride + column) ≡ held (pos (slice_index old (row * stride + column)) +ℤ residual column row)
+  pub each : (column row : ℕ) → column < 4 → row < 4 → slice_index new (row * stride + column) ≡ clamped_sample (pos (slice_index old (row * stride + column)) +ℤ residual column row)
   pub others : (column row : ℕ) → column < stride → (4 ≤ column) ⊎ (4 ≤ row) → slice_index new (row * stride + column) ≡ slice_index old (row * stride + column)
 
 -- four residuals were added to the samples starting at `start`, and every other sample is unchanged
 pub record IsRowAdded (residuals : List ℤ) (start : ℕ) (old new : List ℕ) : Type 0 where
   pub whole : length new ≡ length old
-  pub each : (column : ℕ) → column < 4 → slice_index new (start + column) ≡ held (pos (slice_index old (start + column)) +ℤ slice_index_or residuals column (pos 0))
+  pub each : (column : ℕ) → column < 4 → slice_index new (start + column) ≡ clamped_sample (pos (slice_index old (start + column)) +ℤ slice_index_or residuals column (pos 0))
   pub others : (place : ℕ) → (place < start) ⊎ (start + 4 ≤ place) → slice_index new place ≡ slice_index old place

@@ -21,8 +21,8 @@ pub fn add_row(samples: &mut [u8], start: usize, residuals: [i16; 4])
     ]);
     let row = i16x4::from_array([residuals[0], residuals[1], residuals[2], residuals[3]]);
     let sums = before.cast::<i16>() + row;
-    let held = sums.simd_clamp(i16x4::splat(0), i16x4::splat(255));
-    let after = held.cast::<u8>().to_array();
+    let clamped_sample = sums.simd_clamp(i16x4::splat(0), i16x4::splat(255));
+    let after = clamped_sample.cast::<u8>().to_array();
     samples[start] = after[0];
     samples[start + 1] = after[1];
     samples[start + 2] = after[2];

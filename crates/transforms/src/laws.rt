@@ -7,7 +7,7 @@ ghost use Rattle.transforms.specs.Transforms.{inverse_dct, inverse_wht};
 
 /// A block with only a first coefficient has the same residual everywhere, for every number of 16
 /// bits: the residual that `dct_add_first` adds (RFC 6386, section 14.3).
-pub fn first_alone_is_flat()
+pub fn first_only_is_flat()
     ensures { (first : ℤ) (column row : ℕ) → FitsSigned w16 first → column < 4 → row < 4 → inverse_dct (first ∷ replicate 15 (pos 0)) column row ≡ int_shr (first +ℤ pos 4) 3 }
 {}
 

@@ -1,5 +1,5 @@
 ghost use Rattle.std.specs.Prelude.{◌≡◌, ◌≤◌, pos, ◌+ℤ◌, slice_index_or};
-ghost use Rattle.transforms.specs.Factors.{held_index, index_of, factor, factors_of, dequantised};
+ghost use Rattle.transforms.specs.Factors.{clamped_index, index_of, factor, factors_of, dequantised};
 ghost use Rattle.vp8_tables.specs.declared.quantizers.TheConstants.{DC_QUANTIZERS, AC_QUANTIZERS};
 
 use crate::factor_set::Factors;
@@ -10,15 +10,15 @@ use vp8_tables::{AC_QUANTIZERS, DC_QUANTIZERS};
 
 /// The index into the tables for a quantizer index with a change.
 fn changed(index: u8, delta: i8) -> usize
-    ensures value { result ≡ held_index (pos index +ℤ delta) }
+    ensures value { result ≡ clamped_index (pos index +ℤ delta) }
     ensures small { result ≤ 127 }
 {
     (i16::from(index) + i16::from(delta)).clamp(0, 127) as usize
 }
 
 /// An index clamped to 0 or above.
-fn held(index: i8) -> usize
-    ensures value { result ≡ held_index index }
+fn clamped_sample(index: i8) -> usize
+    ensures value { result ≡ clamped_index index }
     ensures small { result ≤ 127 }
 {
     if index < 0 { 0 } else { index as usize }
@@ -48,7 +48,7 @@ fn segment_index(header: &Header, segment: u8) -> u8
     }
     let value = segment_value(header, segment);
     if header.context.segments.is_absolute {
-        held(value) as u8
+        clamped_sample(value) as u8
     } else {
         changed(frame, value) as u8
     }

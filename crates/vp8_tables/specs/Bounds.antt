@@ -6,6 +6,6 @@ abbrev pub IsWithin : ℕ → ℤ → Type 0
 IsWithin n z = (neg_ℤ (pos n) ≤ℤ z) × (z ≤ℤ pos n)
 
 -- a number clamped to 0..255, as samples are
-abbrev pub held : ℤ → ℕ
-held (pos n) = min n 255
-held (negsuc n) = 0
+abbrev pub clamped_sample : ℤ → ℕ
+clamped_sample (pos n) = min n 255
+clamped_sample (negsuc n) = 0

@@ -21,13 +21,13 @@ abbrev pub entries_of : List ℕ → Result TableEntries TableFault
 entries_of bytes = if length bytes == 3012 then Ok (entries_in bytes) else Err Length
 
 -- the index of a token probability in a table of 4 kinds, 8 bands, 3 contexts and 11 nodes (RFC 6386, section 13)
-abbrev pub coefficient_place : ℕ → ℕ → ℕ → ℕ → ℕ
-coefficient_place kind band context node = ((kind * 8 + band) * 3 + context) * 11 + node
+abbrev pub coefficient_index : ℕ → ℕ → ℕ → ℕ → ℕ
+coefficient_index kind band context node = ((kind * 8 + band) * 3 + context) * 11 + node
 
 -- the index of a sub mode probability in a table of 10 modes above, 10 modes to the left and 9 nodes (RFC 6386, section 11)
-abbrev pub key_sub_place : ℕ → ℕ → ℕ → ℕ
-key_sub_place above left node = (above * 10 + left) * 9 + node
+abbrev pub key_sub_index : ℕ → ℕ → ℕ → ℕ
+key_sub_index above left node = (above * 10 + left) * 9 + node
 
 -- the nine probabilities of the sub mode tree between these two modes (RFC 6386, section 11.5)
 abbrev pub key_sub_nodes_of : TableEntries → ℕ → ℕ → List ℕ
-key_sub_nodes_of tables above left = slice_range tables.key_subs (key_sub_place above left 0) (key_sub_place above left 9)
+key_sub_nodes_of tables above left = slice_range tables.key_subs (key_sub_index above left 0) (key_sub_index above left 9)

@@ -1,6 +1,6 @@
 ghost use Rattle.std.specs.Prelude.{◌≡◌, ◌<◌, length, slice_index};
 ghost use Rattle.vp8_tables.specs.Rfc.{rfc_entries};
-ghost use Rattle.vp8_tables.specs.Tables.{flat_entries, entries_of, coefficient_place, key_sub_place, key_sub_nodes_of};
+ghost use Rattle.vp8_tables.specs.Tables.{flat_entries, entries_of, coefficient_index, key_sub_index, key_sub_nodes_of};
 
 use crate::fault::TableFault;
 use crate::rfc;
@@ -82,7 +82,7 @@ impl Tables {
         requires band { band < 8 }
         requires context { context < 3 }
         requires node { node < 11 }
-        ensures { result ≡ slice_index self.now.coefficients (coefficient_place kind band context node) }
+        ensures { result ≡ slice_index self.now.coefficients (coefficient_index kind band context node) }
     {
         self.coefficients[((kind * 8 + band) * 3 + context) * 11 + node]
     }
@@ -94,7 +94,7 @@ impl Tables {
         requires band { band < 8 }
         requires context { context < 3 }
         requires node { node < 11 }
-        ensures { result ≡ slice_index self.now.updates (coefficient_place kind band context node) }
+        ensures { result ≡ slice_index self.now.updates (coefficient_index kind band context node) }
     {
         self.updates[((kind * 8 + band) * 3 + context) * 11 + node]
     }
@@ -105,7 +105,7 @@ impl Tables {
         requires above { above < 10 }
         requires left { left < 10 }
         requires node { node < 9 }
-        ensures { result ≡ slice_index self.now.key_subs (key_sub_place above left node) }
+        ensures { result ≡ slice_index self.now.key_subs (key_sub_index above left node) }
     {
         self.key_subs[(above * 10 + left) * 9 + node]
     }

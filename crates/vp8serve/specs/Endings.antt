@@ -101,7 +101,7 @@ IsEnded unnamed tables stream requests left left' replies replies' CannotWrite =
 IsEnded unnamed tables stream requests left left' replies replies' NoMemory = Unit {0}
 
 -- a run's error as the program's
-abbrev pub told_as : RunFault → Fault
-told_as (runs.Ivf fault) = Input fault
-told_as runs.Write = CannotWrite
-told_as runs.NoMemory = NoMemory
+abbrev pub reported_as : RunFault → Fault
+reported_as (runs.Ivf fault) = Input fault
+reported_as runs.Write = CannotWrite
+reported_as runs.NoMemory = NoMemory

@@ -1,6 +1,6 @@
 // The errors that end the program early.
 ghost use Rattle.std.specs.Prelude.{◌≡◌, ◌≤◌};
-ghost use Rattle.vp8serve.specs.Endings.{told_as};
+ghost use Rattle.vp8serve.specs.Endings.{reported_as};
 ghost use Rattle.vp8serve.specs.Statuses.{status_of};
 
 use frame_session::RunFault;
@@ -47,7 +47,7 @@ impl Fault<'_> {
 }
 
 impl From<RunFault> for Fault<'_> {
-    ghost from_gives = { λ run told. told ≡ told_as run };
+    ghost from_gives = { λ run told. told ≡ reported_as run };
 
     fn from(fault: RunFault) -> Self {
         match fault {

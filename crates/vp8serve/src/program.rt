@@ -144,7 +144,7 @@ fn save_to_path<R: Files + AllocGlobal>(
 }
 
 /// Reports the number of trailing bytes of the stream, if there are any.
-fn tell_spare<E: Write>(session: &Session, errors: &mut E) -> io::Result<()>
+fn report_spare<E: Write>(session: &Session, errors: &mut E) -> io::Result<()>
     ensures { OnOk result (Appends (E.contents errors.old) (E.contents errors.new) (spare_text session.now.now.spare)) }
 {
     let spare = session.spare();
@@ -181,7 +181,7 @@ fn answer<'a, R: Files + AllocGlobal, I: Read, O: Write, E: Write>(
         output,
     )?;
     save_to_path(rt, &session, words.saved)?;
-    let _ = tell_spare(&session, errors);
+    let _ = report_spare(&session, errors);
     Ok(())
 }
 

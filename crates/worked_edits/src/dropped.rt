@@ -13,8 +13,7 @@ const GREY: &[(usize, u8)] = &[(384, 0x80)];
 // It is one step, and its state is cached like any other.
 #[test]
 fn a_dropped_frame_repeats_the_picture(rt: HostRuntime) -> Result<(), Fail> {
-    let requests =
-        b"frame 1\nframe 2\nstats\nreplace 1 110000\nframe 2\nstats\nframe 1\nstats\n";
+    let requests = b"frame 1\nframe 2\nstats\nreplace 1 110000\nframe 2\nstats\nframe 1\nstats\n";
     let ran = run_packets(rt.alloc(), &[KEY, &[], INTER], requests)?;
     assert_eq!(rt;
         ran.replies.as_slice(),

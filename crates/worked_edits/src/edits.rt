@@ -78,7 +78,7 @@ fn hidden_packets_are_no_frames(rt: HostRuntime) -> Result<(), Fail> {
     Ok(())
 }
 
-// Each place of a move, seen by the sizes and the causes of the frames.
+// Each index of a move, seen by the sizes and the causes of the frames.
 #[test]
 fn packets_that_are_moved(rt: HostRuntime) -> Result<(), Fail> {
     let requests =
@@ -91,7 +91,7 @@ fn packets_that_are_moved(rt: HostRuntime) -> Result<(), Fail> {
     Ok(())
 }
 
-// Hexadecimal digits of either case give the packet's bytes.
+// Hexadecimal digits of either case are the packet's bytes.
 #[test]
 fn bytes_that_are_written(rt: HostRuntime) -> Result<(), Fail> {
     let requests =

@@ -3,8 +3,8 @@
 #![tactic(auto)]
 
 #[cfg(test)]
+mod cached;
+#[cfg(test)]
 mod dropped;
 #[cfg(test)]
 mod edits;
-#[cfg(test)]
-mod kept;

@@ -15,11 +15,11 @@ const SIMPLE: &[u8] = b"00011111110000";
 
 const NORMAL: &[u8] = b"00001111110000";
 
-/// Segments whose quantizers stand for themselves, 0 for the first and 127 for the second, and a new
+/// Segments with absolute quantizers, 0 for the first and 127 for the second, and a new
 /// map, all of whose probabilities are 255.
 const NEW_MAP: &[u8] = b"001111011111111000000000000000000000";
 
-/// The same without a map, where the first segment has the quantizer 127, or the second.
+/// The same without a map; the first segment has the quantizer 127, or the second.
 const FIRST_IS_COARSE: &[u8] = b"001011111111110000000000000000000";
 
 const SECOND_IS_COARSE: &[u8] = b"001011011111111000000000000000000";
@@ -55,7 +55,7 @@ fn filters(
     Ok(())
 }
 
-// The first macroblock is 0x85 by its residual, and the second 0x7F, as what stands above the frame.
+// The first macroblock is 0x85 by its residual, and the second 0x7F, like the samples above the frame.
 #[test]
 fn the_simple_filter(rt: HostRuntime) -> Result<(), Fail> {
     let row = &[(15, 0x85), (1, 0x83), (1, 0x80), (15, 0x7F)];
@@ -76,7 +76,7 @@ fn the_normal_filter(rt: HostRuntime) -> Result<(), Fail> {
     filters(&rt, rt.alloc(), NORMAL, row)
 }
 
-// The frame's own quantizer index is 0; by that of its segment the residual is 5.
+// The frame's own quantizer index is 0; by the segment's the residual is 5.
 #[test]
 fn a_segment_has_a_quantizer(rt: HostRuntime) -> Result<(), Fail> {
     let macroblocks: &[(usize, &[(bool, u8)], i8)] = &[(DC, &[], 1)];

@@ -14,11 +14,11 @@ const GREY: &[(usize, u8)] = &[(384, 0x80)];
 /// A key packet of 16 by 32 samples that reads 0 at every bit.
 const HIGH_KEY: &[u8] = &[0x10, 0, 0, 0x9D, 1, 0x2A, 0x10, 0, 0x20, 0];
 
-/// The pairs of a macroblock that is skipped and has a zero vector into the last frame, where none above
+/// The pairs of a macroblock that is skipped and has a zero vector into the last frame, if none above
 /// it or to its left has one.
 const ZERO: &[(bool, u8)] = &[(true, 1), (true, 1), (false, 255), (false, 7)];
 
-/// Those of one with nothing beside it that takes the samples of the last frame four rows down, which
+/// The pairs of one with no neighbours that takes the samples of the last frame four rows down, which
 /// is a new vector: 16 in the row component, in the long form, and 0 in the column component.
 const FOUR_DOWN: &[(bool, u8)] = &[
     (true, 1),

@@ -7,7 +7,7 @@ use std::test::Fail;
 const LINE: &[u8] = b"YUV4MPEG2 W16 H16 F30:1 Ip C420jpeg\n";
 
 /// A Y4M text of one frame: its line, and rows of samples, each row as often as is said. A sample is
-/// a digit, which stands for 120 more.
+/// a digit, which means 120 more.
 fn rows_of(alloc: Global, line: &[u8], rows: &[(usize, &[u8])]) -> Result<Vec<u8>, AllocError> {
     let mut text = Vec::new(alloc);
     text.extend_from_slice(line)?;
@@ -39,7 +39,7 @@ fn whole_blocks_alone(rt: HostRuntime) -> Result<(), Fail> {
     Ok(())
 }
 
-// Partitions that hold zeros alone, and two token partitions that hold nothing.
+// Partitions of zeros only, and two empty token partitions.
 #[test]
 fn zero_partitions(rt: HostRuntime) -> Result<(), Fail> {
     let zeros: &[u8] = &[0x50, 0, 0, 0x9D, 1, 0x2A, 0x10, 0, 0x10, 0, 0, 0, 0];

@@ -89,7 +89,7 @@ fn serves_rows(
     Ok(())
 }
 
-// The rows of a frame take the token partitions in turn.
+// The rows of a frame take the token partitions round robin.
 #[test]
 fn rows_take_turns(rt: HostRuntime) -> Result<(), Fail> {
     serves_rows(&rt, rt.alloc(), b"00", 1, 9)?;

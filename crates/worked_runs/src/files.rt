@@ -6,7 +6,7 @@ use std::test::Fail;
 use stream_files::IvfFault;
 use vp8_tables::Tables;
 
-// A cut last record is dropped, and its bytes are told as spare.
+// A cut last record is dropped, and its bytes are reported as spare.
 #[test]
 fn a_cut_last_record(rt: HostRuntime) -> Result<(), Fail> {
     let file = ivf_of(rt.alloc(), &[KEY])?;

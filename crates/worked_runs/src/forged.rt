@@ -15,7 +15,7 @@ const KEY_FRAME: &[(usize, u8)] = &[(64, 0x80), (192, 0x81), (128, 0x80)];
 
 const GREY: &[(usize, u8)] = &[(384, 0x80)];
 
-/// What stands behind a run over a file of these packets, saved.
+/// The packets after a run over this file, saved.
 fn saved_by(alloc: Global, file: &[u8], requests: &[u8]) -> Result<Vec<u8>, Fail> {
     let mut frames = Vec::new(alloc);
     let mut replies = Vec::new(alloc);
@@ -85,7 +85,7 @@ fn a_stream_from_nothing(rt: HostRuntime) -> Result<(), Fail> {
     Ok(())
 }
 
-// A side above 16,383, or above what 16 bits hold, is no size; the size behind a key tag may be none.
+// A side above 16,383, or above 65,535, is not a size; the size after a key tag may be missing.
 #[test]
 fn sizes_that_are_refused(rt: HostRuntime) -> Result<(), Fail> {
     let requests =
@@ -99,7 +99,7 @@ fn sizes_that_are_refused(rt: HostRuntime) -> Result<(), Fail> {
     Ok(())
 }
 
-// The packet before a forged one gives its stamp, and none before it 0.
+// A forged packet has the stamp of the packet before it, and 0 without one.
 #[test]
 fn forged_packets_have_stamps(rt: HostRuntime) -> Result<(), Fail> {
     let alloc = rt.alloc();
@@ -137,7 +137,7 @@ fn a_saved_stream_serves_the_same(rt: HostRuntime) -> Result<(), Fail> {
     Ok(())
 }
 
-/// A writer that gives errors alone.
+/// A writer that returns only errors.
 #[derive(Drop)]
 struct Broken {}
 
@@ -151,7 +151,7 @@ impl Write for Broken {
     }
 }
 
-// The calls by themselves, with ample memory: a body that always tells of want of it fails here.
+// The calls by themselves, with ample memory: a body that always answers NoMemory fails here.
 #[test]
 fn a_session_forges_and_saves(rt: HostRuntime) -> Result<(), Fail> {
     let alloc = rt.alloc();

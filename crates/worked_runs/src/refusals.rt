@@ -56,7 +56,7 @@ fn token_partitions(rt: HostRuntime) -> Result<(), Fail> {
     refuses(&rt, rt.alloc(), &partition, reply)
 }
 
-// A packet that is refused breaks the stream at its place up to the next key tag; what does not
+// A refused packet breaks the stream at its index up to the next key tag; what does not
 // depend on it is still served.
 #[test]
 fn a_broken_stream(rt: HostRuntime) -> Result<(), Fail> {

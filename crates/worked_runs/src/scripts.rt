@@ -74,7 +74,7 @@ fn sixteen_nodes_are_taken(rt: HostRuntime) -> Result<(), Fail> {
     Ok(())
 }
 
-// A broken packet is told before a crop past the size, and that before another size.
+// A broken packet is reported before a crop past the size, and that before another size.
 #[test]
 fn refusals_in_their_order(rt: HostRuntime) -> Result<(), Fail> {
     let requests =

@@ -17,7 +17,7 @@ fn shows_key(picture: &Picture) -> bool {
         && picture.shown_row(Component::Cr, 0) == [0x80; 8].as_slice()
 }
 
-// The calls of a session by themselves, with ample memory: a body that always tells of want of it
+// The calls of a session by themselves, with ample memory: a body that always answers NoMemory
 // fails here, as in each run.
 #[test]
 fn a_session_gives_pictures(rt: HostRuntime) -> Result<(), Fail> {

@@ -4,4 +4,4 @@ use Rattle.bool_coder.proofs.laws.worked_bits.Goals as goal
 
 pub returns : goal.returns
 unfolding read renewed trimmed
-returns c = record { mixed = refl; zeros = refl; held = refl; unlikely = refl; likely = refl }
+returns c = record { mixed = refl; zeros = refl; clamped_to_range = refl; unlikely = refl; likely = refl }

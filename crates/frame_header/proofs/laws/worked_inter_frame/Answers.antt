@@ -7,9 +7,9 @@ use Rattle.frame_header.specs.References.{refreshes, inter_refreshes, golden_cop
 use Rattle.frame_header.specs.InterFields.{reference_probabilities, y_modes, uv_modes, vector_probability, vectors, inter_fields}
 use Rattle.bool_coder.specs.Reading.{literal, more_bits, signed}
 use Rattle.bool_coder.specs.Reader.{read, renewed, trimmed}
-use Rattle.frame_header.specs.Places.{token_places}
+use Rattle.frame_header.specs.Places.{token_ranges}
 use Rattle.frame_header.proofs.laws.worked_inter_frame.Goals as goal
 
 pub returns : goal.returns
-unfolding header_of fields partition_count adjustment deltas delta four_deltas filter segmentation quantizers updated first_updated refreshes inter_refreshes golden_copy altref_copy reference_probabilities y_modes uv_modes vector_probability vectors inter_fields skip_probability trailing_fields literal more_bits signed read renewed trimmed token_places
+unfolding header_of fields partition_count adjustment deltas delta four_deltas filter segmentation quantizers updated first_updated refreshes inter_refreshes golden_copy altref_copy reference_probabilities y_modes uv_modes vector_probability vectors inter_fields skip_probability trailing_fields literal more_bits signed read renewed trimmed token_ranges
 returns c = (refl, refl, refl, refl, refl, refl, refl, refl, refl, refl, refl, refl)

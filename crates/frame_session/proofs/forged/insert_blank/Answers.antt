@@ -4,10 +4,10 @@ use Rattle.frame_session.specs.declared.edit.Edit.TheVariants.{Blank}
 use Rattle.frame_session.proofs.Forging.{insertion_gives, insertion_leaves}
 use Rattle.frame_session.proofs.forged.insert_blank.Goals as goal
 
-pub returns-in-Ok-clause-gives : goal.returns-in-Ok-clause-gives
-returns-in-Ok-clause-gives c =
+pub returns-in-Ok-clause-returned : goal.returns-in-Ok-clause-returned
+returns-in-Ok-clause-returned c =
     let made : blank_of c.args.tables.now c.args.width c.args.height ≡ Ok c.new.result = c.in-Ok.ensures.bytes ∙ ap (λ (bytes : List ℕ). Ok bytes) (sym c.new.ensures) in
-    insertion_gives c.args.tables.now c.args.list.now.list c.args.at c.stamp_before.result c.new.result (blank_of c.args.tables.now c.args.width c.args.height) c.insert.result made c.stamp_before.ensures (c.insert.ensures.gives c.args.tables.now)
+    insertion_gives c.args.tables.now c.args.list.now.list c.args.at c.stamp_before.result c.new.result (blank_of c.args.tables.now c.args.width c.args.height) c.insert.result made c.stamp_before.ensures (c.insert.ensures.returned c.args.tables.now)
 
 pub returns-in-Ok-clause-after : goal.returns-in-Ok-clause-after
 returns-in-Ok-clause-after c =

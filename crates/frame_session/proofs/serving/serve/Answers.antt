@@ -32,24 +32,24 @@ returns-in-Insert-clause-serves g c =
     let f = g.F.Write.contents c.args.frames.now in
     let r = g.R.Write.contents c.args.replies.now in
     let r' = g.R.Write.contents c.write_edited.new.w in
-    rw c.in-Insert.is (on_ok_weaker c.write_edited.result (λ said. serves_inserted c.args.session.now.now f f r r' c.in-Insert.at c.in-Insert.stamp c.in-Insert.bytes c.insert_written-edited.result c.insert_written-edited.new.self.now c.insert_written-edited.ensures.gives c.insert_written-edited.ensures.after said) c.write_edited.ensures)
+    rw c.in-Insert.is (on_ok_weaker c.write_edited.result (λ said. serves_inserted c.args.session.now.now f f r r' c.in-Insert.at c.in-Insert.stamp c.in-Insert.bytes c.insert_written-edited.result c.insert_written-edited.new.self.now c.insert_written-edited.ensures.returned c.insert_written-edited.ensures.after said) c.write_edited.ensures)
 
 pub returns-in-Insert-clause-frame_first : goal.returns-in-Insert-clause-frame_first
 returns-in-Insert-clause-frame_first g c =
     let f = g.F.Write.contents c.args.frames.now in
-    rw c.in-Insert.is (inr (serves_inserted c.args.session.now.now f f None None c.in-Insert.at c.in-Insert.stamp c.in-Insert.bytes c.insert_written-edited.result c.insert_written-edited.new.self.now c.insert_written-edited.ensures.gives c.insert_written-edited.ensures.after tt))
+    rw c.in-Insert.is (inr (serves_inserted c.args.session.now.now f f None None c.in-Insert.at c.in-Insert.stamp c.in-Insert.bytes c.insert_written-edited.result c.insert_written-edited.new.self.now c.insert_written-edited.ensures.returned c.insert_written-edited.ensures.after tt))
 
 pub returns-in-Replace-clause-serves : goal.returns-in-Replace-clause-serves
 returns-in-Replace-clause-serves g c =
     let f = g.F.Write.contents c.args.frames.now in
     let r = g.R.Write.contents c.args.replies.now in
     let r' = g.R.Write.contents c.write_edited-in-Replace.new.w in
-    rw c.in-Replace.is (on_ok_weaker c.write_edited-in-Replace.result (λ said. serves_replaced c.args.session.now.now f f r r' c.in-Replace.at c.in-Replace.bytes c.replace_written-edited.result c.replace_written-edited.new.self.now c.replace_written-edited.ensures.gives c.replace_written-edited.ensures.after said) c.write_edited-in-Replace.ensures)
+    rw c.in-Replace.is (on_ok_weaker c.write_edited-in-Replace.result (λ said. serves_replaced c.args.session.now.now f f r r' c.in-Replace.at c.in-Replace.bytes c.replace_written-edited.result c.replace_written-edited.new.self.now c.replace_written-edited.ensures.returned c.replace_written-edited.ensures.after said) c.write_edited-in-Replace.ensures)
 
 pub returns-in-Replace-clause-frame_first : goal.returns-in-Replace-clause-frame_first
 returns-in-Replace-clause-frame_first g c =
     let f = g.F.Write.contents c.args.frames.now in
-    rw c.in-Replace.is (inr (serves_replaced c.args.session.now.now f f None None c.in-Replace.at c.in-Replace.bytes c.replace_written-edited.result c.replace_written-edited.new.self.now c.replace_written-edited.ensures.gives c.replace_written-edited.ensures.after tt))
+    rw c.in-Replace.is (inr (serves_replaced c.args.session.now.now f f None None c.in-Replace.at c.in-Replace.bytes c.replace_written-edited.result c.replace_written-edited.new.self.now c.replace_written-edited.ensures.returned c.replace_written-edited.ensures.after tt))
 
 pub returns-in-Delete-clause-serves : goal.returns-in-Delete-clause-serves
 returns-in-Delete-clause-serves g c =
@@ -104,19 +104,19 @@ returns-in-Script-clause-serves g c =
     let f = g.F.Write.contents c.args.frames.now in
     let r = g.R.Write.contents c.args.replies.now in
     let r' = g.R.Write.contents c.write_edited-in-Script.new.w in
-    rw c.in-Script.is (on_ok_weaker c.write_edited-in-Script.result (λ said. serves_script c.args.session.now.now f f r r' c.in-Script.text c.set_script-set.result c.set_script-set.new.self.now (rw c.as_slice.ensures at c.set_script-set.ensures.gives) (ap (λ (v : SessionValue). v.now) (rw c.as_slice.ensures at c.set_script-set.ensures.after)) said) c.write_edited-in-Script.ensures)
+    rw c.in-Script.is (on_ok_weaker c.write_edited-in-Script.result (λ said. serves_script c.args.session.now.now f f r r' c.in-Script.text c.set_script-set.result c.set_script-set.new.self.now (rw c.as_slice.ensures at c.set_script-set.ensures.returned) (ap (λ (v : SessionValue). v.now) (rw c.as_slice.ensures at c.set_script-set.ensures.after)) said) c.write_edited-in-Script.ensures)
 
 pub returns-in-Script-clause-frame_first : goal.returns-in-Script-clause-frame_first
 returns-in-Script-clause-frame_first g c =
     let f = g.F.Write.contents c.args.frames.now in
-    rw c.in-Script.is (inr (serves_script c.args.session.now.now f f None None c.in-Script.text c.set_script-set.result c.set_script-set.new.self.now (rw c.as_slice.ensures at c.set_script-set.ensures.gives) (ap (λ (v : SessionValue). v.now) (rw c.as_slice.ensures at c.set_script-set.ensures.after)) tt))
+    rw c.in-Script.is (inr (serves_script c.args.session.now.now f f None None c.in-Script.text c.set_script-set.result c.set_script-set.new.self.now (rw c.as_slice.ensures at c.set_script-set.ensures.returned) (ap (λ (v : SessionValue). v.now) (rw c.as_slice.ensures at c.set_script-set.ensures.after)) tt))
 
 pub returns-in-Count-clause-serves : goal.returns-in-Count-clause-serves
 returns-in-Count-clause-serves g c =
     let f = g.F.Write.contents c.args.frames.now in
     let r = g.R.Write.contents c.args.replies.now in
-    let r' = g.R.Write.contents c.tell_count.new.replies in
-    rw c.in-Count.is (on_ok_weaker c.tell_count.result (λ said. serves_count c.args.session.now.now f f r r' said) c.tell_count.ensures)
+    let r' = g.R.Write.contents c.report_count.new.replies in
+    rw c.in-Count.is (on_ok_weaker c.report_count.result (λ said. serves_count c.args.session.now.now f f r r' said) c.report_count.ensures)
 
 pub returns-in-Count-clause-frame_first : goal.returns-in-Count-clause-frame_first
 returns-in-Count-clause-frame_first g c =

@@ -7,8 +7,8 @@ pub returns : goal.returns
 unfolding reference_sample filtered between inter_sample
 returns c = record {
   rising = refl;
-  held_at_0 = refl;
-  held_at_255 = refl;
+  clamped_at_0 = refl;
+  clamped_at_255 = refl;
   bilinear = refl;
   across_first = refl;
   rounded_down = refl;

@@ -33,7 +33,7 @@ returns c =
           ∙ ap (λ (z : ℤ). predicted c.args.kind p c.args.x z (pos c.args.right) (pos c.args.below) column row) (to_z-of_z w64 c.args.y y_fits);
       others = λ column row inside beside.
           elim beside [
-            | inl behind ↦ absurd (omega arith)
+            | inl following ↦ absurd (omega arith)
             | inr under ↦ none_beside c.args.width c.args.height column row c.args.out.now c.loop-row.out c.loop-row.auto.out c.requires.out under
           ];
     }

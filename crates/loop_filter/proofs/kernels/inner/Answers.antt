@@ -21,11 +21,11 @@ returns c = λ i less.
       c.eighths_after-up.ensures i less,
       c.eighths_after-down.ensures i less,
       c.either-number.ensures i less,
-      c.lack-full.ensures i less,
+      c.shortfall-full.ensures i less,
       c.either-outer.ensures i less,
       c.difference-difference.ensures.value i less,
       c.all-none.ensures i less,
-      c.variance_over-varied.ensures i less,
+      c.variance_over-high_edge_variance.ensures i less,
       c.roughness-rough.ensures i less,
     )
     (inner_lane c.args.limits (line_at c.args.taps i) c.requires.limit

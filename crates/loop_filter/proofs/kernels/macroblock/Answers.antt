@@ -21,10 +21,10 @@ returns c = λ i less.
       c.either-narrow.ensures i less,
       c.either-wide.ensures i less,
       c.either-number.ensures i less,
-      c.lack-full.ensures i less,
+      c.shortfall-full.ensures i less,
       c.difference-outer.ensures.value i less,
       c.all-none.ensures i less,
-      c.variance_over-varied.ensures i less,
+      c.variance_over-high_edge_variance.ensures i less,
       c.roughness-rough.ensures i less,
     )
     (macroblock_lane c.args.limits (line_at c.args.taps i) c.requires.limit

@@ -14,10 +14,10 @@ pub loop-number-preserved : goal.loop-number-preserved
 loop-number-preserved c =
     let at = c.loop-number.invariant.at in
     let more = rw at at c.in_ok-push_mode.ensures in
-    let behind = rw at at c.next_place-place.ensures in
+    let following = rw at at c.next_place-place.ensures in
     let longer = one_more-length c.args.tables.now c.args.header.now _ _ _ _ _ _ _ more in
     record {
       same = first_modes-more _ _ _ _ _ _ _ _ _ _ _ c.loop-number.invariant.count c.loop-number.invariant.same more;
       count = omega (arith, longer, c.loop-number.invariant.count);
-      at = behind _ refl;
+      at = following _ refl;
     }

@@ -11,7 +11,7 @@ pub loop-n-preserved : goal.loop-n-preserved
 loop-n-preserved c =
     let below : c.loop-n.n < length c.loop-n.modes = omega (arith, c.loop-n.invariant.room) in
     record {
-      same = first_sub_modes-more _ _ _ _ _ _ _ _ _ below c.loop-n.invariant.same (rw (← c.mode_above-over.ensures, ← c.mode_left-beside.ensures) c.read_key_sub_mode.ensures);
+      same = first_sub_modes-more _ _ _ _ _ _ _ _ _ below c.loop-n.invariant.same (rw (← c.mode_above-over.ensures, ← c.mode_left-neighbour.ensures) c.read_key_sub_mode.ensures);
       room = rw length-set c.loop-n.invariant.room;
     }
 

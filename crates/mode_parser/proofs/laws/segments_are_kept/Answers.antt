@@ -5,5 +5,5 @@ use Rattle.mode_parser.proofs.laws.segments_are_kept.Goals as goal
 pub returns : goal.returns
 returns c = record {
   segments = λ before. first_modes-segments _ _ _ _ _ before _ c.requires;
-  behind = λ before. rw c.requires refl;
+  following = λ before. rw c.requires refl;
 }

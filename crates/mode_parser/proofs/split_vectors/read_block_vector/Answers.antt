@@ -6,4 +6,4 @@ pub returns-then-start-n : goal.returns-then-start-n
 returns-then-start-n c = block_vector-later _ _ _ _ _ _ _ _ _ c.if-start-n.true (omega (arith, c.told-vectors, c.requires.inside, c.if-start-n.true))
 
 pub returns : goal.returns
-returns c = block_vector-first _ _ _ _ _ _ _ _ _ _ _ _ c.requires.starts c.if-start-n.false c.vector_left-beside.ensures c.vector_above-over.ensures c.read_part_vector.ensures
+returns c = block_vector-first _ _ _ _ _ _ _ _ _ _ _ _ c.requires.starts c.if-start-n.false c.vector_left-neighbour.ensures c.vector_above-over.ensures c.read_part_vector.ensures

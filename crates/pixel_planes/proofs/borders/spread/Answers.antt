@@ -47,8 +47,8 @@ row_within width height border stride old mid above rows below r y in_plane =
 
 -- a row below the plane
 row_below : (width height border stride : ℕ) (old mid above rows below : List ℕ) → IsRepeated width height border stride old mid above rows below → (y : ℕ) → y < border → chunk ((border + (height + y)) * stride) stride (above ++ (rows ++ below)) ≡ bordered_row border (row_of (flat_plane width height old) (height - 1))
-row_below width height border stride old mid above rows below r y behind =
-    chunk_right ((border + (height + y)) * stride) ((height + y) * stride) stride (border * stride) above (rows ++ below) r.above_len (add-mul border (height + y) stride) ∙ chunk_right ((height + y) * stride) (y * stride) stride (height * stride) rows below (rows_len width height border stride old mid above rows below r) (add-mul height y stride) ∙ r.below_is y behind ∙ middle_row width height border stride old mid above rows below r (height - 1) (omega (arith, r.high))
+row_below width height border stride old mid above rows below r y following =
+    chunk_right ((border + (height + y)) * stride) ((height + y) * stride) stride (border * stride) above (rows ++ below) r.above_len (add-mul border (height + y) stride) ∙ chunk_right ((height + y) * stride) (y * stride) stride (height * stride) rows below (rows_len width height border stride old mid above rows below r) (add-mul height y stride) ∙ r.below_is y following ∙ middle_row width height border stride old mid above rows below r (height - 1) (omega (arith, r.high))
 
 bordered_at : (width height border stride : ℕ) (old mid above rows below : List ℕ) → IsRepeated width height border stride old mid above rows below → (row : ℕ) → row < bordered_side height border → chunk (row * stride) stride (above ++ (rows ++ below)) ≡ bordered_row border (row_of (flat_plane width height old) (min (row - border) (height - 1)))
 bordered_at width height border stride old mid above rows below r row within =

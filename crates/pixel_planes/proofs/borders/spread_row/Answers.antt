@@ -19,5 +19,5 @@ the_length from width border xs fits = rw (part_is xs from width) (length-border
 
 pub returns : goal.returns
 returns c =
-    let same : slice_range c.split_at_mut-front.result.0.now c.args.from (c.args.from + c.args.width) ≡ slice_range c.args.samples.now c.args.from (c.args.from + c.args.width) = the_row_is c.args.from c.args.to c.args.width c.args.samples.now c.split_at_mut-front.result.0.now c.split_at_mut-front.ensures.front c.requires.behind in
-    written_between _ _ _ _ _ _ _ c.split_at_mut-front.ensures.front c.split_at_mut-front.ensures.back (c.write_bordered.ensures ∙ ap (bordered_row c.args.border) same) (the_length c.args.from c.args.width c.args.border c.args.samples.now (omega (arith, c.requires.behind, c.requires.room))) c.requires.room
+    let same : slice_range c.split_at_mut-front.result.0.now c.args.from (c.args.from + c.args.width) ≡ slice_range c.args.samples.now c.args.from (c.args.from + c.args.width) = the_row_is c.args.from c.args.to c.args.width c.args.samples.now c.split_at_mut-front.result.0.now c.split_at_mut-front.ensures.front c.requires.following in
+    written_between _ _ _ _ _ _ _ c.split_at_mut-front.ensures.front c.split_at_mut-front.ensures.back (c.write_bordered.ensures ∙ ap (bordered_row c.args.border) same) (the_length c.args.from c.args.width c.args.border c.args.samples.now (omega (arith, c.requires.following, c.requires.room))) c.requires.room

@@ -1,4 +1,4 @@
-use Rattle.state_cache.proofs.Standing.{ids_kept}
+use Rattle.state_cache.proofs.Progress.{ids_kept}
 use Rattle.state_cache.proofs.laws.edits_keep_ids.Goals as goal
 
 pub returns : goal.returns

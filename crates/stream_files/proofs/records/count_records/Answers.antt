@@ -1,5 +1,5 @@
 use Rattle.std.proofs.Common.{[], ◌∷◌, ◌++◌, refl, arith, length-append}
-use Rattle.stream_files.specs.Ivf.{first_packet, behind_first}
+use Rattle.stream_files.specs.Ivf.{first_packet, after_first}
 use Rattle.stream_files.proofs.Walks.{records_more}
 use Rattle.stream_files.proofs.records.count_records.Goals as goal
 
@@ -8,7 +8,7 @@ returns-then-count-eq-MAX_PACKETS-clause-none c =
     let met = c.loop-record.invariant in
     let packet = first_packet c.loop-record.rest.now in (
       met.packets ++ packet ∷ [],
-      behind_first c.loop-record.rest.now,
+      after_first c.loop-record.rest.now,
       records_more _ met.packets _ packet _ met.so_far c.in-Some.ensures.whole refl refl,
       omega (arith, length-append met.packets (packet ∷ []), met.counted),
     )
@@ -18,7 +18,7 @@ loop-record-preserved c =
     let met = c.loop-record.invariant in
     let packet = first_packet c.loop-record.rest.now in record {
       packets = met.packets ++ packet ∷ [];
-      so_far = records_more _ met.packets _ packet _ met.so_far c.in-Some.ensures.whole refl c.in-Some.ensures.behind;
+      so_far = records_more _ met.packets _ packet _ met.so_far c.in-Some.ensures.whole refl c.in-Some.ensures.following;
       counted = omega (arith, length-append met.packets (packet ∷ []), met.counted);
       few = omega arith;
     }

@@ -8,4 +8,4 @@ use Rattle.token_parser.proofs.laws.worked_block.Goals as goal
 
 pub returns : goal.returns
 unfolding trimmed renewed read leaf_below code_renewed written size_of signed_size tokens_from
-returns c = record { three = refl; zeros = refl; behind_y2 = refl }
+returns c = record { three = refl; zeros = refl; after_y2 = refl }

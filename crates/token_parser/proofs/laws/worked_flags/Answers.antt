@@ -9,4 +9,4 @@ use Rattle.token_parser.proofs.laws.worked_flags.Goals as goal
 
 pub returns : goal.returns
 unfolding trimmed renewed read leaf_below code_renewed written size_of signed_size tokens_from block
-returns c = record { zeros = refl; none = refl; luma_behind_y2 = refl }
+returns c = record { zeros = refl; none = refl; luma_after_y2 = refl }

@@ -10,9 +10,9 @@ pub returns-clause-luma : goal.returns-clause-luma
 unfolding has_tokens
 returns-clause-luma c = refl
 
-pub returns-clause-luma_behind_y2 : goal.returns-clause-luma_behind_y2
+pub returns-clause-luma_after_y2 : goal.returns-clause-luma_after_y2
 unfolding has_tokens
-returns-clause-luma_behind_y2 c = refl
+returns-clause-luma_after_y2 c = refl
 
 pub returns-clause-chroma : goal.returns-clause-chroma
 unfolding has_tokens

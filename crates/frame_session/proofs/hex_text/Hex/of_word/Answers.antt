@@ -14,16 +14,16 @@ returns-then-is_dash c =
     let dash : bytes_eq c.args.word.now (codes "-") ≡ true = sym c.is_dash.ensures ∙ c.if-is_dash.true in
     sym (dash_bytes c.args.word.now dash)
 
-pub returns-then-not-has_hex_digits_alone : goal.returns-then-not-has_hex_digits_alone
-returns-then-not-has_hex_digits_alone c =
+pub returns-then-not-has_only_hex_digits : goal.returns-then-not-has_only_hex_digits
+returns-then-not-has_only_hex_digits c =
     let no_dash : bytes_eq c.args.word.now (codes "-") ≡ false = sym c.is_dash.ensures ∙ c.if-is_dash.false in
-    sym (other_none c.args.word.now no_dash (λ digits. cc (sym (list_all-from_AllPass is_hex_digit c.args.word.now digits) ∙ sym c.has_hex_digits_alone.ensures ∙ c.if-not-has_hex_digits_alone.true)))
+    sym (other_none c.args.word.now no_dash (λ digits. cc (sym (list_all-from_AllPass is_hex_digit c.args.word.now digits) ∙ sym c.has_only_hex_digits.ensures ∙ c.if-not-has_only_hex_digits.true)))
 
 pub invariant_of-result-2 : goal.invariant_of-result-2
 invariant_of-result-2 c =
-    digits_decoded c.args.word.now c.if-word-ne0.false (AllPass-from_list_all is_hex_digit c.args.word.now (sym c.has_hex_digits_alone.ensures ∙ c.if-not-has_hex_digits_alone.false))
+    digits_decoded c.args.word.now c.if-word-ne0.false (AllPass-from_list_all is_hex_digit c.args.word.now (sym c.has_only_hex_digits.ensures ∙ c.if-not-has_only_hex_digits.false))
 
 pub returns : goal.returns
 returns c =
     let no_dash : bytes_eq c.args.word.now (codes "-") ≡ false = sym c.is_dash.ensures ∙ c.if-is_dash.false in
-    sym (digits_bytes_of c.args.word.now no_dash c.if-word-ne0.false (AllPass-from_list_all is_hex_digit c.args.word.now (sym c.has_hex_digits_alone.ensures ∙ c.if-not-has_hex_digits_alone.false)))
+    sym (digits_bytes_of c.args.word.now no_dash c.if-word-ne0.false (AllPass-from_list_all is_hex_digit c.args.word.now (sym c.has_only_hex_digits.ensures ∙ c.if-not-has_only_hex_digits.false)))

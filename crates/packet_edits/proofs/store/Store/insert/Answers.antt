@@ -32,6 +32,6 @@ invariant_of-self-2 c =
     let es = c.self.inside.entries.items in
     let within : c.args.at ≤ length es = search (rules, arith) in
     let few : length es < 1048576 = search (rules, arith) in
-    let told = c.is_shown.ensures ∙ ap is_shown c.as_slice.ensures in
+    let reported = c.is_shown.ensures ∙ ap is_shown c.as_slice.ensures in
     whole_insert es c.insert-3.new.self.items c.self.inside.next_id c.self.inside.marks.items c.mark.new.marks.items c.self.inside.shown c.insert-2.new.self c.self.invariant c.args.at c.args.stamp c.args.bytes within few
-    c.in-Ok-insert-2.ensures.items (c.mark.ensures ∙ ap (marked_at (c.args.at + 1)) c.in-Ok.ensures.items) (c.in-Ok-insert.ensures ∙ ap (insert c.self.inside.shown c.args.at) told)
+    c.in-Ok-insert-2.ensures.items (c.mark.ensures ∙ ap (marked_at (c.args.at + 1)) c.in-Ok.ensures.items) (c.in-Ok-insert.ensures ∙ ap (insert c.self.inside.shown c.args.at) reported)

@@ -12,10 +12,10 @@ the_listing entries next_id = record { entries = entries; next_id = next_id }
 pub invariant_of-self : goal.invariant_of-self
 invariant_of-self c =
     let es = c.self.inside.entries.items in
-    let told = c.is_shown.ensures ∙ ap is_shown c.as_slice.ensures in
+    let reported = c.is_shown.ensures ∙ ap is_shown c.as_slice.ensures in
     let e : Entry = record { id = c.self.inside.next_id; stamp = c.index_mut-entry.result.now.stamp; bytes = c.args.bytes } in
     whole_set es (slice_set es c.args.at e) c.self.inside.next_id c.self.inside.marks.items c.mark.new.marks.items c.self.inside.shown c.set.new.self c.self.invariant c.args.at c.index_mut-entry.result.now.stamp c.args.bytes refl
-    c.mark.ensures (c.set.ensures ∙ ap (slice_set c.self.inside.shown c.args.at) told)
+    c.mark.ensures (c.set.ensures ∙ ap (slice_set c.self.inside.shown c.args.at) reported)
 
 pub returns-clause-after : goal.returns-clause-after
 returns-clause-after c =

@@ -1,6 +1,6 @@
-use Rattle.state_cache.specs.Views.{kept_in}
+use Rattle.state_cache.specs.Views.{cached_in}
 use Rattle.state_cache.proofs.Shows.{kept_told}
 use Rattle.state_cache.proofs.cache.Cache.holds.Goals as goal
 
 pub returns : goal.returns
-returns c = rw (← c.self.view_is) (kept_told c.args.store.now.list.entries c.args.store.now.marks (kept_in c.self.inside.kept.entries) c.args.place c.id-id.result c.contains.result c.requires c.id-id.ensures c.contains.ensures)
+returns c = rw (← c.self.view_is) (kept_told c.args.store.now.list.entries c.args.store.now.marks (cached_in c.self.inside.kept.entries) c.args.place c.id-id.result c.contains.result c.requires c.id-id.ensures c.contains.ensures)

@@ -2,7 +2,7 @@ use Rattle.std.proofs.Common.{◌<◌, ◌≤◌, ◌∙◌, Err, length, refl, 
 use Rattle.std.specs.Prelude.{is_ok}
 use Rattle.packet_edits.specs.Edits.{Listing}
 use Rattle.state_cache.specs.Reaching.{Reaches, view_of}
-use Rattle.state_cache.specs.Views.{seens}
+use Rattle.state_cache.specs.Views.{marked_packets}
 use Rattle.state_cache.proofs.Reached.{length_seens, reaches_answer, reaches_fault}
 use Rattle.state_cache.proofs.Settled.{first_unsettled}
 use Rattle.state_cache.proofs.Walked.{walk_begins, walk_ends, walk_more, walk_refused}
@@ -38,7 +38,7 @@ returns-in-Err-clause-reaches c =
     let within : c.args.place < length c.loop-next.store.list.entries = subst (λ (l : Listing). c.args.place < length l.entries) (sym inv.list) c.requires.place in
     let low : c.loop-next.next ≤ c.args.place = search (rules, arith) in
     subst (λ (l : Listing). Reaches c.args.tables.now l c.args.place (Err c.in-Err.fault)) inv.list
-    (reaches_fault c.args.tables.now c.loop-next.store.list c.loop-next.store.marks (view_of c.loop-next.self) inv.coherent c.args.place c.loop-next.next c.in-Err.fault within low inv.next c.in-Err.ensures.told)
+    (reaches_fault c.args.tables.now c.loop-next.store.list c.loop-next.store.marks (view_of c.loop-next.self) inv.coherent c.args.place c.loop-next.next c.in-Err.fault within low inv.next c.in-Err.ensures.step_result)
 
 pub returns-in-Err-clause-costs : goal.returns-in-Err-clause-costs
 returns-in-Err-clause-costs c =
@@ -47,7 +47,7 @@ returns-in-Err-clause-costs c =
     let long = length_seens c.loop-next.store.list.entries c.loop-next.store.marks in
     let low : c.loop-next.next ≤ c.args.place = search (rules, arith) in
     walk_refused c.args.tables.now c.args.store.now c.loop-next.store c.args.self.now c.loop-next.self c.args.place c.loop-next.next inv.so_far low inv.list c.advance.new.store c.advance.new.self
-    (first_unsettled c.args.tables.now (seens c.loop-next.store) (view_of c.loop-next.self) c.args.place c.loop-next.next inv.next (omega (arith, within, long)))
+    (first_unsettled c.args.tables.now (marked_packets c.loop-next.store) (view_of c.loop-next.self) c.args.place c.loop-next.next inv.next (omega (arith, within, long)))
     c.advance.ensures.counted c.in-Err.ensures.refused.1 c.advance.ensures.capacity c.advance.ensures.bounded
 
 pub returns-clause-reaches : goal.returns-clause-reaches

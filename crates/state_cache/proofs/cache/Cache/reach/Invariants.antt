@@ -1,6 +1,6 @@
 use Rattle.std.proofs.Common.{◌≡◌, ◌+◌, ◌-◌}
 use Rattle.state_cache.specs.Reaching.{IsNext, view_of}
-use Rattle.state_cache.specs.Views.{IsCoherent, seens}
+use Rattle.state_cache.specs.Views.{IsCoherent, marked_packets}
 use Rattle.state_cache.proofs.Walked.{SoFar}
 use Rattle.state_cache.proofs.WalkSteps.{Walking}
 use Rattle.state_cache.proofs.cache.Cache.reach.Given as goal
@@ -8,8 +8,8 @@ use Rattle.state_cache.proofs.cache.Cache.reach.Given as goal
 abbrev pub invariant-loop-next : goal.invariant-loop-next
 invariant-loop-next l = record {
   list : l.store.list ≡ l.fn.store.list;
-  coherent : IsCoherent l.tables (seens l.store) (view_of l.self);
-  next : IsNext (seens l.store) (view_of l.self) l.place l.next;
+  coherent : IsCoherent l.tables (marked_packets l.store) (view_of l.self);
+  next : IsNext (marked_packets l.store) (view_of l.self) l.place l.next;
   so_far : SoFar l.tables l.fn.store l.fn.self l.place l.store l.self l.next;
   walk : Walking l.fn.store l.fn.self l.place l.store l.self l.next;
 }

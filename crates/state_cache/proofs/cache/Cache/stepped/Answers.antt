@@ -1,8 +1,8 @@
 use Rattle.std.proofs.Common.{List, ℕ, Option, ap, subst, ◌∙◌}
 use Rattle.reference_frames.specs.declared.states.State.{State}
 use Rattle.reference_frames.specs.Steps.{StepAnswers, step_of}
-use Rattle.state_cache.specs.Reaching.{GivesAt, state_from, view_of}
-use Rattle.state_cache.specs.Views.{View, seens}
+use Rattle.state_cache.specs.Reaching.{AnswersAt, state_from, view_of}
+use Rattle.state_cache.specs.Views.{View, marked_packets}
 use Rattle.state_cache.proofs.Shows.{bytes_shown, shows}
 use Rattle.state_cache.proofs.cache.Cache.stepped.Goals as goal
 
@@ -10,11 +10,11 @@ pub returns-clause-gives : goal.returns-clause-gives
 returns-clause-gives c =
     let es = c.args.store.now.list.entries in
     let ms = c.args.store.now.marks in
-    let xs = seens c.args.store.now in
+    let xs = marked_packets c.args.store.now in
     let s = shows es ms c.args.place c.requires in (
       s.packet,
       s.is,
-      subst (λ (bytes : List ℕ). GivesAt c.args.place (step_of c.args.tables.now (state_from xs (view_of c.args.self.now) c.args.place) bytes) c.outcome_at.result)
+      subst (λ (bytes : List ℕ). AnswersAt c.args.place (step_of c.args.tables.now (state_from xs (view_of c.args.self.now) c.args.place) bytes) c.outcome_at.result)
           (bytes_shown es ms c.args.place s.packet c.packet-packet.result.now s.is c.packet-packet.ensures)
           (c.outcome_at.ensures (step_of c.args.tables.now (state_from xs (view_of c.args.self.now) c.args.place) c.packet-packet.result.now)
           (subst (λ (state : Option State). StepAnswers (step_of c.args.tables.now state c.packet-packet.result.now) c.step.result)

@@ -10,7 +10,7 @@ loop-k-init c = refl
 pub loop-k-preserved : goal.loop-k-preserved
 loop-k-preserved c = elim c.if-found.branch [
   | then-found w ↦ w.found-is ∙ found_before (has_token c.args.has_y2 c.args.self.now) c.loop-k.k c.loop-k.found c.loop-k.invariant w.if-found.true
-  | else-found w ↦ found_here (has_token c.args.has_y2 c.args.self.now) c.loop-k.k c.loop-k.found _ c.loop-k.invariant w.if-found.false (w.found-is ∙ rw (w.first_place.ensures, w.from.ensures) refl)
+  | else-found w ↦ found_here (has_token c.args.has_y2 c.args.self.now) c.loop-k.k c.loop-k.found _ c.loop-k.invariant w.if-found.false (w.found-is ∙ rw (w.first_position.ensures, w.from.ensures) refl)
 ]
 
 pub returns : goal.returns

@@ -1,5 +1,0 @@
-use Rattle.state_cache.proofs.KeptView.{coherent_is_kept_view}
-use Rattle.state_cache.proofs.laws.coherent_views_are_kept_views.Goals as goal
-
-pub returns : goal.returns
-returns c = coherent_is_kept_view

@@ -1,5 +1,0 @@
-use Rattle.state_cache.proofs.Standing.{later_not_kept}
-use Rattle.state_cache.proofs.laws.later_ids_are_not_kept.Goals as goal
-
-pub returns : goal.returns
-returns c = later_not_kept

@@ -1,5 +1,0 @@
-use Rattle.state_cache.proofs.Standing.{next_not_kept}
-use Rattle.state_cache.proofs.laws.next_id_is_not_kept.Goals as goal
-
-pub returns : goal.returns
-returns c = next_not_kept
