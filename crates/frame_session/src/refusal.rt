@@ -10,25 +10,25 @@ use thiserror::Error;
 #[derive(Clone, Copy, Debug, PartialEq, Eq, Error)]
 pub enum Refusal {
     /// The line is not a request.
-    #[error("the line is no request")]
+    #[error("the line is not a request")]
     Line,
     /// There is no packet at the index.
-    #[error("no packet stands at the place")]
+    #[error("there is no packet at this index")]
     Place,
     /// The list already has the most packets that are allowed.
-    #[error("the most packets stand")]
+    #[error("there are already 1048576 packets")]
     Full,
     /// No id is left for another packet.
-    #[error("no id is left")]
+    #[error("no packet id is left")]
     Spent,
     /// No frame has the size that was asked of a forged packet.
-    #[error("no frame has the size")]
+    #[error("no frame has this size")]
     Size,
     /// The first partition of a packet to be forged is too large.
-    #[error("the forged packet is too large")]
+    #[error("the first partition of the forged packet is too large")]
     TooLarge,
     /// The script serves fewer frames.
-    #[error("fewer frames are shown")]
+    #[error("the script serves fewer frames")]
     NoSuchFrame,
     /// The stream is broken at the packet at index `place`, counted from 0.
     #[error("the stream is broken at packet {place}: {cause}")]
@@ -40,19 +40,19 @@ pub enum Refusal {
     #[error("the frame has another size than the first frame that was served")]
     SizeDiffers,
     /// The text of a script does not consist of nodes.
-    #[error("the text is not one of nodes")]
+    #[error("the text is not a list of nodes")]
     Syntax,
     /// A script has more than 16 nodes.
-    #[error("the script has too many nodes")]
+    #[error("the script has more than 16 nodes")]
     Nodes,
     /// A node of a script uses a node that is not before it.
-    #[error("a node uses one that does not stand before it")]
+    #[error("a node uses a node that is not before it")]
     Reference,
     /// A number of a script is not allowed at its position.
     #[error("a number of the script is not allowed")]
     Number,
     /// Out of memory.
-    #[error("memory was refused")]
+    #[error("out of memory")]
     NoMemory,
 }
 

@@ -26,10 +26,10 @@ pub enum RunFault {
     #[error("the stream cannot be read: {0}")]
     Ivf(IvfFault),
     /// A writer returned an error. How much was written is left open.
-    #[error("a writer refused")]
+    #[error("a writer returned an error")]
     Write,
     /// Out of memory at the start.
-    #[error("memory was refused")]
+    #[error("out of memory")]
     NoMemory,
 }
 

@@ -13,7 +13,7 @@ pub enum ForgeFault {
     #[error("the first partition is too large")]
     TooLarge,
     /// Out of memory for the packet.
-    #[error("no memory for the packet")]
+    #[error("out of memory for the packet")]
     NoMemory,
 }
 

@@ -7,19 +7,19 @@ use thiserror::Error;
 #[derive(Clone, Copy, Debug, PartialEq, Eq, Error)]
 pub enum ScriptFault {
     /// An unknown word, a wrong number of words, a word that is not a number, or an empty node.
-    #[error("the text is not one of nodes")]
+    #[error("the text is not a list of nodes")]
     Syntax,
     /// More than 16 nodes.
-    #[error("the script has too many nodes")]
+    #[error("the script has more than 16 nodes")]
     Nodes,
     /// A node that uses a node that is not below its own number.
-    #[error("a node uses one that does not stand before it")]
+    #[error("a node uses a node that is not before it")]
     Reference,
     /// A number that is not allowed at its position.
     #[error("a number of the script is not allowed")]
     Number,
     /// Out of memory for the nodes.
-    #[error("no memory for the nodes")]
+    #[error("out of memory for the nodes")]
     NoMemory,
 }
 
@@ -59,7 +59,7 @@ pub enum ApplyFault {
     #[error("a crop reaches past the picture")]
     CropOutside,
     /// Out of memory for the samples, or a plane cannot be shared again.
-    #[error("no memory for the picture")]
+    #[error("out of memory for the picture")]
     NoMemory,
 }
 

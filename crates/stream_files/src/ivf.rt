@@ -28,7 +28,7 @@ pub enum IvfFault {
     #[error("the file has too many packets")]
     TooMany,
     /// Out of memory for the packets.
-    #[error("no memory for the packets")]
+    #[error("out of memory for the packets")]
     NoMemory,
 }
 

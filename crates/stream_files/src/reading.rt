@@ -12,13 +12,13 @@ use thiserror::Error;
 #[derive(Clone, Copy, Debug, PartialEq, Eq, Error)]
 pub enum ReadFault {
     /// The reader returned an error.
-    #[error("the reader gave an error")]
+    #[error("the reader returned an error")]
     Read,
     /// The reader has more bytes than allowed.
-    #[error("there are more bytes than are allowed")]
+    #[error("there are more bytes than allowed")]
     TooLong,
     /// Out of memory for the bytes.
-    #[error("no memory for the bytes")]
+    #[error("out of memory for the bytes")]
     NoMemory,
 }
 

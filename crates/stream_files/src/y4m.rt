@@ -12,7 +12,7 @@ use thiserror::Error;
 #[derive(Clone, Copy, Debug, PartialEq, Eq, Error)]
 pub enum WriteFault {
     /// The writer returned an error.
-    #[error("the writer gave an error")]
+    #[error("the writer returned an error")]
     Write,
 }
 
