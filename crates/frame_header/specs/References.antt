@@ -16,7 +16,7 @@ golden_copy is_refreshed = if is_refreshed then give None else (do
   source ← literal 2
   give (if source == 1 then Some Last else if source == 2 then Some Altref else None))
 
--- the reference of which altref becomes a copy if it is not refreshed (copy_buffer_to_arf): 1 is last, 2 is golden, 0 and 3 are none (RFC 6386, section 9.7)
+-- the reference of which altref becomes a copy if it is not refreshed (copy_buffer_to_alternate): 1 is last, 2 is golden, 0 and 3 are none (RFC 6386, section 9.7)
 unfoldable pub altref_copy : Bool → Reading (Option Reference)
 altref_copy is_refreshed = if is_refreshed then give None else (do
   source ← literal 2

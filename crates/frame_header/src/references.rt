@@ -23,11 +23,11 @@ pub enum Reference {
 /// three.
 #[derive(Clone, Copy, Debug, PartialEq, Eq)]
 pub struct ReferenceUpdates {
-    /// The frame becomes the last frame.
+    /// The frame becomes the last frame (`refresh_last`).
     pub refreshes_last: bool,
-    /// The frame becomes the golden frame.
+    /// The frame becomes the golden frame (`refresh_golden_frame`).
     pub refreshes_golden: bool,
-    /// The frame becomes the altref frame.
+    /// The frame becomes the altref frame (`refresh_alternate_frame`).
     pub refreshes_altref: bool,
     /// Which reference golden becomes a copy of if it is not refreshed: last or altref.
     pub golden_copy: Option<Reference>,

@@ -95,7 +95,7 @@ fn read_skip_probability(reader: &mut Decoder) -> Option<u8>
     }
 }
 
-/// The probabilities of a key frame's references, which it has none of.
+/// The probabilities of the references of a key frame, which has no references.
 fn no_reference_probabilities() -> ReferenceProbabilities
     ensures { result ≡ no_reference_probabilities }
 {

@@ -42,7 +42,7 @@ fn is_biased(biases: SignBiases, reference: Reference) -> bool
     }
 }
 
-/// A vector to `other` as it counts for `reference`.
+/// A vector to `other` with the sign bias applied for `reference`.
 #[inline(always)]
 fn with_sign_bias(
     biases: SignBiases,
