@@ -112,7 +112,11 @@ pub fn parse<'a, S: AsStr>(alloc: Global, words: &'a [S]) -> Result<Words<'a>, c
             "REQUESTS",
             "File of request lines; `-` for standard input",
         ))?
-        .arg(optional(alloc, "OUT", "YUV4MPEG2 file for the frames; `-` drops them"))?
+        .arg(optional(
+            alloc,
+            "OUT",
+            "YUV4MPEG2 file for the frames; `-` drops them",
+        ))?
         .arg(cache)?
         .arg(tables)?
         .arg(saved)?;
