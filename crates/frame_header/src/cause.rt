@@ -19,7 +19,7 @@ pub enum Cause {
     #[error("the size of the key frame is zero")]
     Size,
     /// The packet has no key tag, and no key frame came before it.
-    #[error("no key frame stands before the packet")]
+    #[error("no key frame comes before the packet")]
     NoKeyFrame,
     /// The first partition is longer than the bytes after the tag.
     #[error("the first partition runs past the end of the packet")]

@@ -9,7 +9,7 @@ use Rattle.loop_filter.specs.Frames.{planes_filtered, row_filtered, rows_filtere
 use Rattle.loop_filter.specs.Laws.{macroblock_in_planes, macroblocks_in_planes}
 use Rattle.loop_filter.specs.declared.strengths.Strength.{Strength}
 
--- the planes behind the first macroblocks of row my
+-- the planes after the first macroblocks of row my
 row_of_planes : Bool → (ℕ → Option Strength) → ℕ → ℕ → PlaneSamples → ℕ → PlaneSamples
 row_of_planes true strength columns my planes n = record {
   luma = record planes.luma { samples = row_filtered luma true strength columns my planes.luma.samples n };
