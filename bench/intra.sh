@@ -8,11 +8,16 @@ vpx=$(cc -print-file-name=libvpx.a)
 room=$(mktemp -d)
 trap 'rm -rf "$room"' EXIT
 
-mkdir -p "$room/crates/intra_predict" "$room/crates/intra_times/src"
-for part in src specs proofs; do
-    cp -r "$here/../crates/intra_predict/$part" "$room/crates/intra_predict"
+mkdir -p "$room/crates/intra_times/src"
+for crate in vp8_tables intra_predict; do
+    mkdir -p "$room/crates/$crate"
+    for part in src specs proofs; do
+        if [ -d "$here/../crates/$crate/$part" ]; then
+            cp -r "$here/../crates/$crate/$part" "$room/crates/$crate"
+        fi
+    done
 done
-printf 'intra_predict:\nintra_times staticlib: intra_predict\n' > "$room/crates.txt"
+printf 'vp8_tables: thiserror\nintra_predict: vp8_tables\nintra_times staticlib: intra_predict\n' > "$room/crates.txt"
 cat > "$room/crates/intra_times/src/lib.rt" <<'END'
 #![tactic(auto)]
 
