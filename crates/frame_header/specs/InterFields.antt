@@ -13,11 +13,11 @@ reference_probabilities = do
   intra ← literal 8
   last ← literal 8
   golden ← literal 8
-  give (record { inter = intra; last = last; golden = golden })
+  give (record { intra = intra; last = last; golden = golden })
 
 -- the fields of a key frame, which reads none
 abbrev pub no_reference_probabilities : ReferenceProbabilities
-no_reference_probabilities = record { inter = 0; last = 0; golden = 0 }
+no_reference_probabilities = record { intra = 0; last = 0; golden = 0 }
 
 -- the probabilities of the luma mode tree: all four are new after a set flag (RFC 6386, section 16.2)
 unfoldable pub y_modes : List ℕ → Reading (List ℕ)

@@ -46,6 +46,6 @@ IsInterWritten header =
     (header.is_key ≡ false) × (header.is_shown ≡ false) × (header.filter ≡ record { is_simple = true; level = 0; sharpness = 2 }) × (header.adjusts_level ≡ true)
     × (header.quantizers ≡ record { y_ac_index = 42; y_dc_delta = pos 0; y2_dc_delta = pos 0; y2_ac_delta = negsuc 2; uv_dc_delta = pos 0; uv_ac_delta = pos 0 })
     × (header.references ≡ record { refreshes_last = true; refreshes_golden = false; refreshes_altref = false; golden_copy = Some Altref; altref_copy = Some Golden })
-    × (header.refreshes_entropy ≡ false) × (header.skip_probability ≡ Some 50) × (header.reference_probabilities ≡ record { inter = 11; last = 22; golden = 33 })
+    × (header.refreshes_entropy ≡ false) × (header.skip_probability ≡ Some 50) × (header.reference_probabilities ≡ record { intra = 11; last = 22; golden = 33 })
     × (header.partitions.items ≡ record { start = 29; length = 2 } ∷ [])
     × (header.context ≡ inter_context) × (header.context_after ≡ inter_left)

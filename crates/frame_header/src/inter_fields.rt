@@ -14,7 +14,7 @@ use vp8_tables::VECTOR_UPDATE_PROBABILITIES;
 #[derive(Clone, Copy, Debug, PartialEq, Eq)]
 pub struct ReferenceProbabilities {
     /// The probability of a 0, for intra prediction; 1 is inter prediction (prob_intra).
-    pub inter: u8,
+    pub intra: u8,
     /// The probability of a 0, for the last frame; 1 is golden or altref (prob_last).
     pub last: u8,
     /// The probability of a 0, for the golden frame; 1 is altref (prob_gf).
@@ -25,11 +25,11 @@ pub struct ReferenceProbabilities {
 fn read_reference_probabilities(reader: &mut Decoder) -> ReferenceProbabilities
     ensures { reference_probabilities reader.old ≡ (result, reader.new) }
 {
-    let inter = reader.literal(8) as u8;
+    let intra = reader.literal(8) as u8;
     let last = reader.literal(8) as u8;
     let golden = reader.literal(8) as u8;
     ReferenceProbabilities {
-        inter,
+        intra,
         last,
         golden,
     }

@@ -100,7 +100,7 @@ fn no_reference_probabilities() -> ReferenceProbabilities
     ensures { result ≡ no_reference_probabilities }
 {
     ReferenceProbabilities {
-        inter: 0,
+        intra: 0,
         last: 0,
         golden: 0,
     }

@@ -5,7 +5,7 @@ use Rattle.std.proofs.lemmas.List.{length-map}
 use Rattle.frame_header.specs.Tags.{is_shown}
 use Rattle.pixel_planes.specs.Pictures.{PictureSamples, IsWholePicture}
 use Rattle.packet_edits.specs.Edits.{Listing}
-use Rattle.packet_edits.specs.Shown.{shown_from, shown_indexes, stream_of as stream_in}
+use Rattle.packet_edits.specs.Shown.{shown_from, shown_indexes, stream_of}
 use Rattle.packet_edits.specs.declared.entry.Entry.{Entry}
 use Rattle.script_nodes.specs.declared.traces.Step.{Step}
 use Rattle.script_nodes.specs.Frames.{Origin, traced}
@@ -17,7 +17,7 @@ use Rattle.frame_session.specs.declared.refusal.Refusal.TheVariants as refusals
 use Rattle.frame_session.specs.declared.size.Size.{Size}
 use Rattle.state_cache.specs.Decoding.{Outcome, outcomes}
 use Rattle.frame_session.specs.IsOrNoMemory.{IsFrameOrNoMemory}
-use Rattle.frame_session.specs.Sessions.{Now, fits, fitted, frame_from, frame_made, frame_of, outcome_of, picture_from, shown_count, size_of, stream_of}
+use Rattle.frame_session.specs.Sessions.{Now, fits, fitted, frame_from, frame_made, frame_of, outcome_of, picture_from, shown_count, size_of}
 
 -- there are at most as many shown packets as packets
 few_from : (place : ℕ) (xs : List (List ℕ)) → length (shown_from place xs) ≤ length xs
@@ -28,10 +28,10 @@ few_from place (x ∷ xs) = by_first (is_shown x) (few_from (place + 1) xs)
     by_first true ih = omega (arith, ih)
     by_first false ih = omega (arith, ih)
 
-pub few_shown : (list : Listing) (count most : ℕ) → count ≡ length (shown_indexes (stream_in list)) → length list.entries ≤ most → count ≤ most
+pub few_shown : (list : Listing) (count most : ℕ) → count ≡ length (shown_indexes (stream_of list)) → length list.entries ≤ most → count ≤ most
 few_shown list count most is few =
-    let long : length (stream_in list) ≡ length list.entries = length-map list.entries (λ (e : Entry). e.bytes) in
-    omega (arith, is, few, long, few_from 0 (stream_in list))
+    let long : length (stream_of list) ≡ length list.entries = length-map list.entries (λ (e : Entry). e.bytes) in
+    omega (arith, is, few, long, few_from 0 (stream_of list))
 
 -- a frame with the size of the stream is returned
 chosen : (shown : Shown) (b : Bool) → b ≡ true → cond b (Ok shown) (Err refusals.SizeDiffers) ≡ Ok shown
@@ -45,9 +45,9 @@ fitted_given size (Some shown) made shows fit =
     let fit' : P shown.width shown.height = subst (λ h. P shown.width h) shows.high (subst (λ w. P w made.height) shows.wide fit) in
     (shown, chosen shown (fits size (size_of shown)) fit', shows)
 
-pub frame_given : (old : Now) (n count source place : ℕ) (steps : List Step) (picture made : PictureSamples) → count ≡ shown_count old → traced count old.script n ≡ Some (origin_of source steps) → Some place ≡ slice_get (shown_indexes (stream_of old)) source → picture_from (slice_get (outcomes old.tables (stream_of old)) place) ≡ Ok picture → ShowsMade (steps_shown steps (shown_in picture)) made → fits old.size (record { width = made.width; height = made.height }) ≡ true → IsWholePicture made → IsFrameOrNoMemory (frame_of old n) (Ok made)
+pub frame_given : (old : Now) (n count source place : ℕ) (steps : List Step) (picture made : PictureSamples) → count ≡ shown_count old → traced count old.script n ≡ Some (origin_of source steps) → Some place ≡ slice_get (shown_indexes (stream_of old.list)) source → picture_from (slice_get (outcomes old.tables (stream_of old.list)) place) ≡ Ok picture → ShowsMade (steps_shown steps (shown_in picture)) made → fits old.size (record { width = made.width; height = made.height }) ≡ true → IsWholePicture made → IsFrameOrNoMemory (frame_of old n) (Ok made)
 frame_given old n count source place steps picture made same from at decoded shows fit whole =
-    let out : outcome_of old source ≡ slice_get (outcomes old.tables (stream_of old)) place = ap (λ (s : Option ℕ). option_and_then (λ i. slice_get (outcomes old.tables (stream_of old)) i) s) (sym at) in
+    let out : outcome_of old source ≡ slice_get (outcomes old.tables (stream_of old.list)) place = ap (λ (s : Option ℕ). option_and_then (λ i. slice_get (outcomes old.tables (stream_of old.list)) i) s) (sym at) in
     let is : frame_of old n ≡ fitted old.size (steps_shown steps (shown_in picture)) =
     ap (λ k. frame_from old (traced k old.script n)) (sym same)
     ∙ ap (λ (f : Option Origin). frame_from old f) from

@@ -4,7 +4,7 @@ use Rattle.vp8_tables.specs.declared.tables.Tables.{Tables}
 use Rattle.stream_files.specs.declared.ivf.Ivf.{Ivf}
 use Rattle.packet_edits.specs.Edits.{Listing}
 use Rattle.packet_edits.specs.Marks.{StoreValue, marks_deleted, marks_inserted, marks_moved, marks_pushed, marks_replaced}
-use Rattle.packet_edits.specs.Shown.{shown_indexes}
+use Rattle.packet_edits.specs.Shown.{shown_indexes, stream_of}
 use Rattle.pixel_planes.specs.Pictures.{PictureSamples}
 use Rattle.script_nodes.specs.Frames.{traced}
 use Rattle.state_cache.specs.Costs.{Costs}
@@ -15,7 +15,7 @@ use Rattle.frame_session.specs.declared.edit.Edit.{Edit}
 use Rattle.frame_session.specs.declared.edit.Edit.TheVariants.{Insert, Replace, Delete, Move, Blank, Hold}
 use Rattle.frame_session.specs.declared.refusal.Refusal.{Refusal}
 use Rattle.frame_session.specs.declared.refusal.Refusal.TheVariants as refusals
-use Rattle.frame_session.specs.Sessions.{Now, shown_count, start, stream_of}
+use Rattle.frame_session.specs.Sessions.{Now, shown_count, start}
 
 -- a session: the state that its answers depend on, a mark or none for each packet, and its cache
 pub record SessionValue : Type 0 where
@@ -43,7 +43,7 @@ pub record IsSound (tables : Tables) (store : StoreValue) (cache : CacheValue) :
 
 -- the index of the packet that frame n comes from, if there is such a frame
 abbrev pub place_of : Now → ℕ → Option ℕ
-place_of now n = option_and_then (λ origin. slice_get (shown_indexes (stream_of now)) origin.frame) (traced (shown_count now) now.script n)
+place_of now n = option_and_then (λ origin. slice_get (shown_indexes (stream_of now.list)) origin.frame) (traced (shown_count now) now.script n)
 
 -- whether an answer to a frame follows from its packet's picture: the frame, and the two refusals that only the picture decides
 abbrev pub needs_picture : Result PictureSamples Refusal → Bool

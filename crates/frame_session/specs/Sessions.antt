@@ -11,7 +11,7 @@ use Rattle.frame_session.specs.declared.size.Size.{Size}
 use Rattle.frame_session.specs.declared.edit.Edit.{Edit}
 use Rattle.state_cache.specs.Decoding.{Outcome, outcomes}
 use Rattle.packet_edits.specs.Edits.{Listing, listing_of}
-use Rattle.packet_edits.specs.Shown.{shown_indexes}
+use Rattle.packet_edits.specs.Shown.{shown_indexes, stream_of}
 use Rattle.script_nodes.specs.declared.nodes.Node.{Node}
 use Rattle.script_nodes.specs.declared.traces.Step.{Step}
 use Rattle.script_nodes.specs.Nodes.{script_of}
@@ -40,17 +40,13 @@ start tables file = record { tables = tables; head = file.head; list = listing_o
 abbrev pub head_due : Now → Option Head
 head_due now = if is_none now.size then Some now.head else None
 
--- the packets' bytes
-abbrev pub stream_of : Now → List (List ℕ)
-stream_of now = map (λ entry. entry.bytes) now.list.entries
-
 -- the outcome of shown packet n, if there is one
 abbrev pub outcome_of : Now → ℕ → Option Outcome
-outcome_of now n = option_and_then (λ place. slice_get (outcomes now.tables (stream_of now)) place) (slice_get (shown_indexes (stream_of now)) n)
+outcome_of now n = option_and_then (λ place. slice_get (outcomes now.tables (stream_of now.list)) place) (slice_get (shown_indexes (stream_of now.list)) n)
 
 -- the number of shown packets, which is the number of frames of the script's source
 abbrev pub shown_count : Now → ℕ
-shown_count now = length (shown_indexes (stream_of now))
+shown_count now = length (shown_indexes (stream_of now.list))
 
 -- the picture of a packet, or the packet and cause that broke the stream
 abbrev pub picture_from : Option Outcome → Result PictureSamples Refusal

@@ -37,17 +37,17 @@ less_times zero x =
 less_times (suc tap) x = let e : suc tap * x ≡ x * suc tap = grind arith in ap (λ n. neg_ℤ (pos n)) e
 
 -- the taps with their signs
-abbrev pub signed : Taps → List ℤ
-signed t = pos t.a ∷ neg_ℤ (pos t.b) ∷ pos t.c ∷ pos t.d ∷ neg_ℤ (pos t.e) ∷ pos t.f ∷ []
+abbrev pub signed_taps : Taps → List ℤ
+signed_taps t = pos t.a ∷ neg_ℤ (pos t.b) ∷ pos t.c ∷ pos t.d ∷ neg_ℤ (pos t.e) ∷ pos t.f ∷ []
 
-signed_filtered : (t : Taps) (s : ℕ → ℕ) → filtered (signed t) s ≡ tapped t s
+signed_filtered : (t : Taps) (s : ℕ → ℕ) → filtered (signed_taps t) s ≡ tapped t s
 unfolding filtered tapped
 signed_filtered t s =
     let a : t.a * s 0 ≡ s 0 * t.a = grind arith in
     let c : t.c * s 2 ≡ s 2 * t.c = grind arith in
     let d : t.d * s 3 ≡ s 3 * t.d = grind arith in
     let f : t.f * s 5 ≡ s 5 * t.f = grind arith in
-    let sum : (weighed (signed t) s +ℤ pos 64) +ℤ pos (s 1 * t.b + s 4 * t.e) ≡ pos (s 0 * t.a + s 2 * t.c + s 3 * t.d + s 5 * t.f + 64) = rw (less_times t.b (s 1), less_times t.e (s 4), a, c, d, f) (omega (arith, ints)) in
+    let sum : (weighed (signed_taps t) s +ℤ pos 64) +ℤ pos (s 1 * t.b + s 4 * t.e) ≡ pos (s 0 * t.a + s 2 * t.c + s 3 * t.d + s 5 * t.f + 64) = rw (less_times t.b (s 1), less_times t.e (s 4), a, c, d, f) (omega (arith, ints)) in
     shifted _ _ _ sum
 
 -- the rows of the code's tables
@@ -74,8 +74,8 @@ six_small fraction less =
     fraction less
 
 -- and return the filter's sample
-six_signed : (fraction : ℕ) → fraction < 8 → slice_index_or SIX_TAP_FILTERS fraction [] ≡ signed (six_taps fraction)
-six_signed fraction less = below_eight (λ f. slice_index_or SIX_TAP_FILTERS f [] ≡ signed (six_taps f)) refl refl refl refl refl refl refl refl fraction less
+six_signed : (fraction : ℕ) → fraction < 8 → slice_index_or SIX_TAP_FILTERS fraction [] ≡ signed_taps (six_taps fraction)
+six_signed fraction less = below_eight (λ f. slice_index_or SIX_TAP_FILTERS f [] ≡ signed_taps (six_taps f)) refl refl refl refl refl refl refl refl fraction less
 
 pub six_between : (fraction : ℕ) → fraction < 8 → (line : ℤ → ℕ) (place : ℤ) → between SixTap fraction line place ≡ tapped (six_taps fraction) (λ k. line ((place -ℤ pos 2) +ℤ pos k))
 unfolding between

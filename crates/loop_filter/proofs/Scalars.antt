@@ -6,7 +6,7 @@ use Rattle.std.proofs.lemmas.Int.{ints}
 use Rattle.std.proofs.lemmas.Bool.Decides.{nat_tests}
 use Rattle.std.proofs.lemmas.Bool.{cases_lt}
 use Rattle.loop_filter.specs.declared.edge_limits.EdgeLimits.{EdgeLimits}
-use Rattle.loop_filter.specs.Lines.{Line, signed, clamped, raised, lowered, is_small_step, is_filtered, has_high_edge_variance, shortfall, eighth, share}
+use Rattle.loop_filter.specs.Lines.{Line, as_signed, clamped, raised, lowered, is_small_step, is_filtered, has_high_edge_variance, shortfall, eighth, share}
 use Rattle.loop_filter.specs.Lanes.{sum_of, raised_by, lowered_by, difference_of, shortfall_from, eighth_of, half_of, share_of, step_over_of, side_of, variance_over_of, roughness_of}
 
 -- the number of an offset form
@@ -23,7 +23,7 @@ unfolding lowered lowered_by
 lowered_is offset s d small = grind (arith, ints)
 
 -- the number by which both sides are moved
-difference_is : (a b : ℕ) → a < 256 → b < 256 → clamped (signed a -ℤ signed b) ≡ off 128 (difference_of a b)
+difference_is : (a b : ℕ) → a < 256 → b < 256 → clamped (as_signed a -ℤ as_signed b) ≡ off 128 (difference_of a b)
 unfolding difference_of
 difference_is a b small small' = grind (arith, ints)
 
@@ -35,25 +35,25 @@ pub lack_small : (start p q : ℕ) → shortfall_from start p q < 256
 unfolding shortfall_from
 lack_small start p q = grind arith
 
-lack_up : (start p q : ℕ) → start < 256 → p < q → q < 256 → clamped (off 128 start +ℤ (pos 3 *ℤ (signed q -ℤ signed p))) ≡ off 128 (shortfall_from start p q)
+lack_up : (start p q : ℕ) → start < 256 → p < q → q < 256 → clamped (off 128 start +ℤ (pos 3 *ℤ (as_signed q -ℤ as_signed p))) ≡ off 128 (shortfall_from start p q)
 unfolding shortfall_from
 lack_up start p q small less small' =
     let none : p - q ≡ 0 = omega arith in
-    let wide : (signed q -ℤ signed p) ≡ pos (q - p) = omega (arith, ints) in
+    let wide : (as_signed q -ℤ as_signed p) ≡ pos (q - p) = omega (arith, ints) in
     rw (none, wide) (grind (arith, ints))
 
 held_down : (start d : ℕ) → start < 256 → clamped (pos start -ℤ pos (128 + 3 * d)) ≡ off 128 (start - 3 * d)
 held_down start d small = grind (arith, ints)
 
-lack_down : (start p q : ℕ) → start < 256 → q ≤ p → clamped (off 128 start +ℤ (pos 3 *ℤ (signed q -ℤ signed p))) ≡ off 128 (shortfall_from start p q)
+lack_down : (start p q : ℕ) → start < 256 → q ≤ p → clamped (off 128 start +ℤ (pos 3 *ℤ (as_signed q -ℤ as_signed p))) ≡ off 128 (shortfall_from start p q)
 unfolding shortfall_from
 lack_down start p q small less =
     let none : q - p ≡ 0 = omega arith in
     let flat : sum_of (sum_of (sum_of start 0) 0) 0 - (p - q) - (p - q) - (p - q) ≡ start - 3 * (p - q) = grind arith in
-    let wide : off 128 start +ℤ (pos 3 *ℤ (signed q -ℤ signed p)) ≡ pos start -ℤ pos (128 + 3 * (p - q)) = omega (arith, ints) in
+    let wide : off 128 start +ℤ (pos 3 *ℤ (as_signed q -ℤ as_signed p)) ≡ pos start -ℤ pos (128 + 3 * (p - q)) = omega (arith, ints) in
     rw (none, flat, wide) (held_down start (p - q) small)
 
-lack_is : (start p q : ℕ) → start < 256 → p < 256 → q < 256 → clamped (off 128 start +ℤ (pos 3 *ℤ (signed q -ℤ signed p))) ≡ off 128 (shortfall_from start p q)
+lack_is : (start p q : ℕ) → start < 256 → p < 256 → q < 256 → clamped (off 128 start +ℤ (pos 3 *ℤ (as_signed q -ℤ as_signed p))) ≡ off 128 (shortfall_from start p q)
 lack_is start p q small small' small'' = elim (cases_lt p q) [ inl less ↦ lack_up start p q small less small'' | inr from ↦ lack_down start p q small from ]
 
 pub lack_true : (l : Line) → l.p1 < 256 → l.p0 < 256 → l.q0 < 256 → l.q1 < 256 → shortfall true l ≡ off 128 (shortfall_from (difference_of l.p1 l.q1) l.p0 l.q0)

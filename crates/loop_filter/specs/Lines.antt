@@ -21,8 +21,8 @@ abbrev pub line_of_four : List ℕ → Line
 line_of_four samples = record { p3 = 0; p2 = 0; p1 = slice_index samples 0; p0 = slice_index samples 1; q0 = slice_index samples 2; q1 = slice_index samples 3; q2 = 0; q3 = 0 }
 
 -- a sample as a number from -128 to 127 (`u2s` in RFC 6386)
-abbrev pub signed : ℕ → ℤ
-signed s = pos s -ℤ pos 128
+abbrev pub as_signed : ℕ → ℤ
+as_signed s = pos s -ℤ pos 128
 
 -- a number clamped to -128 to 127 (`c` in RFC 6386)
 abbrev pub clamped : ℤ → ℤ
@@ -34,10 +34,10 @@ sample z = unsigned_abs (clamped z +ℤ pos 128)
 
 -- a sample with a number added, and with a number subtracted
 unfoldable pub raised : ℕ → ℤ → ℕ
-raised s d = sample (signed s +ℤ d)
+raised s d = sample (as_signed s +ℤ d)
 
 unfoldable pub lowered : ℕ → ℤ → ℕ
-lowered s d = sample (signed s -ℤ d)
+lowered s d = sample (as_signed s -ℤ d)
 
 -- whether the step at the edge is within its limit, `edge_limit` (`simple_segment` in RFC 6386)
 abbrev pub is_small_step : ℕ → Line → Bool
@@ -59,7 +59,7 @@ has_high_edge_variance threshold l = nat_lt threshold (abs_diff l.p1 l.p0) || na
 
 -- three times the difference of the samples at the edge, with or without the difference of the next outer samples (`a` of `common_adjust` in RFC 6386)
 unfoldable pub shortfall : Bool → Line → ℤ
-shortfall with_outer l = clamped ((if with_outer then clamped (signed l.p1 -ℤ signed l.q1) else pos 0) +ℤ (pos 3 *ℤ (signed l.q0 -ℤ signed l.p0)))
+shortfall with_outer l = clamped ((if with_outer then clamped (as_signed l.p1 -ℤ as_signed l.q1) else pos 0) +ℤ (pos 3 *ℤ (as_signed l.q0 -ℤ as_signed l.p0)))
 
 -- an eighth of a number that n was added to, rounded down
 unfoldable pub eighth : ℕ → ℤ → ℤ

@@ -1,12 +1,12 @@
 //! The simple filter on a line of four samples (RFC 6386, section 15.2).
 
 ghost use Rattle.std.specs.Prelude.{◌≡◌, ◌≤◌, ◌≤ℤ◌, ◌+ℤ◌, ◌-ℤ◌, ◌*ℤ◌, pos, negsuc, true};
-ghost use Rattle.loop_filter.specs.Lines.{signed, clamped, sample, raised, lowered, is_small_step, shortfall, eighth, line_of_four};
+ghost use Rattle.loop_filter.specs.Lines.{as_signed, clamped, sample, raised, lowered, is_small_step, shortfall, eighth, line_of_four};
 ghost use Rattle.loop_filter.specs.FourSamples.{simple_four};
 
 /// A sample as a number from -128 to 127.
-fn signed(sample: u8) -> i16
-    ensures value { result ≡ signed sample }
+fn as_signed(sample: u8) -> i16
+    ensures value { result ≡ as_signed sample }
     ensures within { (negsuc 127 ≤ℤ result) × (result ≤ℤ pos 127) }
 {
     i16::from(sample) - 128
@@ -44,7 +44,7 @@ fn raised(from: u8, by: i16) -> u8
     requires { (negsuc 127 ≤ℤ by) × (by ≤ℤ pos 127) }
     ensures { result ≡ raised from by }
 {
-    sample(signed(from) + by)
+    sample(as_signed(from) + by)
 }
 
 /// A sample with a number subtracted.
@@ -53,7 +53,7 @@ fn lowered(from: u8, by: i16) -> u8
     requires { (negsuc 127 ≤ℤ by) × (by ≤ℤ pos 127) }
     ensures { result ≡ lowered from by }
 {
-    sample(signed(from) - by)
+    sample(as_signed(from) - by)
 }
 
 /// Whether the step at the edge is within the limit.
@@ -67,10 +67,10 @@ fn is_small_step(samples: &[u8; 4], limit: u8) -> bool
 
 /// The difference of two samples, as a signed number.
 fn difference(a: u8, b: u8) -> i16
-    ensures value { result ≡ signed a -ℤ signed b }
+    ensures value { result ≡ as_signed a -ℤ as_signed b }
     ensures within { (negsuc 255 ≤ℤ result) × (result ≤ℤ pos 255) }
 {
-    signed(a) - signed(b)
+    as_signed(a) - as_signed(b)
 }
 
 /// Three times a difference.

@@ -231,7 +231,7 @@ referenced_mode-chain is_skipped header place above left above_left last golden 
 inter_mode-chain : (tables : TableEntries) (header : Header) (place : MbPosition) (above left above_left : Option MbMode) → HaveProbabilities tables header → IsChain (inter_mode header place above left above_left)
 unfolding inter_mode
 inter_mode-chain tables header place above left above_left have =
-    bind-chain (skip-chain header.skip_probability have.skip) (λ is_skipped. bind-chain (read-chain header.reference_probabilities.inter have.inter) (λ is_referenced. if-chain is_referenced
+    bind-chain (skip-chain header.skip_probability have.skip) (λ is_skipped. bind-chain (read-chain header.reference_probabilities.intra have.intra) (λ is_referenced. if-chain is_referenced
     (referenced_mode-chain is_skipped header place above left above_left have.last have.golden have.vectors)
     (intra_mode-chain is_skipped header.context.probabilities have.y_modes have.uv_modes)))
 

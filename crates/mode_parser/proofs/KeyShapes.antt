@@ -93,7 +93,7 @@ inter_mode-has_shape : (header : Header) (place : MbPosition) (above left above_
 unfolding inter_mode
 inter_mode-has_shape header place above left above_left r =
     let skipped = skip header.skip_probability r in
-    let told = read header.reference_probabilities.inter skipped.1 in
+    let told = read header.reference_probabilities.intra skipped.1 in
     elim told.0 as (λ b. HasShape ((if b then referenced_mode skipped.0 header place above left above_left else intra_mode skipped.0 header.context.probabilities) told.1).0) [
       | true ↦ referenced_mode-has_shape _ _ _ _ _ _ _
       | false ↦ intra_mode-has_shape _ _ _

@@ -20,7 +20,7 @@ pub record HaveProbabilities (tables : TableEntries) (header : Header) : Type 0 
   pub key_subs : AreProbabilities tables.key_subs
   pub segments : AreProbabilities header.segmentation.map_probabilities
   pub skip : IsProbability header.skip_probability
-  pub inter : header.reference_probabilities.inter < 256
+  pub intra : header.reference_probabilities.intra < 256
   pub last : header.reference_probabilities.last < 256
   pub golden : header.reference_probabilities.golden < 256
   pub y_modes : AreProbabilities header.context.probabilities.y_modes

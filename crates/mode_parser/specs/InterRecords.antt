@@ -154,5 +154,5 @@ referenced_mode is_skipped header place above left above_left = do
 unfoldable pub inter_mode : Header → MbPosition → Option MbMode → Option MbMode → Option MbMode → Reading MbMode
 inter_mode header place above left above_left = do
   is_skipped ← skip header.skip_probability
-  is_referenced ← read header.reference_probabilities.inter
+  is_referenced ← read header.reference_probabilities.intra
   if is_referenced then referenced_mode is_skipped header place above left above_left else intra_mode is_skipped header.context.probabilities

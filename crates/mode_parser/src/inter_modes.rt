@@ -231,7 +231,7 @@ pub(crate) fn push_inter_mode(
     ensures { OnOk result (appended segment records.old.items (inter_mode_at header.now place records.old.items) reader.old ≡ (records.new.items, reader.new)) }
 {
     let is_skipped = read_skip(reader, header.skip_probability);
-    if reader.bit(header.reference_probabilities.inter) {
+    if reader.bit(header.reference_probabilities.intra) {
         return push_referenced_mode(reader, is_skipped, header, segment, place, records);
     }
     let mut local = reader.copied();

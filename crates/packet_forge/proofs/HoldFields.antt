@@ -25,7 +25,7 @@ abbrev pub no_biases : SignBiases
 no_biases = record { golden = false; altref = false }
 
 abbrev pub hold_references : ReferenceProbabilities
-hold_references = record { inter = 1; last = 255; golden = 128 }
+hold_references = record { intra = 1; last = 255; golden = 128 }
 
 -- the probabilities of vectors, of a row and of a column
 abbrev pub two_rows : List (List ℕ) → List (List ℕ)

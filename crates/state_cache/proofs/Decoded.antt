@@ -1,7 +1,13 @@
 -- The outcomes of a stream, a packet at a time.
 use Rattle.std.proofs.Common.{◌≡◌, ℕ, suc, zero, ◌+◌, ◌<◌, List, [], ◌∷◌, ◌++◌, Some, None, Ok, length, take, slice_get, refl, sym, ap, ◌∙◌, arith, add-zero, zero-add, add-one}
 use Rattle.vp8_tables.specs.declared.tables.Tables.{Tables}
-use Rattle.state_cache.specs.Decoding.{Outcome, Progress, outcome, outcomes, outcomes_from, progress_after, left_by}
+use Rattle.state_cache.specs.Decoding.{Outcome, Progress, outcome, outcomes, outcomes_from, left_by}
+
+-- the situation after packets; the first has the index `place`
+abbrev pub progress_after : Tables → ℕ → Progress → List (List ℕ) → Progress
+progress_after tables place progress [] = progress
+progress_after tables place progress (packet ∷ packets) =
+    progress_after tables (place + 1) (left_by (outcome tables place progress packet)) packets
 
 -- the situation after one more packet
 pub progress_after-more : (tables : Tables) (place : ℕ) (progress : Progress) (xs : List (List ℕ)) (y : List ℕ) → progress_after tables place progress (xs ++ y ∷ []) ≡ left_by (outcome tables (place + length xs) (progress_after tables place progress xs) y)

@@ -35,12 +35,6 @@ abbrev pub left_by : Outcome → Progress
 left_by (Ok decoded) = Ok (Some decoded.0)
 left_by (Err broken) = Err broken
 
--- the situation after packets; the first has the index `place`
-abbrev pub progress_after : Tables → ℕ → Progress → List (List ℕ) → Progress
-progress_after tables place progress [] = progress
-progress_after tables place progress (packet ∷ packets) =
-    progress_after tables (place + 1) (left_by (outcome tables place progress packet)) packets
-
 -- the outcomes of packets; the first has the index `place`
 abbrev pub outcomes_from : Tables → ℕ → Progress → List (List ℕ) → List Outcome
 outcomes_from tables place progress [] = []
