@@ -4,18 +4,25 @@ use std::alloc::{AllocError, Global};
 use std::io::{self, ErrorKind, Read};
 use std::test::Fail;
 
-/// A reader that returns one byte, and then an error.
+/// A reader that returns one byte a call, as long as it has one, and an error at a later call.
 #[derive(Drop)]
-struct Breaking {
-    gave: bool,
+struct Dripping {
+    /// The number of bytes that it has.
+    bytes: u64,
+    /// The number of the call that returns an error, counted from 1.
+    failing: u64,
 }
 
-impl Read for Breaking {
+impl Read for Dripping {
     fn read(&mut self, buf: &mut [u8]) -> io::Result<usize> {
-        if self.gave || buf.is_empty() {
+        self.failing = self.failing.saturating_sub(1);
+        if self.failing == 0 {
             return Err(ErrorKind::Interrupted.into());
         }
-        self.gave = true;
+        if self.bytes == 0 || buf.is_empty() {
+            return Ok(0);
+        }
+        self.bytes -= 1;
         buf[0] = 7;
         Ok(1)
     }
@@ -36,8 +43,33 @@ fn reads_up_to_a_limit(rt: HostRuntime) -> Result<(), Fail> {
             Err(ReadFault::TooLong)
         )
     );
-    let mut breaking = Breaking { gave: false };
-    assert!(rt; matches!(read_all(rt.alloc(), &mut breaking, 5), Err(ReadFault::Read)));
+    Ok(())
+}
+
+// A reader that fails at each of its calls, one that returns a byte a call, and one without an end.
+#[test]
+fn reads_byte_by_byte(rt: HostRuntime) -> Result<(), Fail> {
+    for failing in 1..=4 {
+        let mut broken = Dripping { bytes: 3, failing };
+        assert_eq!(rt;
+            read_all(rt.alloc(), &mut broken, 5).err(),
+            Some(ReadFault::Read)
+        );
+    }
+    let mut whole = Dripping {
+        bytes: 3,
+        failing: 5,
+    };
+    let all = read_all(rt.alloc(), &mut whole, 5)?;
+    assert_eq!(rt; all.as_slice(), [7, 7, 7].as_slice());
+    let mut endless = Dripping {
+        bytes: u64::MAX,
+        failing: u64::MAX,
+    };
+    assert_eq!(rt;
+        read_all(rt.alloc(), &mut endless, 5).err(),
+        Some(ReadFault::TooLong)
+    );
     Ok(())
 }
 
@@ -180,6 +212,44 @@ fn writes_a_file_that_is_read(rt: HostRuntime) -> Result<(), Fail> {
     ivf_packet(&mut record, 4_294_967_297, b"ab".as_slice())?;
     let want = [2, 0, 0, 0, 1, 0, 0, 0, 1, 0, 0, 0, b'a', b'b'];
     assert_eq!(rt; record.as_slice(), want.as_slice());
+    Ok(())
+}
+
+/// The number of packets and of trailing bytes of a file, or its error.
+fn counts(alloc: Global, bytes: &[u8]) -> Result<(usize, u64), IvfFault> {
+    let file = ivf_read(alloc, bytes)?;
+    Ok((file.packets.len(), file.spare))
+}
+
+// Each beginning of a file of one packet. A cut record is dropped.
+#[test]
+fn files_that_are_cut(rt: HostRuntime) {
+    for length in 0..=54 {
+        let want = if length < 32 {
+            Err(IvfFault::Header)
+        } else if length < 54 {
+            Ok((0, length as u64 - 32))
+        } else {
+            Ok((1, 0))
+        };
+        assert_eq!(rt; counts(rt.alloc(), &KEY_FILE[..length]), want, "{length}");
+    }
+}
+
+// The number of packets in a header may be any number. A record may not be longer than the file.
+#[test]
+fn the_largest_fields(rt: HostRuntime) -> Result<(), Fail> {
+    let mut counted = KEY_FILE;
+    counted[24..28].copy_from_slice(&[0xFF; 4]);
+    assert_eq!(rt; counts(rt.alloc(), &counted), Ok((1, 0)));
+    let mut sized = KEY_FILE;
+    sized[32..36].copy_from_slice(&[0xFF; 4]);
+    assert_eq!(rt; counts(rt.alloc(), &sized), Ok((0, 22)));
+    let mut many = Vec::from_slice(rt.alloc(), &EMPTY)?;
+    many.resize(32 + 12 * MAX_PACKETS, 0)?;
+    assert_eq!(rt; counts(rt.alloc(), &many), Ok((MAX_PACKETS, 0)));
+    many.resize(32 + 12 * MAX_PACKETS + 12, 0)?;
+    assert_eq!(rt; counts(rt.alloc(), &many), Err(IvfFault::TooMany));
     Ok(())
 }
 
