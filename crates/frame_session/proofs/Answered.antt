@@ -158,7 +158,7 @@ nodes_told count nodes false true odd = record { returned = refl; enough = refus
 nodes_told count nodes false false true = record { returned = refl; enough = refusal_told refusals.Number (λ h. cc) }
 nodes_told count nodes false false false = ok_told count
 
-script_told : (count : ℕ) (nodes : Option (List Node)) → IsTold (script_reported count (script_by nodes))
+script_told : (count : ℕ) (nodes : Option (List Node)) → IsTold (script_reported count (script_by 1 nodes))
 script_told count None = record { returned = refl; enough = refusal_told refusals.Syntax (λ h. cc) }
 script_told count (Some nodes) = nodes_told count nodes _ _ _
 
@@ -179,7 +179,7 @@ answered old Unknown = record {
 }
 answered old (Frame n) =
     let frame : Result Shown Refusal = frame_of old n in
-    let from : Option Origin = traced (shown_count old) old.script n in
+    let from : Option Origin = traced (shown_count old ∷ []) old.script n in
     record {
       answer = answer_to_frame old n frame;
       new = record (after_frame old (size_served frame)) { decoded = old.decoded };

@@ -45,11 +45,11 @@ fitted_given size (Some shown) made shows fit =
     let fit' : P shown.width shown.height = subst (λ h. P shown.width h) shows.high (subst (λ w. P w made.height) shows.wide fit) in
     (shown, chosen shown (fits size (size_of shown)) fit', shows)
 
-pub frame_given : (old : Now) (n count source place : ℕ) (steps : List Step) (picture made : PictureSamples) → count ≡ shown_count old → traced count old.script n ≡ Some (origin_of source steps) → Some place ≡ slice_get (shown_indexes (stream_of old.list)) source → picture_from (slice_get (outcomes old.tables (stream_of old.list)) place) ≡ Ok picture → ShowsMade (steps_shown steps (shown_in picture)) made → fits old.size (record { width = made.width; height = made.height }) ≡ true → IsWholePicture made → IsFrameOrNoMemory (frame_of old n) (Ok made)
-frame_given old n count source place steps picture made same from at decoded shows fit whole =
-    let out : outcome_of old source ≡ slice_get (outcomes old.tables (stream_of old.list)) place = ap (λ (s : Option ℕ). option_and_then (λ i. slice_get (outcomes old.tables (stream_of old.list)) i) s) (sym at) in
+pub frame_given : (old : Now) (n count source frame place : ℕ) (steps : List Step) (picture made : PictureSamples) → count ≡ shown_count old → traced (count ∷ []) old.script n ≡ Some (origin_of source frame steps) → Some place ≡ slice_get (shown_indexes (stream_of old.list)) frame → picture_from (slice_get (outcomes old.tables (stream_of old.list)) place) ≡ Ok picture → ShowsMade (steps_shown steps (shown_in picture)) made → fits old.size (record { width = made.width; height = made.height }) ≡ true → IsWholePicture made → IsFrameOrNoMemory (frame_of old n) (Ok made)
+frame_given old n count source frame place steps picture made same from at decoded shows fit whole =
+    let out : outcome_of old frame ≡ slice_get (outcomes old.tables (stream_of old.list)) place = ap (λ (s : Option ℕ). option_and_then (λ i. slice_get (outcomes old.tables (stream_of old.list)) i) s) (sym at) in
     let is : frame_of old n ≡ fitted old.size (steps_shown steps (shown_in picture)) =
-    ap (λ k. frame_from old (traced k old.script n)) (sym same)
+    ap (λ k. frame_from old (traced (k ∷ []) old.script n)) (sym same)
     ∙ ap (λ (f : Option Origin). frame_from old f) from
     ∙ ap (λ (o : Option Outcome). frame_made old.size steps (picture_from o)) out
     ∙ ap (λ (p : Result PictureSamples Refusal). frame_made old.size steps p) decoded in

@@ -1,5 +1,5 @@
 -- The state of a session that its answers do not depend on: the marks of its packets and its cache.
-use Rattle.std.specs.Prelude.{◌≡◌, ℕ, ◌≤◌, Bool, true, false, [], List, length, slice_get, Option, Some, None, Result, Ok, Err, option_and_then}
+use Rattle.std.specs.Prelude.{◌≡◌, ℕ, ◌≤◌, Bool, true, false, [], ◌∷◌, List, length, slice_get, Option, Some, None, Result, Ok, Err, option_and_then}
 use Rattle.vp8_tables.specs.declared.tables.Tables.{Tables}
 use Rattle.stream_files.specs.declared.ivf.Ivf.{Ivf}
 use Rattle.packet_edits.specs.Edits.{Listing}
@@ -43,7 +43,7 @@ pub record IsSound (tables : Tables) (store : StoreValue) (cache : CacheValue) :
 
 -- the index of the packet that frame n comes from, if there is such a frame
 abbrev pub place_of : Now → ℕ → Option ℕ
-place_of now n = option_and_then (λ origin. slice_get (shown_indexes (stream_of now.list)) origin.frame) (traced (shown_count now) now.script n)
+place_of now n = option_and_then (λ origin. slice_get (shown_indexes (stream_of now.list)) origin.frame) (traced (shown_count now ∷ []) now.script n)
 
 -- whether an answer to a frame follows from its packet's picture: the frame, and the two refusals that only the picture decides
 abbrev pub needs_picture : Result PictureSamples Refusal → Bool

@@ -1,5 +1,5 @@
 -- A session as its requests see it, and the result of a request for a frame.
-use Rattle.std.specs.Prelude.{◌≡◌, ℕ, ◌≤◌, ◌==◌, ◌&&◌, Bool, true, if◌then◌else◌, List, [], map, Option, Some, None, Result, Ok, Err, is_none, option_and_then, slice_get, length}
+use Rattle.std.specs.Prelude.{◌≡◌, ℕ, ◌≤◌, ◌==◌, ◌&&◌, Bool, true, if◌then◌else◌, List, [], ◌∷◌, Option, Some, None, Result, Ok, Err, is_none, option_and_then, slice_get, length}
 use Rattle.std.specs.Result.{result_unwrap_or}
 use Rattle.vp8_tables.specs.declared.tables.Tables.{Tables}
 use Rattle.pixel_planes.specs.Pictures.{PictureSamples}
@@ -44,7 +44,7 @@ head_due now = if is_none now.size then Some now.head else None
 abbrev pub outcome_of : Now → ℕ → Option Outcome
 outcome_of now n = option_and_then (λ place. slice_get (outcomes now.tables (stream_of now.list)) place) (slice_get (shown_indexes (stream_of now.list)) n)
 
--- the number of shown packets, which is the number of frames of the script's source
+-- the number of shown packets, which is the number of frames of the script's only source
 abbrev pub shown_count : Now → ℕ
 shown_count now = length (shown_indexes (stream_of now.list))
 
@@ -79,7 +79,7 @@ frame_from now (Some from) = frame_made now.size from.steps (picture_from (outco
 
 -- frame n of the current script over the current shown packets: its shown samples, or the first refusal
 abbrev pub frame_of : Now → ℕ → Result Shown Refusal
-frame_of now n = frame_from now (traced (shown_count now) now.script n)
+frame_of now n = frame_from now (traced (shown_count now ∷ []) now.script n)
 
 -- the size of a frame that was served
 abbrev pub size_served : Result Shown Refusal → Option Size
@@ -107,11 +107,11 @@ now_after_edit edit now answer = record now { list = after_edit now.tables edit 
 
 -- the result of a script: the number of packets, or the first error of its text
 abbrev pub script_answer : Now → List ℕ → Result ℕ Refusal
-script_answer now text = script_reported (length now.list.entries) (script_of text)
+script_answer now text = script_reported (length now.list.entries) (script_of 1 text)
 
 -- the state after a script with this result: a refused one leaves the one before
 abbrev pub now_after_script : List ℕ → Now → Result ℕ Refusal → Now
-now_after_script text now (Ok count) = record now { script = result_unwrap_or (script_of text) [] }
+now_after_script text now (Ok count) = record now { script = result_unwrap_or (script_of 1 text) [] }
 now_after_script text now (Err refusal) = now
 
 -- the number of packets
@@ -120,4 +120,4 @@ packet_count now = length now.list.entries
 
 -- the number of frames that the script serves
 abbrev pub frame_count : Now → ℕ
-frame_count now = script_length (shown_count now) now.script
+frame_count now = script_length (shown_count now ∷ []) now.script

@@ -126,10 +126,10 @@ impl Session {
         ensures costs { FrameCosts (place_of self.old.now n) self.old result self.new }
         ensures capacity { self.new.cache.capacity ≡ self.old.cache.capacity }
     {
-        let Some((source, trace)) = self.script.trace(self.shown(), n) else {
+        let Some((_, frame, trace)) = self.script.trace(&[self.shown()], n) else {
             return Err(Refusal::NoSuchFrame);
         };
-        let Some(place) = self.list.shown(source) else {
+        let Some(place) = self.list.shown(frame) else {
             return Err(Refusal::NoSuchFrame);
         };
         let picture = self.decoded_at(place)?;
@@ -158,7 +158,7 @@ impl Session {
         ensures after { self.new ≡ record self.old { now = now_after_script text.now self.old.now result } }
         ensures refused { OnErr result (self.new ≡ self.old) }
     {
-        match Script::parse(self.alloc, text) {
+        match Script::parse(self.alloc, text, 1) {
             Ok(script) => {
                 self.script = script;
                 Ok(self.list.len() as u64)
@@ -238,7 +238,7 @@ impl Session {
         ensures packets { result.0 ≡ packet_count self.now.now }
         ensures frames { result.1 ≡ frame_count self.now.now }
     {
-        (self.list.len() as u64, self.script.length(self.shown()))
+        (self.list.len() as u64, self.script.length(&[self.shown()]))
     }
 
     /// The number of decoding steps made, whatever their result; at most 18,446,744,073,709,551,615.

@@ -1,5 +1,5 @@
-//! Scripts: clips that are trimmed, spliced, cropped and faded, given by frame numbers, and the pictures
-//! that they make.
+//! Scripts: clips of one or more sources that are trimmed, spliced, cropped and faded, given by frame
+//! numbers, and the pictures that they make.
 #![tactic(auto)]
 
 mod faults;

@@ -21,4 +21,4 @@ returns-clause-returned c =
     let decoded : D whole = subst D (sym c.self.view_is) c.in_ok-picture.ensures.returned in
     let fit : F c.args.self.now = search rules in
     subst G c.self.view_is
-    (frame_given old c.args.n c.shown.result c.in-Some.source c.in-Some-shown.place c.in-Some.trace c.in_ok-picture.picture made counted c.in-Some.ensures.some c.in-Some-shown.ensures.place decoded c.in-Ok.ensures.shown (subst F (sym c.self.view_is) fit) c.width.ensures.whole)
+    (frame_given old c.args.n c.shown.result _ c.in-Some.frame c.in-Some-shown.place c.in-Some.trace c.in_ok-picture.picture made counted c.in-Some.ensures.some c.in-Some-shown.ensures.place decoded c.in-Ok.ensures.shown (subst F (sym c.self.view_is) fit) c.width.ensures.whole)
