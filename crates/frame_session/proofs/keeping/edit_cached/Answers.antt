@@ -1,4 +1,4 @@
-use Rattle.std.proofs.Common.{◌∙◌, ℕ, Option, Ok, subst}
+use Rattle.std.proofs.Common.{ℕ, Option, Ok, subst}
 use Rattle.frame_session.specs.Cached.{CacheWithout}
 use Rattle.frame_session.proofs.Sound.{answered_sound}
 use Rattle.frame_session.proofs.keeping.edit_cached.Goals as goal

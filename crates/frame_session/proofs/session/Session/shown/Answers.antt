@@ -1,4 +1,3 @@
-use Rattle.std.proofs.Common.{arith}
 use Rattle.frame_session.proofs.Given.{few_shown}
 use Rattle.frame_session.proofs.session.Session.shown.Goals as goal
 
