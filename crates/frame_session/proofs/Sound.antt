@@ -10,6 +10,7 @@ use Rattle.packet_edits.specs.Marks.{StoreValue}
 use Rattle.packet_forge.specs.Packets.{blank_of}
 use Rattle.pixel_planes.specs.Pictures.{PictureSamples}
 use Rattle.state_cache.specs.declared.outcomes.Kept.{Kept}
+use Rattle.state_cache.specs.declared.outcomes.PacketKey.{PacketKey}
 use Rattle.state_cache.specs.declared.outcomes.Broken.{Broken}
 use Rattle.state_cache.specs.declared.outcomes.ReachFault.TheVariants.{Refused, NoMemory}
 use Rattle.state_cache.specs.Costs.{Costs, IsIdOf}
@@ -34,28 +35,28 @@ no_id (e ∷ es) (suc at) h = no_id es at (omega (arith, h))
 
 module _ (tables : Tables) where
   -- nothing is cached
-  none_coherent : (b : Before) (ps : List MarkedPacket) → CoherentFrom tables b ps (cached_in [])
+  none_coherent : (b : Before) (ps : List MarkedPacket) → CoherentFrom tables b ps (cached_in [] 0)
   none_coherent b [] = tt
-  none_coherent b (p ∷ ps) = (tt, none_coherent (leaving_packet tables (entering b p) p.bytes (cached_in [] p.id)) ps)
+  none_coherent b (p ∷ ps) = (tt, none_coherent (leaving_packet tables (entering b p) p.bytes (cached_in [] 0 p.id)) ps)
 
   pub begun_sound : (store : StoreValue) (cache : CacheValue) → cache.entries ≡ [] → IsSound tables store cache
   begun_sound store cache none =
       let few : 0 ≤ cache.capacity = omega arith in
       record {
-        coherent = subst (λ (es : List (ℕ × Kept)). IsCoherent tables (marked_packets store) (cached_in es)) (sym none) (none_coherent (known None) (marked_packets store));
-        of_packets = λ id some. nothing_stands store.list id (subst (λ (es : List (ℕ × Kept)). IsSome (cached_in es id)) none some);
-        bounded = subst (λ (es : List (ℕ × Kept)). length es ≤ cache.capacity) (sym none) few;
+        coherent = subst (λ (es : List (PacketKey × Kept)). IsCoherent tables (marked_packets store) (cached_in es 0)) (sym none) (none_coherent (known None) (marked_packets store));
+        of_packets = λ id some. nothing_stands store.list id (subst (λ (es : List (PacketKey × Kept)). IsSome (cached_in es 0 id)) none some);
+        bounded = subst (λ (es : List (PacketKey × Kept)). length es ≤ cache.capacity) (sym none) few;
       }
     where
-      nothing_stands : (list : Listing) (id : ℕ) → IsSome (cached_in [] id) → IsIdOf list id
+      nothing_stands : (list : Listing) (id : ℕ) → IsSome (cached_in [] 0 id) → IsIdOf list id
       nothing_stands list id some = cc
 
   -- a packet is reached, or not
-  stands_still : (list new : Listing) (before : CacheValue) (id : ℕ) → new ≡ list → AreOfPackets list (view_of before) → IsSome (view_of before id) ⊎ IsIdOf list id → IsIdOf new id
+  stands_still : (list new : Listing) (before : CacheValue) (id : ℕ) → new ≡ list → AreOfPackets list (view_of 0 before) → IsSome (view_of 0 before id) ⊎ IsIdOf list id → IsIdOf new id
   stands_still list new before id same of_packets (inl was) = subst (λ (l : Listing). IsIdOf l id) (sym same) (of_packets id was)
   stands_still list new before id same of_packets (inr is) = subst (λ (l : Listing). IsIdOf l id) (sym same) is
 
-  pub reached_sound : (store new : StoreValue) (before after : CacheValue) (place : ℕ) (reached : Bool) → new.list ≡ store.list → IsSound tables store before → IsCoherent tables (marked_packets new) (view_of after) → Costs tables store before place reached new after → IsSound tables new after
+  pub reached_sound : (store new : StoreValue) (before after : CacheValue) (place : ℕ) (reached : Bool) → new.list ≡ store.list → IsSound tables store before → IsCoherent tables (marked_packets new) (view_of 0 after) → Costs tables 0 store before place reached new after → IsSound tables new after
   reached_sound store new before after place reached same sound coherent costs = record {
     coherent = coherent;
     of_packets = λ id some. stands_still store.list new.list before id same sound.of_packets (costs.of_packets id some);
@@ -81,17 +82,17 @@ module _ (tables : Tables) where
   same_store made list marks a b =
       subst (λ (m : List Bool). made ≡ record { list = list; marks = m }) b (subst (λ (l : Listing). made ≡ record { list = l; marks = made.marks }) a refl)
 
-  kept_without : (left : Option ℕ) (old new : CacheValue) → CacheWithout left old new → IsViewWithout left (view_of old) (view_of new)
-  kept_without None old new h = λ q. ap (λ (c : CacheValue). view_of c q) h
+  kept_without : (left : Option ℕ) (old new : CacheValue) → CacheWithout left old new → IsViewWithout left (view_of 0 old) (view_of 0 new)
+  kept_without None old new h = λ q. ap (λ (c : CacheValue). view_of 0 c q) h
   kept_without (Some id) old new h = h.0
 
   module _ (coherence : EditsKeepCoherence tables) (ids : EditsKeepIds) (next : NextIdIsNotCached) where
     inserted_sound : (at stamp : ℕ) (bytes : List ℕ) (store : StoreValue) (old new : CacheValue) → IsMarked store → HasOwnIds store.list → IsSound tables store old → new ≡ old → IsSound tables (after_insertion at stamp bytes store) new
     inserted_sound at stamp bytes store old new marked own s same =
-        let none : view_of old store.list.next_id ≡ None = next store.list (view_of old) own s.of_packets in
+        let none : view_of 0 old store.list.next_id ≡ None = next store.list (view_of 0 old) own s.of_packets in
         subst (λ (c : CacheValue). IsSound tables (after_insertion at stamp bytes store) c) (sym same) (record {
-          coherent = coherence.insertions store (view_of old) at stamp bytes marked none s.coherent;
-          of_packets = ids.insertions store.list (view_of old) at stamp bytes s.of_packets;
+          coherent = coherence.insertions store (view_of 0 old) at stamp bytes marked none s.coherent;
+          of_packets = ids.insertions store.list (view_of 0 old) at stamp bytes s.of_packets;
           bounded = s.bounded;
         })
 
@@ -99,18 +100,18 @@ module _ (tables : Tables) where
         → IsSound tables (record { list = edited tables edit store.list; marks = marks_edited edit store.marks }) new
     edited_sound (Insert at stamp bytes) store old new marked own s without few = inserted_sound at stamp bytes store old new marked own s without
     edited_sound (Replace at bytes) store old new marked own s without few = record {
-      coherent = coherence.replacements store (view_of old) (view_of new) at bytes marked (next store.list (view_of old) own s.of_packets) (kept_without (id_at store.list.entries at) old new without) s.coherent;
-      of_packets = ids.replacements store.list (view_of old) (view_of new) at bytes (kept_without (id_at store.list.entries at) old new without) s.of_packets;
+      coherent = coherence.replacements store (view_of 0 old) (view_of 0 new) at bytes marked (next store.list (view_of 0 old) own s.of_packets) (kept_without (id_at store.list.entries at) old new without) s.coherent;
+      of_packets = ids.replacements store.list (view_of 0 old) (view_of 0 new) at bytes (kept_without (id_at store.list.entries at) old new without) s.of_packets;
       bounded = few;
     }
     edited_sound (Delete at) store old new marked own s without few = record {
-      coherent = coherence.deletions store (view_of old) (view_of new) at marked (kept_without (id_at store.list.entries at) old new without) s.coherent;
-      of_packets = ids.deletions store.list (view_of old) (view_of new) at (kept_without (id_at store.list.entries at) old new without) s.of_packets;
+      coherent = coherence.deletions store (view_of 0 old) (view_of 0 new) at marked (kept_without (id_at store.list.entries at) old new without) s.coherent;
+      of_packets = ids.deletions store.list (view_of 0 old) (view_of 0 new) at (kept_without (id_at store.list.entries at) old new without) s.of_packets;
       bounded = few;
     }
     edited_sound (Move from to) store old new marked own s without few = subst (λ (c : CacheValue). IsSound tables (after_move from to store) c) (sym without) (record {
-      coherent = coherence.moves store (view_of old) from to marked s.coherent;
-      of_packets = ids.moves store.list (view_of old) from to s.of_packets;
+      coherent = coherence.moves store (view_of 0 old) from to marked s.coherent;
+      of_packets = ids.moves store.list (view_of 0 old) from to s.of_packets;
       bounded = s.bounded;
     })
     edited_sound (Blank at width height) store old new marked own s without few = inserted_sound at (stamp_before at store.list) (result_unwrap_or (blank_of tables width height) []) store old new marked own s without

@@ -9,7 +9,7 @@ use Rattle.pixel_planes.specs.Pictures.{PictureSamples}
 use Rattle.script_nodes.specs.Frames.{traced}
 use Rattle.state_cache.specs.Costs.{Costs}
 use Rattle.state_cache.specs.EditLaws.{IsWithout, AreOfPackets, id_at}
-use Rattle.state_cache.specs.Reaching.{CacheValue, view_of}
+use Rattle.state_cache.specs.Reaching.{CacheValue, OthersStay, view_of}
 use Rattle.state_cache.specs.Views.{IsCoherent, marked_packets}
 use Rattle.frame_session.specs.declared.edit.Edit.{Edit}
 use Rattle.frame_session.specs.declared.edit.Edit.TheVariants.{Insert, Replace, Delete, Move, Blank, Hold}
@@ -37,8 +37,8 @@ begun tables capacity file = record {
 
 -- the cached outcomes are coherent with the packets and their marks, belong to packets of the list, and are at most as many as the capacity
 pub record IsSound (tables : Tables) (store : StoreValue) (cache : CacheValue) : Type 0 where
-  pub coherent : IsCoherent tables (marked_packets store) (view_of cache)
-  pub of_packets : AreOfPackets store.list (view_of cache)
+  pub coherent : IsCoherent tables (marked_packets store) (view_of 0 cache)
+  pub of_packets : AreOfPackets store.list (view_of 0 cache)
   pub bounded : length cache.entries ≤ cache.capacity
 
 -- the index of the packet that frame n comes from, if there is such a frame
@@ -56,7 +56,7 @@ needs_picture (Err refusal) = false
 abbrev pub FrameCosts : Option ℕ → SessionValue → Result PictureSamples Refusal → SessionValue → Type 0
 FrameCosts None old answer new = new ≡ old
 FrameCosts (Some index) old answer new =
-    (reached : Bool) × Costs old.now.tables (store_of old) old.cache index reached (store_of new) new.cache × (needs_picture answer ≡ true → reached ≡ true)
+    (reached : Bool) × Costs old.now.tables 0 (store_of old) old.cache index reached (store_of new) new.cache × (needs_picture answer ≡ true → reached ≡ true)
 
 -- the marks after an edit that is accepted
 abbrev pub marks_edited : Edit → List Bool → List Bool
@@ -89,4 +89,4 @@ id_removed edit list answer = after_answer (leaving edit list) None answer
 -- if a packet was removed, nothing is cached for its id and all else is unchanged; if none was, the cache is unchanged
 abbrev pub CacheWithout : Option ℕ → CacheValue → CacheValue → Type 0
 CacheWithout None old new = new ≡ old
-CacheWithout (Some id) old new = IsWithout id (view_of old) (view_of new) × (new.capacity ≡ old.capacity) × (new.decoded ≡ old.decoded)
+CacheWithout (Some id) old new = IsWithout id (view_of 0 old) (view_of 0 new) × OthersStay 0 old new × (new.capacity ≡ old.capacity) × (new.decoded ≡ old.decoded)

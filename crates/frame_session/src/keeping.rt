@@ -32,12 +32,12 @@ pub(crate) fn picture_at(
     requires sound { IsSound tables.now list.old cache.old }
     ensures returned { IsOrNoMemory (picture_from (slice_get (outcomes tables.now (stream_of list.old.list)) place)) result }
     ensures list { list.new.list ≡ list.old.list }
-    ensures costs { Costs tables.now list.old cache.old place (is_ok result) list.new cache.new }
+    ensures costs { Costs tables.now 0 list.old cache.old place (is_ok result) list.new cache.new }
     ensures reached { needs_picture result ≡ is_ok result }
     ensures rises { cache.old.decoded ≤ cache.new.decoded }
     ensures sound { IsSound tables.now list.new cache.new }
 {
-    match cache.reach(tables, list, place) {
+    match cache.reach(tables, 0, list, place) {
         Ok(kept) => Ok(kept.picture),
         Err(ReachFault::Refused(broken)) => Err(Refusal::Packet {
             place: broken.place,
@@ -78,7 +78,7 @@ fn drop_left(cache: &mut Cache, left: Option<u64>)
     ensures steps { cache.new.decoded ≡ cache.old.decoded }
 {
     if let Some(id) = left {
-        cache.edited(id);
+        cache.edited(0, id);
     }
 }
 

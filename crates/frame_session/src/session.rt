@@ -95,7 +95,7 @@ impl Session {
         requires { place < length self.old.now.list.entries }
         ensures returned { IsOrNoMemory (picture_from (slice_get (outcomes self.old.now.tables (stream_of self.old.now.list)) place)) result }
         ensures after { self.new.now ≡ record self.old.now { decoded = self.new.now.decoded } }
-        ensures costs { Costs self.old.now.tables (store_of self.old) self.old.cache place (is_ok result) (store_of self.new) self.new.cache }
+        ensures costs { Costs self.old.now.tables 0 (store_of self.old) self.old.cache place (is_ok result) (store_of self.new) self.new.cache }
         ensures reached { needs_picture result ≡ is_ok result }
         ensures capacity { self.new.cache.capacity ≡ self.old.cache.capacity }
         ensures rises { self.old.now.decoded ≤ self.new.now.decoded }
