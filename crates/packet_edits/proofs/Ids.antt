@@ -4,8 +4,8 @@ use Rattle.std.specs.List.{insert, remove}
 use Rattle.std.specs.Option.{option_map_or}
 use Rattle.stream_files.specs.declared.packets.Packet.{Packet}
 use Rattle.packet_edits.specs.declared.entry.Entry.{Entry}
-use Rattle.packet_edits.specs.Edits.{Listing, deleted, inserted, numbered, pushed, replaced, with_move}
-use Rattle.packet_edits.specs.Laws.{HaveOwnIds, IdsStayOwn, IsNotAmong, KeepsIdsOwn}
+use Rattle.packet_edits.specs.Edits.{Listing, copied, deleted, inserted, numbered, pushed, replaced, with_move}
+use Rattle.packet_edits.specs.Laws.{HasOwnIds, HaveOwnIds, IdsStayOwn, IsNotAmong, KeepsIdsOwn}
 
 -- ids below a number are below a greater one
 pub above_all : (next more : ℕ) (es : List Entry) → next ≤ more → HaveOwnIds next es → HaveOwnIds more es
@@ -120,6 +120,20 @@ insertion_keeps at stamp bytes = record {
   rises = λ list. omega arith;
 }
 
+copied_own : (at : ℕ) (list : Listing) (o : Option Entry) → HasOwnIds list → HasOwnIds (option_map_or (λ entry. inserted at entry.stamp entry.bytes list) o list)
+copied_own at list None own = own
+copied_own at list (Some entry) own = (insertion_keeps at entry.stamp entry.bytes).own list own
+
+copied_rises : (at : ℕ) (list : Listing) (o : Option Entry) → list.next_id ≤ (option_map_or (λ entry. inserted at entry.stamp entry.bytes list) o list).next_id
+copied_rises at list None = omega arith
+copied_rises at list (Some entry) = omega arith
+
+copy_keeps : (at : ℕ) (source : Listing) (from : ℕ) → KeepsIdsOwn (copied at source from)
+copy_keeps at source from = record {
+  own = λ list own. copied_own at list (slice_get source.entries from) own;
+  rises = λ list. copied_rises at list (slice_get source.entries from);
+}
+
 replacement_keeps : (at : ℕ) (bytes : List ℕ) → KeepsIdsOwn (replaced at bytes)
 replacement_keeps at bytes = record {
   own = λ list own. replaced_own list at bytes (slice_get list.entries at) own;
@@ -137,6 +151,7 @@ ids_own = record {
   at_first = λ first_id. tt;
   pushes = push_keeps;
   insertions = insertion_keeps;
+  copies = copy_keeps;
   replacements = replacement_keeps;
   deletions = deletion_keeps;
   moves = move_keeps;

@@ -44,6 +44,10 @@ inserted at stamp bytes list = record {
   next_id = list.next_id + 1;
 }
 
+-- a copy of the packet at `from` of a source list inserted at an index; the list is unchanged if there is no such packet
+abbrev pub copied : ℕ → Listing → ℕ → Listing → Listing
+copied at source from list = option_map_or (λ entry. inserted at entry.stamp entry.bytes list) (slice_get source.entries from) list
+
 -- a change made with the element at an index; the list is unchanged if there is none
 abbrev pub with_place : {A : Type 0} → ℕ → (A → List A) → List A → List A
 with_place place change xs = option_map_or change (slice_get xs place) xs
@@ -77,6 +81,10 @@ refused_insertion list at =
     if nat_lt (length list.entries) at then Some Place
     else if nat_le most_packets (length list.entries) then Some Full
     else refused_id list
+
+-- the first error of a copy of the packet at `from` of a source list
+abbrev pub refused_copy : Listing → ℕ → Listing → ℕ → Option EditFault
+refused_copy list at source from = if nat_lt from (length source.entries) then refused_insertion list at else Some Place
 
 -- the first error of appending packets: they are too many, or one of them would get the id that no packet gets
 abbrev pub refused_push : Listing → List Packet → Option EditFault

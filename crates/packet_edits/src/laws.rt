@@ -3,7 +3,7 @@
 
 ghost use Rattle.std.specs.Prelude.{◌≡◌, [], ◌∷◌, None, Some, true, false};
 ghost use Rattle.packet_edits.specs.declared.fault.EditFault.TheVariants as faults;
-ghost use Rattle.packet_edits.specs.Edits.{deleted, inserted, pushed, refused_insertion, refused_push, refused_replacement, replaced, starting, with_move};
+ghost use Rattle.packet_edits.specs.Edits.{copied, deleted, inserted, pushed, refused_copy, refused_insertion, refused_push, refused_replacement, replaced, starting, with_move};
 ghost use Rattle.packet_edits.specs.Laws.{IdsStayOwn, IsShownList, PushesAreInsertions, SizeIsOfLastKey, packet, three, unmarked};
 ghost use Rattle.packet_edits.specs.Marks.{marks_deleted, marks_inserted, marks_moved, marks_replaced};
 ghost use Rattle.packet_edits.specs.Shown.{shown_indexes};
@@ -31,6 +31,8 @@ pub fn size_is_of_last_key()
 /// Worked examples: each edit of three packets, and the order of the errors.
 pub fn worked_edits()
     ensures insert { (inserted 1 5 (68 ∷ []) three).entries ≡ packet 0 10 65 ∷ packet 3 5 68 ∷ packet 1 20 66 ∷ packet 2 30 67 ∷ [] }
+    ensures copy { (copied 0 (record three { entries = packet 9 40 68 ∷ [] }) 0 three).entries ≡ packet 3 40 68 ∷ packet 0 10 65 ∷ packet 1 20 66 ∷ packet 2 30 67 ∷ [] }
+    ensures copy_within { (copied 1 three 2 three).entries ≡ packet 0 10 65 ∷ packet 3 30 67 ∷ packet 1 20 66 ∷ packet 2 30 67 ∷ [] }
     ensures replace { (replaced 1 (68 ∷ []) three).entries ≡ packet 0 10 65 ∷ packet 3 20 68 ∷ packet 2 30 67 ∷ [] }
     ensures delete { (deleted 1 three).entries ≡ packet 0 10 65 ∷ packet 2 30 67 ∷ [] }
     ensures move_up { (with_move 0 2 three).entries ≡ packet 1 20 66 ∷ packet 2 30 67 ∷ packet 0 10 65 ∷ [] }
@@ -39,6 +41,8 @@ pub fn worked_edits()
     ensures next { (inserted 3 5 [] three).next_id ≡ 4 }
     ensures accepted { refused_insertion three 3 ≡ None }
     ensures place { refused_insertion (record three { next_id = 0xFFFF_FFFF_FFFF_FFFF }) 4 ≡ Some faults.Place }
+    ensures no_source { refused_copy three 3 three 3 ≡ Some faults.Place }
+    ensures copy_spent { refused_copy (record three { next_id = 0xFFFF_FFFF_FFFF_FFFF }) 3 three 2 ≡ Some faults.Spent }
     ensures spent { refused_replacement (record three { next_id = 0xFFFF_FFFF_FFFF_FFFF }) 2 ≡ Some faults.Spent }
     ensures last_id { refused_push (record three { next_id = 0xFFFF_FFFF_FFFF_FFFE }) (record { stamp = 0; bytes = [] } ∷ []) ≡ None }
     ensures one_too_many { refused_push (record three { next_id = 0xFFFF_FFFF_FFFF_FFFE }) (record { stamp = 0; bytes = [] } ∷ record { stamp = 0; bytes = [] } ∷ []) ≡ Some faults.Spent }

@@ -1,4 +1,4 @@
-ghost use Rattle.std.specs.Prelude.{◌≡◌, ◌+◌, ◌^◌, ◌++◌, ◌<◌, ◌≤◌, [], IfSome, OnOk, Some, is_ok, if◌then◌else◌, length, map, option_map, slice_get};
+ghost use Rattle.std.specs.Prelude.{◌≡◌, ◌+◌, ◌^◌, ◌++◌, ◌<◌, ◌≤◌, [], IfOk, IfSome, OnOk, Some, is_ok, if◌then◌else◌, length, map, option_map, slice_get};
 ghost use Rattle.std.specs.Io.KnownBytes.{Appends};
 ghost use Rattle.frame_header.specs.Tags.{is_shown};
 ghost use Rattle.packet_edits.specs.Edits.{numbered};
@@ -18,15 +18,15 @@ use pixel_planes::NoMemory;
 use std::alloc::Global;
 use std::io::Write;
 use std::marker::Model;
-use stream_files::{Bytes, Head, MAX_PACKETS, Packets, WriteFault, ivf_start};
+use stream_files::{Bytes, Head, MAX_PACKETS, Packet, Packets, WriteFault, ivf_start};
 
 /// The id that no packet gets.
 const SPENT_ID: u64 = u64::MAX;
 
 /// The packets of a stream, at most 1,048,576, and the id of the next inserted packet.
 ///
-/// A refused edit changes nothing. Indexes are counted from 0. Only `push_all` and `insert`
-/// allocate.
+/// A refused edit changes nothing. Indexes are counted from 0. Only `push_all`, `insert`,
+/// `copy_from` and `copy_within` allocate.
 #[derive(Drop)]
 pub struct Store {
     entries: Vec<Entry>,
@@ -47,10 +47,10 @@ impl Model for Store {
 }
 
 impl Store {
-    ghost use Rattle.packet_edits.specs.Edits.{deleted, inserted, pushed, refused_deletion, refused_id, refused_insertion, refused_move, refused_push, refused_replacement, replaced, starting, with_move};
+    ghost use Rattle.packet_edits.specs.Edits.{copied, deleted, inserted, pushed, refused_copy, refused_deletion, refused_id, refused_insertion, refused_move, refused_push, refused_replacement, replaced, starting, with_move};
     ghost use Rattle.packet_edits.specs.Laws.{HasOwnIds};
     ghost use Rattle.packet_edits.specs.Marks.{marked_at, marks_deleted, marks_inserted, marks_moved, marks_replaced, unmarked_at};
-    ghost use Rattle.packet_edits.specs.Saved.{packets_of};
+    ghost use Rattle.packet_edits.specs.Saved.{packet_of, packets_of};
     ghost use Rattle.packet_edits.specs.Shown.{shown_indexes, stream_of};
     ghost use Rattle.packet_edits.specs.Sizes.{size_at};
 
@@ -126,6 +126,44 @@ impl Store {
         mark(&mut self.marks, place + 1);
         self.next_id += 1;
         Ok(())
+    }
+
+    /// Inserts a copy of packet `from` of another store at index `at`, which is at most the number
+    /// of packets. The copy has the packet's time stamp and bytes and a new id. It has no mark, and
+    /// the packet after it is marked.
+    ///
+    /// Errors, in this order: `Place`, also if `source` has no packet `from`, `Full` if there are
+    /// 1,048,576 packets, `Spent` if no id is left, and `NoMemory`.
+    pub fn copy_from(
+        &mut self,
+        alloc: Global,
+        at: u64,
+        source: &Store,
+        from: u64,
+    ) -> Result<(), EditFault>
+        ensures answers { Answers (refused_copy self.old.list at source.now.list from) result }
+        ensures after { self.new.list ≡ (if is_ok result then copied at source.now.list from self.old.list else self.old.list) }
+        ensures marks { self.new.marks ≡ (if is_ok result then marks_inserted at self.old.marks else self.old.marks) }
+    {
+        self.may_copy(at, source, from)?;
+        let Ok(copy) = source.copy_of(alloc, from as usize) else {
+            return Err(EditFault::NoMemory);
+        };
+        self.insert(at, copy.stamp, copy.bytes)
+    }
+
+    /// Inserts a copy of packet `from` of this store at index `at`, as `copy_from` does. `from` is
+    /// the packet's index before the insertion.
+    pub fn copy_within(&mut self, alloc: Global, at: u64, from: u64) -> Result<(), EditFault>
+        ensures answers { Answers (refused_copy self.old.list at self.old.list from) result }
+        ensures after { self.new.list ≡ (if is_ok result then copied at self.old.list from self.old.list else self.old.list) }
+        ensures marks { self.new.marks ≡ (if is_ok result then marks_inserted at self.old.marks else self.old.marks) }
+    {
+        self.may_copy(at, self, from)?;
+        let Ok(copy) = self.copy_of(alloc, from as usize) else {
+            return Err(EditFault::NoMemory);
+        };
+        self.insert(at, copy.stamp, copy.bytes)
     }
 
     /// Replaces the bytes of the packet at index `at` and gives it a new id. Its time stamp stays.
@@ -213,6 +251,30 @@ impl Store {
         } else {
             self.may_number()
         }
+    }
+
+    /// Whether a copy of packet `from` of a store may be inserted at index `at`: `Place`, `Full` or
+    /// `Spent` if not, in this order.
+    fn may_copy(&self, at: u64, source: &Store, from: u64) -> Result<(), EditFault>
+        ensures { result ≡ unless_refused (refused_copy self.now.list at source.now.list from) }
+    {
+        if from < source.entries.len() as u64 {
+            self.may_insert(at)
+        } else {
+            Err(EditFault::Place)
+        }
+    }
+
+    /// A copy of the packet at index `i`, which exists.
+    fn copy_of(&self, alloc: Global, i: usize) -> Result<Packet, NoMemory>
+        requires { i < length self.now.list.entries }
+        ensures { IfOk result (λ copy. option_map packet_of (slice_get self.now.list.entries i) ≡ Some copy) }
+    {
+        let entry = &self.entries[i];
+        Ok(Packet {
+            stamp: entry.stamp,
+            bytes: Bytes::from_slice(alloc, entry.bytes.as_slice())?,
+        })
     }
 
     /// Whether the packet at index `at` may be replaced: `Place` or `Spent` if not, in this order.

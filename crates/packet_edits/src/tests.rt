@@ -123,6 +123,74 @@ fn moves(rt: HostRuntime) -> Result<(), Fail> {
     Ok(())
 }
 
+/// Copies from another store and within one, to both ends.
+#[test]
+fn copies(rt: HostRuntime) -> Result<(), Fail> {
+    let alloc = rt.alloc();
+    let mut source = Store::starting(alloc, 0);
+    let rows = &[(10, b"a".as_slice()), (20, HIDDEN)];
+    assert_eq!(rt; source.push_all(packets_of(alloc, rows)?), Ok(()));
+    let mut store = Store::starting(alloc, 0);
+    assert_eq!(rt; store.push_all(packets_of(alloc, &[(30, SHOWN)])?), Ok(()));
+    assert_eq!(rt; store.copy_from(alloc, 0, &source, 1), Ok(()));
+    let own = (0, 30, SHOWN);
+    let hidden = (1, 20, HIDDEN);
+    assert!(rt; holds(&store, &[hidden, own]));
+    assert!(rt; shows(&store, &[1]) && marks(&store, &[1]));
+    assert_eq!(rt; store.copy_from(alloc, 2, &source, 0), Ok(()));
+    let a = (2, 10, b"a".as_slice());
+    assert!(rt; holds(&store, &[hidden, own, a]));
+    assert_eq!(rt; store.copy_within(alloc, 1, 2), Ok(()));
+    let again = (3, 10, b"a".as_slice());
+    assert!(rt; holds(&store, &[hidden, again, own, a]));
+    assert!(rt; shows(&store, &[1, 2, 3]) && marks(&store, &[2]));
+    assert_eq!(rt; store.copy_within(alloc, 4, 0), Ok(()));
+    assert!(rt; holds(&store, &[hidden, again, own, a, (4, 20, HIDDEN)]));
+    assert!(rt; shows(&store, &[1, 2, 3]) && marks(&store, &[2]));
+    // Ids 0 and 1 are the source's too.
+    assert!(rt; holds(&source, &[(0, 10, b"a"), (1, 20, HIDDEN)]));
+    assert!(rt; marks(&source, &[]));
+    Ok(())
+}
+
+/// The errors of copies, in their order.
+#[test]
+fn copies_that_are_refused(rt: HostRuntime) -> Result<(), Fail> {
+    let alloc = rt.alloc();
+    let mut source = Store::starting(alloc, 0);
+    assert_eq!(rt; source.push_all(packets_of(alloc, &[(10, b"a")])?), Ok(()));
+    let mut full = Store::starting(alloc, LAST - 1_048_576);
+    assert_eq!(rt; full.push_all(empty_packets(alloc, 1_048_576)?), Ok(()));
+    for (at, from) in [(1_048_577, 0), (0, 1), (LAST, LAST)] {
+        assert_eq!(rt;
+            full.copy_from(alloc, at, &source, from),
+            Err(EditFault::Place)
+        );
+    }
+    assert_eq!(rt;
+        full.copy_within(alloc, 1_048_577, 0),
+        Err(EditFault::Place)
+    );
+    assert_eq!(rt;
+        full.copy_within(alloc, 0, 1_048_576),
+        Err(EditFault::Place)
+    );
+    assert_eq!(rt; full.copy_from(alloc, 0, &source, 0), Err(EditFault::Full));
+    assert_eq!(rt; full.copy_within(alloc, 1_048_576, 0), Err(EditFault::Full));
+    assert_eq!(rt; full.delete(1), Ok(()));
+    assert_eq!(rt;
+        full.copy_from(alloc, 1_048_576, &source, 0),
+        Err(EditFault::Place)
+    );
+    assert_eq!(rt;
+        full.copy_from(alloc, 1_048_575, &source, 0),
+        Err(EditFault::Spent)
+    );
+    assert_eq!(rt; full.copy_within(alloc, 0, 0), Err(EditFault::Spent));
+    assert!(rt; full.len() == 1_048_575 && marks(&full, &[1]));
+    Ok(())
+}
+
 #[test]
 fn replacements_and_deletions(rt: HostRuntime) -> Result<(), Fail> {
     let alloc = rt.alloc();
