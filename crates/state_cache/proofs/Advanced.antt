@@ -16,6 +16,7 @@ use Rattle.state_cache.proofs.Onward.{cut_marked, joined_gap, joined_next, joine
 use Rattle.state_cache.proofs.Passed.{still_kept}
 use Rattle.state_cache.proofs.Reached.{length_seens}
 use Rattle.state_cache.proofs.Rooms.{one_missing, unkept_further, unkept_step}
+use Rattle.state_cache.proofs.Runs.{same_or_not}
 use Rattle.state_cache.proofs.Settled.{SettlesSame, first_unsettled}
 use Rattle.state_cache.proofs.Steps.{both_true, passed_at, seens_passed}
 use Rattle.state_cache.proofs.Search.{trust}
@@ -42,17 +43,17 @@ stand_case : (list : Listing) (kept : View) (id q place : ℕ) (new : Kept) (b :
 stand_case list kept id q place new true e here h = inr (place, here ∙ ap (λ (n : ℕ). Some n) (sym (eqb-true q id e)))
 stand_case list kept id q place new false e here h = inl h
 
-module _ (tables : TableEntries) (old new : StoreValue) (before after : CacheValue) (place m : ℕ) (is_joined : Bool) (within : place < length old.list.entries) (low : m ≤ place) (many : length old.marks ≡ length old.list.entries) (own : HasOwnIds old.list)
-    (next : IsNext (marked_packets old) (view_of before) place m) (coherent : IsCoherent tables (marked_packets new) (view_of after)) (usable : is_usable (marked_packets new) (view_of after) m ≡ true) (number : length before.entries ≤ length after.entries) (capacity : after.capacity ≡ before.capacity)
-    (t : IsIteration old before m is_joined new after) where
+module _ (tables : TableEntries) (source : ℕ) (old new : StoreValue) (before after : CacheValue) (place m : ℕ) (is_joined : Bool) (within : place < length old.list.entries) (low : m ≤ place) (many : length old.marks ≡ length old.list.entries) (own : HasOwnIds old.list)
+    (next : IsNext (marked_packets old) (view_of source before) place m) (coherent : IsCoherent tables (marked_packets new) (view_of source after)) (usable : is_usable (marked_packets new) (view_of source after) m ≡ true) (number : length before.entries ≤ length after.entries) (capacity : after.capacity ≡ before.capacity)
+    (t : IsIteration source old before m is_joined new after) where
   abbrev xs : List MarkedPacket
   xs = marked_packets old
 
   abbrev kept : View
-  kept = view_of before
+  kept = view_of source before
 
   abbrev kept' : View
-  kept' = view_of after
+  kept' = view_of source after
 
   abbrev ys : Bool → Bool → List MarkedPacket
   ys cut converged = passed_at cut converged m xs
@@ -106,13 +107,13 @@ module _ (tables : TableEntries) (old new : StoreValue) (before after : CacheVal
   missing_is : one_missing (kept entry_here.entry.id) ≡ one_missing (kept t.packet.id)
   missing_is = ap (λ (n : ℕ). one_missing (kept n)) entry_here.id_is
 
-  put : HasRoom old.list before m place → IsPut before t.packet.id t.outcome after
+  put : HasRoom source old.list before m place → IsPut source before t.packet.id t.outcome after
   put room =
       let step = unkept_step old.list.entries kept m place entry_here.entry entry_here.is low in
       let same = missing_is in
       t.room (omega (arith, room, step, same))
 
-  room_further : (further : ℕ) → m < further → HasRoom old.list before m place → HasRoom new.list after further place
+  room_further : (further : ℕ) → m < further → HasRoom source old.list before m place → HasRoom source new.list after further place
   room_further further up room =
       let p = put room in
       let fewer = unkept_further old.list.entries kept m place entry_here.entry entry_here.is low kept' further up (still_kept kept kept' t.packet.id t.outcome p.others) in
@@ -121,7 +122,7 @@ module _ (tables : TableEntries) (old new : StoreValue) (before after : CacheVal
       let one : length after.entries + uncached_from old.list.entries kept' further place ≤ after.capacity = omega (arith, room, fewer, same, grown, capacity) in
       subst (λ (l : Listing). length after.entries + uncached_from l.entries kept' further place ≤ after.capacity) (sym list_is) one
 
-  same_settled : HasRoom old.list before m place → SettlesSame tables xs (marked_packets new) kept kept' m place
+  same_settled : HasRoom source old.list before m place → SettlesSame tables xs (marked_packets new) kept kept' m place
   same_settled room =
       subst (λ (zs : List MarkedPacket). SettlesSame tables xs zs kept kept' m place) (sym seens_are)
       (same_case (is_cut t.packet) t.has_converged refl coherent_there usable_there t.converged t.converges_with_same (put room).others)
@@ -132,27 +133,36 @@ module _ (tables : TableEntries) (old new : StoreValue) (before after : CacheVal
   kept_here : cached_at (marked_packets new) kept' m ≡ true
   kept_here = (both_true (cached_at (marked_packets new) kept' m) (trust (marked_packets new) (m + 1)) usable).0
 
-  advances : (further : ℕ) → IsNext (marked_packets new) kept' place further → m < further → ((q : ℕ) → m < q → q < further → IsSettled tables (marked_packets new) kept' place q) → Advances tables old before place m new after further
+  still_case : HasRoom source old.list before m place → (any q : ℕ) → (any ≡ source) ⊎ (any ≡ source → ⊥) → is_some (view_of any before q) ≡ true → is_some (view_of any after q) ≡ true
+  still_case room any q (inl e) k =
+      subst (λ (n : ℕ). is_some (view_of n after q) ≡ true) (sym e) (still_kept kept kept' t.packet.id t.outcome (put room).others q (subst (λ (n : ℕ). is_some (view_of n before q) ≡ true) e k))
+  still_case room any q (inr apart) k = ap is_some ((put room).other_sources any q apart) ∙ k
+
+  -- with room, no outcome of any source is dropped
+  still_any : HasRoom source old.list before m place → (any q : ℕ) → is_some (view_of any before q) ≡ true → is_some (view_of any after q) ≡ true
+  still_any room any q k = still_case room any q (same_or_not any source) k
+
+  advances : (further : ℕ) → IsNext (marked_packets new) kept' place further → m < further → ((q : ℕ) → m < q → q < further → IsSettled tables (marked_packets new) kept' place q) → Advances tables source old before place m new after further
   advances further first up gap = record {
     first = first;
     following = up;
     number = number;
     of_packets = λ q k. stand_case old.list kept t.packet.id q m t.outcome (nat_eq q t.packet.id) refl id_here (kept_drops (kept' q) (with_cached kept t.packet.id t.outcome q) (t.drops q) k);
     room = room_further further up;
-    stays = λ room. still_kept kept kept' t.packet.id t.outcome (put room).others;
+    stays = still_any;
     keeps = λ room p lo hi uns. step_keeps tables xs (marked_packets new) kept kept' m place further low up unsettled (same_settled room) gap kept_here p lo uns;
     fewer = λ room. step_fewer tables xs (marked_packets new) kept kept' m place further low up unsettled (same_settled room) gap;
   }
 
   -- if no runs are joined, the walk continues at the next index
-  pub advances_one : is_joined ≡ false → Advances tables old before place m new after (m + 1)
+  pub advances_one : is_joined ≡ false → Advances tables source old before place m new after (m + 1)
   advances_one off =
       advances (m + 1)
       (subst (λ (zs : List MarkedPacket). IsNext zs kept' place (m + 1)) (sym seens_are) (next_case (is_cut t.packet) t.has_converged refl (sym t.joined_is ∙ off) coherent_there usable_there))
       (omega arith) (λ q a b. absurd (omega (arith, a, b)))
 
   -- if they are, it continues after the last cached index of the run
-  pub advances_joined : (further : ℕ) → is_joined ≡ true → IsAfterCached (marked_packets new) kept' m place further → Advances tables old before place m new after further
+  pub advances_joined : (further : ℕ) → is_joined ≡ true → IsAfterCached (marked_packets new) kept' m place further → Advances tables source old before place m new after further
   advances_joined further on b =
       let there : IsAfterCached (ys (is_cut t.packet) t.has_converged) kept' m place further = subst (λ (zs : List MarkedPacket). IsAfterCached zs kept' m place further) seens_are b in
       let last : further ≡ b.last + 1 = b.next_is in

@@ -6,6 +6,7 @@ use Rattle.vp8_tables.specs.Tables.{TableEntries}
 use Rattle.frame_header.specs.Tags.{has_key_tag}
 use Rattle.reference_frames.specs.Steps.{step_of}
 use Rattle.state_cache.specs.declared.outcomes.Kept.{Kept}
+use Rattle.state_cache.specs.EditLaws.{DropsKeepCoherence}
 use Rattle.state_cache.specs.Views.{Before, CoherentFrom, Drops, Fits, MarkedPacket, View, entering, failed, known, known_after, leaving, stepped, step_result, unknown, with_cached}
 
 -- less is known, or the same
@@ -79,6 +80,9 @@ module _ (tables : TableEntries) where
         weaker ps (leaving tables (entering b p) p.bytes (kept p.id)) (leaving tables (entering c p) p.bytes (kept' p.id)) kept kept'
             (leaving_less (entering b p) (entering c p) p.bytes (kept p.id) (kept' p.id) low (d p.id) f.0) d f.1,
       )
+
+  pub drops_keep_coherence : DropsKeepCoherence tables
+  drops_keep_coherence packets old new coherent drops = weaker packets (known None) (known None) new old refl drops coherent
 
   pub coherent_parts : (b : Before) (xs ys : List MarkedPacket) (kept : View) → CoherentFrom tables b (xs ++ ys) kept → CoherentFrom tables b xs kept × CoherentFrom tables (known_after tables b xs kept) ys kept
   coherent_parts b [] ys kept f = (tt, f)

@@ -1,3 +1,4 @@
+pub mod Keys
 pub mod Known
 pub mod Marked
 pub mod Decoded

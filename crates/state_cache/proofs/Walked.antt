@@ -7,6 +7,7 @@ use Rattle.packet_edits.specs.declared.entry.Entry.{Entry}
 use Rattle.packet_edits.specs.Edits.{Listing}
 use Rattle.packet_edits.specs.Marks.{StoreValue}
 use Rattle.state_cache.specs.declared.outcomes.Kept.{Kept}
+use Rattle.state_cache.specs.declared.outcomes.PacketKey.{PacketKey}
 use Rattle.state_cache.specs.Costs.{AreStepped, AreUnsettled, Costs, HasRoom, IsIdOf, IsSettled, most_steps}
 use Rattle.state_cache.specs.Reaching.{CacheValue, IsNext, view_of}
 use Rattle.state_cache.specs.Views.{View, is_usable, cached_at, cached_in, marked_packets, marked_packets_of}
@@ -15,44 +16,44 @@ use Rattle.state_cache.proofs.Reached.{beyond}
 use Rattle.state_cache.proofs.Unsettled.{none_left, some_left}
 
 -- the indexes that are not settled yet, and the number of steps counted on the way
-pub record Left (tables : TableEntries) (now : StoreValue) (cache : CacheValue) (place next decoded places : ℕ) : Type 0 where
+pub record Left (tables : TableEntries) (source : ℕ) (now : StoreValue) (cache : CacheValue) (place next decoded places : ℕ) : Type 0 where
   pub rest : List ℕ
   pub done : ℕ
   pub all : done + length rest ≡ places
   pub counted : cache.decoded ≡ min (decoded + done) most_steps
-  pub unsettled : AreUnsettled tables (marked_packets now) (view_of cache) next place rest
+  pub unsettled : AreUnsettled tables (marked_packets now) (view_of source cache) next place rest
 
 -- the facts about a walk to `place` that continues at `next`
-pub record SoFar (tables : TableEntries) (old : StoreValue) (before : CacheValue) (place : ℕ) (now : StoreValue) (cache : CacheValue) (next : ℕ) : Type 0 where
+pub record SoFar (tables : TableEntries) (source : ℕ) (old : StoreValue) (before : CacheValue) (place : ℕ) (now : StoreValue) (cache : CacheValue) (next : ℕ) : Type 0 where
   pub first : ℕ
-  pub is_first : IsNext (marked_packets old) (view_of before) place first
+  pub is_first : IsNext (marked_packets old) (view_of source before) place first
   pub small : cache.decoded ≤ most_steps
   pub steps : cache.decoded + first ≤ before.decoded + next
   pub rises : before.decoded ≤ cache.decoded
-  pub free : is_usable (marked_packets old) (view_of before) place ≡ true → (cache ≡ before) × (now ≡ old) × (place + 1 ≤ next)
+  pub free : is_usable (marked_packets old) (view_of source before) place ≡ true → (cache ≡ before) × (now ≡ old) × (place + 1 ≤ next)
   pub number : length before.entries ≤ length cache.entries
   pub capacity : cache.capacity ≡ before.capacity
-  pub of_packets : (id : ℕ) → IsSome (view_of cache id) → IsSome (view_of before id) ⊎ IsIdOf old.list id
-  pub room : HasRoom old.list before first place → HasRoom now.list cache next place
-  pub stays : HasRoom old.list before first place → (id : ℕ) → IsSome (view_of before id) → IsSome (view_of cache id)
-  pub keeps : HasRoom old.list before first place → (p : ℕ) → first ≤ p → p ≤ place → (IsSettled tables (marked_packets old) (view_of before) place p → ⊥)
-      → (cached_at (marked_packets now) (view_of cache) p ≡ true) ⊎ ((next ≤ p) × (IsSettled tables (marked_packets now) (view_of cache) place p → ⊥))
-  pub converges : HasRoom old.list before first place → (places : List ℕ) → AreUnsettled tables (marked_packets old) (view_of before) first place places → Left tables now cache place next before.decoded (length places)
+  pub of_packets : (id : ℕ) → IsSome (view_of source cache id) → IsSome (view_of source before id) ⊎ IsIdOf old.list id
+  pub room : HasRoom source old.list before first place → HasRoom source now.list cache next place
+  pub stays : HasRoom source old.list before first place → (any id : ℕ) → IsSome (view_of any before id) → IsSome (view_of any cache id)
+  pub keeps : HasRoom source old.list before first place → (p : ℕ) → first ≤ p → p ≤ place → (IsSettled tables (marked_packets old) (view_of source before) place p → ⊥)
+      → (cached_at (marked_packets now) (view_of source cache) p ≡ true) ⊎ ((next ≤ p) × (IsSettled tables (marked_packets now) (view_of source cache) place p → ⊥))
+  pub converges : HasRoom source old.list before first place → (places : List ℕ) → AreUnsettled tables (marked_packets old) (view_of source before) first place places → Left tables source now cache place next before.decoded (length places)
 
 -- a walk that begins
-pub walk_begins : (tables : TableEntries) (old : StoreValue) (before : CacheValue) (place next : ℕ) → IsNext (marked_packets old) (view_of before) place next → before.decoded ≤ most_steps → SoFar tables old before place old before next
-walk_begins tables old before place next n small = record {
+pub walk_begins : (tables : TableEntries) (source : ℕ) (old : StoreValue) (before : CacheValue) (place next : ℕ) → IsNext (marked_packets old) (view_of source before) place next → before.decoded ≤ most_steps → SoFar tables source old before place old before next
+walk_begins tables source old before place next n small = record {
   first = next;
   is_first = n;
   small = small;
   steps = omega arith;
   rises = omega arith;
-  free = λ u. (refl, refl, beyond (marked_packets old) (view_of before) place next place n (omega arith) u);
+  free = λ u. (refl, refl, beyond (marked_packets old) (view_of source before) place next place n (omega arith) u);
   number = omega arith;
   capacity = refl;
   of_packets = λ id k. inl k;
   room = λ r. r;
-  stays = λ r id k. k;
+  stays = λ r any id k. k;
   keeps = λ r p lo hi uns. inr (lo, uns);
   converges = λ r places a. record { rest = places; done = 0; all = omega arith; counted = omega (arith, small); unsettled = a };
 }
@@ -76,18 +77,18 @@ still_kept_at now new kept kept' p e still h =
     ∙ ap (λ (l : Listing). option_map_or (λ (e : Entry). is_some (kept' e.id)) (slice_get l.entries p) false) e
     ∙ still_case kept kept' (slice_get now.list.entries p) still (sym (kept_entry now.list.entries now.marks kept p) ∙ h)
 
-module _ (tables : TableEntries) (old now : StoreValue) (before cache : CacheValue) (place next : ℕ) (s : SoFar tables old before place now cache next) (low : next ≤ place) (listed : now.list ≡ old.list) where
-  module _ (new : StoreValue) (after : CacheValue) (further : ℕ) (a : Advances tables now cache place next new after further) (counted : after.decoded ≡ min (cache.decoded + 1) most_steps) (capacity : after.capacity ≡ cache.capacity) (same : new.list ≡ now.list) where
-    stand_more : (id : ℕ) → IsSome (view_of cache id) ⊎ IsIdOf now.list id → IsSome (view_of before id) ⊎ IsIdOf old.list id
+module _ (tables : TableEntries) (source : ℕ) (old now : StoreValue) (before cache : CacheValue) (place next : ℕ) (s : SoFar tables source old before place now cache next) (low : next ≤ place) (listed : now.list ≡ old.list) where
+  module _ (new : StoreValue) (after : CacheValue) (further : ℕ) (a : Advances tables source now cache place next new after further) (counted : after.decoded ≡ min (cache.decoded + 1) most_steps) (capacity : after.capacity ≡ cache.capacity) (same : new.list ≡ now.list) where
+    stand_more : (id : ℕ) → IsSome (view_of source cache id) ⊎ IsIdOf now.list id → IsSome (view_of source before id) ⊎ IsIdOf old.list id
     stand_more id (inl k) = s.of_packets id k
     stand_more id (inr stood) = inr (subst (λ (l : Listing). IsIdOf l id) listed stood)
 
-    keeps_more : HasRoom old.list before s.first place → (p : ℕ) → p ≤ place → (cached_at (marked_packets now) (view_of cache) p ≡ true) ⊎ ((next ≤ p) × (IsSettled tables (marked_packets now) (view_of cache) place p → ⊥))
-        → (cached_at (marked_packets new) (view_of after) p ≡ true) ⊎ ((further ≤ p) × (IsSettled tables (marked_packets new) (view_of after) place p → ⊥))
-    keeps_more r p hi (inl k) = inl (still_kept_at now new (view_of cache) (view_of after) p same (a.stays (s.room r)) k)
+    keeps_more : HasRoom source old.list before s.first place → (p : ℕ) → p ≤ place → (cached_at (marked_packets now) (view_of source cache) p ≡ true) ⊎ ((next ≤ p) × (IsSettled tables (marked_packets now) (view_of source cache) place p → ⊥))
+        → (cached_at (marked_packets new) (view_of source after) p ≡ true) ⊎ ((further ≤ p) × (IsSettled tables (marked_packets new) (view_of source after) place p → ⊥))
+    keeps_more r p hi (inl k) = inl (still_kept_at now new (view_of source cache) (view_of source after) p same (a.stays (s.room r) source) k)
     keeps_more r p hi (inr rest) = a.keeps (s.room r) p rest.0 hi rest.1
 
-    meets_more : HasRoom old.list before s.first place → (places : List ℕ) → Left tables now cache place next before.decoded (length places) → Left tables new after place further before.decoded (length places)
+    meets_more : HasRoom source old.list before s.first place → (places : List ℕ) → Left tables source now cache place next before.decoded (length places) → Left tables source new after place further before.decoded (length places)
     meets_more r places l =
         let one = a.fewer (s.room r) l.rest l.unsettled in
         let long : length l.rest ≡ length one.0 + 1 = ap length one.1 ∙ omega arith in
@@ -102,7 +103,7 @@ module _ (tables : TableEntries) (old now : StoreValue) (before cache : CacheVal
         }
 
     -- one more step
-    pub walk_more : SoFar tables old before place new after further
+    pub walk_more : SoFar tables source old before place new after further
     walk_more =
         let up : next < further = a.following in
         let was = s.steps in
@@ -121,24 +122,24 @@ module _ (tables : TableEntries) (old now : StoreValue) (before cache : CacheVal
           capacity = capacity ∙ s.capacity;
           of_packets = λ id k. stand_more id (a.of_packets id k);
           room = λ r. a.room (s.room r);
-          stays = λ r id k. a.stays (s.room r) id (s.stays r id k);
+          stays = λ r any id k. a.stays (s.room r) any id (s.stays r any id k);
           keeps = λ r p lo hi uns. keeps_more r p hi (s.keeps r p lo hi uns);
           converges = λ r places u. meets_more r places (s.converges r places u);
         }
 
-  module _ (new : StoreValue) (after : CacheValue) (unsettled : IsSettled tables (marked_packets now) (view_of cache) place next → ⊥) (counted : after.decoded ≡ min (cache.decoded + 1) most_steps) (same : after.entries ≡ cache.entries) (capacity : after.capacity ≡ cache.capacity) (bounded : length after.entries ≤ after.capacity) where
-    view_is : view_of after ≡ view_of cache
-    view_is = ap cached_in same
+  module _ (new : StoreValue) (after : CacheValue) (unsettled : IsSettled tables (marked_packets now) (view_of source cache) place next → ⊥) (counted : after.decoded ≡ min (cache.decoded + 1) most_steps) (same : after.entries ≡ cache.entries) (capacity : after.capacity ≡ cache.capacity) (bounded : length after.entries ≤ after.capacity) where
+    view_is : (any : ℕ) → view_of any after ≡ view_of any cache
+    view_is any = ap (λ (es : List (PacketKey × Kept)). cached_in es any) same
 
-    refused_steps : HasRoom old.list before s.first place → (places : List ℕ) → Left tables now cache place next before.decoded (length places) → AreStepped before.decoded false after.decoded (length places)
+    refused_steps : HasRoom source old.list before s.first place → (places : List ℕ) → Left tables source now cache place next before.decoded (length places) → AreStepped before.decoded false after.decoded (length places)
     refused_steps r places l =
-        let some = some_left tables (marked_packets now) (view_of cache) next place l.rest l.unsettled low unsettled in
+        let some = some_left tables (marked_packets now) (view_of source cache) next place l.rest l.unsettled low unsettled in
         let all = l.all in
         let was = l.counted in
         record { at_most = omega (arith, counted, was, all, some); exactly = λ ok. cc }
 
     -- a walk that ends with a refused step
-    pub walk_refused : Costs tables old before place false new after
+    pub walk_refused : Costs tables source old before place false new after
     walk_refused =
         let was = s.steps in
         let rose = s.rises in
@@ -151,29 +152,29 @@ module _ (tables : TableEntries) (old now : StoreValue) (before cache : CacheVal
           rises = omega (arith, counted, rose, small);
           free = λ u. let far = (s.free u).2 in absurd (omega (arith, far, low));
           usable = λ ok. cc;
-          number = subst (λ (es : List (ℕ × Kept)). length before.entries ≤ length es) (sym same) grew;
+          number = subst (λ (es : List (PacketKey × Kept)). length before.entries ≤ length es) (sym same) grew;
           bounded = bounded;
           capacity = capacity ∙ s.capacity;
-          of_packets = λ id k. s.of_packets id (subst (λ (v : View). IsSome (v id)) view_is k);
+          of_packets = λ id k. s.of_packets id (subst (λ (v : View). IsSome (v id)) (view_is source) k);
           converges = λ r places u. refused_steps r places (s.converges r places u);
-          stays = λ r id k. subst (λ (v : View). IsSome (v id)) (sym view_is) (s.stays r id k);
+          stays = λ r any id k. subst (λ (v : View). IsSome (v id)) (sym (view_is any)) (s.stays r any id k);
           keeps = λ r ok. cc;
         }
 
-module _ (tables : TableEntries) (old now : StoreValue) (before cache : CacheValue) (place next : ℕ) (s : SoFar tables old before place now cache next) (n : IsNext (marked_packets now) (view_of cache) place next) (up : place < next) (bounded : length cache.entries ≤ cache.capacity) where
-  reached_steps : (is_ok : Bool) (places : List ℕ) → Left tables now cache place next before.decoded (length places) → AreStepped before.decoded is_ok cache.decoded (length places)
+module _ (tables : TableEntries) (source : ℕ) (old now : StoreValue) (before cache : CacheValue) (place next : ℕ) (s : SoFar tables source old before place now cache next) (n : IsNext (marked_packets now) (view_of source cache) place next) (up : place < next) (bounded : length cache.entries ≤ cache.capacity) where
+  reached_steps : (is_ok : Bool) (places : List ℕ) → Left tables source now cache place next before.decoded (length places) → AreStepped before.decoded is_ok cache.decoded (length places)
   reached_steps is_ok places l =
-      let none : length l.rest ≡ 0 = ap length (none_left tables (marked_packets now) (view_of cache) next place l.rest l.unsettled up) in
+      let none : length l.rest ≡ 0 = ap length (none_left tables (marked_packets now) (view_of source cache) next place l.rest l.unsettled up) in
       let all = l.all in
       let was = l.counted in
       record { at_most = omega (arith, was, all, none); exactly = λ ok. omega (arith, was, all, none) }
 
-  keeps_all : (p : ℕ) → p ≤ place → (cached_at (marked_packets now) (view_of cache) p ≡ true) ⊎ ((next ≤ p) × (IsSettled tables (marked_packets now) (view_of cache) place p → ⊥)) → cached_at (marked_packets now) (view_of cache) p ≡ true
+  keeps_all : (p : ℕ) → p ≤ place → (cached_at (marked_packets now) (view_of source cache) p ≡ true) ⊎ ((next ≤ p) × (IsSettled tables (marked_packets now) (view_of source cache) place p → ⊥)) → cached_at (marked_packets now) (view_of source cache) p ≡ true
   keeps_all p hi (inl k) = k
   keeps_all p hi (inr rest) = let lo : next ≤ p = rest.0 in absurd (omega (arith, lo, hi, up))
 
   -- a walk that has reached its index
-  pub walk_ends : (is_ok : Bool) → Costs tables old before place is_ok now cache
+  pub walk_ends : (is_ok : Bool) → Costs tables source old before place is_ok now cache
   walk_ends is_ok =
       let was = s.steps in
       let high : next ≤ place + 1 = n.within in

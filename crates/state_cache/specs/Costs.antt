@@ -52,9 +52,10 @@ pub record AreUnsettled (tables : TableEntries) (packets : List MarkedPacket) (k
 abbrev pub uncached_from : List Entry → View → ℕ → ℕ → ℕ
 uncached_from entries kept next place = count_by (λ entry. is_none (kept entry.id)) (drop next (take (place + 1) entries))
 
--- there is room: the cached outcomes and the new ones from `next` up to `place` are at most the capacity
-abbrev pub HasRoom : Listing → CacheValue → ℕ → ℕ → Type 0
-HasRoom list cache next place = length cache.entries + uncached_from list.entries (view_of cache) next place ≤ cache.capacity
+-- there is room: the cached outcomes of all sources and the new ones of this source from `next` up to `place` are at most the
+-- capacity
+abbrev pub HasRoom : ℕ → Listing → CacheValue → ℕ → ℕ → Type 0
+HasRoom source list cache next place = length cache.entries + uncached_from list.entries (view_of source cache) next place ≤ cache.capacity
 
 -- the id is the id of a packet of the list
 abbrev pub IsIdOf : Listing → ℕ → Type 0
@@ -70,26 +71,26 @@ pub record AreStepped (before : ℕ) (is_ok : Bool) (after places : ℕ) : Type 
   pub at_most : after ≤ before + places
   pub exactly : is_ok ≡ true → after ≡ min (before + places) most_steps
 
--- the cost of reaching an index: the steps counted between two moments, and the outcomes cached after them
-pub record Costs (tables : TableEntries) (old : StoreValue) (before : CacheValue) (place : ℕ) (is_ok : Bool) (new : StoreValue) (after : CacheValue) : Type 0 where
+-- the cost of reaching an index of a source: the steps counted between two moments, and the outcomes cached after them
+pub record Costs (tables : TableEntries) (source : ℕ) (old : StoreValue) (before : CacheValue) (place : ℕ) (is_ok : Bool) (new : StoreValue) (after : CacheValue) : Type 0 where
   -- the first index to step
   pub next : ℕ
-  pub first : IsNext (marked_packets old) (view_of before) place next
+  pub first : IsNext (marked_packets old) (view_of source before) place next
   -- no more steps than indexes from there up to `place`
   pub steps : after.decoded + next ≤ before.decoded + place + 1
   pub rises : before.decoded ≤ after.decoded
   -- a usable index costs nothing
-  pub free : is_usable (marked_packets old) (view_of before) place ≡ true → (after ≡ before) × (new ≡ old)
-  pub usable : is_ok ≡ true → is_usable (marked_packets new) (view_of after) place ≡ true
-  -- the number of cached outcomes does not fall, and is at most the capacity
+  pub free : is_usable (marked_packets old) (view_of source before) place ≡ true → (after ≡ before) × (new ≡ old)
+  pub usable : is_ok ≡ true → is_usable (marked_packets new) (view_of source after) place ≡ true
+  -- the number of cached outcomes of all sources does not fall, and is at most the capacity
   pub number : length before.entries ≤ length after.entries
   pub bounded : length after.entries ≤ after.capacity
   pub capacity : after.capacity ≡ before.capacity
-  -- each cached outcome was cached before, or is of a packet of the list
-  pub of_packets : (id : ℕ) → IsSome (view_of after id) → IsSome (view_of before id) ⊎ IsIdOf old.list id
+  -- each cached outcome of the source was cached before, or is of a packet of its list
+  pub of_packets : (id : ℕ) → IsSome (view_of source after id) → IsSome (view_of source before id) ⊎ IsIdOf old.list id
   -- with room, the number of counted steps is the number of indexes on the way that are not settled
-  pub converges : HasRoom old.list before next place → (places : List ℕ) → AreUnsettled tables (marked_packets old) (view_of before) next place places → AreStepped before.decoded is_ok after.decoded (length places)
-  -- with room, no outcome is dropped
-  pub stays : HasRoom old.list before next place → (id : ℕ) → IsSome (view_of before id) → IsSome (view_of after id)
+  pub converges : HasRoom source old.list before next place → (places : List ℕ) → AreUnsettled tables (marked_packets old) (view_of source before) next place places → AreStepped before.decoded is_ok after.decoded (length places)
+  -- with room, no outcome of any source is dropped
+  pub stays : HasRoom source old.list before next place → (any id : ℕ) → IsSome (view_of any before id) → IsSome (view_of any after id)
   -- with room, each index on the way that was not settled is cached once the index is reached
-  pub keeps : HasRoom old.list before next place → is_ok ≡ true → (p : ℕ) → next ≤ p → p ≤ place → (IsSettled tables (marked_packets old) (view_of before) place p → ⊥) → cached_at (marked_packets new) (view_of after) p ≡ true
+  pub keeps : HasRoom source old.list before next place → is_ok ≡ true → (p : ℕ) → next ≤ p → p ≤ place → (IsSettled tables (marked_packets old) (view_of source before) place p → ⊥) → cached_at (marked_packets new) (view_of source after) p ≡ true

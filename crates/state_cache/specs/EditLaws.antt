@@ -7,7 +7,7 @@ use Rattle.packet_edits.specs.Edits.{Listing, deleted, inserted, pushed, replace
 use Rattle.packet_edits.specs.Laws.{HasOwnIds}
 use Rattle.packet_edits.specs.Marks.{StoreValue, marks_deleted, marks_inserted, marks_moved, marks_pushed, marks_replaced}
 use Rattle.state_cache.specs.Costs.{IsIdOf}
-use Rattle.state_cache.specs.Views.{IsCoherent, View, marked_packets}
+use Rattle.state_cache.specs.Views.{Drops, IsCoherent, MarkedPacket, View, marked_packets}
 
 -- the packets and marks of a store after each accepted edit
 abbrev pub after_push : List Packet → StoreValue → StoreValue
@@ -61,6 +61,10 @@ pub record EditsKeepCoherence (tables : TableEntries) : Type 0 where
       → IsCoherent tables (marked_packets store) old → IsCoherent tables (marked_packets (after_deletion at store)) new
   pub moves : (store : StoreValue) (kept : View) (from to : ℕ) → IsMarked store
       → IsCoherent tables (marked_packets store) kept → IsCoherent tables (marked_packets (after_move from to store)) kept
+
+-- once any outcomes are dropped, the cache is still coherent
+abbrev pub DropsKeepCoherence : TableEntries → Type 0
+DropsKeepCoherence tables = (packets : List MarkedPacket) (old new : View) → IsCoherent tables packets old → ((id : ℕ) → Drops (new id) (old id)) → IsCoherent tables packets new
 
 -- after each edit each id with a cached outcome is still the id of a packet of the list
 pub record EditsKeepIds : Type 0 where

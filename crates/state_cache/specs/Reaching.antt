@@ -9,19 +9,29 @@ use Rattle.packet_edits.specs.Marks.{marked_at, unmarked_at}
 use Rattle.reference_frames.specs.declared.states.State.{State}
 use Rattle.packet_edits.specs.Shown.{stream_of}
 use Rattle.state_cache.specs.declared.outcomes.Kept.{Kept}
+use Rattle.state_cache.specs.declared.outcomes.PacketKey.{PacketKey}
 use Rattle.state_cache.specs.declared.outcomes.ReachFault.{ReachFault}
 use Rattle.state_cache.specs.declared.outcomes.ReachFault.TheVariants.{Refused, NoMemory}
 use Rattle.state_cache.specs.Decoding.{Outcome, outcomes}
-use Rattle.state_cache.specs.Views.{MarkedPacket, View, is_usable, key_at, cached_in, step_result}
+use Rattle.state_cache.specs.Views.{Drops, MarkedPacket, View, is_usable, key_at, cached_in, step_result}
 
--- the value of a cache: outcomes by the ids of their packets, the capacity, and the number of steps made
+-- the value of a cache: outcomes by the sources and ids of their packets, the capacity, and the number of steps made
 pub record CacheValue : Type 0 where
-  pub entries : List (ℕ × Kept)
+  pub entries : List (PacketKey × Kept)
   pub capacity : ℕ
   pub decoded : ℕ
 
-abbrev pub view_of : CacheValue → View
-view_of cache = cached_in cache.entries
+-- the outcome cached for each id of a source
+abbrev pub view_of : ℕ → CacheValue → View
+view_of source cache = cached_in cache.entries source
+
+-- each outcome of the other sources is still cached, or dropped
+abbrev pub OthersDrop : ℕ → CacheValue → CacheValue → Type 0
+OthersDrop source before after = (other id : ℕ) → (other ≡ source → ⊥) → Drops (view_of other after id) (view_of other before id)
+
+-- the outcomes of the other sources are unchanged
+abbrev pub OthersStay : ℕ → CacheValue → CacheValue → Type 0
+OthersStay source before after = (other id : ℕ) → (other ≡ source → ⊥) → view_of other after id ≡ view_of other before id
 
 -- where steps begin: at index 0, at a key tag, or after a usable index
 pub data Begins (packets : List MarkedPacket) (kept : View) (place : ℕ) : Type 0 where

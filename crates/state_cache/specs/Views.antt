@@ -11,6 +11,7 @@ use Rattle.packet_edits.specs.Marks.{StoreValue}
 use Rattle.reference_frames.specs.declared.states.State.{State}
 use Rattle.reference_frames.specs.Steps.{step_of}
 use Rattle.state_cache.specs.declared.outcomes.Kept.{Kept}
+use Rattle.state_cache.specs.declared.outcomes.PacketKey.{PacketKey}
 
 -- a packet with its mark
 pub record MarkedPacket : Type 0 where
@@ -34,9 +35,13 @@ marked_packets store = marked_packets_of store.list.entries store.marks
 abbrev pub View : Type 0
 View = ℕ → Option Kept
 
--- the outcome that entries store for an id
-abbrev pub cached_in : List (ℕ × Kept) → View
-cached_in entries id = lookup (nat_eq id) entries
+-- whether two keys of cached outcomes are the same: the same source and the same id
+abbrev pub same_key : PacketKey → PacketKey → Bool
+same_key key other = nat_eq key.source other.source && nat_eq key.id other.id
+
+-- the outcome that entries store for an id of a source
+abbrev pub cached_in : List (PacketKey × Kept) → ℕ → View
+cached_in entries source id = lookup (same_key (record { source = source; id = id })) entries
 
 -- an outcome is still cached, or dropped
 abbrev pub Drops : Option Kept → Option Kept → Type 0

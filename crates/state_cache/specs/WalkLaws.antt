@@ -13,9 +13,9 @@ IsAmong index (first ∷ rest) = (index ≡ first) ⊎ IsAmong index rest
 -- a walk steps indexes from its first one up to `place`, all before `next`. It changes only the marks of these indexes and of
 -- `next`, the index after the last one
 pub record WalksStepInOrder : Type 0 where
-  pub in_order : (old new : StoreValue) (before after : CacheValue) (place first next index : ℕ) (stepped : List ℕ) → Walks old before place first stepped new after next
+  pub in_order : (source : ℕ) (old new : StoreValue) (before after : CacheValue) (place first next index : ℕ) (stepped : List ℕ) → Walks source old before place first stepped new after next
       → IsAmong index stepped → (first ≤ index) × (index ≤ place) × (index < next)
-  pub marks_stay : (old new : StoreValue) (before after : CacheValue) (place first next index : ℕ) (stepped : List ℕ) → Walks old before place first stepped new after next
+  pub marks_stay : (source : ℕ) (old new : StoreValue) (before after : CacheValue) (place first next index : ℕ) (stepped : List ℕ) → Walks source old before place first stepped new after next
       → (IsAmong index stepped → ⊥) → (index ≡ next → ⊥) → slice_get new.marks index ≡ slice_get old.marks index
 
 -- the first index to step is unique

@@ -4,37 +4,39 @@ use Rattle.vp8_tables.specs.Tables.{TableEntries}
 use Rattle.packet_edits.specs.Marks.{StoreValue}
 use Rattle.state_cache.specs.declared.outcomes.Kept.{Kept}
 use Rattle.state_cache.specs.Costs.{AreUnsettled, HasRoom, IsIdOf, IsOneRun, IsSettled, most_steps}
-use Rattle.state_cache.specs.Reaching.{CacheValue, IsNext, Converged, passed_marks, view_of}
+use Rattle.state_cache.specs.Reaching.{CacheValue, IsNext, Converged, OthersDrop, OthersStay, passed_marks, view_of}
 use Rattle.state_cache.specs.Views.{Drops, MarkedPacket, View, is_cut, cached_at, marked_packets, with_cached}
 
 -- if an outcome with the same state was cached, the states converge
 abbrev pub ConvergesWithSame : Bool → Option Kept → Kept → Type 0
 ConvergesWithSame has_converged before new = (old : Kept) → before ≡ Some old → old.state ≡ new.state → has_converged ≡ true
 
--- the number of cached outcomes once one is cached for an id
-abbrev pub entries_with : CacheValue → ℕ → ℕ
-entries_with cache id = length cache.entries + cond (is_none (view_of cache id)) 1 0
+-- the number of cached outcomes once one is cached for an id of a source
+abbrev pub entries_with : ℕ → CacheValue → ℕ → ℕ
+entries_with source cache id = length cache.entries + cond (is_none (view_of source cache id)) 1 0
 
--- one outcome was cached, and none dropped
-pub record IsPut (before : CacheValue) (id : ℕ) (outcome : Kept) (after : CacheValue) : Type 0 where
-  pub number : length after.entries ≡ entries_with before id
-  pub others : (q : ℕ) → view_of after q ≡ with_cached (view_of before) id outcome q
+-- one outcome of a source was cached, and none of any source dropped
+pub record IsPut (source : ℕ) (before : CacheValue) (id : ℕ) (outcome : Kept) (after : CacheValue) : Type 0 where
+  pub number : length after.entries ≡ entries_with source before id
+  pub others : (q : ℕ) → view_of source after q ≡ with_cached (view_of source before) id outcome q
+  pub other_sources : OthersStay source before after
 
 -- one step at an index: the outcome of its packet is cached, and its mark passed. The runs are joined if the packet was a cut
 -- because of a mark and the states converge
-pub record IsIteration (old : StoreValue) (before : CacheValue) (place : ℕ) (joined : Bool) (new : StoreValue) (after : CacheValue) : Type 0 where
+pub record IsIteration (source : ℕ) (old : StoreValue) (before : CacheValue) (place : ℕ) (joined : Bool) (new : StoreValue) (after : CacheValue) : Type 0 where
   pub packet : MarkedPacket
   pub outcome : Kept
   pub has_converged : Bool
   pub packet_is : slice_get (marked_packets old) place ≡ Some packet
   pub marks : new ≡ record old { marks = passed_marks (is_cut packet) has_converged place old.marks }
   pub joined_is : joined ≡ (is_cut packet && has_converged)
-  pub converged : Converged has_converged (view_of before packet.id) outcome
-  pub converges_with_same : ConvergesWithSame has_converged (view_of before packet.id) outcome
-  pub kept : view_of after packet.id ≡ Some outcome
-  pub drops : (q : ℕ) → Drops (view_of after q) (with_cached (view_of before) packet.id outcome q)
+  pub converged : Converged has_converged (view_of source before packet.id) outcome
+  pub converges_with_same : ConvergesWithSame has_converged (view_of source before packet.id) outcome
+  pub kept : view_of source after packet.id ≡ Some outcome
+  pub drops : (q : ℕ) → Drops (view_of source after q) (with_cached (view_of source before) packet.id outcome q)
+  pub other_sources : OthersDrop source before after
   -- with room for it, nothing else is dropped
-  pub room : entries_with before packet.id ≤ before.capacity → IsPut before packet.id outcome after
+  pub room : entries_with source before packet.id ≤ before.capacity → IsPut source before packet.id outcome after
 
 -- the index after the last cached one of a run, from `first` up to `place`
 pub record IsAfterCached (packets : List MarkedPacket) (kept : View) (first place next : ℕ) : Type 0 where
@@ -47,37 +49,37 @@ pub record IsAfterCached (packets : List MarkedPacket) (kept : View) (first plac
   pub greatest : (p : ℕ) → last < p → p ≤ place → IsOneRun packets first p → cached_at packets kept p ≡ false
 
 -- a cached step on the way to an index: the walk continues after it, and exactly one index fewer is not settled
-pub record Advances (tables : TableEntries) (old : StoreValue) (before : CacheValue) (place next : ℕ) (new : StoreValue) (after : CacheValue) (further : ℕ) : Type 0 where
-  pub first : IsNext (marked_packets new) (view_of after) place further
+pub record Advances (tables : TableEntries) (source : ℕ) (old : StoreValue) (before : CacheValue) (place next : ℕ) (new : StoreValue) (after : CacheValue) (further : ℕ) : Type 0 where
+  pub first : IsNext (marked_packets new) (view_of source after) place further
   pub following : next < further
   pub number : length before.entries ≤ length after.entries
-  pub of_packets : (id : ℕ) → IsSome (view_of after id) → IsSome (view_of before id) ⊎ IsIdOf old.list id
-  pub room : HasRoom old.list before next place → HasRoom new.list after further place
-  pub stays : HasRoom old.list before next place → (id : ℕ) → IsSome (view_of before id) → IsSome (view_of after id)
-  pub keeps : HasRoom old.list before next place → (p : ℕ) → next ≤ p → p ≤ place → (IsSettled tables (marked_packets old) (view_of before) place p → ⊥)
-      → (cached_at (marked_packets new) (view_of after) p ≡ true) ⊎ ((further ≤ p) × (IsSettled tables (marked_packets new) (view_of after) place p → ⊥))
-  pub fewer : HasRoom old.list before next place → (places : List ℕ) → AreUnsettled tables (marked_packets old) (view_of before) next place places
-      → (rest : List ℕ) × (places ≡ next ∷ rest) × AreUnsettled tables (marked_packets new) (view_of after) further place rest
+  pub of_packets : (id : ℕ) → IsSome (view_of source after id) → IsSome (view_of source before id) ⊎ IsIdOf old.list id
+  pub room : HasRoom source old.list before next place → HasRoom source new.list after further place
+  pub stays : HasRoom source old.list before next place → (any id : ℕ) → IsSome (view_of any before id) → IsSome (view_of any after id)
+  pub keeps : HasRoom source old.list before next place → (p : ℕ) → next ≤ p → p ≤ place → (IsSettled tables (marked_packets old) (view_of source before) place p → ⊥)
+      → (cached_at (marked_packets new) (view_of source after) p ≡ true) ⊎ ((further ≤ p) × (IsSettled tables (marked_packets new) (view_of source after) place p → ⊥))
+  pub fewer : HasRoom source old.list before next place → (places : List ℕ) → AreUnsettled tables (marked_packets old) (view_of source before) next place places
+      → (rest : List ℕ) × (places ≡ next ∷ rest) × AreUnsettled tables (marked_packets new) (view_of source after) further place rest
 
 -- one step of a walk to `place`: the packet at `next` is stepped, its outcome is cached and its mark passed. The walk
 -- continues at `further`, which is the next index unless two runs were joined
-pub record IsWalkStep (old : StoreValue) (before : CacheValue) (place next : ℕ) (new : StoreValue) (after : CacheValue) (further : ℕ) : Type 0 where
+pub record IsWalkStep (source : ℕ) (old : StoreValue) (before : CacheValue) (place next : ℕ) (new : StoreValue) (after : CacheValue) (further : ℕ) : Type 0 where
   pub joined : Bool
-  pub iterated : IsIteration old before next joined new after
+  pub iterated : IsIteration source old before next joined new after
   pub counted : after.decoded ≡ min (before.decoded + 1) most_steps
   pub capacity : after.capacity ≡ before.capacity
   pub number : length before.entries ≤ length after.entries
   pub low : next ≤ place
   pub later : next < further
   pub onward : joined ≡ false → further ≡ next + 1
-  pub continues : IsNext (marked_packets new) (view_of after) place further
+  pub continues : IsNext (marked_packets new) (view_of source after) place further
 
 -- a walk to `place` that began at `first`: these indexes were stepped, the latest one first, and `next` is the index to step
 -- then
-abbrev pub Walks : StoreValue → CacheValue → ℕ → ℕ → List ℕ → StoreValue → CacheValue → ℕ → Type 0
-Walks old before place first [] new after next = (new ≡ old) × (after ≡ before) × (next ≡ first)
-Walks old before place first (last ∷ earlier) new after next =
-    (now : StoreValue) × ((cache : CacheValue) × (Walks old before place first earlier now cache last × IsWalkStep now cache place last new after next))
+abbrev pub Walks : ℕ → StoreValue → CacheValue → ℕ → ℕ → List ℕ → StoreValue → CacheValue → ℕ → Type 0
+Walks source old before place first [] new after next = (new ≡ old) × (after ≡ before) × (next ≡ first)
+Walks source old before place first (last ∷ earlier) new after next =
+    (now : StoreValue) × ((cache : CacheValue) × (Walks source old before place first earlier now cache last × IsWalkStep source now cache place last new after next))
 
 -- how a walk ends: it arrives at its index, or a step is refused, which is counted and changes nothing else
 pub data Ends (place next : ℕ) (cache : CacheValue) (is_ok : Bool) (after : CacheValue) : Type 0 where
@@ -86,11 +88,11 @@ pub data Ends (place next : ℕ) (cache : CacheValue) (is_ok : Bool) (after : Ca
 
 -- what reaching an index does: it walks there, one cached step after another. A step that is refused leaves the packets, the
 -- marks and the cached outcomes as they were before that step
-pub record IsWalk (old : StoreValue) (before : CacheValue) (place : ℕ) (is_ok : Bool) (new : StoreValue) (after : CacheValue) : Type 0 where
+pub record IsWalk (source : ℕ) (old : StoreValue) (before : CacheValue) (place : ℕ) (is_ok : Bool) (new : StoreValue) (after : CacheValue) : Type 0 where
   pub first : ℕ
-  pub is_first : IsNext (marked_packets old) (view_of before) place first
+  pub is_first : IsNext (marked_packets old) (view_of source before) place first
   pub stepped : List ℕ
   pub next : ℕ
   pub cache : CacheValue
-  pub walk : Walks old before place first stepped new cache next
+  pub walk : Walks source old before place first stepped new cache next
   pub ends : Ends place next cache is_ok after

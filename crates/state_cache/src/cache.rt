@@ -1,17 +1,17 @@
-ghost use Rattle.std.specs.Prelude.{◌≡◌, ◌+◌, ◌^◌, ◌<◌, ◌≤◌, ◌&&◌, ℕ, [], cond, length, not, IfErr, IfOk, IfSome, None, OnErr, OnOk, Result, Some, false, is_ok, min, nat_eq, option_copied, true};
+ghost use Rattle.std.specs.Prelude.{◌≡◌, ◌+◌, ◌^◌, ◌<◌, ◌≤◌, ◌&&◌, ℕ, [], cond, length, not, IfErr, IfOk, IfSome, None, OnErr, OnOk, Result, Some, false, is_ok, min, option_copied, true};
 ghost use Rattle.lru.specs.LruCache.{IsValid};
 ghost use Rattle.frame_header.specs.declared.cause.Cause.{Cause};
 ghost use Rattle.pixel_planes.specs.Pictures.{PictureSamples};
 ghost use Rattle.reference_frames.specs.Steps.{StepAnswers};
 ghost use Rattle.reference_frames.specs.States.{StateValue};
 ghost use Rattle.state_cache.specs.Costs.{Costs, cut_at, most_steps};
-ghost use Rattle.state_cache.specs.Reaching.{Begins, AnswersAt, IsNext, CachedAnswers, Converged, Reaches, IterationAnswers, Reports, passed_marks, state_from, view_of};
+ghost use Rattle.state_cache.specs.Reaching.{Begins, AnswersAt, IsNext, CachedAnswers, Converged, OthersDrop, OthersStay, Reaches, IterationAnswers, Reports, passed_marks, state_from, view_of};
 ghost use Rattle.state_cache.specs.Searches.{looked, mark_at, next_of};
 ghost use Rattle.state_cache.specs.Walks.{Advances, IsAfterCached, IsPut, IsIteration, IsWalk, IsWalkStep, ConvergesWithSame, entries_with};
-ghost use Rattle.state_cache.specs.Views.{Drops, IsCoherent, is_usable, cached_at, cached_in, key_at, marked_packets, with_cached};
+ghost use Rattle.state_cache.specs.Views.{Drops, IsCoherent, is_usable, cached_at, cached_in, key_at, marked_packets, same_key, with_cached};
 
 use crate::counter::Counter;
-use crate::outcomes::{Broken, Kept, ReachFault};
+use crate::outcomes::{Broken, Kept, PacketKey, ReachFault};
 use frame_header::has_key_tag;
 use lru::LruCache;
 use packet_edits::Store;
@@ -22,11 +22,11 @@ use std::marker::Model;
 use std::num::NonZeroUsize;
 use vp8_tables::Tables;
 
-/// Good outcomes of packets, cached by the packets' ids, and the number of steps made.
+/// Good outcomes of packets, cached by source and id, and the number of steps made.
 #[derive(Drop)]
 pub struct Cache {
     alloc: Global,
-    kept: LruCache<u64, Kept>,
+    kept: LruCache<PacketKey, Kept>,
     steps: Counter,
 }
 
@@ -78,12 +78,14 @@ impl Cache {
         let _most = self.steps.made();
     }
 
-    /// The outcome at index `place`, which exists: the result of decoding from the start of the
-    /// stream up to this packet. It continues from cached outcomes, one step at a time.
+    /// The outcome at index `place`, which exists, of the packets of `source`: the result of
+    /// decoding from the start of the stream up to this packet. It continues from cached outcomes
+    /// of the same source, one step at a time.
     ///
     /// Each packet after the greatest usable index, up to `place`, is stepped at most once, and
-    /// none if `place` is usable. If the new outcomes fit next to the cached ones, exactly the
-    /// indexes that are not settled are stepped, and nothing is dropped.
+    /// none if `place` is usable. If the new outcomes fit next to the cached ones of all sources,
+    /// exactly the indexes that are not settled are stepped, and nothing is dropped. Otherwise
+    /// outcomes of any source may be dropped. No outcome of another source changes.
     ///
     /// `Refused` if the stream is broken there, with the index and the cause of the break;
     /// `NoMemory` if memory or a share was refused first. In every case the packets are unchanged,
@@ -92,37 +94,39 @@ impl Cache {
     pub fn reach(
         &mut self,
         tables: &Tables,
+        source: usize,
         store: &mut Store,
         place: usize,
     ) -> Result<Kept, ReachFault>
         requires place { place < length store.old.list.entries }
-        requires coherent { IsCoherent tables.now (marked_packets store.old) (view_of self.old) }
+        requires coherent { IsCoherent tables.now (marked_packets store.old) (view_of source self.old) }
         ensures reaches { Reaches tables.now store.old.list place result }
         ensures list { store.new.list ≡ store.old.list }
-        ensures coherent { IsCoherent tables.now (marked_packets store.new) (view_of self.new) }
-        ensures costs { Costs tables.now store.old self.old place (is_ok result) store.new self.new }
-        ensures walks { IsWalk store.old self.old place (is_ok result) store.new self.new }
+        ensures coherent { IsCoherent tables.now (marked_packets store.new) (view_of source self.new) }
+        ensures others { OthersDrop source self.old self.new }
+        ensures costs { Costs tables.now source store.old self.old place (is_ok result) store.new self.new }
+        ensures walks { IsWalk source store.old self.old place (is_ok result) store.new self.new }
     {
         self.holds_few();
-        let mut next = self.next_step(store, place);
+        let mut next = self.next_step(source, store, place);
         while next <= place {
-            match self.advance(tables, store, place, next) {
+            match self.advance(tables, source, store, place, next) {
                 Ok(further) => next = further,
                 Err(fault) => return Err(fault),
             }
         }
-        self.answer(store, place)
+        self.answer(source, store, place)
     }
 
     /// The cached outcome of the packet at `place`, which is usable.
-    fn answer(&self, store: &Store, place: usize) -> Result<Kept, ReachFault>
+    fn answer(&self, source: usize, store: &Store, place: usize) -> Result<Kept, ReachFault>
         requires place { place < length store.now.list.entries }
-        ensures kept { CachedAnswers (marked_packets store.now) (view_of self.now) place result }
+        ensures kept { CachedAnswers (marked_packets store.now) (view_of source self.now) place result }
         ensures bounded { length self.now.entries ≤ self.now.capacity }
     {
         self.holds_few();
         let id = store.id(place);
-        let Some(kept) = self.kept.peek(&id) else {
+        let Some(kept) = self.kept.peek(&PacketKey { source, id }) else {
             return Err(ReachFault::NoMemory);
         };
         match kept.again() {
@@ -136,31 +140,32 @@ impl Cache {
     fn advance(
         &mut self,
         tables: &Tables,
+        source: usize,
         store: &mut Store,
         place: usize,
         next: usize,
     ) -> Result<usize, ReachFault>
         requires place { place < length store.old.list.entries }
-        requires coherent { IsCoherent tables.now (marked_packets store.old) (view_of self.old) }
-        requires first { IsNext (marked_packets store.old) (view_of self.old) place next }
+        requires coherent { IsCoherent tables.now (marked_packets store.old) (view_of source self.old) }
+        requires first { IsNext (marked_packets store.old) (view_of source self.old) place next }
         requires low { next ≤ place }
         ensures list { store.new.list ≡ store.old.list }
-        ensures coherent { IsCoherent tables.now (marked_packets store.new) (view_of self.new) }
+        ensures coherent { IsCoherent tables.now (marked_packets store.new) (view_of source self.new) }
         ensures step_result { IfErr result (λ fault. Reports tables.now store.old.list next fault) }
         ensures refused { OnErr result ((store.new ≡ store.old) × (self.new.entries ≡ self.old.entries)) }
         ensures counted { self.new.decoded ≡ min (self.old.decoded + 1) most_steps }
         ensures capacity { self.new.capacity ≡ self.old.capacity }
         ensures bounded { length self.new.entries ≤ self.new.capacity }
-        ensures advances { IfOk result (λ further. Advances tables.now store.old self.old place next store.new self.new further) }
-        ensures walks { IfOk result (λ further. IsWalkStep store.old self.old place next store.new self.new further) }
+        ensures advances { IfOk result (λ further. Advances tables.now source store.old self.old place next store.new self.new further) }
+        ensures walks { IfOk result (λ further. IsWalkStep source store.old self.old place next store.new self.new further) }
     {
         store.holds_few();
-        let is_joined = match self.iterate(tables, store, next) {
+        let is_joined = match self.iterate(tables, source, store, next) {
             Ok(is_joined) => is_joined,
             Err(fault) => return Err(fault),
         };
         if is_joined {
-            Ok(self.after_cached(store, next, place))
+            Ok(self.after_cached(source, store, next, place))
         } else {
             Ok(next + 1)
         }
@@ -171,42 +176,44 @@ impl Cache {
     fn iterate(
         &mut self,
         tables: &Tables,
+        source: usize,
         store: &mut Store,
         place: usize,
     ) -> Result<bool, ReachFault>
         requires place { place < length store.old.list.entries }
-        requires coherent { IsCoherent tables.now (marked_packets store.old) (view_of self.old) }
-        requires begins { Begins (marked_packets store.old) (view_of self.old) place }
-        requires missing { is_usable (marked_packets store.old) (view_of self.old) place ≡ false }
+        requires coherent { IsCoherent tables.now (marked_packets store.old) (view_of source self.old) }
+        requires begins { Begins (marked_packets store.old) (view_of source self.old) place }
+        requires missing { is_usable (marked_packets store.old) (view_of source self.old) place ≡ false }
         ensures list { store.new.list ≡ store.old.list }
-        ensures coherent { IsCoherent tables.now (marked_packets store.new) (view_of self.new) }
-        ensures usable { OnOk result (is_usable (marked_packets store.new) (view_of self.new) place ≡ true) }
+        ensures coherent { IsCoherent tables.now (marked_packets store.new) (view_of source self.new) }
+        ensures usable { OnOk result (is_usable (marked_packets store.new) (view_of source self.new) place ≡ true) }
         ensures step_result { IfErr result (λ fault. Reports tables.now store.old.list place fault) }
         ensures refused { OnErr result ((store.new ≡ store.old) × (self.new.entries ≡ self.old.entries)) }
         ensures counted { self.new.decoded ≡ min (self.old.decoded + 1) most_steps }
         ensures capacity { self.new.capacity ≡ self.old.capacity }
         ensures bounded { length self.new.entries ≤ self.new.capacity }
         ensures number { length self.old.entries ≤ length self.new.entries }
-        ensures iterated { IfOk result (λ joined. IsIteration store.old self.old place joined store.new self.new) }
+        ensures iterated { IfOk result (λ joined. IsIteration source store.old self.old place joined store.new self.new) }
     {
         store.holds_few();
         self.holds_few();
-        let new = match self.stepped(tables, store, place) {
+        let new = match self.stepped(tables, source, store, place) {
             Ok(new) => new,
             Err(fault) => return Err(fault),
         };
         let is_cut = is_cut(store, place);
-        let Ok(has_converged) = self.keep(store.id(place), new) else {
+        let id = store.id(place);
+        let Ok(has_converged) = self.keep(PacketKey { source, id }, new) else {
             return Err(ReachFault::NoMemory);
         };
         Ok(pass_mark(store, place, is_cut, has_converged))
     }
 
     /// The index after the last cached one of a run, from `first`, which is cached, up to `place`.
-    fn after_cached(&self, store: &Store, first: usize, place: usize) -> usize
+    fn after_cached(&self, source: usize, store: &Store, first: usize, place: usize) -> usize
         requires within { (first ≤ place) × (place < length store.now.list.entries) }
-        requires kept { cached_at (marked_packets store.now) (view_of self.now) first ≡ true }
-        ensures { IsAfterCached (marked_packets store.now) (view_of self.now) first place result }
+        requires kept { cached_at (marked_packets store.now) (view_of source self.now) first ≡ true }
+        ensures { IsAfterCached (marked_packets store.now) (view_of source self.now) first place result }
     {
         store.holds_few();
         let mut last = first;
@@ -215,18 +222,18 @@ impl Cache {
             if begins_run(store, at) {
                 return last + 1;
             }
-            last = self.later_cached(store, last, at);
+            last = self.later_cached(source, store, last, at);
             at += 1;
         }
         last + 1
     }
 
     /// `place` if an outcome of its packet is cached, else `last`.
-    fn later_cached(&self, store: &Store, last: usize, place: usize) -> usize
+    fn later_cached(&self, source: usize, store: &Store, last: usize, place: usize) -> usize
         requires { place < length store.now.list.entries }
-        ensures { result ≡ cond (cached_at (marked_packets store.now) (view_of self.now) place) place last }
+        ensures { result ≡ cond (cached_at (marked_packets store.now) (view_of source self.now) place) place last }
     {
-        if self.holds(store, place) {
+        if self.holds(source, store, place) {
             place
         } else {
             last
@@ -234,73 +241,88 @@ impl Cache {
     }
 
     /// Steps the packet at `place`, and counts the step.
-    fn stepped(&mut self, tables: &Tables, store: &Store, place: usize) -> Result<Kept, ReachFault>
+    fn stepped(
+        &mut self,
+        tables: &Tables,
+        source: usize,
+        store: &Store,
+        place: usize,
+    ) -> Result<Kept, ReachFault>
         requires { place < length store.now.list.entries }
-        ensures gives { IterationAnswers tables.now (marked_packets store.now) (view_of self.old) place result }
+        ensures gives { IterationAnswers tables.now (marked_packets store.now) (view_of source self.old) place result }
         ensures counted { self.new ≡ record self.old { decoded = min (self.old.decoded + 1) most_steps } }
     {
-        let state = state_before(&self.kept, store, place);
+        let state = state_before(&self.kept, source, store, place);
         let packet = store.packet(place);
         outcome_at(place, self.steps.step(self.alloc, tables, state, packet))
     }
 
-    /// Caches an outcome. Returns whether an outcome with the same state was cached for this id. If
+    /// Caches an outcome. Returns whether an outcome with the same state was cached for this key. If
     /// memory is refused, nothing changes.
-    fn keep(&mut self, id: u64, new: Kept) -> Result<bool, NoMemory>
-        ensures drops { OnOk result ((q : ℕ) → Drops (view_of self.new q) (with_cached (view_of self.old) id new q)) }
-        ensures kept { OnOk result (view_of self.new id ≡ Some new) }
-        ensures converged { IfOk result (λ converged. Converged converged (view_of self.old id) new) }
-        ensures converges_with_same { IfOk result (λ converged. ConvergesWithSame converged (view_of self.old id) new) }
-        ensures room { OnOk result (entries_with self.old id ≤ self.old.capacity → IsPut self.old id new self.new) }
+    fn keep(&mut self, key: PacketKey, new: Kept) -> Result<bool, NoMemory>
+        ensures drops { OnOk result ((q : ℕ) → Drops (view_of key.source self.new q) (with_cached (view_of key.source self.old) key.id new q)) }
+        ensures others { OnOk result (OthersDrop key.source self.old self.new) }
+        ensures kept { OnOk result (view_of key.source self.new key.id ≡ Some new) }
+        ensures converged { IfOk result (λ converged. Converged converged (view_of key.source self.old key.id) new) }
+        ensures converges_with_same { IfOk result (λ converged. ConvergesWithSame converged (view_of key.source self.old key.id) new) }
+        ensures room { OnOk result (entries_with key.source self.old key.id ≤ self.old.capacity → IsPut key.source self.old key.id new self.new) }
         ensures number { length self.old.entries ≤ length self.new.entries }
         ensures bounded { length self.new.entries ≤ self.new.capacity }
         ensures same { OnErr result (self.new ≡ self.old) }
         ensures rest { (self.new.capacity ≡ self.old.capacity) × (self.new.decoded ≡ self.old.decoded) }
     {
         is_valid(&self.kept);
-        let has_converged = self.converges(id, &new);
-        match self.kept.put(id, new) {
+        let has_converged = self.converges(key, &new);
+        match self.kept.put(key, new) {
             Ok(_) => Ok(has_converged),
             Err(_) => Err(NoMemory),
         }
     }
 
-    /// Whether the outcome cached for an id has the same state as this outcome.
-    fn converges(&self, id: u64, new: &Kept) -> bool
-        ensures converged { Converged result (view_of self.now id) new.now }
-        ensures converges_with_same { ConvergesWithSame result (view_of self.now id) new.now }
+    /// Whether the outcome cached for a key has the same state as this outcome.
+    fn converges(&self, key: PacketKey, new: &Kept) -> bool
+        ensures converged { Converged result (view_of key.source self.now key.id) new.now }
+        ensures converges_with_same { ConvergesWithSame result (view_of key.source self.now key.id) new.now }
     {
-        match self.kept.peek(&id) {
+        match self.kept.peek(&key) {
             Some(old) => same_state(&old.state, &new.state),
             None => false,
         }
     }
 
-    /// Drops the outcome cached for an id.
-    pub fn edited(&mut self, id: u64)
-        ensures dropped { view_of self.new id ≡ None }
-        ensures others { (q : ℕ) → (q ≡ id → ⊥) → view_of self.new q ≡ view_of self.old q }
+    /// Drops the outcome cached for an id of a source. All others are unchanged.
+    pub fn edited(&mut self, source: usize, id: u64)
+        ensures dropped { view_of source self.new id ≡ None }
+        ensures others { (q : ℕ) → (q ≡ id → ⊥) → view_of source self.new q ≡ view_of source self.old q }
+        ensures other_sources { OthersStay source self.old self.new }
         ensures bounded { length self.new.entries ≤ self.new.capacity }
         ensures rest { (self.new.capacity ≡ self.old.capacity) × (self.new.decoded ≡ self.old.decoded) }
     {
         is_valid(&self.kept);
-        self.kept.pop(&id);
+        self.kept.pop(&PacketKey { source, id });
     }
 
     /// Whether an outcome of the packet at `place` is cached.
-    fn holds(&self, store: &Store, place: usize) -> bool
+    fn holds(&self, source: usize, store: &Store, place: usize) -> bool
         requires { place < length store.now.list.entries }
-        ensures { result ≡ cached_at (marked_packets store.now) (view_of self.now) place }
+        ensures { result ≡ cached_at (marked_packets store.now) (view_of source self.now) place }
     {
         let id = store.id(place);
-        self.kept.contains(&id)
+        self.kept.contains(&PacketKey { source, id })
     }
 
     /// The greatest cached index with no mark after it, once one more index is looked at. A mark on
     /// a packet with a key tag has no effect.
-    fn look(&self, store: &Store, place: usize, is_key: bool, found: Option<usize>) -> Option<usize>
+    fn look(
+        &self,
+        source: usize,
+        store: &Store,
+        place: usize,
+        is_key: bool,
+        found: Option<usize>,
+    ) -> Option<usize>
         requires { place < length store.now.list.entries }
-        ensures { result ≡ looked is_key (mark_at (marked_packets store.now) place) (cached_at (marked_packets store.now) (view_of self.now) place) place found }
+        ensures { result ≡ looked is_key (mark_at (marked_packets store.now) place) (cached_at (marked_packets store.now) (view_of source self.now) place) place found }
     {
         if !is_key {
             if is_marked(store, place) {
@@ -310,7 +332,7 @@ impl Cache {
         match found {
             Some(place) => Some(place),
             None => {
-                if self.holds(store, place) {
+                if self.holds(source, store, place) {
                     Some(place)
                 } else {
                     None
@@ -321,9 +343,9 @@ impl Cache {
 
     /// The first index to step on the way to `place`. It looks back from `place` to the last key
     /// tag.
-    fn next_step(&self, store: &Store, place: usize) -> usize
+    fn next_step(&self, source: usize, store: &Store, place: usize) -> usize
         requires { place < length store.now.list.entries }
-        ensures { IsNext (marked_packets store.now) (view_of self.now) place result }
+        ensures { IsNext (marked_packets store.now) (view_of source self.now) place result }
     {
         store.holds_few();
         let mut found = None;
@@ -331,7 +353,7 @@ impl Cache {
         while at > 0 {
             at -= 1;
             let is_key = has_key(store, at);
-            found = self.look(store, at, is_key, found);
+            found = self.look(source, store, at, is_key, found);
             if is_key {
                 return next_after(found, at);
             }
@@ -340,10 +362,10 @@ impl Cache {
     }
 }
 
-/// Does nothing. Its contract: a map has no id twice and no more outcomes than its capacity, which
+/// Does nothing. Its contract: a map has no key twice and no more outcomes than its capacity, which
 /// is not 0.
-fn is_valid(kept: &LruCache<u64, Kept>)
-    ensures { IsValid nat_eq kept.now }
+fn is_valid(kept: &LruCache<PacketKey, Kept>)
+    ensures { IsValid same_key kept.now }
 {
     let _few = kept.len();
 }
@@ -360,9 +382,14 @@ fn outcome_at(place: usize, answer: Result<(State, Picture), StepFault>) -> Resu
 }
 
 /// The state from which the packet at `place` is stepped.
-fn state_before<'a>(kept: &'a LruCache<u64, Kept>, store: &Store, place: usize) -> Option<&'a State>
+fn state_before<'a>(
+    kept: &'a LruCache<PacketKey, Kept>,
+    source: usize,
+    store: &Store,
+    place: usize,
+) -> Option<&'a State>
     requires { place < length store.now.list.entries }
-    ensures { option_copied result ≡ state_from (marked_packets store.now) (cached_in kept.now.entries) place }
+    ensures { option_copied result ≡ state_from (marked_packets store.now) (cached_in kept.now.entries source) place }
 {
     if has_key(store, place) {
         return None;
@@ -371,7 +398,7 @@ fn state_before<'a>(kept: &'a LruCache<u64, Kept>, store: &Store, place: usize) 
         return None;
     }
     let id = store.id(place - 1);
-    match kept.peek(&id) {
+    match kept.peek(&PacketKey { source, id }) {
         Some(kept) => Some(&kept.state),
         None => None,
     }

@@ -3,7 +3,7 @@
 
 ghost use Rattle.state_cache.specs.CostLaws.{UnsettledAreListed};
 ghost use Rattle.state_cache.specs.DecodingLaws.{BreaksAreNamed, EachHasOutcome, KeysDependOnNothing};
-ghost use Rattle.state_cache.specs.EditLaws.{EditsKeepCoherence, EditsKeepIds, LaterIdsAreNotCached, NextIdIsNotCached};
+ghost use Rattle.state_cache.specs.EditLaws.{DropsKeepCoherence, EditsKeepCoherence, EditsKeepIds, LaterIdsAreNotCached, NextIdIsNotCached};
 ghost use Rattle.state_cache.specs.CacheViews.{CoherentIsCacheView};
 ghost use Rattle.state_cache.specs.WalkLaws.{NextIsUnique, WalksStepInOrder};
 
@@ -28,6 +28,11 @@ pub fn keys_depend_on_nothing()
 /// removed packets are dropped.
 pub fn edits_keep_coherence(tables: &Tables)
     ensures { EditsKeepCoherence tables.now }
+{}
+
+/// Once any outcomes are dropped, the cache is still coherent.
+pub fn drops_keep_coherence(tables: &Tables)
+    ensures { DropsKeepCoherence tables.now }
 {}
 
 /// After each edit outcomes are cached only for packets of the list.

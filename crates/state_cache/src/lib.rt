@@ -1,5 +1,6 @@
 //! A cache of decoded states. After an edit, decoding continues until a new state equals the cached
-//! state of the same packet; the states cached after that packet are then reused.
+//! state of the same packet; the states cached after that packet are then reused. One cache serves
+//! several *sources*, packet lists with ids counted from 0, which share its capacity.
 //!
 //! A *cut* is index 0, a packet with a key tag, or a marked packet. A *run* is the packets from one
 //! cut up to the next. The cache is *coherent* if each cached outcome results by steps from the

@@ -36,6 +36,13 @@ impl ReachFault {
     }
 }
 
+/// The key of a cached outcome: the number of a source, and the id of a packet of this source.
+#[derive(Clone, Copy, PartialEq, Eq, Hash)]
+pub(crate) struct PacketKey {
+    pub source: usize,
+    pub id: u64,
+}
+
 /// The good outcome of a packet: the state after it and its picture.
 #[derive(Debug, Drop)]
 pub struct Kept {

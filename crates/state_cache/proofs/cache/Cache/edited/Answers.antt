@@ -1,25 +1,37 @@
-use Rattle.std.proofs.Common.{◌∙◌, ℕ, ◌≤◌, arith, length, nat_eq, ap, subst, sym}
-use Rattle.std.specs.Map.{lookup}
+use Rattle.std.proofs.Common.{◌∙◌, ℕ, ◌≤◌, arith, length, ap, subst, sym}
 use Rattle.lru.specs.LruCache.{LruCache}
 use Rattle.state_cache.specs.declared.outcomes.Kept.{Kept}
+use Rattle.state_cache.specs.declared.outcomes.PacketKey.{PacketKey}
+use Rattle.state_cache.specs.Views.{cached_in, same_key}
 use Rattle.state_cache.proofs.Entries.{dropped_other, dropped_own, lookup_dropped}
 use Rattle.state_cache.proofs.Rooms.{removed_less}
 use Rattle.state_cache.proofs.cache.Cache.edited.Goals as goal
 
+abbrev key : ℕ → ℕ → PacketKey
+key source id = record { source = source; id = id }
+
 pub returns-clause-dropped : goal.returns-clause-dropped
 returns-clause-dropped c =
     let es = c.self.inside.kept.entries in
-    ap (λ (kept : LruCache ℕ Kept). lookup (nat_eq c.args.id) kept.entries) c.pop.ensures.entries ∙ lookup_dropped c.args.id c.args.id es c.is_valid.ensures.0
-    ∙ dropped_own c.args.id (lookup (nat_eq c.args.id) es)
+    let k : PacketKey = key c.args.source c.args.id in
+    ap (λ (kept : LruCache PacketKey Kept). cached_in kept.entries c.args.source c.args.id) c.pop.ensures.entries ∙ lookup_dropped k k es c.is_valid.ensures.0 ∙ dropped_own k (cached_in es c.args.source c.args.id)
 
 pub returns-clause-others : goal.returns-clause-others
 returns-clause-others c =
     let es = c.self.inside.kept.entries in
-    rw (← c.self.view_is) (λ q other. ap (λ (kept : LruCache ℕ Kept). lookup (nat_eq q) kept.entries) c.pop.ensures.entries ∙ lookup_dropped c.args.id q es c.is_valid.ensures.0
-    ∙ dropped_other c.args.id q (lookup (nat_eq q) es) other)
+    let k : PacketKey = key c.args.source c.args.id in
+    rw (← c.self.view_is) (λ q other. ap (λ (kept : LruCache PacketKey Kept). cached_in kept.entries c.args.source q) c.pop.ensures.entries ∙ lookup_dropped k (key c.args.source q) es c.is_valid.ensures.0
+    ∙ dropped_other k (key c.args.source q) (cached_in es c.args.source q) (λ same. other (sym (ap (λ (x : PacketKey). x.id) same))))
+
+pub returns-clause-other_sources : goal.returns-clause-other_sources
+returns-clause-other_sources c =
+    let es = c.self.inside.kept.entries in
+    let k : PacketKey = key c.args.source c.args.id in
+    rw (← c.self.view_is) (λ other q apart. ap (λ (kept : LruCache PacketKey Kept). cached_in kept.entries other q) c.pop.ensures.entries ∙ lookup_dropped k (key other q) es c.is_valid.ensures.0
+    ∙ dropped_other k (key other q) (cached_in es other q) (λ same. apart (sym (ap (λ (x : PacketKey). x.source) same))))
 
 pub returns-clause-bounded : goal.returns-clause-bounded
 returns-clause-bounded c =
-    let fewer = removed_less (nat_eq c.args.id) c.self.inside.kept.entries in
+    let fewer = removed_less (same_key (key c.args.source c.args.id)) c.self.inside.kept.entries in
     let bounded = c.is_valid.ensures.1 in
-    subst (λ (kept : LruCache ℕ Kept). length kept.entries ≤ kept.cap) (sym c.pop.ensures.entries) (omega (arith, fewer, bounded))
+    subst (λ (kept : LruCache PacketKey Kept). length kept.entries ≤ kept.cap) (sym c.pop.ensures.entries) (omega (arith, fewer, bounded))

@@ -1,4 +1,4 @@
-use Rattle.std.proofs.Common.{◌<◌, ◌≤◌, ◌∙◌, Err, length, refl, subst, sym, arith, rules}
+use Rattle.std.proofs.Common.{◌<◌, ◌≤◌, ◌∙◌, Err, false, length, refl, subst, sym, arith, rules}
 use Rattle.std.specs.Prelude.{is_ok}
 use Rattle.packet_edits.specs.Edits.{Listing}
 use Rattle.state_cache.specs.Reaching.{Reaches, view_of}
@@ -6,7 +6,7 @@ use Rattle.state_cache.specs.Views.{marked_packets}
 use Rattle.state_cache.proofs.Reached.{length_seens, reaches_answer, reaches_fault}
 use Rattle.state_cache.proofs.Settled.{first_unsettled}
 use Rattle.state_cache.proofs.Walked.{walk_begins, walk_ends, walk_more, walk_refused}
-use Rattle.state_cache.proofs.WalkSteps.{walk_arrives, walk_refused as refused_walk, walking_begins, walking_more}
+use Rattle.state_cache.proofs.WalkSteps.{walk_arrives, walk_others, walk_refused as refused_walk, walking_begins, walking_more}
 use Rattle.state_cache.proofs.cache.Cache.reach.Goals as goal
 
 pub loop-next-init : goal.loop-next-init
@@ -15,8 +15,8 @@ loop-next-init c =
       list = refl;
       coherent = c.requires.coherent;
       next = c.next_step-next.ensures;
-      so_far = walk_begins c.args.tables.now c.args.store.now c.args.self.now c.args.place c.next_step-next.result c.next_step-next.ensures c.holds_few.ensures.most;
-      walk = walking_begins c.args.store.now c.args.self.now c.args.place c.next_step-next.result c.next_step-next.ensures;
+      so_far = walk_begins c.args.tables.now c.args.source c.args.store.now c.args.self.now c.args.place c.next_step-next.result c.next_step-next.ensures c.holds_few.ensures.most;
+      walk = walking_begins c.args.source c.args.store.now c.args.self.now c.args.place c.next_step-next.result c.next_step-next.ensures;
     }
 
 pub loop-next-preserved : goal.loop-next-preserved
@@ -27,9 +27,9 @@ loop-next-preserved c =
       list = c.advance.ensures.list ∙ inv.list;
       coherent = c.advance.ensures.coherent;
       next = c.in-Ok.ensures.advances.first;
-      so_far = walk_more c.args.tables.now c.args.store.now c.loop-next.store c.args.self.now c.loop-next.self c.args.place c.loop-next.next inv.so_far low inv.list c.advance.new.store c.advance.new.self c.in-Ok.further c.in-Ok.ensures.advances
+      so_far = walk_more c.args.tables.now c.args.source c.args.store.now c.loop-next.store c.args.self.now c.loop-next.self c.args.place c.loop-next.next inv.so_far low inv.list c.advance.new.store c.advance.new.self c.in-Ok.further c.in-Ok.ensures.advances
           c.advance.ensures.counted c.advance.ensures.capacity c.advance.ensures.list;
-      walk = walking_more c.args.store.now c.loop-next.store c.advance.new.store c.args.self.now c.loop-next.self c.advance.new.self c.args.place c.loop-next.next c.in-Ok.further inv.walk c.in-Ok.ensures.walks;
+      walk = walking_more c.args.source c.args.store.now c.loop-next.store c.advance.new.store c.args.self.now c.loop-next.self c.advance.new.self c.args.place c.loop-next.next c.in-Ok.further inv.walk c.in-Ok.ensures.walks;
     }
 
 pub returns-in-Err-clause-reaches : goal.returns-in-Err-clause-reaches
@@ -38,7 +38,7 @@ returns-in-Err-clause-reaches c =
     let within : c.args.place < length c.loop-next.store.list.entries = subst (λ (l : Listing). c.args.place < length l.entries) (sym inv.list) c.requires.place in
     let low : c.loop-next.next ≤ c.args.place = search (rules, arith) in
     subst (λ (l : Listing). Reaches c.args.tables.now l c.args.place (Err c.in-Err.fault)) inv.list
-    (reaches_fault c.args.tables.now c.loop-next.store.list c.loop-next.store.marks (view_of c.loop-next.self) inv.coherent c.args.place c.loop-next.next c.in-Err.fault within low inv.next c.in-Err.ensures.step_result)
+    (reaches_fault c.args.tables.now c.loop-next.store.list c.loop-next.store.marks (view_of c.args.source c.loop-next.self) inv.coherent c.args.place c.loop-next.next c.in-Err.fault within low inv.next c.in-Err.ensures.step_result)
 
 pub returns-in-Err-clause-costs : goal.returns-in-Err-clause-costs
 returns-in-Err-clause-costs c =
@@ -46,8 +46,8 @@ returns-in-Err-clause-costs c =
     let within : c.args.place < length c.loop-next.store.list.entries = subst (λ (l : Listing). c.args.place < length l.entries) (sym inv.list) c.requires.place in
     let long = length_seens c.loop-next.store.list.entries c.loop-next.store.marks in
     let low : c.loop-next.next ≤ c.args.place = search (rules, arith) in
-    walk_refused c.args.tables.now c.args.store.now c.loop-next.store c.args.self.now c.loop-next.self c.args.place c.loop-next.next inv.so_far low inv.list c.advance.new.store c.advance.new.self
-    (first_unsettled c.args.tables.now (marked_packets c.loop-next.store) (view_of c.loop-next.self) c.args.place c.loop-next.next inv.next (omega (arith, within, long)))
+    walk_refused c.args.tables.now c.args.source c.args.store.now c.loop-next.store c.args.self.now c.loop-next.self c.args.place c.loop-next.next inv.so_far low inv.list c.advance.new.store c.advance.new.self
+    (first_unsettled c.args.tables.now (marked_packets c.loop-next.store) (view_of c.args.source c.loop-next.self) c.args.place c.loop-next.next inv.next (omega (arith, within, long)))
     c.advance.ensures.counted c.in-Err.ensures.refused.1 c.advance.ensures.capacity c.advance.ensures.bounded
 
 pub returns-clause-reaches : goal.returns-clause-reaches
@@ -56,20 +56,26 @@ returns-clause-reaches c =
     let within : c.args.place < length c.loop-next.store.list.entries = subst (λ (l : Listing). c.args.place < length l.entries) (sym inv.list) c.requires.place in
     let up : c.args.place < c.loop-next.next = search (rules, arith) in
     subst (λ (l : Listing). Reaches c.args.tables.now l c.args.place c.answer.result) inv.list
-    (reaches_answer c.args.tables.now c.loop-next.store.list c.loop-next.store.marks (view_of c.loop-next.self) inv.coherent c.args.place c.answer.result within (inv.next.arrived up) c.answer.ensures.kept)
+    (reaches_answer c.args.tables.now c.loop-next.store.list c.loop-next.store.marks (view_of c.args.source c.loop-next.self) inv.coherent c.args.place c.answer.result within (inv.next.arrived up) c.answer.ensures.kept)
 
 pub returns-clause-costs : goal.returns-clause-costs
 returns-clause-costs c =
     let inv = c.loop-next.invariant in
     let up : c.args.place < c.loop-next.next = search (rules, arith) in
-    walk_ends c.args.tables.now c.args.store.now c.loop-next.store c.args.self.now c.loop-next.self c.args.place c.loop-next.next inv.so_far inv.next up c.answer.ensures.bounded (is_ok c.answer.result)
+    walk_ends c.args.tables.now c.args.source c.args.store.now c.loop-next.store c.args.self.now c.loop-next.self c.args.place c.loop-next.next inv.so_far inv.next up c.answer.ensures.bounded (is_ok c.answer.result)
 
 pub returns-in-Err-clause-walks : goal.returns-in-Err-clause-walks
 returns-in-Err-clause-walks c =
-    refused_walk c.args.store.now c.loop-next.store c.advance.new.store c.args.self.now c.loop-next.self c.advance.new.self c.args.place c.loop-next.next c.loop-next.invariant.walk (search (rules, arith)) c.in-Err.ensures.refused.0 c.in-Err.ensures.refused.1
+    refused_walk c.args.source c.args.store.now c.loop-next.store c.advance.new.store c.args.self.now c.loop-next.self c.advance.new.self c.args.place c.loop-next.next c.loop-next.invariant.walk (search (rules, arith)) c.in-Err.ensures.refused.0 c.in-Err.ensures.refused.1
     c.advance.ensures.capacity c.advance.ensures.counted
 
 pub returns-clause-walks : goal.returns-clause-walks
 returns-clause-walks c =
     let up : c.args.place < c.loop-next.next = search (rules, arith) in
-    walk_arrives c.args.store.now c.loop-next.store c.args.self.now c.loop-next.self c.args.place c.loop-next.next (is_ok c.answer.result) c.loop-next.invariant.walk up
+    walk_arrives c.args.source c.args.store.now c.loop-next.store c.args.self.now c.loop-next.self c.args.place c.loop-next.next (is_ok c.answer.result) c.loop-next.invariant.walk up
+
+pub returns-in-Err-clause-others : goal.returns-in-Err-clause-others
+returns-in-Err-clause-others c = walk_others c.args.source c.args.store.now c.advance.new.store c.args.self.now c.advance.new.self c.args.place false (returns-in-Err-clause-walks c)
+
+pub returns-clause-others : goal.returns-clause-others
+returns-clause-others c = walk_others c.args.source c.args.store.now c.loop-next.store c.args.self.now c.loop-next.self c.args.place (is_ok c.answer.result) (returns-clause-walks c)

@@ -8,10 +8,10 @@ use Rattle.state_cache.proofs.cache.Cache.reach.Given as goal
 abbrev pub invariant-loop-next : goal.invariant-loop-next
 invariant-loop-next l = record {
   list : l.store.list ≡ l.fn.store.list;
-  coherent : IsCoherent l.tables (marked_packets l.store) (view_of l.self);
-  next : IsNext (marked_packets l.store) (view_of l.self) l.place l.next;
-  so_far : SoFar l.tables l.fn.store l.fn.self l.place l.store l.self l.next;
-  walk : Walking l.fn.store l.fn.self l.place l.store l.self l.next;
+  coherent : IsCoherent l.tables (marked_packets l.store) (view_of l.source l.self);
+  next : IsNext (marked_packets l.store) (view_of l.source l.self) l.place l.next;
+  so_far : SoFar l.tables l.source l.fn.store l.fn.self l.place l.store l.self l.next;
+  walk : Walking l.source l.fn.store l.fn.self l.place l.store l.self l.next;
 }
 
 abbrev pub decreases-loop-next : goal.decreases-loop-next

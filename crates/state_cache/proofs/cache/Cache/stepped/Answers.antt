@@ -14,9 +14,9 @@ returns-clause-gives c =
     let s = shows es ms c.args.place c.requires in (
       s.packet,
       s.is,
-      subst (λ (bytes : List ℕ). AnswersAt c.args.place (step_of c.args.tables.now (state_from xs (view_of c.args.self.now) c.args.place) bytes) c.outcome_at.result)
+      subst (λ (bytes : List ℕ). AnswersAt c.args.place (step_of c.args.tables.now (state_from xs (view_of c.args.source c.args.self.now) c.args.place) bytes) c.outcome_at.result)
           (bytes_shown es ms c.args.place s.packet c.packet-packet.result.now s.is c.packet-packet.ensures)
-          (c.outcome_at.ensures (step_of c.args.tables.now (state_from xs (view_of c.args.self.now) c.args.place) c.packet-packet.result.now)
+          (c.outcome_at.ensures (step_of c.args.tables.now (state_from xs (view_of c.args.source c.args.self.now) c.args.place) c.packet-packet.result.now)
           (subst (λ (state : Option State). StepAnswers (step_of c.args.tables.now state c.packet-packet.result.now) c.step.result)
-          (c.state_before-state.ensures ∙ ap (λ (kept : View). state_from xs kept c.args.place) (ap view_of c.self.view_is)) c.step.ensures.answers)),
+          (c.state_before-state.ensures ∙ ap (λ (kept : View). state_from xs kept c.args.place) (ap (view_of c.args.source) c.self.view_is)) c.step.ensures.answers)),
     )
