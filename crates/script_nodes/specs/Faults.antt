@@ -19,10 +19,10 @@ abbrev pub apply_fault_word : ApplyFault → List ℕ
 apply_fault_word ApplyFault.CropOutside = codes "CropOutside"
 apply_fault_word ApplyFault.NoMemory = codes "NoMemory"
 
--- what each error means for a text: it is the first one; NoMemory comes only if there is none
-abbrev pub RefusesText : List ℕ → ScriptFault → Type 0
-RefusesText text Syntax = script_of text ≡ Err Syntax
-RefusesText text Nodes = script_of text ≡ Err Nodes
-RefusesText text Reference = script_of text ≡ Err Reference
-RefusesText text Number = script_of text ≡ Err Number
-RefusesText text NoMemory = (nodes : List Node) × (script_of text ≡ Ok nodes)
+-- what each error means for a text over this many sources: it is the first one; NoMemory comes only if there is none
+abbrev pub RefusesText : ℕ → List ℕ → ScriptFault → Type 0
+RefusesText sources text Syntax = script_of sources text ≡ Err Syntax
+RefusesText sources text Nodes = script_of sources text ≡ Err Nodes
+RefusesText sources text Reference = script_of sources text ≡ Err Reference
+RefusesText sources text Number = script_of sources text ≡ Err Number
+RefusesText sources text NoMemory = (nodes : List Node) × (script_of sources text ≡ Ok nodes)

@@ -4,22 +4,34 @@ use Rattle.pixel_planes.specs.Pictures.{PictureSamples, IsWholePicture, shown_pl
 use Rattle.pixel_planes.specs.declared.pictures.Component.{Component}
 use Rattle.script_nodes.specs.declared.nodes.Ramp.{Ramp}
 use Rattle.script_nodes.specs.declared.nodes.Node.{Node}
-use Rattle.script_nodes.specs.declared.nodes.Node.TheVariants.{Trim, Splice}
+use Rattle.script_nodes.specs.declared.nodes.Node.TheVariants.{Source, Trim, Splice}
 use Rattle.script_nodes.specs.declared.faults.ScriptFault.TheVariants.{Syntax, Nodes, Reference, Number}
 use Rattle.script_nodes.specs.Nodes.{script_of}
 use Rattle.script_nodes.specs.Lengths.{script_length}
 use Rattle.script_nodes.specs.Frames.{origin, with_step, script_frame, traced, weight_at}
 use Rattle.script_nodes.specs.Shown.{Shown, Shows, IsFollowed, weighed}
 
--- a frame of a script is the source's frame with the steps of its trace applied, whatever the source shows
+-- a frame of a script is the frame that its trace names, with the steps of the trace applied, whatever each source shows
 abbrev pub TracesAreFollowed : Type 0
-TracesAreFollowed = (n : ℕ) (nodes : List Node) (i : ℕ) → let from = script_frame with_step origin n nodes i in IsFollowed n nodes i from.frame from.steps
+TracesAreFollowed = (counts : List ℕ) (nodes : List Node) (i : ℕ) → IsFollowed counts nodes i (script_frame with_step origin counts nodes i)
 
 -- frames 1 and 2 of three, followed by all three: frame 2 of the five is the source's first
-abbrev pub WorkedSplice : Type 0
-WorkedSplice =
+abbrev pub WorkedTrim : Type 0
+WorkedTrim =
     let nodes = Trim 0 1 2 ∷ Splice 1 0 ∷ [] in
-    (script_of (codes "trim 0 1 2; splice 1 0") ≡ Ok nodes) × (script_length 3 nodes ≡ 5) × (traced 3 nodes 2 ≡ Some (origin 0)) × (traced 3 nodes 1 ≡ Some (origin 2)) × (traced 3 nodes 5 ≡ None)
+    let counts = 3 ∷ [] in
+    (script_of 1 (codes "trim 0 1 2; splice 1 0") ≡ Ok nodes) × (script_length counts nodes ≡ 5) × (traced counts nodes 2 ≡ Some (origin 0 0)) × (traced counts nodes 1 ≡ Some (origin 0 2)) × (traced counts nodes 5 ≡ None)
+
+-- a source of two frames, followed by a source of three: frame 3 of the five is frame 1 of source 1
+abbrev pub WorkedSources : Type 0
+WorkedSources =
+    let nodes = Source 1 ∷ Splice 0 1 ∷ [] in
+    let counts = 2 ∷ 3 ∷ [] in
+    (script_of 2 (codes "source 1; splice 0 1") ≡ Ok nodes) × (script_length counts nodes ≡ 5) × (traced counts nodes 1 ≡ Some (origin 0 1)) × (traced counts nodes 3 ≡ Some (origin 1 1)) × (traced counts nodes 5 ≡ None)
+
+-- splices worked through, over one source and over two
+abbrev pub WorkedSplice : Type 0
+WorkedSplice = WorkedTrim × WorkedSources
 
 -- 16 nodes in a row
 abbrev pub sixteen : List ℕ
@@ -30,8 +42,8 @@ sixteen =
 -- the errors of worked texts, each reported before the errors after it, wherever it is
 abbrev pub WorkedFaults : Type 0
 WorkedFaults =
-    (script_of (codes "-") ≡ Ok []) × (script_of (codes "blur 0") ≡ Err Syntax) × (script_of (codes "trim 1 0 1;") ≡ Err Syntax) × (script_of (sixteen ++ codes ";trim 9 0 1") ≡ Err Nodes) × (script_of (sixteen ++ codes ";blur 0") ≡ Err Syntax)
-    × (script_of (codes "crop 0 1 0 4 4;trim 2 0 1") ≡ Err Reference) × (script_of (codes "trim 1 0 1") ≡ Err Reference) × (script_of (codes "crop 0 1 0 4 4") ≡ Err Number) × (script_of (codes "trim 0 0 4294967296") ≡ Err Number)
+    (script_of 1 (codes "-") ≡ Ok []) × (script_of 1 (codes "blur 0") ≡ Err Syntax) × (script_of 1 (codes "trim 1 0 1;") ≡ Err Syntax) × (script_of 1 (sixteen ++ codes ";trim 9 0 1") ≡ Err Nodes) × (script_of 1 (sixteen ++ codes ";blur 0") ≡ Err Syntax)
+    × (script_of 1 (codes "crop 0 1 0 4 4;trim 2 0 1") ≡ Err Reference) × (script_of 1 (codes "trim 1 0 1") ≡ Err Reference) × (script_of 2 (codes "source 2") ≡ Err Reference) × (script_of 1 (codes "crop 0 1 0 4 4") ≡ Err Number) × (script_of 1 (codes "trim 0 0 4294967296") ≡ Err Number)
 
 -- the whole weight keeps a sample, none leaves only black, and half of it takes the brightest luma to 126
 abbrev pub WorkedWeights : Type 0

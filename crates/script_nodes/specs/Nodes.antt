@@ -6,7 +6,7 @@ use Rattle.std.specs.Str.{bytes_eq}
 use Rattle.script_nodes.specs.declared.nodes.Area.{Area}
 use Rattle.script_nodes.specs.declared.nodes.Ramp.{Ramp}
 use Rattle.script_nodes.specs.declared.nodes.Node.{Node}
-use Rattle.script_nodes.specs.declared.nodes.Node.TheVariants.{Trim, Splice, Crop, Fade}
+use Rattle.script_nodes.specs.declared.nodes.Node.TheVariants.{Source, Trim, Splice, Crop, Fade}
 use Rattle.script_nodes.specs.declared.faults.ScriptFault.{ScriptFault}
 use Rattle.script_nodes.specs.declared.faults.ScriptFault.TheVariants.{Syntax, Nodes, Reference, Number}
 use Rattle.script_nodes.specs.Words.{words_of, number_of}
@@ -24,27 +24,31 @@ at_end node [] = Some node
 at_end node (word ∷ words) = None
 
 -- each kind of node, from the words after its name
+abbrev pub source_by : List (List ℕ) → Option Node
+source_by words = with_number (λ number. at_end (Source number)) words
+
 abbrev pub trim_by : List (List ℕ) → Option Node
-trim_by words = with_number (λ source. with_number (λ first. with_number (λ count. at_end (Trim source first count)))) words
+trim_by words = with_number (λ clip. with_number (λ first. with_number (λ count. at_end (Trim clip first count)))) words
 
 abbrev pub splice_by : List (List ℕ) → Option Node
 splice_by words = with_number (λ front. with_number (λ back. at_end (Splice front back))) words
 
 abbrev pub crop_by : List (List ℕ) → Option Node
 crop_by words =
-    with_number (λ source. with_number (λ x. with_number (λ y. with_number (λ width. with_number (λ height.
-    at_end (Crop source (record { x = x; y = y; width = width; height = height }))))))) words
+    with_number (λ clip. with_number (λ x. with_number (λ y. with_number (λ width. with_number (λ height.
+    at_end (Crop clip (record { x = x; y = y; width = width; height = height }))))))) words
 
 abbrev pub fade_by : List (List ℕ) → Option Node
 fade_by words =
-    with_number (λ source. with_number (λ first. with_number (λ count. with_number (λ start. with_number (λ end.
-    at_end (Fade source (record { first = first; count = count; start = start; end = end }))))))) words
+    with_number (λ clip. with_number (λ first. with_number (λ count. with_number (λ start. with_number (λ end.
+    at_end (Fade clip (record { first = first; count = count; start = start; end = end }))))))) words
 
 -- the node of these words
 abbrev pub node_by_words : List (List ℕ) → Option Node
 node_by_words [] = None
 node_by_words (name ∷ words) =
-    if bytes_eq name (codes "trim") then trim_by words
+    if bytes_eq name (codes "source") then source_by words
+    else if bytes_eq name (codes "trim") then trim_by words
     else if bytes_eq name (codes "splice") then splice_by words
     else if bytes_eq name (codes "crop") then crop_by words
     else if bytes_eq name (codes "fade") then fade_by words
@@ -81,15 +85,24 @@ nodes_of text = if is_dash (words_of text) then Some [] else nodes_by_parts (sli
 
 -- whether a node uses only nodes below this number
 abbrev pub uses_below : ℕ → Node → Bool
-uses_below own (Trim source first count) = nat_lt source own
+uses_below own (Source number) = true
+uses_below own (Trim clip first count) = nat_lt clip own
 uses_below own (Splice front back) = nat_lt front own && nat_lt back own
-uses_below own (Crop source area) = nat_lt source own
-uses_below own (Fade source ramp) = nat_lt source own
+uses_below own (Crop clip area) = nat_lt clip own
+uses_below own (Fade clip ramp) = nat_lt clip own
 
 -- whether each node uses only nodes below its own number; the first one has this number
 abbrev pub all_use_below : ℕ → List Node → Bool
 all_use_below own [] = true
 all_use_below own (node ∷ nodes) = uses_below own node && all_use_below (own + 1) nodes
+
+-- whether the source that a node names, if it names one, is one of this many
+abbrev pub has_source : ℕ → Node → Bool
+has_source sources (Source number) = nat_lt number sources
+has_source sources (Trim clip first count) = true
+has_source sources (Splice front back) = true
+has_source sources (Crop clip area) = true
+has_source sources (Fade clip ramp) = true
 
 -- whether a number is at most 4,294,967,295
 abbrev pub is_number : ℕ → Bool
@@ -113,22 +126,23 @@ is_area area = is_place area.x && is_place area.y && is_side area.width && is_si
 abbrev pub is_ramp : Ramp → Bool
 is_ramp ramp = is_number ramp.first && is_number ramp.count && nat_lt 0 ramp.count && is_weight ramp.start && is_weight ramp.end
 
--- whether the numbers of a node, except the numbers of nodes that it uses, are allowed
+-- whether the numbers of a node, except the numbers of nodes and sources that it uses, are allowed
 abbrev pub has_numbers : Node → Bool
-has_numbers (Trim source first count) = is_number first && is_number count
+has_numbers (Source number) = true
+has_numbers (Trim clip first count) = is_number first && is_number count
 has_numbers (Splice front back) = true
-has_numbers (Crop source area) = is_area area
-has_numbers (Fade source ramp) = is_ramp ramp
+has_numbers (Crop clip area) = is_area area
+has_numbers (Fade clip ramp) = is_ramp ramp
 
--- the script of these nodes, or their first error
-abbrev pub script_by : Option (List Node) → Result (List Node) ScriptFault
-script_by None = Err Syntax
-script_by (Some nodes) =
+-- the script of these nodes over this many sources, or their first error
+abbrev pub script_by : ℕ → Option (List Node) → Result (List Node) ScriptFault
+script_by sources None = Err Syntax
+script_by sources (Some nodes) =
     if nat_lt 16 (length nodes) then Err Nodes
-    else if not (all_use_below 1 nodes) then Err Reference
+    else if not (all_use_below 1 nodes && list_all (has_source sources) nodes) then Err Reference
     else if not (list_all has_numbers nodes) then Err Number
     else Ok nodes
 
--- the script of a text, or its first error
-abbrev pub script_of : List ℕ → Result (List Node) ScriptFault
-script_of text = script_by (nodes_of text)
+-- the script of a text over this many sources, or its first error
+abbrev pub script_of : ℕ → List ℕ → Result (List Node) ScriptFault
+script_of sources text = script_by sources (nodes_of text)

@@ -13,12 +13,12 @@ pub record IsScript (nodes : List Node) : Type 0 where
   pub below : all_use_below 1 nodes ≡ true
   pub numbers : list_all has_numbers nodes ≡ true
 
--- the nodes of a script, and the numbers of frames of its clips, none above 68,719,476,736
-pub record Given (nodes : List Node) (counts : List ℕ) : Type 0 where
+-- the nodes of a script, and the numbers of frames of its clips for these sources, none above 68,719,476,736
+pub record Given (counts : List ℕ) (nodes : List Node) (clip_lengths : List ℕ) : Type 0 where
   pub script : IsScript nodes
-  pub counted : counts ≡ lengths (slice_index counts 0) nodes
-  pub small : (k : ℕ) → slice_index counts k ≤ 68719476736
+  pub counted : clip_lengths ≡ lengths counts nodes
+  pub small : (k : ℕ) → slice_index clip_lengths k ≤ 68719476736
 
--- a frame of the source and steps as an origin
-abbrev pub origin_of : ℕ → List Step → Origin
-origin_of frame steps = record { frame = frame; steps = steps }
+-- a source, a frame of it and steps as an origin
+abbrev pub origin_of : ℕ → ℕ → List Step → Origin
+origin_of source frame steps = record { source = source; frame = frame; steps = steps }

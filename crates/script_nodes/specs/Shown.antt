@@ -8,7 +8,7 @@ use Rattle.script_nodes.specs.declared.nodes.Area.{Area}
 use Rattle.script_nodes.specs.declared.traces.Step.{Step}
 use Rattle.script_nodes.specs.declared.traces.Step.TheVariants.{Cut, Weigh}
 use Rattle.script_nodes.specs.declared.nodes.Node.{Node}
-use Rattle.script_nodes.specs.Frames.{script_frame, after_steps}
+use Rattle.script_nodes.specs.Frames.{Origin, script_frame, after_steps}
 
 -- the shown size in luma samples, and the shown sample in each column and row of a component
 pub record Shown : Type 0 where
@@ -76,9 +76,9 @@ use_step step (Some shown) = step_shown step shown
 abbrev pub steps_shown : List Step → Shown → Option Shown
 steps_shown steps shown = after_steps use_step steps (Some shown)
 
--- frame i of a script shows the source's frame with steps applied, when the source of n frames shows this
-abbrev pub IsFollowed : ℕ → List Node → ℕ → ℕ → List Step → Type 0
-IsFollowed n nodes i frame steps = (source : ℕ → Option Shown) → script_frame use_step source n nodes i ≡ after_steps use_step steps (source frame)
+-- frame i of a script is the frame of this origin with its steps applied, whatever each source shows
+abbrev pub IsFollowed : List ℕ → List Node → ℕ → Origin → Type 0
+IsFollowed counts nodes i from = (sources : ℕ → ℕ → Option Shown) → script_frame use_step sources counts nodes i ≡ after_steps use_step from.steps (sources from.source from.frame)
 
 -- the size of a picture
 abbrev pub Size : Type 0

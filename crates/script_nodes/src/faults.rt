@@ -12,8 +12,8 @@ pub enum ScriptFault {
     /// More than 16 nodes.
     #[error("the script has more than 16 nodes")]
     Nodes,
-    /// A node that uses a node that is not below its own number.
-    #[error("a node uses a node that is not before it")]
+    /// A node that uses a node that is not below its own number, or a source that does not exist.
+    #[error("a node uses a node that is not before it, or a source that does not exist")]
     Reference,
     /// A number that is not allowed at its position.
     #[error("a number of the script is not allowed")]

@@ -2,12 +2,13 @@
 
 ghost use Rattle.script_nodes.specs.Laws.{TracesAreFollowed, WorkedSplice, WorkedFaults, WorkedWeights, RampsMeetTheirEnds, ShownSamplesAreSame};
 
-/// A frame of a script is the source's frame with the steps of its trace applied.
+/// A frame of a script is the frame that its trace names, with the steps of the trace applied.
 pub fn traces_are_followed()
     ensures { TracesAreFollowed }
 {}
 
-/// A clip that is spliced with the source: its text, its length and the origins of its frames.
+/// A clip that is spliced with its source, and a source that is spliced with another: the text, the length and the
+/// origins of frames.
 pub fn worked_splice()
     ensures { WorkedSplice }
 {}

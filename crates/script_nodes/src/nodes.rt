@@ -1,5 +1,5 @@
 ghost use Rattle.std.specs.Prelude.{◌≡◌, ℕ, ◌≤◌, true, length, slice_index};
-ghost use Rattle.script_nodes.specs.Nodes.{uses_below, has_numbers, is_place, is_side, is_area, is_ramp};
+ghost use Rattle.script_nodes.specs.Nodes.{uses_below, has_source, has_numbers, is_place, is_side, is_area, is_ramp};
 ghost use Rattle.script_nodes.specs.Lengths.{node_length};
 ghost use Rattle.script_nodes.specs.Frames.{weight_at};
 
@@ -43,28 +43,44 @@ pub struct Ramp {
     pub end: u64,
 }
 
-/// A clip that is made of others, which are given by their numbers: 0 is the source, and the nodes
-/// of a script are numbered from 1 in their order.
+/// A clip that is a source, or is made of other clips, which are given by their numbers: 0 is source 0,
+/// and the nodes of a script are numbered from 1 in their order.
+///
+/// A source is a stream that the script is applied to, with the frames that it shows. Sources are
+/// numbered from 0.
 #[derive(Clone, Copy, Debug, PartialEq, Eq)]
 pub enum Node {
+    /// All frames of the source with this number.
+    Source { number: u64 },
     /// At most `count` frames of a clip, starting at frame `first`.
-    Trim { source: u64, first: u64, count: u64 },
+    Trim { clip: u64, first: u64, count: u64 },
     /// The frames of one clip, followed by the frames of another.
     Splice { front: u64, back: u64 },
     /// An area of each frame of a clip.
-    Crop { source: u64, area: Area },
+    Crop { clip: u64, area: Area },
     /// The frames of a clip, each at its weight with black at the rest.
-    Fade { source: u64, ramp: Ramp },
+    Fade { clip: u64, ramp: Ramp },
 }
 
 /// The node that fills unused slots: it has no frames.
 impl Default for Node {
     fn default() -> Self {
         Node::Trim {
-            source: 0,
+            clip: 0,
             first: 0,
             count: 0,
         }
+    }
+}
+
+/// The number of frames of a source: 0 if `counts` does not have it.
+pub(crate) fn count_of(counts: &[u64], source: u64) -> u64
+    ensures { result ≡ slice_index counts.now source }
+{
+    if source < counts.len() as u64 {
+        counts[source as usize]
+    } else {
+        0
     }
 }
 
@@ -124,40 +140,50 @@ impl Node {
         ensures { result ≡ uses_below own self.now }
     {
         match self {
-            Node::Trim { source, .. } => *source < own,
+            Node::Source { .. } => true,
+            Node::Trim { clip, .. } => *clip < own,
             Node::Splice { front, back } => *front < own && *back < own,
-            Node::Crop { source, .. } => *source < own,
-            Node::Fade { source, .. } => *source < own,
+            Node::Crop { clip, .. } => *clip < own,
+            Node::Fade { clip, .. } => *clip < own,
         }
     }
 
-    /// Whether the numbers of the node, except clip numbers, are allowed in a script.
+    /// Whether the source that the node names, if it names one, is one of this many.
+    pub(crate) fn has_source(&self, sources: u64) -> bool
+        ensures { result ≡ has_source sources self.now }
+    {
+        match self {
+            Node::Source { number } => *number < sources,
+            Node::Trim { .. } | Node::Splice { .. } | Node::Crop { .. } | Node::Fade { .. } => true,
+        }
+    }
+
+    /// Whether the numbers of the node, except numbers of clips and sources, are allowed in a script.
     pub(crate) fn has_numbers(&self) -> bool
         ensures { result ≡ has_numbers self.now }
     {
         match self {
             Node::Trim { first, count, .. } => *first <= MOST_NUMBER && *count <= MOST_NUMBER,
-            Node::Splice { .. } => true,
+            Node::Source { .. } | Node::Splice { .. } => true,
             Node::Crop { area, .. } => area.is_allowed(),
             Node::Fade { ramp, .. } => ramp.is_allowed(),
         }
     }
 
-    /// The number of frames of the node. `below` has the number of frames of each clip below it, the source's
-    /// first, each at most 2^62.
-    pub(crate) fn length(&self, below: &[u64]) -> u64
+    /// The number of frames of the node. `counts` has the number of frames of each source, and `below` that
+    /// of each clip below the node, source 0 first, each at most 2^62.
+    pub(crate) fn length(&self, counts: &[u64], below: &[u64]) -> u64
         requires uses { uses_below (length below.now) self.now ≡ true }
         requires small { (k : ℕ) → slice_index below.now k ≤ 4611686018427387904 }
-        ensures { result ≡ node_length below.now self.now }
+        ensures { result ≡ node_length counts.now below.now self.now }
     {
         match self {
-            Node::Trim {
-                source,
-                first,
-                count,
-            } => (*count).min(below[*source as usize].saturating_sub(*first)),
+            Node::Source { number } => count_of(counts, *number),
+            Node::Trim { clip, first, count } => {
+                (*count).min(below[*clip as usize].saturating_sub(*first))
+            }
             Node::Splice { front, back } => below[*front as usize] + below[*back as usize],
-            Node::Crop { source, .. } | Node::Fade { source, .. } => below[*source as usize],
+            Node::Crop { clip, .. } | Node::Fade { clip, .. } => below[*clip as usize],
         }
     }
 }

@@ -1,7 +1,7 @@
 //! Reads one node of a script's text.
 ghost use Rattle.std.specs.Prelude.{◌≡◌, ℕ, List, Option, None, IfSome, IfNone};
 ghost use Rattle.script_nodes.specs.Words.{words_of};
-ghost use Rattle.script_nodes.specs.Nodes.{with_number, at_end, trim_by, splice_by, crop_by, fade_by, node_of};
+ghost use Rattle.script_nodes.specs.Nodes.{with_number, at_end, source_by, trim_by, splice_by, crop_by, fade_by, node_of};
 ghost use Rattle.script_nodes.specs.declared.nodes.Node.{Node};
 
 use crate::nodes::{Area, Node, Ramp};
@@ -29,20 +29,20 @@ fn ended(node: Node, rest: &[u8]) -> Option<Node>
     }
 }
 
+fn source_node(words: &[u8]) -> Option<Node>
+    ensures { result ≡ source_by (words_of words.now) }
+{
+    let (number, rest) = next_number(words)?;
+    ended(Node::Source { number }, rest)
+}
+
 fn trim_node(words: &[u8]) -> Option<Node>
     ensures { result ≡ trim_by (words_of words.now) }
 {
-    let (source, rest) = next_number(words)?;
+    let (clip, rest) = next_number(words)?;
     let (first, rest) = next_number(rest)?;
     let (count, rest) = next_number(rest)?;
-    ended(
-        Node::Trim {
-            source,
-            first,
-            count,
-        },
-        rest,
-    )
+    ended(Node::Trim { clip, first, count }, rest)
 }
 
 fn splice_node(words: &[u8]) -> Option<Node>
@@ -56,7 +56,7 @@ fn splice_node(words: &[u8]) -> Option<Node>
 fn crop_node(words: &[u8]) -> Option<Node>
     ensures { result ≡ crop_by (words_of words.now) }
 {
-    let (source, rest) = next_number(words)?;
+    let (clip, rest) = next_number(words)?;
     let (x, rest) = next_number(rest)?;
     let (y, rest) = next_number(rest)?;
     let (width, rest) = next_number(rest)?;
@@ -67,13 +67,13 @@ fn crop_node(words: &[u8]) -> Option<Node>
         width,
         height,
     };
-    ended(Node::Crop { source, area }, rest)
+    ended(Node::Crop { clip, area }, rest)
 }
 
 fn fade_node(words: &[u8]) -> Option<Node>
     ensures { result ≡ fade_by (words_of words.now) }
 {
-    let (source, rest) = next_number(words)?;
+    let (clip, rest) = next_number(words)?;
     let (first, rest) = next_number(rest)?;
     let (count, rest) = next_number(rest)?;
     let (start, rest) = next_number(rest)?;
@@ -84,7 +84,7 @@ fn fade_node(words: &[u8]) -> Option<Node>
         start,
         end,
     };
-    ended(Node::Fade { source, ramp }, rest)
+    ended(Node::Fade { clip, ramp }, rest)
 }
 
 /// The node that a text writes, or `None` if it does not write one.
@@ -92,7 +92,9 @@ pub(crate) fn read_node(text: &[u8]) -> Option<Node>
     ensures { result ≡ node_of text.now }
 {
     let (name, words) = next_word(text)?;
-    if name == b"trim".as_slice() {
+    if name == b"source".as_slice() {
+        source_node(words)
+    } else if name == b"trim".as_slice() {
         trim_node(words)
     } else if name == b"splice".as_slice() {
         splice_node(words)

@@ -2,7 +2,7 @@
 ghost use Rattle.std.specs.Prelude.{◌≡◌, ◌<◌, ◌≤◌, ◌==◌, Ok, Some, length, IfOk, IfErr, IfSome};
 ghost use Rattle.std.specs.List.{list_all, slice_split};
 ghost use Rattle.script_nodes.specs.Words.{words_of};
-ghost use Rattle.script_nodes.specs.Nodes.{is_dash, nodes_by_parts, nodes_of, script_of, all_use_below, has_numbers};
+ghost use Rattle.script_nodes.specs.Nodes.{is_dash, nodes_by_parts, nodes_of, script_of, all_use_below, has_source, has_numbers};
 ghost use Rattle.script_nodes.specs.Reading.{IsCut, RefusesParts};
 ghost use Rattle.script_nodes.specs.Faults.{RefusesText};
 
@@ -89,19 +89,25 @@ fn all_use_below(nodes: &[Node]) -> bool
     true
 }
 
+fn all_have_sources(nodes: &[Node], sources: u64) -> bool
+    ensures { result ≡ list_all (has_source sources) nodes.now }
+{
+    nodes.iter().all(|node| node.has_source(sources))
+}
+
 fn all_have_numbers(nodes: &[Node]) -> bool
     ensures { result ≡ list_all has_numbers nodes.now }
 {
     nodes.iter().all(|node| node.has_numbers())
 }
 
-/// The nodes of the script that a text writes, or its first error.
-pub(crate) fn read_script(text: &[u8]) -> Result<Nodes, ScriptFault>
-    ensures value { IfOk result (λ nodes. script_of text.now ≡ Ok nodes.items) }
-    ensures refused { IfErr result (RefusesText text.now) }
+/// The nodes of the script that a text writes over this many sources, or its first error.
+pub(crate) fn read_script(text: &[u8], sources: u64) -> Result<Nodes, ScriptFault>
+    ensures value { IfOk result (λ nodes. script_of sources text.now ≡ Ok nodes.items) }
+    ensures refused { IfErr result (RefusesText sources text.now) }
 {
     let nodes = read_text(text)?;
-    if !all_use_below(&nodes) {
+    if !all_use_below(&nodes) || !all_have_sources(&nodes, sources) {
         return Err(ScriptFault::Reference);
     }
     if !all_have_numbers(&nodes) {

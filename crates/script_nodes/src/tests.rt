@@ -21,15 +21,24 @@ const BROKEN: &[u8] = b"trim 0 0 1;trim 0 0 1;trim 0 0 1;trim 0 0 1;trim 0 0 1;t
 trim 0 0 1;trim 0 0 1;trim 0 0 1;trim 0 0 1;trim 0 0 1;trim 0 0 1;trim 0 0 1;trim 0 0 1;trim 0 0 1;\
 trim 0 0 1;trim 0 0 1;blur 0";
 
-/// The name of the error of a text, or the number of frames that its script makes of three.
+/// The name of the error of a text over one source, or the number of frames that its script makes of three.
 fn parsed(alloc: Global, text: &[u8]) -> (&'static str, u64) {
-    match Script::parse(alloc, text) {
-        Ok(script) => ("script", script.length(3)),
+    match Script::parse(alloc, text, 1) {
+        Ok(script) => ("script", script.length(&[3])),
         Err(fault) => (fault.word(), 0),
     }
 }
 
-const TEXTS: [(&[u8], (&str, u64)); 29] = [
+/// The name of the error of a text over two sources, or the number of frames that its script makes of two
+/// and three.
+fn parsed_of_two(alloc: Global, text: &[u8]) -> (&'static str, u64) {
+    match Script::parse(alloc, text, 2) {
+        Ok(script) => ("script", script.length(&[2, 3])),
+        Err(fault) => (fault.word(), 0),
+    }
+}
+
+const TEXTS: [(&[u8], (&str, u64)); 35] = [
     (b"-", ("script", 3)),
     (b"  - ", ("script", 3)),
     (SIXTEEN, ("script", 1)),
@@ -39,6 +48,8 @@ const TEXTS: [(&[u8], (&str, u64)); 29] = [
     (b"trim 0 4294967295 4294967295", ("script", 0)),
     (b"crop 0 4294967294 0 16383 16383", ("script", 3)),
     (b"fade 0 0 1 0 256;trim 1 0 2", ("script", 2)),
+    (b"source 0", ("script", 3)),
+    (b"source 00; splice 0 1", ("script", 6)),
     (b"", ("Syntax", 0)),
     (b";", ("Syntax", 0)),
     (b"trim 0 0 1;", ("Syntax", 0)),
@@ -49,9 +60,13 @@ const TEXTS: [(&[u8], (&str, u64)); 29] = [
     (b"trim 0 0 1 1", ("Syntax", 0)),
     (b"trim 0 0 +1", ("Syntax", 0)),
     (b"trim 0 0 00000000001", ("Syntax", 0)),
+    (b"source", ("Syntax", 0)),
+    (b"source 0 0", ("Syntax", 0)),
+    (b"source 1; blur 0", ("Syntax", 0)),
     (BROKEN, ("Syntax", 0)),
     (SEVENTEEN, ("Nodes", 0)),
     (b"trim 1 0 1", ("Reference", 0)),
+    (b"source 1", ("Reference", 0)),
     (b"splice 0 2;trim 1 0 4294967296", ("Reference", 0)),
     (b"crop 0 1 0 4 4", ("Number", 0)),
     (b"crop 0 0 0 0 4", ("Number", 0)),
@@ -68,10 +83,96 @@ fn reads_each_text(rt: HostRuntime) {
     }
 }
 
+const TEXTS_OF_TWO: [(&[u8], (&str, u64)); 9] = [
+    (b"-", ("script", 2)),
+    (b"source 0", ("script", 2)),
+    (b"source 1", ("script", 3)),
+    (b"source 1; splice 0 1", ("script", 5)),
+    (
+        b"splice 0 0; source 1; trim 2 1 9; splice 1 3",
+        ("script", 6),
+    ),
+    (b"source 2", ("Reference", 0)),
+    (b"source 1; source 10; crop 0 1 0 4 4", ("Reference", 0)),
+    (b"source 9999999999", ("Reference", 0)),
+    (b"source 1; trim 1 4294967296 1", ("Number", 0)),
+];
+
+#[test]
+fn reads_each_text_over_two_sources(rt: HostRuntime) {
+    for (text, want) in TEXTS_OF_TWO {
+        assert_eq!(rt; parsed_of_two(rt.alloc(), text), want, "at {text:?}");
+    }
+}
+
 /// The frame of a source of three that a frame of a script comes from.
-fn source_of(alloc: Global, text: &[u8], frame: u64) -> Result<Option<u64>, ScriptFault> {
-    let script = Script::parse(alloc, text)?;
-    Ok(script.trace(3, frame).map(|found| found.0))
+fn frame_of(alloc: Global, text: &[u8], frame: u64) -> Result<Option<u64>, ScriptFault> {
+    let script = Script::parse(alloc, text, 1)?;
+    Ok(script.trace(&[3], frame).map(|found| found.1))
+}
+
+/// The source and its frame that a frame of a script over sources of two, three and four comes from.
+fn origin_of(alloc: Global, text: &[u8], frame: u64) -> Result<Option<(usize, u64)>, ScriptFault> {
+    let script = Script::parse(alloc, text, 3)?;
+    Ok(
+        script
+            .trace(&[2, 3, 4], frame)
+            .map(|found| (found.0, found.1)),
+    )
+}
+
+#[test]
+fn names_the_source_of_each_frame(rt: HostRuntime) -> Result<(), Fail> {
+    for (text, frame, want) in ORIGINS {
+        assert_eq!(rt;
+            origin_of(rt.alloc(), text, frame)?,
+            want,
+            "at {text:?} {frame}"
+        );
+    }
+    Ok(())
+}
+
+const ORIGINS: [(&[u8], u64, Option<(usize, u64)>); 14] = [
+    (b"source 1; splice 0 1", 0, Some((0, 0))),
+    (b"source 1; splice 0 1", 1, Some((0, 1))),
+    (b"source 1; splice 0 1", 2, Some((1, 0))),
+    (b"source 1; splice 0 1", 4, Some((1, 2))),
+    (b"source 1; splice 0 1", 5, None),
+    (b"source 2; trim 1 1 2; splice 2 0", 1, Some((2, 2))),
+    (b"source 2; trim 1 1 2; splice 2 0", 2, Some((0, 0))),
+    (b"source 2; trim 1 1 2; splice 2 0", 4, None),
+    (b"source 2; fade 1 0 4 0 256", 3, Some((2, 3))),
+    (b"-", 1, Some((0, 1))),
+    (b"source 0", 1, Some((0, 1))),
+    (b"source 0", 2, None),
+    (b"source 0; splice 1 0", 3, Some((0, 1))),
+    (b"splice 0 0", 3, Some((0, 1))),
+];
+
+#[test]
+fn a_source_without_a_count_has_no_frames(rt: HostRuntime) -> Result<(), Fail> {
+    let script = Script::parse(rt.alloc(), b"source 1; splice 1 0", 2)?;
+    assert_eq!(rt; script.length(&[3]), 3);
+    assert_eq!(rt; script.length(&[]), 0);
+    assert_eq!(rt;
+        script.trace(&[3], 2).map(|found| (found.0, found.1)),
+        Some((0, 2))
+    );
+    assert!(rt; script.trace(&[], 0).is_none());
+    Ok(())
+}
+
+#[test]
+fn crops_and_fades_another_source(rt: HostRuntime) -> Result<(), Fail> {
+    let script = Script::parse(rt.alloc(), b"source 1; crop 1 2 4 6 8; fade 2 1 2 0 256", 2)?;
+    let (source, frame, trace) = script.trace(&[1, 3], 2).ok_or("no frame")?;
+    assert_eq!(rt; (source, frame), (1, 2));
+    assert_eq!(rt; trace.steps().len(), 2);
+    assert!(rt; trace.steps().get(1) == Some(&Step::Weigh(128)));
+    assert_eq!(rt; trace.size(8, 12), Ok((6, 8)));
+    assert_eq!(rt; trace.size(7, 12), Err(CropOutside));
+    Ok(())
 }
 
 #[test]
@@ -85,24 +186,25 @@ fn tells_where_frames_come_from(rt: HostRuntime) -> Result<(), Fail> {
         (5, None),
         (u64::MAX, None),
     ] {
-        assert_eq!(rt; source_of(rt.alloc(), text, frame)?, want, "at {frame}");
+        assert_eq!(rt; frame_of(rt.alloc(), text, frame)?, want, "at {frame}");
     }
     let script = Script::parse(
         rt.alloc(),
         b"crop 0 2 4 6 8; fade 1 1 2 0 256; crop 2 0 0 2 2",
+        1,
     )?;
-    for (_, trace) in script.trace(3, 2) {
+    for (_, _, trace) in script.trace(&[3], 2) {
         assert_eq!(rt; trace.steps().len(), 3);
         assert!(rt; trace.steps().get(1) == Some(&Step::Weigh(128)));
         assert_eq!(rt; trace.size(8, 12), Ok((2, 2)));
         assert_eq!(rt; trace.size(7, 12), Err(CropOutside));
     }
-    let faded = Script::parse(rt.alloc(), b"trim 0 1 2; fade 1 0 2 256 0")?;
-    for (source, trace) in faded.trace(3, 0) {
-        assert_eq!(rt; source, 1);
+    let faded = Script::parse(rt.alloc(), b"trim 0 1 2; fade 1 0 2 256 0", 1)?;
+    for (source, frame, trace) in faded.trace(&[3], 0) {
+        assert_eq!(rt; (source, frame), (0, 1));
         assert!(rt; trace.steps() == [Step::Weigh(256)].as_slice());
     }
-    assert_eq!(rt; Script::empty(rt.alloc()).length(3), 3);
+    assert_eq!(rt; Script::empty(rt.alloc()).length(&[3]), 3);
     Ok(())
 }
 
@@ -134,8 +236,8 @@ fn numbered(alloc: Global, width: u16) -> Result<Picture, NoMemory>
 
 /// A script applied to its first frame.
 fn first_frame(alloc: Global, text: &[u8], picture: &Picture) -> Result<Picture, Fail> {
-    let script = Script::parse(alloc, text)?;
-    let (_, trace) = script.trace(1, 0).ok_or("no frame")?;
+    let script = Script::parse(alloc, text, 1)?;
+    let (_, _, trace) = script.trace(&[1], 0).ok_or("no frame")?;
     Ok(apply(alloc, picture, &trace)?)
 }
 
@@ -240,8 +342,8 @@ fn crops_a_picture(rt: HostRuntime) -> Result<(), Fail> {
 
 /// The name of the error of a script's first frame, or `picture`.
 fn made(alloc: Global, text: &[u8], picture: &Picture) -> Result<&'static str, Fail> {
-    let script = Script::parse(alloc, text)?;
-    let (_, trace) = script.trace(1, 0).ok_or("no frame")?;
+    let script = Script::parse(alloc, text, 1)?;
+    let (_, _, trace) = script.trace(&[1], 0).ok_or("no frame")?;
     Ok(apply(alloc, picture, &trace).map_or_else(ApplyFault::word, |_| "picture"))
 }
 

@@ -25,7 +25,7 @@ impl Default for Step {
     }
 }
 
-/// The steps to apply to a frame of the source, in order: at most 16.
+/// The steps to apply to a frame of a source, in order: at most 16.
 ///
 /// The width and height of each area are 1 to 16,383, and each weight is at most 256.
 #[derive(Debug, Drop)]

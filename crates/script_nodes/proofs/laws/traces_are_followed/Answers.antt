@@ -3,4 +3,4 @@ use Rattle.script_nodes.proofs.Followed.{trace_followed}
 use Rattle.script_nodes.proofs.laws.traces_are_followed.Goals as goal
 
 pub returns : goal.returns
-returns c = λ n nodes i source. trace_followed use_step source n nodes i
+returns c = λ counts nodes i sources. trace_followed use_step sources counts nodes i

@@ -1,13 +1,13 @@
 use Rattle.std.specs.Prelude.{slice_index, slice_index_or}
-use Rattle.std.proofs.Common.{◌≡◌, ◌+◌, ◌≤◌, ℕ, List, [], ◌∷◌, ◌++◌, length, ap, ◌∙◌, arith}
-use Rattle.script_nodes.specs.declared.nodes.Node.TheVariants.{Trim}
+use Rattle.std.proofs.Common.{◌≡◌, ◌+◌, ◌≤◌, ℕ, List, [], ◌∷◌, ◌++◌, length, refl, ap, ◌∙◌, arith}
+use Rattle.script_nodes.specs.declared.nodes.Node.TheVariants.{Source}
 use Rattle.script_nodes.specs.Lengths.{node_length}
 use Rattle.script_nodes.proofs.Uses.{all_left}
-use Rattle.script_nodes.proofs.Counts.{counted_first, counted_next, counted_bound, counted_all, counted_source, counted_given}
+use Rattle.script_nodes.proofs.Counts.{counted_first, counted_next, counted_bound, counted_all, counted_given}
 use Rattle.script_nodes.proofs.scripts.lengths_of.Goals as goal
 
 pub loop-node-init : goal.loop-node-init
-loop-node-init c = counted_first _ _ _ (c.push.ensures.items ∙ ap (λ (l : List ℕ). l ++ c.args.n ∷ []) c.new-found.ensures) c.requires.few c.requires.script.below
+loop-node-init c = counted_first _ _ _ (c.push.ensures.items ∙ rw (c.new-found.ensures, c.count_of.ensures) refl) c.requires.few c.requires.script.below
 
 pub length-length-requires-clause-uses : goal.length-length-requires-clause-uses
 length-length-requires-clause-uses c =
@@ -21,14 +21,11 @@ length-length-requires-clause-small c = λ k.
 
 pub loop-node-preserved : goal.loop-node-preserved
 loop-node-preserved c =
-    counted_next _ _ _ _ c.loop-node.node-index (Trim 0 0 0) c.loop-node.invariant c.loop-node-test.true
-    (c.push-in-loop-node.ensures.items ∙ ap (λ (k : ℕ). c.loop-node.found.items ++ k ∷ []) (c.length-length.ensures ∙ ap (λ (l : List ℕ). node_length l (slice_index_or c.args.nodes.now c.loop-node.node-index (Trim 0 0 0))) c.deref.ensures.0))
+    counted_next _ _ _ _ c.loop-node.node-index (Source 0) c.requires.few c.loop-node.invariant c.loop-node-test.true
+    (c.push-in-loop-node.ensures.items ∙ ap (λ (k : ℕ). c.loop-node.found.items ++ k ∷ []) (c.length-length.ensures ∙ ap (λ (l : List ℕ). node_length c.args.counts.now l (slice_index_or c.args.nodes.now c.loop-node.node-index (Source 0))) c.deref.ensures.0))
 
 pub returns-clause-value : goal.returns-clause-value
 returns-clause-value c = counted_all _ _ _ _ c.loop-node.invariant c.loop-node-test.false
-
-pub returns-clause-first : goal.returns-clause-first
-returns-clause-first c = counted_source _ _ _ c.loop-node.node-index c.loop-node.invariant c.loop-node-test.false
 
 pub returns-clause-long : goal.returns-clause-long
 returns-clause-long c = omega (arith, c.loop-node.invariant.long, c.loop-node-test.false, c.loop-node.auto.node-index-end)
