@@ -1,5 +1,5 @@
 -- Each request list has a meaning in which nothing is out of memory.
-use Rattle.std.proofs.Common.{◌≡◌, ℕ, zero, suc, List, [], ◌∷◌, Bool, true, false, cond, Option, Some, None, Result, Ok, Err, get_or, option_map, refl, ap, arith}
+use Rattle.std.proofs.Common.{◌≡◌, ℕ, zero, suc, List, [], ◌∷◌, Bool, true, false, cond, Option, Some, None, Result, Ok, Err, get_or, length, option_map, refl, ap, arith}
 use Rattle.script_nodes.specs.declared.faults.ScriptFault.TheVariants as scripts
 use Rattle.script_nodes.specs.declared.nodes.Node.{Node}
 use Rattle.script_nodes.specs.declared.traces.Step.{Step}

@@ -8,7 +8,7 @@ use Rattle.frame_session.specs.declared.edit.Edit.TheVariants as edits
 use Rattle.frame_session.specs.declared.refusal.Refusal.{Refusal}
 use Rattle.frame_session.specs.declared.refusal.Refusal.TheVariants as refusals
 use Rattle.frame_session.specs.Replies.{refused_line, edit_line, ok_line, served_line}
-use Rattle.frame_session.specs.Sessions.{IsAfterFrame, Now, choice_answer, edit_answer, now_after_choice, now_after_edit, now_after_script, size_served}
+use Rattle.frame_session.specs.Sessions.{IsAfterFrame, Now, edit_answer, now_after_edit, now_after_script, size_served}
 use Rattle.frame_session.specs.Answers.{Answer, Answers, Run, answer_to_frame}
 use Rattle.frame_session.proofs.Answered.{begins_otherwise}
 

@@ -1,15 +1,14 @@
 -- A session's cache stays sound.
-use Rattle.std.proofs.Common.{◌≡◌, ℕ, zero, suc, ◌<◌, ◌≤◌, ◌⊎◌, inl, inr, Bool, true, false, cond, List, [], ◌∷◌, Option, Some, None, Result, Ok, Err, length, nat_eq, nat_lt, option_map, slice_get, slice_set, eqb-true, refl, sym, ap, subst, ◌∙◌, arith}
+use Rattle.std.proofs.Common.{◌≡◌, ℕ, zero, suc, ◌<◌, ◌≤◌, ◌⊎◌, inl, inr, Bool, true, false, cond, List, [], ◌∷◌, Option, Some, None, Result, Ok, Err, length, map, nat_eq, nat_lt, option_map, slice_get, slice_set, eqb-true, refl, sym, ap, subst, ◌∙◌, arith}
 use Rattle.std.proofs.lemmas.Bool.Decides.{nat_tests}
-use Rattle.std.proofs.lemmas.List.{get_or-set_other, get_or-set_same, map-set}
-use Rattle.std.proofs.Math.ListN.{get_or-map}
-use Rattle.std.proofs.Math.Seq.{map-set_same}
+use Rattle.std.proofs.lemmas.List.{length-map}
 use Rattle.std.specs.Cmp.{nat_eq_equiv}
 use Rattle.std.specs.Option.{option_map_or}
 use Rattle.std.specs.Prelude.{IsSome}
 use Rattle.std.specs.Result.{result_unwrap_or}
 use Rattle.vp8_tables.specs.declared.tables.Tables.{Tables}
 use Rattle.packet_edits.specs.declared.entry.Entry.{Entry}
+use Rattle.stream_files.specs.declared.ivf.Ivf.{Ivf}
 use Rattle.packet_edits.specs.declared.fault.EditFault.TheVariants as faults
 use Rattle.packet_edits.specs.Edits.{Listing, copied, inserted, refused_copy, refused_insertion}
 use Rattle.packet_edits.specs.Laws.{HasOwnIds}
@@ -30,9 +29,10 @@ use Rattle.frame_session.specs.declared.edit.Edit.TheVariants.{Insert, Replace, 
 use Rattle.frame_session.specs.declared.refusal.Refusal.{Refusal}
 use Rattle.frame_session.specs.declared.refusal.Refusal.TheVariants as refusals
 use Rattle.frame_session.specs.IsOrNoMemory.{IsOrNoMemory, MayRunOutOfMemory}
-use Rattle.frame_session.specs.Edits.{EditAnswers, after_edit, edited, hold_bytes_at, list_at, refusal_by, refused_copy_of, refused_edit, stamp_before, unless_refused}
-use Rattle.frame_session.specs.Cached.{CacheWithout, IsSound, leaving, id_removed, lists_of, marks_after, marks_edited, store_at, store_edited, stores_after, stores_edited}
+use Rattle.frame_session.specs.Edits.{EditAnswers, hold_bytes_at, list_at, refusal_by, refused_copy_of, refused_edit, stamp_before, unless_refused}
+use Rattle.frame_session.specs.Cached.{CacheWithout, IsSession, IsSound, leaving, id_removed, lists_of, store_at, store_edited, store_of_file, stores_after, stores_edited}
 use Rattle.frame_session.specs.Sessions.{picture_from}
+use Rattle.frame_session.proofs.Stores.{store_here, store_there}
 
 -- there is no packet past the last
 pub no_id : (es : List Entry) (at : ℕ) → length es ≤ at → None ≡ id_at es at
@@ -74,23 +74,6 @@ copy_exists lists list source from at allowed = by_source (nat_lt source (length
     by_source true h = by_packet (nat_lt from (length (list_at lists source).entries)) refl h
     by_source false h = cc
 
--- the packets of one source after those of one were replaced
-store_here : (stores : List StoreValue) (source : ℕ) (store : StoreValue) → source < length stores → store_at (slice_set stores source store) source ≡ store
-store_here stores source store within = get_or-set_same stores source store _ within
-
-store_there : (stores : List StoreValue) (source other : ℕ) (store : StoreValue) → (other ≡ source → ⊥) → store_at (slice_set stores source store) other ≡ store_at stores other
-store_there stores source other store differs = get_or-set_other stores source other store _ differs
-
-pub list_of_store : (stores : List StoreValue) (source : ℕ) → list_at (lists_of stores) source ≡ (store_at stores source).list
-list_of_store stores source = get_or-map (λ (store : StoreValue). store.list) stores source _
-
-pub lists_of_set : (stores : List StoreValue) (source : ℕ) (store : StoreValue) → lists_of (slice_set stores source store) ≡ slice_set (lists_of stores) source store.list
-lists_of_set stores source store = map-set (λ (s : StoreValue). s.list) stores source store
-
--- the lists are unchanged if the list of the source that was replaced is
-pub lists_stay : (stores : List StoreValue) (source : ℕ) (store : StoreValue) → store.list ≡ (store_at stores source).list → lists_of (slice_set stores source store) ≡ lists_of stores
-lists_stay stores source store same = map-set_same (λ (s : StoreValue). s.list) stores source store _ same
-
 same_case : (p m : ℕ) (b : Bool) → nat_eq p m ≡ b → (p ≡ m) ⊎ (p ≡ m → ⊥)
 same_case p m true e = inl (eqb-true p m e)
 same_case p m false e = inr (λ same. let is : nat_eq p m ≡ true = ap (nat_eq p) (sym same) ∙ nat_eq_equiv.refl p in cc)
@@ -123,13 +106,18 @@ module _ (tables : Tables) where
       nothing_is_cached list id None e some = cc
       nothing_is_cached list id (Some kept) e some = cc
 
+  pub begun_session : (files : List Ivf) (stores : List StoreValue) (cache : CacheValue) → stores ≡ map store_of_file files → (1 ≤ length files) × (length files ≤ 8) → cache.entries ≡ [] → IsSession tables stores 0 cache
+  begun_session files stores cache are sources none =
+      let long : length stores ≡ length files = ap length are ∙ length-map files store_of_file in
+      record { sound = begun_sound stores cache none; few = omega (arith, long, sources.1); current_exists = omega (arith, long, sources.0) }
+
   -- a packet is reached, or not
   still_of : (list new : Listing) (before : View) (id : ℕ) → new ≡ list → AreOfPackets list before → IsSome (before id) ⊎ IsIdOf list id → IsIdOf new id
   still_of list new before id same of_packets (inl was) = subst (λ (l : Listing). IsIdOf l id) (sym same) (of_packets id was)
   still_of list new before id same of_packets (inr is) = subst (λ (l : Listing). IsIdOf l id) (sym same) is
 
   was_some : (old new : Option Kept) → Drops new old → IsSome new → IsSome old
-  was_some old None drops some = absurd some
+  was_some old None drops some = cc
   was_some old (Some kept) drops some = subst IsSome (sym drops) some
 
   -- the other sources: the same packets, and some outcomes may be dropped

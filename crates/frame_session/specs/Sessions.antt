@@ -1,6 +1,5 @@
 -- A session as its requests see it, its sources, and the result of a request for a frame.
-use Rattle.std.specs.Prelude.{◌≡◌, ℕ, ◌≤◌, ◌==◌, ◌&&◌, Bool, true, if◌then◌else◌, List, [], map, min, nat_lt, ◌^◌, ◌-◌, slice_index_or, slice_set, sum, Option, Some, None, Result, Ok, Err, is_none, option_and_then, slice_get, length}
-use Rattle.std.specs.Option.{option_map_or}
+use Rattle.std.specs.Prelude.{◌≡◌, ℕ, ◌≤◌, ◌==◌, ◌&&◌, Bool, true, if◌then◌else◌, List, [], ◌∷◌, map, min, nat_lt, ◌^◌, ◌-◌, slice_set, sum, Option, Some, None, Result, Ok, Err, is_none, option_and_then, slice_get, length}
 use Rattle.std.specs.Result.{result_unwrap_or}
 use Rattle.vp8_tables.specs.declared.tables.Tables.{Tables}
 use Rattle.pixel_planes.specs.Pictures.{PictureSamples}
@@ -37,7 +36,8 @@ pub record Now : Type 0 where
 
 -- the head of the first file; with no file, the head of an empty stream
 abbrev pub head_of_first : List Ivf → Head
-head_of_first files = option_map_or (λ file. file.head) (slice_get files 0) (record { width = 0; height = 0; rate = 30; scale = 1 })
+head_of_first [] = record { width = 0; height = 0; rate = 30; scale = 1 }
+head_of_first (file ∷ files) = file.head
 
 -- the greatest number of trailing bytes that is reported
 abbrev pub most_spare : ℕ

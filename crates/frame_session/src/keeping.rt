@@ -116,12 +116,14 @@ pub(crate) fn edit_cached(
     requires sound { IsSound tables.now stores.old cache.old }
     ensures returned { EditAnswers tables.now (lists_of stores.old) (store_at stores.old current).list edit result }
     ensures after { stores.new ≡ stores_after tables.now current edit stores.old result }
+    ensures length { length stores.new ≡ length stores.old }
     ensures cache { CacheWithout current (id_removed edit (store_at stores.old current).list result) cache.old cache.new }
     ensures capacity { cache.new.capacity ≡ cache.old.capacity }
     ensures steps { cache.new.decoded ≡ cache.old.decoded }
     ensures sound { IsSound tables.now stores.new cache.new }
     ensures refused { OnErr result ((stores.new ≡ stores.old) × (cache.new ≡ cache.old)) }
 {
+    drops_keep_coherence(tables);
     edits_keep_coherence(tables);
     edits_keep_ids();
     next_id_is_not_cached();

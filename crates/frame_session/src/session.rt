@@ -1,14 +1,14 @@
-ghost use Rattle.std.specs.Prelude.{◌≡◌, ◌<◌, ◌≤◌, IfOk, OnErr, OnOk, is_ok, length, map, slice_get, slice_set};
+ghost use Rattle.std.specs.Prelude.{◌≡◌, ◌<◌, ◌≤◌, IfOk, IfSome, OnErr, OnOk, is_ok, length, map, slice_get, slice_set};
 ghost use Rattle.std.specs.List.{All};
 ghost use Rattle.std.specs.Io.KnownBytes.{Appends};
 ghost use Rattle.stream_files.specs.Texts.{written_text};
 ghost use Rattle.packet_edits.specs.Saved.{packets_of};
-ghost use Rattle.packet_edits.specs.Shown.{stream_of};
+ghost use Rattle.packet_edits.specs.Shown.{shown_indexes, stream_of};
 ghost use Rattle.state_cache.specs.Decoding.{outcomes};
 ghost use Rattle.state_cache.specs.Costs.{Costs};
 ghost use Rattle.state_cache.specs.Reaching.{OthersDrop};
 ghost use Rattle.frame_session.specs.Cached.{shown_counts_of, store_at, store_of_file};
-ghost use Rattle.frame_session.specs.Sessions.{spare_of};
+ghost use Rattle.frame_session.specs.Sessions.{head_of_first, spare_of};
 ghost use Rattle.frame_session.specs.IsOrNoMemory.{IsOrNoMemory, IsFrameOrNoMemory};
 ghost use Rattle.frame_session.specs.Edits.{EditAnswers};
 ghost use Rattle.frame_session.specs.declared.edit.Edit.TheVariants.{Insert, Replace};
@@ -16,9 +16,9 @@ ghost use Rattle.frame_session.specs.declared.edit.Edit.TheVariants.{Insert, Rep
 use crate::edit::Edit;
 use crate::hex_text::Hex;
 use crate::keeping::{edit_cached, list_is_well_formed, picture_at};
-use arrayvec::ArrayVec;
 use crate::refusal::Refusal;
 use crate::size::Size;
+use arrayvec::ArrayVec;
 use packet_edits::Store;
 use pixel_planes::{NoMemory, Picture};
 use script_nodes::{Script, apply};
@@ -79,7 +79,7 @@ impl Session {
         let Ok(cache) = Cache::new(alloc, capacity) else {
             return Err(NoMemory);
         };
-        let head = files[0].head;
+        let head = head_of_first(&files);
         let spare = spare_of(&files);
         let stores = stores_of(alloc, files)?;
         Ok(Session {
@@ -99,7 +99,7 @@ impl Session {
     fn decoded_at(&mut self, source: usize, place: usize) -> Result<Picture, Refusal>
         requires source { source < length self.old.stores }
         requires place { place < length (store_at self.old.stores source).list.entries }
-        ensures returned { IsOrNoMemory (picture_from source (slice_get (outcomes self.old.now.tables (stream_of (store_at self.old.stores source).list)) place)) result }
+        ensures returned { IsOrNoMemory (picture_from source (slice_get (outcomes self.old.now.tables (stream_of (list_at self.old.now.lists source))) place)) result }
         ensures after { self.new.now ≡ record self.old.now { decoded = self.new.now.decoded } }
         ensures packets { self.new.stores ≡ slice_set self.old.stores source (store_at self.new.stores source) }
         ensures others { OthersDrop source self.old.cache self.new.cache }
@@ -115,6 +115,24 @@ impl Session {
             source,
             place,
         )
+    }
+
+    /// The number of shown packets of each source.
+    fn shown_counts(&self) -> ArrayVec<u64, 8>
+        ensures value { result.items ≡ shown_counts self.now.now }
+        ensures few { All (λ count. count ≤ 1048576) result.items }
+        ensures sources { length result.items ≡ length self.now.stores }
+    {
+        shown_counts(&self.stores)
+    }
+
+    /// The index of shown packet `frame` of a source, if there is one.
+    fn shown_place(&self, source: usize, frame: u64) -> Option<usize>
+        requires { source < length self.now.stores }
+        ensures place { result ≡ slice_get (shown_indexes (stream_of (list_at self.now.now.lists source))) frame }
+        ensures within { IfSome result (λ place. place < length (store_at self.now.stores source).list.entries) }
+    {
+        self.stores[source].shown(frame)
     }
 
     /// Whether a picture has the size of the stream, if that is fixed.
@@ -140,11 +158,11 @@ impl Session {
         ensures costs { FrameCosts (place_of self.old.now n) self.old result self.new }
         ensures capacity { self.new.cache.capacity ≡ self.old.cache.capacity }
     {
-        let counts = shown_counts(&self.stores);
+        let counts = self.shown_counts();
         let Some((source, frame, trace)) = self.script.trace(&counts, n) else {
             return Err(Refusal::NoSuchFrame);
         };
-        let Some(place) = self.stores[source].shown(frame) else {
+        let Some(place) = self.shown_place(source, frame) else {
             return Err(Refusal::NoSuchFrame);
         };
         let picture = self.decoded_at(source, place)?;
@@ -270,7 +288,7 @@ impl Session {
         ensures frames { result.1 ≡ frame_count self.now.now }
     {
         let packets = self.stores[self.current].len() as u64;
-        (packets, self.script.length(&shown_counts(&self.stores)))
+        (packets, self.script.length(&self.shown_counts()))
     }
 
     /// The number of decoding steps made, whatever their result; at most 18,446,744,073,709,551,615.
@@ -306,6 +324,21 @@ impl Session {
         ensures { result ≡ self.now.now.spare }
     {
         self.spare
+    }
+}
+
+/// The head of the first file; with no file, the head of an empty stream.
+fn head_of_first(files: &[Ivf]) -> Head
+    ensures { result ≡ head_of_first files.now }
+{
+    match files {
+        [first, ..] => first.head,
+        [] => Head {
+            width: 0,
+            height: 0,
+            rate: 30,
+            scale: 1,
+        },
     }
 }
 
@@ -357,8 +390,16 @@ fn shown_counts(stores: &[Store]) -> ArrayVec<u64, 8>
 {
     let mut counts = ArrayVec::new();
     for store in stores {
-        list_is_well_formed(store);
-        counts.push(store.frames() as u64);
+        counts.push(shown_count(store));
     }
     counts
+}
+
+/// The number of shown packets of a source.
+fn shown_count(store: &Store) -> u64
+    ensures value { result ≡ length (shown_indexes (stream_of store.now.list)) }
+    ensures few { result ≤ 1048576 }
+{
+    list_is_well_formed(store);
+    store.frames() as u64
 }

@@ -1,6 +1,7 @@
 use Rattle.std.proofs.Common.{None, inr, ap}
 use Rattle.std.proofs.lemmas.Result.{on_ok_weaker}
 use Rattle.frame_session.specs.Cached.{SessionValue}
+use Rattle.frame_session.specs.Sessions.{now_after_choice}
 use Rattle.frame_session.proofs.Served.{serves_silent, serves_unknown, serves_chosen, serves_copied, serves_inserted, serves_replaced, serves_deleted, serves_moved, serves_blanked, serves_held, serves_script, serves_count, serves_stats}
 use Rattle.frame_session.proofs.serving.serve.Goals as goal
 
@@ -32,12 +33,12 @@ returns-in-Use-clause-serves g c =
     let f = g.F.Write.contents c.args.frames.now in
     let r = g.R.Write.contents c.args.replies.now in
     let r' = g.R.Write.contents c.write_edited.new.w in
-    rw c.in-Use.is (on_ok_weaker c.write_edited.result (λ said. serves_chosen c.args.session.now.now f f r r' c.in-Use.source c.choose-chosen.result c.choose-chosen.new.self.now c.choose-chosen.ensures.returned (ap (λ (v : SessionValue). v.now) c.choose-chosen.ensures.after) said) c.write_edited.ensures)
+    rw c.in-Use.is (on_ok_weaker c.write_edited.result (λ said. serves_chosen c.args.session.now.now f f r r' c.in-Use.source c.choose-chosen.result c.choose-chosen.new.self.now c.choose-chosen.ensures.returned (ap (λ (v : SessionValue). v.now) {y = record c.args.session.now { now = now_after_choice c.in-Use.source c.args.session.now.now }} c.choose-chosen.ensures.after) said) c.write_edited.ensures)
 
 pub returns-in-Use-clause-frame_first : goal.returns-in-Use-clause-frame_first
 returns-in-Use-clause-frame_first g c =
     let f = g.F.Write.contents c.args.frames.now in
-    rw c.in-Use.is (inr (serves_chosen c.args.session.now.now f f None None c.in-Use.source c.choose-chosen.result c.choose-chosen.new.self.now c.choose-chosen.ensures.returned (ap (λ (v : SessionValue). v.now) c.choose-chosen.ensures.after) tt))
+    rw c.in-Use.is (inr (serves_chosen c.args.session.now.now f f None None c.in-Use.source c.choose-chosen.result c.choose-chosen.new.self.now c.choose-chosen.ensures.returned (ap (λ (v : SessionValue). v.now) {y = record c.args.session.now { now = now_after_choice c.in-Use.source c.args.session.now.now }} c.choose-chosen.ensures.after) tt))
 
 pub returns-in-Insert-clause-serves : goal.returns-in-Insert-clause-serves
 returns-in-Insert-clause-serves g c =
