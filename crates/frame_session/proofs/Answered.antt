@@ -1,5 +1,5 @@
 -- Each request list has a meaning in which nothing is out of memory.
-use Rattle.std.proofs.Common.{◌≡◌, ℕ, List, [], ◌∷◌, Bool, true, false, cond, Option, Some, None, Result, Ok, Err, get_or, option_map, refl, ap, arith}
+use Rattle.std.proofs.Common.{◌≡◌, ℕ, zero, suc, List, [], ◌∷◌, Bool, true, false, cond, Option, Some, None, Result, Ok, Err, get_or, length, option_map, refl, ap, arith}
 use Rattle.script_nodes.specs.declared.faults.ScriptFault.TheVariants as scripts
 use Rattle.script_nodes.specs.declared.nodes.Node.{Node}
 use Rattle.script_nodes.specs.declared.traces.Step.{Step}
@@ -7,7 +7,7 @@ use Rattle.script_nodes.specs.Frames.{Origin, traced}
 use Rattle.script_nodes.specs.Nodes.{nodes_of, script_by}
 use Rattle.script_nodes.specs.Shown.{Shown, shown_in, steps_shown}
 use Rattle.frame_session.specs.declared.lines.Line.{Line}
-use Rattle.frame_session.specs.declared.lines.Line.TheVariants.{Silent, Unknown, Frame, Insert, Replace, Delete, Move, Blank, Hold, Script, Count, Stats}
+use Rattle.frame_session.specs.declared.lines.Line.TheVariants.{Silent, Unknown, Frame, Use, Insert, Replace, Delete, Move, Copy, Blank, Hold, Script, Count, Stats}
 use Rattle.frame_session.specs.declared.edit.Edit.{Edit}
 use Rattle.frame_session.specs.declared.edit.Edit.TheVariants as edits
 use Rattle.frame_session.specs.declared.refusal.Refusal.{Refusal}
@@ -26,7 +26,7 @@ use Rattle.frame_session.proofs.Forging.{blank_lacks_none, held_lacks_none}
 use Rattle.frame_session.specs.Edits.{edit_of, hold_bytes_at, refusal_by, refused_forged, unless_refused}
 use Rattle.frame_session.specs.Replies.{refused_line, served_line, ok_line, edit_line, count_line, stats_line}
 use Rattle.frame_session.specs.Scripts.{script_reported}
-use Rattle.frame_session.specs.Sessions.{Now, after_frame, now_after_edit, now_after_script, fits, fitted, frame_count, frame_from, frame_made, frame_of, outcome_of, packet_count, picture_from, script_answer, shown_count, size_of, size_served}
+use Rattle.frame_session.specs.Sessions.{Now, after_frame, choice_answer, current_list, edit_answer, now_after_choice, now_after_edit, now_after_script, fits, fitted, frame_count, frame_from, frame_made, frame_of, outcome_of, packet_count, picture_from, script_answer, shown_counts, size_of, size_served}
 use Rattle.frame_session.specs.Answers.{Answer, Answers, Run, answer_to_frame, reply_only}
 use Rattle.frame_session.specs.Laws.{HaveMemory}
 
@@ -39,19 +39,20 @@ fitted_given : (size : Option Size) (made : Option Shown) → IsOrNoMemory (fitt
 fitted_given size None = refl
 fitted_given size (Some shown) = chosen_given shown (fits size (size_of shown))
 
-made_given : (size : Option Size) (steps : List Step) (o : Option Outcome) → IsOrNoMemory (frame_made size steps (picture_from o)) (frame_made size steps (picture_from o))
-made_given size steps None = refl
-made_given size steps (Some (Err broken)) = refl
-made_given size steps (Some (Ok decoded)) = fitted_given size (steps_shown steps (shown_in decoded.1))
+made_given : (size : Option Size) (steps : List Step) (source : ℕ) (o : Option Outcome) → IsOrNoMemory (frame_made size steps (picture_from source o)) (frame_made size steps (picture_from source o))
+made_given size steps source None = refl
+made_given size steps source (Some (Err broken)) = refl
+made_given size steps source (Some (Ok decoded)) = fitted_given size (steps_shown steps (shown_in decoded.1))
 
 wanted_given : (old : Now) (from : Option Origin) → IsOrNoMemory (frame_from old from) (frame_from old from)
 wanted_given old None = refl
-wanted_given old (Some from) = made_given old.size from.steps (outcome_of old from.frame)
+wanted_given old (Some from) = made_given old.size from.steps from.source (outcome_of old from.source from.frame)
 
 -- and then its reply is not `refused NoMemory`
 refusal_told : (refusal : Refusal) → (refusal ≡ refusals.NoMemory → ⊥) → refused_line refusal ≡ refused_line refusals.NoMemory → ⊥
 refusal_told refusals.NoMemory some e = absurd (some refl)
 refusal_told refusals.Line some e = let other : 76 ≡ 78 = ap (λ (l : List ℕ). get_or l 8 0) e in absurd (omega (arith, other))
+refusal_told refusals.Source some e = let other : 83 ≡ 78 = ap (λ (l : List ℕ). get_or l 8 0) e in absurd (omega (arith, other))
 refusal_told refusals.Place some e = let other : 80 ≡ 78 = ap (λ (l : List ℕ). get_or l 8 0) e in absurd (omega (arith, other))
 refusal_told refusals.Full some e = let other : 70 ≡ 78 = ap (λ (l : List ℕ). get_or l 8 0) e in absurd (omega (arith, other))
 refusal_told refusals.Spent some e = let other : 83 ≡ 78 = ap (λ (l : List ℕ). get_or l 8 0) e in absurd (omega (arith, other))
@@ -64,7 +65,8 @@ refusal_told refusals.Nodes some e = let other : 100 ≡ 77 = ap (λ (l : List �
 refusal_told refusals.Reference some e = let other : 82 ≡ 78 = ap (λ (l : List ℕ). get_or l 8 0) e in absurd (omega (arith, other))
 refusal_told refusals.Number some e = let other : 117 ≡ 111 = ap (λ (l : List ℕ). get_or l 9 0) e in absurd (omega (arith, other))
 refusal_told refusals.SizeDiffers some e = let other : 83 ≡ 78 = ap (λ (l : List ℕ). get_or l 8 0) e in absurd (omega (arith, other))
-refusal_told (refusals.Packet place cause) some e = let other : 112 ≡ 78 = ap (λ (l : List ℕ). get_or l 8 0) e in absurd (omega (arith, other))
+refusal_told (refusals.Packet (suc before) place cause) some e = let other : 115 ≡ 78 = ap (λ (l : List ℕ). get_or l 8 0) e in absurd (omega (arith, other))
+refusal_told (refusals.Packet zero place cause) some e = let other : 112 ≡ 78 = ap (λ (l : List ℕ). get_or l 8 0) e in absurd (omega (arith, other))
 
 -- a reply that begins differently from a refusal
 pub begins_otherwise : (reply : List ℕ) (refusal : Refusal) → (get_or reply 0 0 ≡ 114 → ⊥) → reply ≡ refused_line refusal → ⊥
@@ -82,14 +84,14 @@ fitted_some : (size : Option Size) (made : Option Shown) → fitted size made �
 fitted_some size None e = cc
 fitted_some size (Some shown) e = chosen_some shown (fits size (size_of shown)) e
 
-made_some : (size : Option Size) (steps : List Step) (o : Option Outcome) → frame_made size steps (picture_from o) ≡ Err refusals.NoMemory → ⊥
-made_some size steps None e = cc
-made_some size steps (Some (Err broken)) e = cc
-made_some size steps (Some (Ok decoded)) e = fitted_some size (steps_shown steps (shown_in decoded.1)) e
+made_some : (size : Option Size) (steps : List Step) (source : ℕ) (o : Option Outcome) → frame_made size steps (picture_from source o) ≡ Err refusals.NoMemory → ⊥
+made_some size steps source None e = cc
+made_some size steps source (Some (Err broken)) e = cc
+made_some size steps source (Some (Ok decoded)) e = fitted_some size (steps_shown steps (shown_in decoded.1)) e
 
 wanted_some : (old : Now) (from : Option Origin) → frame_from old from ≡ Err refusals.NoMemory → ⊥
 wanted_some old None e = cc
-wanted_some old (Some from) e = made_some old.size from.steps (outcome_of old from.frame) e
+wanted_some old (Some from) e = made_some old.size from.steps from.source (outcome_of old from.source from.frame) e
 
 -- an edit may have the wanted answer, and its reply is not `refused NoMemory`
 record IsTold (answer : Result ℕ Refusal) : Type 0 where
@@ -101,6 +103,9 @@ ok_told count = record { returned = refl; enough = begins_otherwise (ok_line cou
 
 place_told : IsTold (Err refusals.Place)
 place_told = record { returned = refl; enough = refusal_told refusals.Place (λ h. cc) }
+
+source_told : IsTold (Err refusals.Source)
+source_told = record { returned = refl; enough = refusal_told refusals.Source (λ h. cc) }
 
 full_told : IsTold (Err refusals.Full)
 full_told = record { returned = refl; enough = refusal_told refusals.Full (λ h. cc) }
@@ -120,6 +125,15 @@ insertion_told false false spent count = id_told spent count
 replacement_told : (inside spent : Bool) (count : ℕ) → IsTold (unless_refused (option_map refusal_by (cond inside (cond spent (Some faults.Spent) None) (Some faults.Place))) count)
 replacement_told true spent count = id_told spent count
 replacement_told false spent count = place_told
+
+copy_told : (exists inside outside full spent : Bool) (count : ℕ) → IsTold (unless_refused (cond exists (option_map refusal_by (cond inside (cond outside (Some faults.Place) (cond full (Some faults.Full) (cond spent (Some faults.Spent) None))) (Some faults.Place))) (Some refusals.Source)) count)
+copy_told true true outside full spent count = insertion_told outside full spent count
+copy_told true false outside full spent count = place_told
+copy_told false inside outside full spent count = source_told
+
+choice_told : (exists : Bool) (count : ℕ) → IsTold (cond exists (Ok count) (Err refusals.Source))
+choice_told true count = ok_told count
+choice_told false count = source_told
 
 place_or_told : (inside : Bool) (count : ℕ) → IsTold (unless_refused (option_map refusal_by (cond inside None (Some faults.Place))) count)
 place_or_told true count = ok_told count
@@ -143,13 +157,14 @@ forged_told false true spent forged count some = full_told
 forged_told false false true forged count some = spent_told
 forged_told false false false forged count some = forging_told forged count some
 
-edit_told : (tables : Tables) (list : Listing) (edit : Edit) → IsTold (edit_of tables list edit)
-edit_told tables list (edits.Insert at stamp bytes) = insertion_told _ _ _ _
-edit_told tables list (edits.Replace at bytes) = replacement_told _ _ _
-edit_told tables list (edits.Delete at) = place_or_told _ _
-edit_told tables list (edits.Move from to) = place_or_told _ _
-edit_told tables list (edits.Blank at width height) = forged_told _ _ _ (blank_of tables width height) _ (blank_lacks_none tables width height)
-edit_told tables list (edits.Hold at) = forged_told _ _ _ (hold_bytes_at tables list at) _ (held_lacks_none tables (size_at at list))
+edit_told : (tables : Tables) (lists : List Listing) (list : Listing) (edit : Edit) → IsTold (edit_of tables lists list edit)
+edit_told tables lists list (edits.Insert at stamp bytes) = insertion_told _ _ _ _
+edit_told tables lists list (edits.Replace at bytes) = replacement_told _ _ _
+edit_told tables lists list (edits.Delete at) = place_or_told _ _
+edit_told tables lists list (edits.Move from to) = place_or_told _ _
+edit_told tables lists list (edits.Copy source from at) = copy_told _ _ _ _ _ _
+edit_told tables lists list (edits.Blank at width height) = forged_told _ _ _ (blank_of tables width height) _ (blank_lacks_none tables width height)
+edit_told tables lists list (edits.Hold at) = forged_told _ _ _ (hold_bytes_at tables list at) _ (held_lacks_none tables (size_at at list))
 
 -- and so a script
 nodes_told : (count : ℕ) (nodes : List Node) (many wrong odd : Bool) → IsTold (script_reported count (cond many (Err scripts.Nodes) (cond wrong (Err scripts.Reference) (cond odd (Err scripts.Number) (Ok nodes)))))
@@ -158,9 +173,9 @@ nodes_told count nodes false true odd = record { returned = refl; enough = refus
 nodes_told count nodes false false true = record { returned = refl; enough = refusal_told refusals.Number (λ h. cc) }
 nodes_told count nodes false false false = ok_told count
 
-script_told : (count : ℕ) (nodes : Option (List Node)) → IsTold (script_reported count (script_by 1 nodes))
-script_told count None = record { returned = refl; enough = refusal_told refusals.Syntax (λ h. cc) }
-script_told count (Some nodes) = nodes_told count nodes _ _ _
+script_told : (count sources : ℕ) (nodes : Option (List Node)) → IsTold (script_reported count (script_by sources nodes))
+script_told count sources None = record { returned = refl; enough = refusal_told refusals.Syntax (λ h. cc) }
+script_told count sources (Some nodes) = nodes_told count nodes _ _ _
 
 -- an answer to one line, other than `refused NoMemory`, and the state after it
 pub record HasAnswer (old : Now) (line : Line) : Type 0 where
@@ -179,44 +194,52 @@ answered old Unknown = record {
 }
 answered old (Frame n) =
     let frame : Result Shown Refusal = frame_of old n in
-    let from : Option Origin = traced (shown_count old ∷ []) old.script n in
+    let from : Option Origin = traced (shown_counts old) old.script n in
     record {
       answer = answer_to_frame old n frame;
       new = record (after_frame old (size_served frame)) { decoded = old.decoded };
       means = (frame, wanted_given old from, refl, record { rest = refl; steps = omega arith });
       enough = tells_no_lack old n frame (wanted_some old from);
     }
+answered old (Use source) =
+    let answer = choice_answer old source in
+    record { answer = reply_only (edit_line answer); new = now_after_choice source old; means = (refl, refl); enough = (choice_told _ _).enough }
+answered old (Copy source from at) =
+    let edit = edits.Copy source from at in
+    let answer = edit_answer old edit in
+    let is = edit_told old.tables old.lists (current_list old) edit in
+    record { answer = reply_only (edit_line answer); new = now_after_edit edit old answer; means = (answer, is.returned, (refl, refl)); enough = is.enough }
 answered old (Insert at stamp bytes) =
     let edit = edits.Insert at stamp bytes in
-    let answer = edit_of old.tables old.list edit in
-    let is = edit_told old.tables old.list edit in
+    let answer = edit_answer old edit in
+    let is = edit_told old.tables old.lists (current_list old) edit in
     record { answer = reply_only (edit_line answer); new = now_after_edit edit old answer; means = (answer, is.returned, (refl, refl)); enough = is.enough }
 answered old (Replace at bytes) =
     let edit = edits.Replace at bytes in
-    let answer = edit_of old.tables old.list edit in
-    let is = edit_told old.tables old.list edit in
+    let answer = edit_answer old edit in
+    let is = edit_told old.tables old.lists (current_list old) edit in
     record { answer = reply_only (edit_line answer); new = now_after_edit edit old answer; means = (answer, is.returned, (refl, refl)); enough = is.enough }
 answered old (Blank at width height) =
     let edit = edits.Blank at width height in
-    let answer = edit_of old.tables old.list edit in
-    let is = edit_told old.tables old.list edit in
+    let answer = edit_answer old edit in
+    let is = edit_told old.tables old.lists (current_list old) edit in
     record { answer = reply_only (edit_line answer); new = now_after_edit edit old answer; means = (answer, is.returned, (refl, refl)); enough = is.enough }
 answered old (Hold at) =
     let edit = edits.Hold at in
-    let answer = edit_of old.tables old.list edit in
-    let is = edit_told old.tables old.list edit in
+    let answer = edit_answer old edit in
+    let is = edit_told old.tables old.lists (current_list old) edit in
     record { answer = reply_only (edit_line answer); new = now_after_edit edit old answer; means = (answer, is.returned, (refl, refl)); enough = is.enough }
 answered old (Delete at) =
     let edit = edits.Delete at in
-    let answer = edit_of old.tables old.list edit in
-    record { answer = reply_only (edit_line answer); new = now_after_edit edit old answer; means = (refl, refl); enough = (edit_told old.tables old.list edit).enough }
+    let answer = edit_answer old edit in
+    record { answer = reply_only (edit_line answer); new = now_after_edit edit old answer; means = (refl, refl); enough = (edit_told old.tables old.lists (current_list old) edit).enough }
 answered old (Move from to) =
     let edit = edits.Move from to in
-    let answer = edit_of old.tables old.list edit in
-    record { answer = reply_only (edit_line answer); new = now_after_edit edit old answer; means = (refl, refl); enough = (edit_told old.tables old.list edit).enough }
+    let answer = edit_answer old edit in
+    record { answer = reply_only (edit_line answer); new = now_after_edit edit old answer; means = (refl, refl); enough = (edit_told old.tables old.lists (current_list old) edit).enough }
 answered old (Script text) =
     let set = script_answer old text in
-    let is = script_told (packet_count old) (nodes_of text) in
+    let is = script_told (packet_count old) (length old.lists) (nodes_of text) in
     record { answer = reply_only (edit_line set); new = now_after_script text old set; means = (set, is.returned, (refl, refl)); enough = is.enough }
 answered old Count =
     let reply = count_line (packet_count old) (frame_count old) in

@@ -1,17 +1,16 @@
 -- If nothing is out of memory, a request list has one meaning, except for the number of steps.
-use Rattle.std.proofs.Common.{◌≡◌, ℕ, List, [], ◌∷◌, Option, Some, None, Result, Ok, Err, refl, sym, ap, ◌∙◌, subst}
+use Rattle.std.proofs.Common.{◌≡◌, ℕ, Bool, true, false, cond, List, [], ◌∷◌, Option, Some, None, Result, Ok, Err, refl, sym, ap, ◌∙◌, subst}
 use Rattle.script_nodes.specs.Shown.{Shown}
 use Rattle.frame_session.specs.declared.lines.Line.{Line}
-use Rattle.frame_session.specs.declared.lines.Line.TheVariants.{Silent, Unknown, Frame, Insert, Replace, Delete, Move, Blank, Hold, Script, Count, Stats}
+use Rattle.frame_session.specs.declared.lines.Line.TheVariants.{Silent, Unknown, Frame, Use, Insert, Replace, Delete, Move, Copy, Blank, Hold, Script, Count, Stats}
 use Rattle.frame_session.specs.declared.edit.Edit.{Edit}
 use Rattle.frame_session.specs.declared.edit.Edit.TheVariants as edits
 use Rattle.frame_session.specs.declared.refusal.Refusal.{Refusal}
 use Rattle.frame_session.specs.declared.refusal.Refusal.TheVariants as refusals
 use Rattle.frame_session.specs.declared.size.Size.{Size}
 use Rattle.frame_session.specs.IsOrNoMemory.{IsOrNoMemory}
-use Rattle.frame_session.specs.Edits.{edit_of}
 use Rattle.frame_session.specs.Replies.{refused_line, edit_line}
-use Rattle.frame_session.specs.Sessions.{Now, after_frame, now_after_edit, now_after_script, frame_of, script_answer, size_served}
+use Rattle.frame_session.specs.Sessions.{Now, after_frame, choice_answer, edit_answer, now_after_choice, now_after_edit, now_after_script, frame_of, script_answer, size_served}
 use Rattle.frame_session.specs.Answers.{Answer, Answers, AnswersEdit, Run, answer_to_frame, reply_only}
 use Rattle.frame_session.specs.Laws.{AllAlike, AreAlike, HaveMemory}
 
@@ -24,6 +23,7 @@ given : {A : Type 0} (want answer : Result A Refusal) → (answer ≡ Err refusa
 given want (Ok value) enough returned = returned
 given want (Err refusals.NoMemory) enough returned = absurd (enough refl)
 given want (Err refusals.Line) enough returned = returned
+given want (Err refusals.Source) enough returned = returned
 given want (Err refusals.Place) enough returned = returned
 given want (Err refusals.Full) enough returned = returned
 given want (Err refusals.Spent) enough returned = returned
@@ -36,7 +36,7 @@ given want (Err refusals.Syntax) enough returned = returned
 given want (Err refusals.Nodes) enough returned = returned
 given want (Err refusals.Reference) enough returned = returned
 given want (Err refusals.Number) enough returned = returned
-given want (Err (refusals.Packet place cause)) enough returned = returned
+given want (Err (refusals.Packet source place cause)) enough returned = returned
 
 -- a reply other than `refused NoMemory` comes from a frame other than NoMemory
 enough_for : (old : Now) (n : ℕ) (answer : Answer) (frame : Result Shown Refusal) → answer ≡ answer_to_frame old n frame → (answer.reply ≡ refused_line refusals.NoMemory → ⊥) → frame ≡ Err refusals.NoMemory → ⊥
@@ -53,10 +53,27 @@ same_answer : (old : Now) (steps : ℕ) (answer answer' wanted : Answer) (new ne
 same_answer old steps answer answer' wanted new new' first second =
     (second.0 ∙ sym first.0, second.1 ∙ ap (λ (s : Now). counted s steps) (sym first.1) ∙ ap (λ (d : ℕ). counted new d) (sym (ap (λ (s : Now). s.decoded) second.1)))
 
+-- the state after an edit, except for the number of steps, does not depend on that number
+edit_counted : (old : Now) (steps : ℕ) (edit : Edit) (edited : Result ℕ Refusal) → now_after_edit edit (counted old steps) edited ≡ counted (now_after_edit edit old edited) steps
+edit_counted old steps edit (Ok count) = refl
+edit_counted old steps edit (Err refusal) = refl
+
+choice_counted : (old : Now) (steps source : ℕ) (exists : Bool) → cond exists (record (counted old steps) { current = source }) (counted old steps) ≡ counted (cond exists (record old { current = source }) old) steps
+choice_counted old steps source true = refl
+choice_counted old steps source false = refl
+
+-- two answers to a choice of a source
+one_choice : (old : Now) (steps source : ℕ) (answer answer' : Answer) (new new' : Now) → (answer ≡ reply_only (edit_line (choice_answer old source))) × (new ≡ now_after_choice source old) → (answer' ≡ reply_only (edit_line (choice_answer old source))) × (new' ≡ now_after_choice source (counted old steps)) → (answer' ≡ answer) × (new' ≡ counted new new'.decoded)
+one_choice old steps source answer answer' new new' first second =
+    let again : new' ≡ counted (now_after_choice source old) steps = second.1 ∙ choice_counted old steps source _ in (
+      second.0 ∙ sym first.0,
+      again ∙ ap (λ (s : Now). counted s steps) (sym first.1) ∙ ap (λ (d : ℕ). counted new d) (sym (ap (λ (s : Now). s.decoded) again)),
+    )
+
 -- two answers to an edit with the same result
 same_edit : (old : Now) (steps : ℕ) (edit : Edit) (edited edited' : Result ℕ Refusal) (answer answer' : Answer) (new new' : Now) → edited' ≡ edited → AnswersEdit old edit edited answer new → AnswersEdit (counted old steps) edit edited' answer' new' → (answer' ≡ answer) × (new' ≡ counted new new'.decoded)
 same_edit old steps edit edited edited' answer answer' new new' same first second =
-    let again : new' ≡ counted (now_after_edit edit old edited) steps = second.1 ∙ ap (λ (e : Result ℕ Refusal). now_after_edit edit (counted old steps) e) same in (
+    let again : new' ≡ counted (now_after_edit edit old edited) steps = second.1 ∙ ap (λ (e : Result ℕ Refusal). now_after_edit edit (counted old steps) e) same ∙ edit_counted old steps edit edited in (
       second.0 ∙ ap (λ (e : Result ℕ Refusal). reply_only (edit_line e)) same ∙ sym first.0,
       again ∙ ap (λ (s : Now). counted s steps) (sym first.1) ∙ ap (λ (d : ℕ). counted new d) (sym (ap (λ (s : Now). s.decoded) again)),
     )
@@ -65,10 +82,10 @@ same_edit old steps edit edited edited' answer answer' new new' same first secon
 told_edit : (edited : Result ℕ Refusal) (answer : Answer) → answer ≡ reply_only (edit_line edited) → (answer.reply ≡ refused_line refusals.NoMemory → ⊥) → edited ≡ Err refusals.NoMemory → ⊥
 told_edit edited answer is enough lacks = enough (ap (λ (a : Answer). a.reply) is ∙ ap edit_line lacks)
 
-one_edit : (old : Now) (steps : ℕ) (edit : Edit) (edited edited' : Result ℕ Refusal) (answer answer' : Answer) (new new' : Now) → IsOrNoMemory (edit_of old.tables old.list edit) edited → IsOrNoMemory (edit_of old.tables old.list edit) edited' → AnswersEdit old edit edited answer new → AnswersEdit (counted old steps) edit edited' answer' new' → (answer.reply ≡ refused_line refusals.NoMemory → ⊥) → (answer'.reply ≡ refused_line refusals.NoMemory → ⊥) → (answer' ≡ answer) × (new' ≡ counted new new'.decoded)
+one_edit : (old : Now) (steps : ℕ) (edit : Edit) (edited edited' : Result ℕ Refusal) (answer answer' : Answer) (new new' : Now) → IsOrNoMemory (edit_answer old edit) edited → IsOrNoMemory (edit_answer old edit) edited' → AnswersEdit old edit edited answer new → AnswersEdit (counted old steps) edit edited' answer' new' → (answer.reply ≡ refused_line refusals.NoMemory → ⊥) → (answer'.reply ≡ refused_line refusals.NoMemory → ⊥) → (answer' ≡ answer) × (new' ≡ counted new new'.decoded)
 one_edit old steps edit edited edited' answer answer' new new' returned gives' first second enough enough' =
-    let wanted : edit_of old.tables old.list edit ≡ edited = given (edit_of old.tables old.list edit) edited (told_edit edited answer first.0 enough) returned in
-    let wanted' : edit_of old.tables old.list edit ≡ edited' = given (edit_of old.tables old.list edit) edited' (told_edit edited' answer' second.0 enough') gives' in
+    let wanted : edit_answer old edit ≡ edited = given (edit_answer old edit) edited (told_edit edited answer first.0 enough) returned in
+    let wanted' : edit_answer old edit ≡ edited' = given (edit_answer old edit) edited' (told_edit edited' answer' second.0 enough') gives' in
     same_edit old steps edit edited edited' answer answer' new new' (sym wanted' ∙ wanted) first second
 
 -- the same for a script
@@ -91,6 +108,9 @@ one_script old steps text set set' answer answer' new new' returned gives' first
 one_answer : (old : Now) (steps : ℕ) (line : Line) (answer answer' : Answer) (new new' : Now) → Answers old line answer new → Answers (counted old steps) line answer' new' → (answer.reply ≡ refused_line refusals.NoMemory → ⊥) → (answer'.reply ≡ refused_line refusals.NoMemory → ⊥) → AreAlike line answer answer' × (new' ≡ counted new new'.decoded)
 one_answer old steps Silent answer answer' new new' first second enough enough' = same_answer old steps answer answer' _ new new' first second
 one_answer old steps Unknown answer answer' new new' first second enough enough' = same_answer old steps answer answer' _ new new' first second
+one_answer old steps (Use source) answer answer' new new' first second enough enough' = one_choice old steps source answer answer' new new' first second
+one_answer old steps (Copy source from at) answer answer' new new' first second enough enough' =
+    one_edit old steps (edits.Copy source from at) first.0 second.0 answer answer' new new' first.1 second.1 first.2 second.2 enough enough'
 one_answer old steps (Insert at stamp bytes) answer answer' new new' first second enough enough' =
     one_edit old steps (edits.Insert at stamp bytes) first.0 second.0 answer answer' new new' first.1 second.1 first.2 second.2 enough enough'
 one_answer old steps (Replace at bytes) answer answer' new new' first second enough enough' =

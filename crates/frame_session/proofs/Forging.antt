@@ -84,19 +84,19 @@ inserted_same at stamp bytes forged list made is =
     ∙ ap (λ (b : List ℕ). inserted at (stamp_before at list) b list) (sym (ap (λ (f : Result (List ℕ) ForgeFault). result_unwrap_or f []) made))
 
 -- the result of inserting the forged bytes
-pub insertion_gives : (tables : Tables) (list : Listing) (at stamp : ℕ) (bytes : List ℕ) (forged : Result (List ℕ) ForgeFault) (answer : Result ℕ Refusal) → forged ≡ Ok bytes → stamp ≡ stamp_before at list → IsOrNoMemory (edit_of tables list (Insert at stamp bytes)) answer → IsOrNoMemory (unless_refused (refused_forged (refused_insertion list at) forged) (length (inserted_forged at forged list).entries)) answer
-insertion_gives tables list at stamp bytes forged answer made is returned =
+pub insertion_gives : (tables : Tables) (lists : List Listing) (list : Listing) (at stamp : ℕ) (bytes : List ℕ) (forged : Result (List ℕ) ForgeFault) (answer : Result ℕ Refusal) → forged ≡ Ok bytes → stamp ≡ stamp_before at list → IsOrNoMemory (edit_of tables lists list (Insert at stamp bytes)) answer → IsOrNoMemory (unless_refused (refused_forged (refused_insertion list at) forged) (length (inserted_forged at forged list).entries)) answer
+insertion_gives tables lists list at stamp bytes forged answer made is returned =
     let first : option_map refusal_by (refused_insertion list at) ≡ refused_forged (refused_insertion list at) forged =
     same_refusal (refused_insertion list at) bytes ∙ ap (λ (f : Result (List ℕ) ForgeFault). refused_forged (refused_insertion list at) f) (sym made) in
     let P : Option Refusal → Type 0 = λ refusal. IsOrNoMemory (unless_refused refusal (length (inserted at stamp bytes list).entries)) answer in
     let Q : Listing → Type 0 = λ after. IsOrNoMemory (unless_refused (refused_forged (refused_insertion list at) forged) (length after.entries)) answer in
     subst Q (inserted_same at stamp bytes forged list made is) (subst P first returned)
 
-after_same : (tables : Tables) (edit edit' : Edit) (list : Listing) (answer : Result ℕ Refusal) → edited tables edit list ≡ edited tables edit' list → after_edit tables edit list answer ≡ after_edit tables edit' list answer
-after_same tables edit edit' list (Ok count) same = same
-after_same tables edit edit' list (Err refusal) same = refl
+after_same : (tables : Tables) (lists : List Listing) (edit edit' : Edit) (list : Listing) (answer : Result ℕ Refusal) → edited tables lists edit list ≡ edited tables lists edit' list → after_edit tables lists edit list answer ≡ after_edit tables lists edit' list answer
+after_same tables lists edit edit' list (Ok count) same = same
+after_same tables lists edit edit' list (Err refusal) same = refl
 
 -- and the list after it
-pub insertion_leaves : (tables : Tables) (list new : Listing) (at stamp : ℕ) (bytes : List ℕ) (forged : Result (List ℕ) ForgeFault) (edit : Edit) (answer : Result ℕ Refusal) → forged ≡ Ok bytes → stamp ≡ stamp_before at list → edited tables edit list ≡ inserted_forged at forged list → new ≡ after_edit tables (Insert at stamp bytes) list answer → new ≡ after_edit tables edit list answer
-insertion_leaves tables list new at stamp bytes forged edit answer made is forges after =
-    after ∙ after_same tables (Insert at stamp bytes) edit list answer (inserted_same at stamp bytes forged list made is ∙ sym forges)
+pub insertion_leaves : (tables : Tables) (lists : List Listing) (list new : Listing) (at stamp : ℕ) (bytes : List ℕ) (forged : Result (List ℕ) ForgeFault) (edit : Edit) (answer : Result ℕ Refusal) → forged ≡ Ok bytes → stamp ≡ stamp_before at list → edited tables lists edit list ≡ inserted_forged at forged list → new ≡ after_edit tables lists (Insert at stamp bytes) list answer → new ≡ after_edit tables lists edit list answer
+insertion_leaves tables lists list new at stamp bytes forged edit answer made is forges after =
+    after ∙ after_same tables lists (Insert at stamp bytes) edit list answer (inserted_same at stamp bytes forged list made is ∙ sym forges)

@@ -1,5 +1,5 @@
 -- A frame that a session returns is the wanted frame.
-use Rattle.std.proofs.Common.{◌≡◌, ℕ, suc, ◌+◌, ◌≤◌, List, [], ◌∷◌, Bool, true, false, cond, Option, Some, None, Result, Ok, Err, length, slice_get, refl, sym, ap, ◌∙◌, arith, subst}
+use Rattle.std.proofs.Common.{◌≡◌, ℕ, suc, ◌+◌, ◌≤◌, List, [], ◌∷◌, Bool, true, false, cond, Option, Some, None, Result, Ok, Err, length, option_map, slice_get, refl, sym, ap, ◌∙◌, arith, subst}
 use Rattle.std.specs.Prelude.{option_and_then}
 use Rattle.std.proofs.lemmas.List.{length-map}
 use Rattle.frame_header.specs.Tags.{is_shown}
@@ -15,9 +15,12 @@ use Rattle.script_nodes.specs.Shown.{Shown, Shows, shown_in, steps_shown}
 use Rattle.frame_session.specs.declared.refusal.Refusal.{Refusal}
 use Rattle.frame_session.specs.declared.refusal.Refusal.TheVariants as refusals
 use Rattle.frame_session.specs.declared.size.Size.{Size}
+use Rattle.state_cache.specs.Costs.{Costs}
 use Rattle.state_cache.specs.Decoding.{Outcome, outcomes}
+use Rattle.frame_session.specs.Cached.{FrameCosts, LeavesOthers, SessionValue, place_of, store_at}
 use Rattle.frame_session.specs.IsOrNoMemory.{IsFrameOrNoMemory}
-use Rattle.frame_session.specs.Sessions.{Now, fits, fitted, frame_from, frame_made, frame_of, outcome_of, picture_from, shown_count, size_of}
+use Rattle.frame_session.specs.Edits.{list_at}
+use Rattle.frame_session.specs.Sessions.{Now, fits, fitted, frame_from, frame_made, frame_of, outcome_of, picture_from, shown_counts, size_of}
 
 -- there are at most as many shown packets as packets
 few_from : (place : ℕ) (xs : List (List ℕ)) → length (shown_from place xs) ≤ length xs
@@ -45,13 +48,24 @@ fitted_given size (Some shown) made shows fit =
     let fit' : P shown.width shown.height = subst (λ h. P shown.width h) shows.high (subst (λ w. P w made.height) shows.wide fit) in
     (shown, chosen shown (fits size (size_of shown)) fit', shows)
 
-pub frame_given : (old : Now) (n count source frame place : ℕ) (steps : List Step) (picture made : PictureSamples) → count ≡ shown_count old → traced (count ∷ []) old.script n ≡ Some (origin_of source frame steps) → Some place ≡ slice_get (shown_indexes (stream_of old.list)) frame → picture_from (slice_get (outcomes old.tables (stream_of old.list)) place) ≡ Ok picture → ShowsMade (steps_shown steps (shown_in picture)) made → fits old.size (record { width = made.width; height = made.height }) ≡ true → IsWholePicture made → IsFrameOrNoMemory (frame_of old n) (Ok made)
-frame_given old n count source frame place steps picture made same from at decoded shows fit whole =
-    let out : outcome_of old frame ≡ slice_get (outcomes old.tables (stream_of old.list)) place = ap (λ (s : Option ℕ). option_and_then (λ i. slice_get (outcomes old.tables (stream_of old.list)) i) s) (sym at) in
+pub frame_given : (old : Now) (n : ℕ) (counts : List ℕ) (source frame place : ℕ) (steps : List Step) (picture made : PictureSamples) → counts ≡ shown_counts old → traced counts old.script n ≡ Some (origin_of source frame steps) → Some place ≡ slice_get (shown_indexes (stream_of (list_at old.lists source))) frame
+    → picture_from source (slice_get (outcomes old.tables (stream_of (list_at old.lists source))) place) ≡ Ok picture → ShowsMade (steps_shown steps (shown_in picture)) made → fits old.size (record { width = made.width; height = made.height }) ≡ true → IsWholePicture made → IsFrameOrNoMemory (frame_of old n) (Ok made)
+frame_given old n counts source frame place steps picture made same from at decoded shows fit whole =
+    let stream = stream_of (list_at old.lists source) in
+    let out : outcome_of old source frame ≡ slice_get (outcomes old.tables stream) place = ap (λ (s : Option ℕ). option_and_then (λ i. slice_get (outcomes old.tables stream) i) s) (sym at) in
     let is : frame_of old n ≡ fitted old.size (steps_shown steps (shown_in picture)) =
-    ap (λ k. frame_from old (traced (k ∷ []) old.script n)) (sym same)
+    ap (λ k. frame_from old (traced k old.script n)) (sym same)
     ∙ ap (λ (f : Option Origin). frame_from old f) from
-    ∙ ap (λ (o : Option Outcome). frame_made old.size steps (picture_from o)) out
+    ∙ ap (λ (o : Option Outcome). frame_made old.size steps (picture_from source o)) out
     ∙ ap (λ (p : Result PictureSamples Refusal). frame_made old.size steps p) decoded in
     let given = fitted_given old.size (steps_shown steps (shown_in picture)) made shows fit in
     (given.0, is ∙ given.1, given.2, whole)
+
+-- and it costs what reaching its packet costs
+pub frame_costs : (old new : SessionValue) (n : ℕ) (counts : List ℕ) (source frame place : ℕ) (steps : List Step) (made : PictureSamples) → counts ≡ shown_counts old.now → traced counts old.now.script n ≡ Some (origin_of source frame steps) → Some place ≡ slice_get (shown_indexes (stream_of (list_at old.now.lists source))) frame
+    → Costs old.now.tables source (store_at old.stores source) old.cache place true (store_at new.stores source) new.cache → LeavesOthers source old new → FrameCosts (place_of old.now n) old (Ok made) new
+frame_costs old new n counts source frame place steps made same from at costs leaves =
+    let place_in : Origin → Option (ℕ × ℕ) = λ origin. option_map (λ (p : ℕ). (origin.source, p)) (slice_get (shown_indexes (stream_of (list_at old.now.lists origin.source))) origin.frame) in
+    let is : place_of old.now n ≡ Some (source, place) =
+    ap (λ (k : List ℕ). option_and_then place_in (traced k old.now.script n)) (sym same) ∙ ap (λ (o : Option Origin). option_and_then place_in o) from ∙ ap (λ (o : Option ℕ). option_map (λ (p : ℕ). (source, p)) o) (sym at) in
+    subst (λ (o : Option (ℕ × ℕ)). FrameCosts o old (Ok made) new) (sym is) (true, costs, leaves, λ h. refl)

@@ -1,14 +1,14 @@
 -- Parts of the state that answers leave unchanged.
-use Rattle.std.proofs.Common.{◌≡◌, ℕ, ◌≤◌, List, [], ◌∷◌, Result, Ok, Err, sym, ap, ◌∙◌, arith}
+use Rattle.std.proofs.Common.{◌≡◌, ℕ, ◌≤◌, Bool, true, false, cond, List, [], ◌∷◌, Result, Ok, Err, sym, ap, ◌∙◌, arith}
 use Rattle.script_nodes.specs.Shown.{Shown}
 use Rattle.frame_session.specs.declared.lines.Line.{Line}
-use Rattle.frame_session.specs.declared.lines.Line.TheVariants.{Silent, Unknown, Frame, Insert, Replace, Delete, Move, Blank, Hold, Script, Count, Stats}
+use Rattle.frame_session.specs.declared.lines.Line.TheVariants.{Silent, Unknown, Frame, Use, Insert, Replace, Delete, Move, Copy, Blank, Hold, Script, Count, Stats}
 use Rattle.frame_session.specs.declared.edit.Edit.{Edit}
 use Rattle.frame_session.specs.declared.edit.Edit.TheVariants as edits
 use Rattle.frame_session.specs.declared.refusal.Refusal.{Refusal}
-use Rattle.frame_session.specs.Edits.{edit_of}
+use Rattle.frame_session.specs.declared.refusal.Refusal.TheVariants as refusals
 use Rattle.frame_session.specs.Replies.{refused_line, edit_line, ok_line, served_line}
-use Rattle.frame_session.specs.Sessions.{IsAfterFrame, Now, now_after_edit, now_after_script, size_served}
+use Rattle.frame_session.specs.Sessions.{IsAfterFrame, Now, edit_answer, now_after_edit, now_after_script, size_served}
 use Rattle.frame_session.specs.Answers.{Answer, Answers, Run, answer_to_frame}
 use Rattle.frame_session.proofs.Answered.{begins_otherwise}
 
@@ -17,17 +17,29 @@ script_counts : (old new : Now) (text : List ℕ) (set : Result ℕ Refusal) →
 script_counts old new text (Ok count) is = rw is (omega arith)
 script_counts old new text (Err refusal) is = rw is (omega arith)
 
+-- the state after an edit has the same number of steps
+edit_counts : (old new : Now) (edit : Edit) (edited : Result ℕ Refusal) → new ≡ now_after_edit edit old edited → old.decoded ≤ new.decoded
+edit_counts old new edit (Ok count) is = rw is (omega arith)
+edit_counts old new edit (Err refusal) is = rw is (omega arith)
+
+-- the state after a source was chosen has the same number of steps
+choice_counts : (old new : Now) (source : ℕ) (exists : Bool) → new ≡ cond exists (record old { current = source }) old → old.decoded ≤ new.decoded
+choice_counts old new source true is = rw is (omega arith)
+choice_counts old new source false is = rw is (omega arith)
+
 -- one more line leaves the number of steps or raises it
 line_counts : (old new : Now) (line : Line) (answer : Answer) → Answers old line answer new → old.decoded ≤ new.decoded
 line_counts old new Silent answer means = rw means.1 (omega arith)
 line_counts old new Unknown answer means = rw means.1 (omega arith)
 line_counts old new (Frame n) answer means = means.3.steps
-line_counts old new (Insert at stamp bytes) answer means = rw means.2.1 (omega arith)
-line_counts old new (Replace at bytes) answer means = rw means.2.1 (omega arith)
-line_counts old new (Blank at width height) answer means = rw means.2.1 (omega arith)
-line_counts old new (Hold at) answer means = rw means.2.1 (omega arith)
-line_counts old new (Delete at) answer means = rw means.1 (omega arith)
-line_counts old new (Move from to) answer means = rw means.1 (omega arith)
+line_counts old new (Use source) answer means = choice_counts old new source _ means.1
+line_counts old new (Copy source from at) answer means = edit_counts old new (edits.Copy source from at) means.0 means.2.1
+line_counts old new (Insert at stamp bytes) answer means = edit_counts old new (edits.Insert at stamp bytes) means.0 means.2.1
+line_counts old new (Replace at bytes) answer means = edit_counts old new (edits.Replace at bytes) means.0 means.2.1
+line_counts old new (Blank at width height) answer means = edit_counts old new (edits.Blank at width height) means.0 means.2.1
+line_counts old new (Hold at) answer means = edit_counts old new (edits.Hold at) means.0 means.2.1
+line_counts old new (Delete at) answer means = edit_counts old new (edits.Delete at) (edit_answer old (edits.Delete at)) means.1
+line_counts old new (Move from to) answer means = edit_counts old new (edits.Move from to) (edit_answer old (edits.Move from to)) means.1
 line_counts old new (Script text) answer means = script_counts old new text means.0 means.2.1
 line_counts old new Count answer means = rw means.1 (omega arith)
 line_counts old new Stats answer means = rw means.1 (omega arith)
@@ -55,6 +67,11 @@ edit_cached : (old new : Now) (edit : Edit) (edited : Result ℕ Refusal) (refus
 edit_cached old new edit (Ok count) refusal after e = absurd (begins_otherwise (ok_line count) refusal (λ h. omega (arith, h)) e)
 edit_cached old new edit (Err other) refusal after e = same old new after
 
+-- a source that does not exist
+choice_kept : (old new : Now) (source count : ℕ) (refusal : Refusal) (exists : Bool) → new ≡ cond exists (record old { current = source }) old → edit_line (cond exists (Ok count) (Err refusals.Source)) ≡ refused_line refusal → new ≡ record old { decoded = new.decoded }
+choice_kept old new source count refusal true after e = absurd (begins_otherwise (ok_line count) refusal (λ h. omega (arith, h)) e)
+choice_kept old new source count refusal false after e = same old new after
+
 -- a script that is refused
 script_kept : (old new : Now) (text : List ℕ) (set : Result ℕ Refusal) (refusal : Refusal) → new ≡ now_after_script text old set → edit_line set ≡ refused_line refusal → new ≡ record old { decoded = new.decoded }
 script_kept old new text (Ok count) refusal after e = absurd (begins_otherwise (ok_line count) refusal (λ h. omega (arith, h)) e)
@@ -67,12 +84,14 @@ pub refused_kept : (old new : Now) (line : Line) (answer : Answer) (refusal : Re
 refused_kept old new Silent answer refusal means e = same old new means.1
 refused_kept old new Unknown answer refusal means e = same old new means.1
 refused_kept old new (Frame n) answer refusal means e = frame_kept old new n means.0 refusal means.3 (reply_of answer _ _ means.2 e)
+refused_kept old new (Use source) answer refusal means e = choice_kept old new source _ refusal _ means.1 (reply_of answer _ _ means.0 e)
+refused_kept old new (Copy source from at) answer refusal means e = edit_cached old new (edits.Copy source from at) means.0 refusal means.2.1 (reply_of answer _ _ means.2.0 e)
 refused_kept old new (Insert at stamp bytes) answer refusal means e = edit_cached old new (edits.Insert at stamp bytes) means.0 refusal means.2.1 (reply_of answer _ _ means.2.0 e)
 refused_kept old new (Replace at bytes) answer refusal means e = edit_cached old new (edits.Replace at bytes) means.0 refusal means.2.1 (reply_of answer _ _ means.2.0 e)
 refused_kept old new (Blank at width height) answer refusal means e = edit_cached old new (edits.Blank at width height) means.0 refusal means.2.1 (reply_of answer _ _ means.2.0 e)
 refused_kept old new (Hold at) answer refusal means e = edit_cached old new (edits.Hold at) means.0 refusal means.2.1 (reply_of answer _ _ means.2.0 e)
-refused_kept old new (Delete at) answer refusal means e = edit_cached old new (edits.Delete at) (edit_of old.tables old.list (edits.Delete at)) refusal means.1 (reply_of answer _ _ means.0 e)
-refused_kept old new (Move from to) answer refusal means e = edit_cached old new (edits.Move from to) (edit_of old.tables old.list (edits.Move from to)) refusal means.1 (reply_of answer _ _ means.0 e)
+refused_kept old new (Delete at) answer refusal means e = edit_cached old new (edits.Delete at) (edit_answer old (edits.Delete at)) refusal means.1 (reply_of answer _ _ means.0 e)
+refused_kept old new (Move from to) answer refusal means e = edit_cached old new (edits.Move from to) (edit_answer old (edits.Move from to)) refusal means.1 (reply_of answer _ _ means.0 e)
 refused_kept old new (Script text) answer refusal means e = script_kept old new text means.0 refusal means.2.1 (reply_of answer _ _ means.2.0 e)
 refused_kept old new Count answer refusal means e = same old new means.1
 refused_kept old new Stats answer refusal means e = same old new means.1

@@ -8,4 +8,6 @@ pub mod Determined
 pub mod Answered
 pub mod HexWords
 pub mod Kept
+pub mod Stores
 pub mod Sound
+pub mod Sources

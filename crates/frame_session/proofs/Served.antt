@@ -8,15 +8,15 @@ use Rattle.pixel_planes.specs.Pictures.{PictureSamples}
 use Rattle.stream_files.specs.Y4m.{frame_text}
 use Rattle.stream_files.specs.declared.ivf.Head.{Head}
 use Rattle.frame_session.specs.declared.lines.Line.{Line}
-use Rattle.frame_session.specs.declared.lines.Line.TheVariants.{Silent, Unknown, Frame, Insert, Replace, Delete, Move, Blank, Hold, Script, Count, Stats}
+use Rattle.frame_session.specs.declared.lines.Line.TheVariants.{Silent, Unknown, Frame, Use, Insert, Replace, Delete, Move, Copy, Blank, Hold, Script, Count, Stats}
 use Rattle.frame_session.specs.declared.edit.Edit.TheVariants as edits
 use Rattle.frame_session.specs.declared.refusal.Refusal.{Refusal}
 use Rattle.frame_session.specs.declared.refusal.Refusal.TheVariants as refusals
 use Rattle.frame_session.specs.Requests.{asked_by}
 use Rattle.frame_session.specs.IsOrNoMemory.{IsOrNoMemory, IsFrameOrNoMemory}
-use Rattle.frame_session.specs.Edits.{EditAnswers, edit_of}
+use Rattle.frame_session.specs.Edits.{EditAnswers}
 use Rattle.frame_session.specs.Replies.{refused_line, edit_line, count_line, served_line, stats_line}
-use Rattle.frame_session.specs.Sessions.{IsAfterFrame, Now, now_after_edit, now_after_script, frame_count, frame_of, head_due, packet_count, script_answer, size_given}
+use Rattle.frame_session.specs.Sessions.{IsAfterFrame, Now, choice_answer, current_list, edit_answer, now_after_choice, now_after_edit, now_after_script, frame_count, frame_of, head_due, packet_count, script_answer, size_given}
 use Rattle.frame_session.specs.Answers.{Answer, Answers, Run, Runs, Serves, WritesFrameFirst, answer_to_frame, frames_of, opening, replies_of, reply_only}
 use Rattle.frame_session.proofs.Texts.{text_same}
 
@@ -56,7 +56,23 @@ module _ (old : Now) (f f' r r' : Option (List ℕ)) where
     said = said;
   }
 
-  pub serves_inserted : (at stamp : ℕ) (bytes : List ℕ) (edited : Result ℕ Refusal) (new : Now) → IsOrNoMemory (edit_of old.tables old.list (edits.Insert at stamp bytes)) edited → new ≡ now_after_edit (edits.Insert at stamp bytes) old edited → Appends r r' (edit_line edited) → Serves old (Insert at stamp bytes) f f r r' new
+  pub serves_chosen : (source : ℕ) (chosen : Result ℕ Refusal) (new : Now) → chosen ≡ choice_answer old source → new ≡ now_after_choice source old → Appends r r' (edit_line chosen) → Serves old (Use source) f f r r' new
+  serves_chosen source chosen new is after said = record {
+    answer = reply_only (edit_line chosen);
+    means = (ap (λ (c : Result ℕ Refusal). reply_only (edit_line c)) is, after);
+    shown = Appends-nil f;
+    said = said;
+  }
+
+  pub serves_copied : (source from at : ℕ) (new : Now) → ((edited : Result ℕ Refusal) × EditAnswers old.tables old.lists (current_list old) (edits.Copy source from at) edited × (new ≡ now_after_edit (edits.Copy source from at) old edited) × Appends r r' (edit_line edited)) → Serves old (Copy source from at) f f r r' new
+  serves_copied source from at new made = record {
+    answer = reply_only (edit_line made.0);
+    means = (made.0, made.1, (refl, made.2));
+    shown = Appends-nil f;
+    said = made.3;
+  }
+
+  pub serves_inserted : (at stamp : ℕ) (bytes : List ℕ) (edited : Result ℕ Refusal) (new : Now) → IsOrNoMemory (edit_answer old (edits.Insert at stamp bytes)) edited → new ≡ now_after_edit (edits.Insert at stamp bytes) old edited → Appends r r' (edit_line edited) → Serves old (Insert at stamp bytes) f f r r' new
   serves_inserted at stamp bytes edited new returned after said = record {
     answer = reply_only (edit_line edited);
     means = (edited, returned, (refl, after));
@@ -64,7 +80,7 @@ module _ (old : Now) (f f' r r' : Option (List ℕ)) where
     said = said;
   }
 
-  pub serves_replaced : (at : ℕ) (bytes : List ℕ) (edited : Result ℕ Refusal) (new : Now) → IsOrNoMemory (edit_of old.tables old.list (edits.Replace at bytes)) edited → new ≡ now_after_edit (edits.Replace at bytes) old edited → Appends r r' (edit_line edited) → Serves old (Replace at bytes) f f r r' new
+  pub serves_replaced : (at : ℕ) (bytes : List ℕ) (edited : Result ℕ Refusal) (new : Now) → IsOrNoMemory (edit_answer old (edits.Replace at bytes)) edited → new ≡ now_after_edit (edits.Replace at bytes) old edited → Appends r r' (edit_line edited) → Serves old (Replace at bytes) f f r r' new
   serves_replaced at bytes edited new returned after said = record {
     answer = reply_only (edit_line edited);
     means = (edited, returned, (refl, after));
@@ -72,19 +88,19 @@ module _ (old : Now) (f f' r r' : Option (List ℕ)) where
     said = said;
   }
 
-  pub serves_deleted : (at : ℕ) (new : Now) → ((edited : Result ℕ Refusal) × EditAnswers old.tables old.list (edits.Delete at) edited × (new ≡ now_after_edit (edits.Delete at) old edited) × Appends r r' (edit_line edited)) → Serves old (Delete at) f f r r' new
+  pub serves_deleted : (at : ℕ) (new : Now) → ((edited : Result ℕ Refusal) × EditAnswers old.tables old.lists (current_list old) (edits.Delete at) edited × (new ≡ now_after_edit (edits.Delete at) old edited) × Appends r r' (edit_line edited)) → Serves old (Delete at) f f r r' new
   serves_deleted at new made =
       let P : Result ℕ Refusal → Type 0 = λ e. (new ≡ now_after_edit (edits.Delete at) old e) × Appends r r' (edit_line e) in
       let so = subst P made.1 (made.2, made.3) in
-      record { answer = reply_only (edit_line (edit_of old.tables old.list (edits.Delete at))); means = (refl, so.0); shown = Appends-nil f; said = so.1 }
+      record { answer = reply_only (edit_line (edit_answer old (edits.Delete at))); means = (refl, so.0); shown = Appends-nil f; said = so.1 }
 
-  pub serves_moved : (from to : ℕ) (new : Now) → ((edited : Result ℕ Refusal) × EditAnswers old.tables old.list (edits.Move from to) edited × (new ≡ now_after_edit (edits.Move from to) old edited) × Appends r r' (edit_line edited)) → Serves old (Move from to) f f r r' new
+  pub serves_moved : (from to : ℕ) (new : Now) → ((edited : Result ℕ Refusal) × EditAnswers old.tables old.lists (current_list old) (edits.Move from to) edited × (new ≡ now_after_edit (edits.Move from to) old edited) × Appends r r' (edit_line edited)) → Serves old (Move from to) f f r r' new
   serves_moved from to new made =
       let P : Result ℕ Refusal → Type 0 = λ e. (new ≡ now_after_edit (edits.Move from to) old e) × Appends r r' (edit_line e) in
       let so = subst P made.1 (made.2, made.3) in
-      record { answer = reply_only (edit_line (edit_of old.tables old.list (edits.Move from to))); means = (refl, so.0); shown = Appends-nil f; said = so.1 }
+      record { answer = reply_only (edit_line (edit_answer old (edits.Move from to))); means = (refl, so.0); shown = Appends-nil f; said = so.1 }
 
-  pub serves_blanked : (at width height : ℕ) (new : Now) → ((edited : Result ℕ Refusal) × EditAnswers old.tables old.list (edits.Blank at width height) edited × (new ≡ now_after_edit (edits.Blank at width height) old edited) × Appends r r' (edit_line edited)) → Serves old (Blank at width height) f f r r' new
+  pub serves_blanked : (at width height : ℕ) (new : Now) → ((edited : Result ℕ Refusal) × EditAnswers old.tables old.lists (current_list old) (edits.Blank at width height) edited × (new ≡ now_after_edit (edits.Blank at width height) old edited) × Appends r r' (edit_line edited)) → Serves old (Blank at width height) f f r r' new
   serves_blanked at width height new made = record {
     answer = reply_only (edit_line made.0);
     means = (made.0, made.1, (refl, made.2));
@@ -92,7 +108,7 @@ module _ (old : Now) (f f' r r' : Option (List ℕ)) where
     said = made.3;
   }
 
-  pub serves_held : (at : ℕ) (new : Now) → ((edited : Result ℕ Refusal) × EditAnswers old.tables old.list (edits.Hold at) edited × (new ≡ now_after_edit (edits.Hold at) old edited) × Appends r r' (edit_line edited)) → Serves old (Hold at) f f r r' new
+  pub serves_held : (at : ℕ) (new : Now) → ((edited : Result ℕ Refusal) × EditAnswers old.tables old.lists (current_list old) (edits.Hold at) edited × (new ≡ now_after_edit (edits.Hold at) old edited) × Appends r r' (edit_line edited)) → Serves old (Hold at) f f r r' new
   serves_held at new made = record {
     answer = reply_only (edit_line made.0);
     means = (made.0, made.1, (refl, made.2));

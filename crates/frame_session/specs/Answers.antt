@@ -1,12 +1,14 @@
 -- The meaning of a request list: the replies and frames that may answer its lines, and the state after them.
-use Rattle.std.specs.Prelude.{◌≡◌, ◌⊎◌, ℕ, List, [], ◌∷◌, ◌++◌, map, Option, Some, None, Result, Ok, Err}
+use Rattle.std.specs.Prelude.{◌≡◌, ◌⊎◌, ℕ, slice_get, take, List, [], ◌∷◌, ◌++◌, map, Option, Some, None, Result, Ok, Err}
 use Rattle.std.specs.List.{flat_map}
+use Rattle.std.specs.Borrow.{Bor}
 use Rattle.std.specs.Io.KnownBytes.{Appends, Keeps}
 use Rattle.std.specs.Str.Lines.{lines}
 use Rattle.vp8_tables.specs.declared.tables.Tables.{Tables}
 use Rattle.script_nodes.specs.Shown.{Shown}
 use Rattle.stream_files.specs.declared.ivf.Head.{Head}
 use Rattle.stream_files.specs.declared.ivf.Ivf.{Ivf}
+use Rattle.stream_files.specs.declared.ivf.IvfFault.{IvfFault}
 use Rattle.stream_files.specs.Ivf.{IsIvf, IvfRefuses}
 use Rattle.stream_files.specs.Y4m.{y4m_line}
 use Rattle.frame_session.specs.declared.lines.Line.{Line}
@@ -19,10 +21,9 @@ use Rattle.frame_session.specs.declared.serving.RunFault.{RunFault}
 use Rattle.frame_session.specs.declared.serving.RunFault.TheVariants as faults
 use Rattle.frame_session.specs.Requests.{asked_by}
 use Rattle.frame_session.specs.IsOrNoMemory.{IsOrNoMemory}
-use Rattle.frame_session.specs.Edits.{edit_of}
 use Rattle.frame_session.specs.Frames.{shown_text}
 use Rattle.frame_session.specs.Replies.{refused_line, served_line, edit_line, count_line, stats_line}
-use Rattle.frame_session.specs.Sessions.{IsAfterFrame, Now, now_after_edit, now_after_script, frame_count, frame_of, head_due, packet_count, script_answer, size_served, start}
+use Rattle.frame_session.specs.Sessions.{IsAfterFrame, Now, choice_answer, edit_answer, now_after_choice, now_after_edit, now_after_script, frame_count, frame_of, head_due, packet_count, script_answer, size_served, start}
 
 -- the requests of a text, line by line
 abbrev pub requests_of : List ℕ → List Line
@@ -55,22 +56,25 @@ AnswersEdit old edit edited answer new = (answer ≡ reply_only (edit_line edite
 abbrev pub AnswersScript : Now → List ℕ → Result ℕ Refusal → Answer → Now → Type 0
 AnswersScript old text set answer new = (answer ≡ reply_only (edit_line set)) × (new ≡ now_after_script text old set)
 
--- a line, an answer that it may have, and the state after it; a frame, a script, and an insertion may be out of memory
+-- a line, an answer that it may have, and the state after it; a frame, a script, an insertion, a copy and a replacement may be out of memory
 abbrev pub Answers : Now → Line → Answer → Now → Type 0
 Answers old requests.Silent answer new = (answer ≡ reply_only []) × (new ≡ old)
 Answers old requests.Unknown answer new = (answer ≡ reply_only (refused_line refusals.Line)) × (new ≡ old)
 Answers old (requests.Frame n) answer new =
     (frame : Result Shown Refusal) × IsOrNoMemory (frame_of old n) frame × (answer ≡ answer_to_frame old n frame) × IsAfterFrame old (size_served frame) new
+Answers old (requests.Use source) answer new = (answer ≡ reply_only (edit_line (choice_answer old source))) × (new ≡ now_after_choice source old)
 Answers old (requests.Insert at stamp bytes) answer new =
-    (edited : Result ℕ Refusal) × IsOrNoMemory (edit_of old.tables old.list (edits.Insert at stamp bytes)) edited × AnswersEdit old (edits.Insert at stamp bytes) edited answer new
+    (edited : Result ℕ Refusal) × IsOrNoMemory (edit_answer old (edits.Insert at stamp bytes)) edited × AnswersEdit old (edits.Insert at stamp bytes) edited answer new
 Answers old (requests.Replace at bytes) answer new =
-    (edited : Result ℕ Refusal) × IsOrNoMemory (edit_of old.tables old.list (edits.Replace at bytes)) edited × AnswersEdit old (edits.Replace at bytes) edited answer new
-Answers old (requests.Delete at) answer new = AnswersEdit old (edits.Delete at) (edit_of old.tables old.list (edits.Delete at)) answer new
-Answers old (requests.Move from to) answer new = AnswersEdit old (edits.Move from to) (edit_of old.tables old.list (edits.Move from to)) answer new
+    (edited : Result ℕ Refusal) × IsOrNoMemory (edit_answer old (edits.Replace at bytes)) edited × AnswersEdit old (edits.Replace at bytes) edited answer new
+Answers old (requests.Delete at) answer new = AnswersEdit old (edits.Delete at) (edit_answer old (edits.Delete at)) answer new
+Answers old (requests.Move from to) answer new = AnswersEdit old (edits.Move from to) (edit_answer old (edits.Move from to)) answer new
+Answers old (requests.Copy source from at) answer new =
+    (edited : Result ℕ Refusal) × IsOrNoMemory (edit_answer old (edits.Copy source from at)) edited × AnswersEdit old (edits.Copy source from at) edited answer new
 Answers old (requests.Blank at width height) answer new =
-    (edited : Result ℕ Refusal) × IsOrNoMemory (edit_of old.tables old.list (edits.Blank at width height)) edited × AnswersEdit old (edits.Blank at width height) edited answer new
+    (edited : Result ℕ Refusal) × IsOrNoMemory (edit_answer old (edits.Blank at width height)) edited × AnswersEdit old (edits.Blank at width height) edited answer new
 Answers old (requests.Hold at) answer new =
-    (edited : Result ℕ Refusal) × IsOrNoMemory (edit_of old.tables old.list (edits.Hold at)) edited × AnswersEdit old (edits.Hold at) edited answer new
+    (edited : Result ℕ Refusal) × IsOrNoMemory (edit_answer old (edits.Hold at)) edited × AnswersEdit old (edits.Hold at) edited answer new
 Answers old (requests.Script text) answer new =
     (set : Result ℕ Refusal) × IsOrNoMemory (script_answer old text) set × AnswersScript old text set answer new
 Answers old requests.Count answer new = (answer ≡ reply_only (count_line (packet_count old) (frame_count old))) × (new ≡ old)
@@ -122,27 +126,52 @@ pub record Stops (old : Now) (lines : List Line) (frames frames' replies replies
   pub new : Now
   pub frame_first : WritesFrameFirst mid line frames_mid frames' replies_mid replies' new
 
--- the requests of this text were answered over the file of these bytes
-pub record Means (tables : Tables) (bytes requests : List ℕ) (frames frames' replies replies' : Option (List ℕ)) (end : Now) : Type 0 where
-  pub file : Ivf
-  pub is : IsIvf bytes file
-  pub runs : Runs (start tables file) (requests_of requests) frames frames' replies replies' end
+-- the bytes of the sources
+abbrev pub texts_of : List (Bor (List ℕ)) → List (List ℕ)
+texts_of sources = map (λ bytes. bytes.now) sources
 
--- when a run returns no session: a file error is exactly the error of reading the file
-abbrev pub RunRefuses : List ℕ → RunFault → Type 0
-RunRefuses bytes (faults.Ivf fault) = IvfRefuses bytes fault
-RunRefuses bytes faults.Write = (file : Ivf) × IsIvf bytes file
-RunRefuses bytes faults.NoMemory = (file : Ivf) × IsIvf bytes file
+-- files are read from these bytes, one for each
+abbrev pub AreIvfs : List (List ℕ) → List Ivf → Type 0
+AreIvfs [] [] = Unit {0}
+AreIvfs (bytes ∷ more) (file ∷ files) = IsIvf bytes file × AreIvfs more files
+AreIvfs [] (file ∷ files) = ⊥
+AreIvfs (bytes ∷ more) [] = ⊥
+
+-- the requests of this text were answered over the files of these bytes
+pub record Means (tables : Tables) (sources : List (List ℕ)) (requests : List ℕ) (frames frames' replies replies' : Option (List ℕ)) (end : Now) : Type 0 where
+  pub files : List Ivf
+  pub are : AreIvfs sources files
+  pub runs : Runs (start tables files) (requests_of requests) frames frames' replies replies' end
+
+-- the error of reading a source is exactly the error of reading its bytes, and each source before it is a file
+pub record SourceRefuses (sources : List (List ℕ)) (source : ℕ) (fault : IvfFault) : Type 0 where
+  pub bytes : List ℕ
+  pub is_its : slice_get sources source ≡ Some bytes
+  pub refuses : IvfRefuses bytes fault
+  pub files : List Ivf
+  pub earlier : AreIvfs (take source sources) files
+
+-- reading the sources ends at an error of one of them
+abbrev pub IsSourceRefused : List (List ℕ) → RunFault → Type 0
+IsSourceRefused sources (faults.Ivf source fault) = SourceRefuses sources source fault
+IsSourceRefused sources faults.Write = ⊥
+IsSourceRefused sources faults.NoMemory = ⊥
+
+-- when a run returns no session: an error of a source is the first one, otherwise all sources are files
+abbrev pub RunRefuses : List (List ℕ) → RunFault → Type 0
+RunRefuses sources (faults.Ivf source fault) = SourceRefuses sources source fault
+RunRefuses sources faults.Write = (files : List Ivf) × AreIvfs sources files
+RunRefuses sources faults.NoMemory = (files : List Ivf) × AreIvfs sources files
 
 -- a run that ends before its first line writes nothing
 abbrev pub Leaves : RunFault → Option (List ℕ) → Option (List ℕ) → Type 0
-Leaves (faults.Ivf fault) old new = Keeps old new
+Leaves (faults.Ivf source fault) old new = Keeps old new
 Leaves faults.Write old new = Unit {0}
 Leaves faults.NoMemory old new = Keeps old new
 
 -- a run that a writer's error ends stops within its request list: no reply begins before its whole frame is written
-abbrev pub RunStops : Tables → (bytes requests : List ℕ) → (frames frames' replies replies' : Option (List ℕ)) → RunFault → Type 0
-RunStops tables bytes requests frames frames' replies replies' (faults.Ivf fault) = Unit {0}
-RunStops tables bytes requests frames frames' replies replies' faults.Write =
-    (file : Ivf) × IsIvf bytes file × Stops (start tables file) (requests_of requests) frames frames' replies replies'
-RunStops tables bytes requests frames frames' replies replies' faults.NoMemory = Unit {0}
+abbrev pub RunStops : Tables → (sources : List (List ℕ)) → (requests : List ℕ) → (frames frames' replies replies' : Option (List ℕ)) → RunFault → Type 0
+RunStops tables sources requests frames frames' replies replies' (faults.Ivf source fault) = Unit {0}
+RunStops tables sources requests frames frames' replies replies' faults.Write =
+    (files : List Ivf) × AreIvfs sources files × Stops (start tables files) (requests_of requests) frames frames' replies replies'
+RunStops tables sources requests frames frames' replies replies' faults.NoMemory = Unit {0}

@@ -1,49 +1,72 @@
 -- The state of a session that its answers do not depend on: the marks of its packets and its cache.
-use Rattle.std.specs.Prelude.{◌≡◌, ℕ, ◌≤◌, Bool, true, false, [], ◌∷◌, List, length, slice_get, Option, Some, None, Result, Ok, Err, option_and_then}
+use Rattle.std.specs.Prelude.{◌≡◌, ℕ, ◌<◌, ◌≤◌, Bool, true, false, [], List, length, map, slice_get, slice_index_or, slice_set, Option, Some, None, Result, Ok, Err, option_and_then, option_map}
 use Rattle.vp8_tables.specs.declared.tables.Tables.{Tables}
 use Rattle.stream_files.specs.declared.ivf.Ivf.{Ivf}
-use Rattle.packet_edits.specs.Edits.{Listing}
+use Rattle.packet_edits.specs.Edits.{Listing, copied, listing_of, starting}
 use Rattle.packet_edits.specs.Marks.{StoreValue, marks_deleted, marks_inserted, marks_moved, marks_pushed, marks_replaced}
 use Rattle.packet_edits.specs.Shown.{shown_indexes, stream_of}
 use Rattle.pixel_planes.specs.Pictures.{PictureSamples}
 use Rattle.script_nodes.specs.Frames.{traced}
 use Rattle.state_cache.specs.Costs.{Costs}
 use Rattle.state_cache.specs.EditLaws.{IsWithout, AreOfPackets, id_at}
-use Rattle.state_cache.specs.Reaching.{CacheValue, OthersStay, view_of}
+use Rattle.state_cache.specs.Reaching.{CacheValue, OthersDrop, OthersStay, view_of}
 use Rattle.state_cache.specs.Views.{IsCoherent, marked_packets}
 use Rattle.frame_session.specs.declared.edit.Edit.{Edit}
-use Rattle.frame_session.specs.declared.edit.Edit.TheVariants.{Insert, Replace, Delete, Move, Blank, Hold}
+use Rattle.frame_session.specs.declared.edit.Edit.TheVariants.{Insert, Replace, Delete, Move, Copy, Blank, Hold}
 use Rattle.frame_session.specs.declared.refusal.Refusal.{Refusal}
 use Rattle.frame_session.specs.declared.refusal.Refusal.TheVariants as refusals
-use Rattle.frame_session.specs.Sessions.{Now, shown_count, start}
+use Rattle.frame_session.specs.Edits.{edited, list_at}
+use Rattle.frame_session.specs.Sessions.{Now, shown_counts, start}
 
--- a session: the state that its answers depend on, a mark or none for each packet, and its cache
+-- the packets of a source with their marks; a source that does not exist has no packets
+abbrev pub store_at : List StoreValue → ℕ → StoreValue
+store_at stores source = slice_index_or stores source (record { list = starting 0; marks = [] })
+
+-- the packet lists of stores
+abbrev pub lists_of : List StoreValue → List Listing
+lists_of stores = map (λ store. store.list) stores
+
+-- a session: the state that its answers depend on, the packets of each source with their marks, and its cache. The lists of the
+-- stores are those of the state
 pub record SessionValue : Type 0 where
   pub now : Now
-  pub marks : List Bool
+  pub stores : List StoreValue
   pub cache : CacheValue
 
--- its packets with their marks
-abbrev pub store_of : SessionValue → StoreValue
-store_of session = record { list = session.now.list; marks = session.marks }
+-- the packets of a file, none of them marked
+abbrev pub store_of_file : Ivf → StoreValue
+store_of_file file = record { list = listing_of file.packets; marks = marks_pushed file.packets [] }
 
 -- a new session: no packet is marked, and no outcome is cached
-abbrev pub begun : Tables → ℕ → Ivf → SessionValue
-begun tables capacity file = record {
-  now = start tables file;
-  marks = marks_pushed file.packets [];
+abbrev pub begun : Tables → ℕ → List Ivf → SessionValue
+begun tables capacity files = record {
+  now = start tables files;
+  stores = map store_of_file files;
   cache = record { entries = []; capacity = capacity; decoded = 0 };
 }
 
--- the cached outcomes are coherent with the packets and their marks, belong to packets of the list, and are at most as many as the capacity
-pub record IsSound (tables : Tables) (store : StoreValue) (cache : CacheValue) : Type 0 where
-  pub coherent : IsCoherent tables (marked_packets store) (view_of 0 cache)
-  pub of_packets : AreOfPackets store.list (view_of 0 cache)
+-- the cached outcomes of each source are coherent with its packets and their marks and belong to packets of its list, and the
+-- outcomes of all sources together are at most as many as the capacity
+pub record IsSound (tables : Tables) (stores : List StoreValue) (cache : CacheValue) : Type 0 where
+  pub coherent : (source : ℕ) → IsCoherent tables (marked_packets (store_at stores source)) (view_of source cache)
+  pub of_packets : (source : ℕ) → AreOfPackets (store_at stores source).list (view_of source cache)
   pub bounded : length cache.entries ≤ cache.capacity
 
--- the index of the packet that frame n comes from, if there is such a frame
-abbrev pub place_of : Now → ℕ → Option ℕ
-place_of now n = option_and_then (λ origin. slice_get (shown_indexes (stream_of now.list)) origin.frame) (traced (shown_count now ∷ []) now.script n)
+-- a session has 1 to 8 sources, of which one is current, and its cache is sound
+pub record IsSession (tables : Tables) (stores : List StoreValue) (current : ℕ) (cache : CacheValue) : Type 0 where
+  pub sound : IsSound tables stores cache
+  pub few : length stores ≤ 8
+  pub current_exists : current < length stores
+
+-- the number of shown packets of each source
+abbrev pub shown_counts_of : List StoreValue → List ℕ
+shown_counts_of stores = map (λ store. length (shown_indexes (stream_of store.list))) stores
+
+-- the packet that frame n comes from, if there is such a frame: its source, and its index
+abbrev pub place_of : Now → ℕ → Option (ℕ × ℕ)
+place_of now n =
+    option_and_then (λ origin. option_map (λ place. (origin.source, place)) (slice_get (shown_indexes (stream_of (list_at now.lists origin.source))) origin.frame))
+    (traced (shown_counts now) now.script n)
 
 -- whether an answer to a frame follows from its packet's picture: the frame, and the two refusals that only the picture decides
 abbrev pub needs_picture : Result PictureSamples Refusal → Bool
@@ -52,11 +75,17 @@ needs_picture (Err refusals.CropOutside) = true
 needs_picture (Err refusals.SizeDiffers) = true
 needs_picture (Err refusal) = false
 
+-- another source than this one: its packets and marks are unchanged, and each of its outcomes is still cached, or dropped
+pub record LeavesOthers (source : ℕ) (old new : SessionValue) : Type 0 where
+  pub packets : new.stores ≡ slice_set old.stores source (store_at new.stores source)
+  pub outcomes : OthersDrop source old.cache new.cache
+
 -- a frame costs as much as reaching its packet; if the answer follows from the packet's picture, the packet was reached. With no packet nothing changes
-abbrev pub FrameCosts : Option ℕ → SessionValue → Result PictureSamples Refusal → SessionValue → Type 0
+abbrev pub FrameCosts : Option (ℕ × ℕ) → SessionValue → Result PictureSamples Refusal → SessionValue → Type 0
 FrameCosts None old answer new = new ≡ old
-FrameCosts (Some index) old answer new =
-    (reached : Bool) × Costs old.now.tables 0 (store_of old) old.cache index reached (store_of new) new.cache × (needs_picture answer ≡ true → reached ≡ true)
+FrameCosts (Some packet) old answer new =
+    (reached : Bool) × Costs old.now.tables packet.0 (store_at old.stores packet.0) old.cache packet.1 reached (store_at new.stores packet.0) new.cache
+    × LeavesOthers packet.0 old new × (needs_picture answer ≡ true → reached ≡ true)
 
 -- the marks after an edit that is accepted
 abbrev pub marks_edited : Edit → List Bool → List Bool
@@ -64,6 +93,7 @@ marks_edited (Insert at stamp bytes) marks = marks_inserted at marks
 marks_edited (Replace at bytes) marks = marks_replaced at marks
 marks_edited (Delete at) marks = marks_deleted at marks
 marks_edited (Move from to) marks = marks_moved from to marks
+marks_edited (Copy source from at) marks = marks_inserted at marks
 marks_edited (Blank at width height) marks = marks_inserted at marks
 marks_edited (Hold at) marks = marks_inserted at marks
 
@@ -71,6 +101,10 @@ marks_edited (Hold at) marks = marks_inserted at marks
 abbrev pub after_answer : {A : Type 0} → A → A → Result ℕ Refusal → A
 after_answer made before (Ok count) = made
 after_answer made before (Err refusal) = before
+
+-- packets and marks after a copy of packet `from` of a source is inserted at an index
+abbrev pub store_copied : ℕ → Listing → ℕ → StoreValue → StoreValue
+store_copied at source from store = record { list = copied at source from store.list; marks = marks_inserted at store.marks }
 
 -- the marks after an edit with this result
 abbrev pub marks_after : Edit → List Bool → Result ℕ Refusal → List Bool
@@ -86,7 +120,21 @@ leaving edit list = None
 abbrev pub id_removed : Edit → Listing → Result ℕ Refusal → Option ℕ
 id_removed edit list answer = after_answer (leaving edit list) None answer
 
--- if a packet was removed, nothing is cached for its id and all else is unchanged; if none was, the cache is unchanged
-abbrev pub CacheWithout : Option ℕ → CacheValue → CacheValue → Type 0
-CacheWithout None old new = new ≡ old
-CacheWithout (Some id) old new = IsWithout id (view_of 0 old) (view_of 0 new) × OthersStay 0 old new × (new.capacity ≡ old.capacity) × (new.decoded ≡ old.decoded)
+-- packets and marks after an edit that is accepted; `lists` are the lists of all sources before it
+abbrev pub store_edited : Tables → List Listing → Edit → StoreValue → StoreValue
+store_edited tables lists edit store = record { list = edited tables lists edit store.list; marks = marks_edited edit store.marks }
+
+-- the packets and marks of all sources after an edit of the current source that is accepted
+abbrev pub stores_edited : Tables → ℕ → Edit → List StoreValue → List StoreValue
+stores_edited tables current edit stores = slice_set stores current (store_edited tables (lists_of stores) edit (store_at stores current))
+
+-- the packets and marks of all sources after an edit with this result: a refused edit changes nothing
+abbrev pub stores_after : Tables → ℕ → Edit → List StoreValue → Result ℕ Refusal → List StoreValue
+stores_after tables current edit stores answer = after_answer (stores_edited tables current edit stores) stores answer
+
+-- if a packet of this source was removed, nothing is cached for its id and all else is unchanged, also of the other sources; if
+-- none was, the cache is unchanged
+abbrev pub CacheWithout : ℕ → Option ℕ → CacheValue → CacheValue → Type 0
+CacheWithout source None old new = new ≡ old
+CacheWithout source (Some id) old new =
+    IsWithout id (view_of source old) (view_of source new) × OthersStay source old new × (new.capacity ≡ old.capacity) × (new.decoded ≡ old.decoded)

@@ -1,20 +1,24 @@
--- Edits of a session: the new packet list, and the result.
-use Rattle.std.specs.Prelude.{ℕ, ◌-◌, ◌==◌, [], List, length, slice_get, Option, Some, None, Result, Ok, Err, option_map, if◌then◌else◌, ◌≡◌}
+-- Edits of a session: the new packet list of the current source, and the result.
+use Rattle.std.specs.Prelude.{ℕ, ◌-◌, ◌==◌, [], List, length, nat_lt, slice_get, slice_index_or, Option, Some, None, Result, Ok, Err, option_map, if◌then◌else◌, ◌≡◌}
 use Rattle.std.specs.Option.{option_map_or}
 use Rattle.std.specs.Result.{result_unwrap_or}
 use Rattle.vp8_tables.specs.declared.tables.Tables.{Tables}
 use Rattle.packet_edits.specs.declared.fault.EditFault.{EditFault}
 use Rattle.packet_edits.specs.declared.fault.EditFault.TheVariants as faults
-use Rattle.packet_edits.specs.Edits.{Listing, deleted, inserted, refused_deletion, refused_insertion, refused_move, refused_replacement, replaced, with_move}
+use Rattle.packet_edits.specs.Edits.{Listing, copied, deleted, inserted, refused_copy, refused_deletion, refused_insertion, refused_move, refused_replacement, replaced, starting, with_move}
 use Rattle.packet_edits.specs.Sizes.{size_at}
 use Rattle.packet_forge.specs.declared.faults.ForgeFault.{ForgeFault}
 use Rattle.packet_forge.specs.declared.faults.ForgeFault.TheVariants as forging
 use Rattle.packet_forge.specs.Packets.{blank_of, hold_of}
 use Rattle.frame_session.specs.declared.edit.Edit.{Edit}
-use Rattle.frame_session.specs.declared.edit.Edit.TheVariants.{Insert, Replace, Delete, Move, Blank, Hold}
+use Rattle.frame_session.specs.declared.edit.Edit.TheVariants.{Insert, Replace, Delete, Move, Copy, Blank, Hold}
 use Rattle.frame_session.specs.declared.refusal.Refusal.{Refusal}
 use Rattle.frame_session.specs.declared.refusal.Refusal.TheVariants as refusals
 use Rattle.frame_session.specs.IsOrNoMemory.{IsOrNoMemory}
+
+-- the packet list of a source; a source that does not exist has no packets
+abbrev pub list_at : List Listing → ℕ → Listing
+list_at lists source = slice_index_or lists source (starting 0)
 
 -- the refusal of a request whose edit has an error
 abbrev pub refusal_by : EditFault → Refusal
@@ -46,14 +50,15 @@ hold_bytes_at tables list at = hold_bytes tables (size_at at list)
 abbrev pub inserted_forged : ℕ → Result (List ℕ) ForgeFault → Listing → Listing
 inserted_forged at forged list = inserted at (stamp_before at list) (result_unwrap_or forged []) list
 
--- the list after an edit that is accepted
-abbrev pub edited : Tables → Edit → Listing → Listing
-edited tables (Insert at stamp bytes) list = inserted at stamp bytes list
-edited tables (Replace at bytes) list = replaced at bytes list
-edited tables (Delete at) list = deleted at list
-edited tables (Move from to) list = with_move from to list
-edited tables (Blank at width height) list = inserted_forged at (blank_of tables width height) list
-edited tables (Hold at) list = inserted_forged at (hold_bytes_at tables list at) list
+-- a list after an edit that is accepted; `lists` are the lists of all sources before it
+abbrev pub edited : Tables → List Listing → Edit → Listing → Listing
+edited tables lists (Insert at stamp bytes) list = inserted at stamp bytes list
+edited tables lists (Replace at bytes) list = replaced at bytes list
+edited tables lists (Delete at) list = deleted at list
+edited tables lists (Move from to) list = with_move from to list
+edited tables lists (Copy source from at) list = copied at (list_at lists source) from list
+edited tables lists (Blank at width height) list = inserted_forged at (blank_of tables width height) list
+edited tables lists (Hold at) list = inserted_forged at (hold_bytes_at tables list at) list
 
 -- the first refusal of a forged packet: its insertion's, or otherwise its forging's
 abbrev pub refused_forged : Option EditFault → Result (List ℕ) ForgeFault → Option Refusal
@@ -61,14 +66,20 @@ refused_forged (Some fault) forged = Some (refusal_by fault)
 refused_forged None (Err fault) = Some (refusal_by_forging fault)
 refused_forged None (Ok packet) = None
 
--- the first refusal of an edit, if there is one
-abbrev pub refused_edit : Tables → Listing → Edit → Option Refusal
-refused_edit tables list (Insert at stamp bytes) = option_map refusal_by (refused_insertion list at)
-refused_edit tables list (Replace at bytes) = option_map refusal_by (refused_replacement list at)
-refused_edit tables list (Delete at) = option_map refusal_by (refused_deletion list at)
-refused_edit tables list (Move from to) = option_map refusal_by (refused_move list from to)
-refused_edit tables list (Blank at width height) = refused_forged (refused_insertion list at) (blank_of tables width height)
-refused_edit tables list (Hold at) = refused_forged (refused_insertion list at) (hold_bytes_at tables list at)
+-- the first refusal of a copy: its source does not exist, or otherwise the copy's own
+abbrev pub refused_copy_of : List Listing → Listing → ℕ → ℕ → ℕ → Option Refusal
+refused_copy_of lists list source from at =
+    if nat_lt source (length lists) then option_map refusal_by (refused_copy list at (list_at lists source) from) else Some refusals.Source
+
+-- the first refusal of an edit of a list, if there is one
+abbrev pub refused_edit : Tables → List Listing → Listing → Edit → Option Refusal
+refused_edit tables lists list (Insert at stamp bytes) = option_map refusal_by (refused_insertion list at)
+refused_edit tables lists list (Replace at bytes) = option_map refusal_by (refused_replacement list at)
+refused_edit tables lists list (Delete at) = option_map refusal_by (refused_deletion list at)
+refused_edit tables lists list (Move from to) = option_map refusal_by (refused_move list from to)
+refused_edit tables lists list (Copy source from at) = refused_copy_of lists list source from at
+refused_edit tables lists list (Blank at width height) = refused_forged (refused_insertion list at) (blank_of tables width height)
+refused_edit tables lists list (Hold at) = refused_forged (refused_insertion list at) (hold_bytes_at tables list at)
 
 -- the result if nothing is refused
 abbrev pub unless_refused : Option Refusal → ℕ → Result ℕ Refusal
@@ -76,17 +87,18 @@ unless_refused None count = Ok count
 unless_refused (Some refusal) count = Err refusal
 
 -- an edit's result: the new number of packets, or the first refusal
-abbrev pub edit_of : Tables → Listing → Edit → Result ℕ Refusal
-edit_of tables list edit = unless_refused (refused_edit tables list edit) (length (edited tables edit list).entries)
+abbrev pub edit_of : Tables → List Listing → Listing → Edit → Result ℕ Refusal
+edit_of tables lists list edit = unless_refused (refused_edit tables lists list edit) (length (edited tables lists edit list).entries)
 
--- the results that an edit may have: an insertion may also be out of memory
-abbrev pub EditAnswers : Tables → Listing → Edit → Result ℕ Refusal → Type 0
-EditAnswers tables list (Insert at stamp bytes) answer = IsOrNoMemory (edit_of tables list (Insert at stamp bytes)) answer
-EditAnswers tables list (Blank at width height) answer = IsOrNoMemory (edit_of tables list (Blank at width height)) answer
-EditAnswers tables list (Hold at) answer = IsOrNoMemory (edit_of tables list (Hold at)) answer
-EditAnswers tables list edit answer = answer ≡ edit_of tables list edit
+-- the results that an edit may have: an insertion or a copy may also be out of memory
+abbrev pub EditAnswers : Tables → List Listing → Listing → Edit → Result ℕ Refusal → Type 0
+EditAnswers tables lists list (Insert at stamp bytes) answer = IsOrNoMemory (edit_of tables lists list (Insert at stamp bytes)) answer
+EditAnswers tables lists list (Copy source from at) answer = IsOrNoMemory (edit_of tables lists list (Copy source from at)) answer
+EditAnswers tables lists list (Blank at width height) answer = IsOrNoMemory (edit_of tables lists list (Blank at width height)) answer
+EditAnswers tables lists list (Hold at) answer = IsOrNoMemory (edit_of tables lists list (Hold at)) answer
+EditAnswers tables lists list edit answer = answer ≡ edit_of tables lists list edit
 
 -- the list after an edit with this result
-abbrev pub after_edit : Tables → Edit → Listing → Result ℕ Refusal → Listing
-after_edit tables edit list (Ok count) = edited tables edit list
-after_edit tables edit list (Err refusal) = list
+abbrev pub after_edit : Tables → List Listing → Edit → Listing → Result ℕ Refusal → Listing
+after_edit tables lists edit list (Ok count) = edited tables lists edit list
+after_edit tables lists edit list (Err refusal) = list

@@ -8,13 +8,14 @@ use Rattle.frame_session.specs.declared.refusal.Refusal.TheVariants as refusals
 -- NoMemory may be reported instead of this result
 abbrev pub MayRunOutOfMemory : {A : Type 0} → Result A Refusal → Type 0
 MayRunOutOfMemory (Ok a) = Unit {0}
-MayRunOutOfMemory (Err (refusals.Packet place cause)) = Unit {0}
+MayRunOutOfMemory (Err (refusals.Packet source place cause)) = Unit {0}
 MayRunOutOfMemory (Err refusals.CropOutside) = Unit {0}
 MayRunOutOfMemory (Err refusals.SizeDiffers) = Unit {0}
 MayRunOutOfMemory (Err refusals.TooLarge) = Unit {0}
 MayRunOutOfMemory (Err refusals.NoMemory) = ⊥
 MayRunOutOfMemory (Err refusals.NoSuchFrame) = ⊥
 MayRunOutOfMemory (Err refusals.Line) = ⊥
+MayRunOutOfMemory (Err refusals.Source) = ⊥
 MayRunOutOfMemory (Err refusals.Place) = ⊥
 MayRunOutOfMemory (Err refusals.Full) = ⊥
 MayRunOutOfMemory (Err refusals.Spent) = ⊥
@@ -28,6 +29,7 @@ MayRunOutOfMemory (Err refusals.Number) = ⊥
 abbrev pub IsOrNoMemory : {A : Type 0} → Result A Refusal → Result A Refusal → Type 0
 IsOrNoMemory want (Err refusals.NoMemory) = MayRunOutOfMemory want
 IsOrNoMemory want (Err refusals.Line) = want ≡ Err refusals.Line
+IsOrNoMemory want (Err refusals.Source) = want ≡ Err refusals.Source
 IsOrNoMemory want (Err refusals.Place) = want ≡ Err refusals.Place
 IsOrNoMemory want (Err refusals.Full) = want ≡ Err refusals.Full
 IsOrNoMemory want (Err refusals.Spent) = want ≡ Err refusals.Spent
@@ -40,7 +42,7 @@ IsOrNoMemory want (Err refusals.Nodes) = want ≡ Err refusals.Nodes
 IsOrNoMemory want (Err refusals.Reference) = want ≡ Err refusals.Reference
 IsOrNoMemory want (Err refusals.Number) = want ≡ Err refusals.Number
 IsOrNoMemory want (Err refusals.SizeDiffers) = want ≡ Err refusals.SizeDiffers
-IsOrNoMemory want (Err (refusals.Packet place cause)) = want ≡ Err (refusals.Packet place cause)
+IsOrNoMemory want (Err (refusals.Packet source place cause)) = want ≡ Err (refusals.Packet source place cause)
 IsOrNoMemory want (Ok a) = want ≡ Ok a
 
 -- the result is a whole picture that shows the wanted frame, or a refusal that may be reported

@@ -1,5 +1,5 @@
 -- The texts of replies.
-use Rattle.std.specs.Prelude.{ℕ, List, [], ◌∷◌, ◌++◌, codes, Result, Ok, Err}
+use Rattle.std.specs.Prelude.{ℕ, zero, suc, List, [], ◌∷◌, ◌++◌, codes, Result, Ok, Err}
 use Rattle.std.specs.Fmt.{decimal}
 use Rattle.frame_header.specs.declared.cause.Cause.{Cause}
 use Rattle.frame_header.specs.declared.cause.Cause.TheVariants as causes
@@ -12,13 +12,14 @@ use Rattle.frame_session.specs.declared.serving.RunFault.TheVariants as faults
 -- the name of a refusal
 abbrev pub refusal_word : Refusal → List ℕ
 refusal_word refusals.Line = codes "Line"
+refusal_word refusals.Source = codes "Source"
 refusal_word refusals.Place = codes "Place"
 refusal_word refusals.Full = codes "Full"
 refusal_word refusals.Spent = codes "Spent"
 refusal_word refusals.Size = codes "Size"
 refusal_word refusals.TooLarge = codes "TooLarge"
 refusal_word refusals.NoSuchFrame = codes "NoSuchFrame"
-refusal_word (refusals.Packet place cause) = codes "packet"
+refusal_word (refusals.Packet source place cause) = codes "packet"
 refusal_word refusals.CropOutside = codes "CropOutside"
 refusal_word refusals.SizeDiffers = codes "SizeDiffers"
 refusal_word refusals.Syntax = codes "Syntax"
@@ -32,9 +33,14 @@ abbrev pub cause_text : Cause → List ℕ
 cause_text (causes.TokenPartition k) = codes "TokenPartition " ++ decimal k
 cause_text cause = cause_word cause
 
+-- the source of a packet in a reply: source 0 is not named
+abbrev pub source_text : ℕ → List ℕ
+source_text zero = []
+source_text (suc before) = codes "source " ++ decimal (suc before) ++ codes " "
+
 -- the text after the word `refused`
 abbrev pub refusal_text : Refusal → List ℕ
-refusal_text (refusals.Packet place cause) = codes "packet " ++ decimal place ++ codes " " ++ cause_text cause
+refusal_text (refusals.Packet source place cause) = source_text source ++ codes "packet " ++ decimal place ++ codes " " ++ cause_text cause
 refusal_text refusal = refusal_word refusal
 
 -- the reply to a line that is refused
@@ -64,6 +70,6 @@ stats_line steps = codes "decoded " ++ decimal steps ++ 10 ∷ []
 
 -- the name of a run's error
 abbrev pub run_fault_word : RunFault → List ℕ
-run_fault_word (faults.Ivf fault) = codes "Ivf"
+run_fault_word (faults.Ivf source fault) = codes "Ivf"
 run_fault_word faults.Write = codes "Write"
 run_fault_word faults.NoMemory = codes "NoMemory"

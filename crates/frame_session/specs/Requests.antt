@@ -4,7 +4,7 @@ use Rattle.std.specs.List.{starts_with}
 use Rattle.std.specs.Option.{option_map_or}
 use Rattle.std.specs.Str.{bytes_eq}
 use Rattle.frame_session.specs.declared.lines.Line.{Line}
-use Rattle.frame_session.specs.declared.lines.Line.TheVariants.{Silent, Unknown, Frame, Insert, Replace, Delete, Move, Blank, Hold, Script, Count, Stats}
+use Rattle.frame_session.specs.declared.lines.Line.TheVariants.{Silent, Unknown, Frame, Use, Insert, Replace, Delete, Move, Copy, Blank, Hold, Script, Count, Stats}
 use Rattle.frame_session.specs.Words.{words_of, number_of, bytes_of, after_word}
 
 -- a line that continues with a number, and with the words after it
@@ -26,6 +26,9 @@ at_end line (word ∷ words) = Unknown
 abbrev pub frame_by : List (List ℕ) → Line
 frame_by words = with_number (λ n. at_end (Frame n)) words
 
+abbrev pub use_by : List (List ℕ) → Line
+use_by words = with_number (λ source. at_end (Use source)) words
+
 abbrev pub insert_by : List (List ℕ) → Line
 insert_by words = with_number (λ at. with_number (λ stamp. with_bytes (λ bytes. at_end (Insert at stamp bytes)))) words
 
@@ -37,6 +40,9 @@ delete_by words = with_number (λ at. at_end (Delete at)) words
 
 abbrev pub move_by : List (List ℕ) → Line
 move_by words = with_number (λ from. with_number (λ to. at_end (Move from to))) words
+
+abbrev pub copy_by : List (List ℕ) → Line
+copy_by words = with_number (λ source. with_number (λ from. with_number (λ at. at_end (Copy source from at)))) words
 
 abbrev pub blank_by : List (List ℕ) → Line
 blank_by words = with_number (λ at. with_number (λ width. with_number (λ height. at_end (Blank at width height)))) words
@@ -55,10 +61,12 @@ asked_by_words text [] = Silent
 asked_by_words text (command ∷ words) =
     if starts_with nat_eq command (codes "#") then Silent
     else if bytes_eq command (codes "frame") then frame_by words
+    else if bytes_eq command (codes "use") then use_by words
     else if bytes_eq command (codes "insert") then insert_by words
     else if bytes_eq command (codes "replace") then replace_by words
     else if bytes_eq command (codes "delete") then delete_by words
     else if bytes_eq command (codes "move") then move_by words
+    else if bytes_eq command (codes "copy") then copy_by words
     else if bytes_eq command (codes "blank") then blank_by words
     else if bytes_eq command (codes "hold") then hold_by words
     else if bytes_eq command (codes "script") then script_by text words

@@ -1,5 +1,5 @@
--- A session as its requests see it, and the result of a request for a frame.
-use Rattle.std.specs.Prelude.{◌≡◌, ℕ, ◌≤◌, ◌==◌, ◌&&◌, Bool, true, if◌then◌else◌, List, [], ◌∷◌, Option, Some, None, Result, Ok, Err, is_none, option_and_then, slice_get, length}
+-- A session as its requests see it, its sources, and the result of a request for a frame.
+use Rattle.std.specs.Prelude.{◌≡◌, ℕ, ◌≤◌, ◌==◌, ◌&&◌, Bool, true, if◌then◌else◌, List, [], ◌∷◌, map, min, nat_lt, ◌^◌, ◌-◌, slice_set, sum, Option, Some, None, Result, Ok, Err, is_none, option_and_then, slice_get, length}
 use Rattle.std.specs.Result.{result_unwrap_or}
 use Rattle.vp8_tables.specs.declared.tables.Tables.{Tables}
 use Rattle.pixel_planes.specs.Pictures.{PictureSamples}
@@ -18,41 +18,73 @@ use Rattle.script_nodes.specs.Nodes.{script_of}
 use Rattle.script_nodes.specs.Lengths.{script_length}
 use Rattle.script_nodes.specs.Frames.{Origin, traced}
 use Rattle.script_nodes.specs.Shown.{Shown, shown_in, steps_shown}
-use Rattle.frame_session.specs.Edits.{after_edit}
+use Rattle.frame_session.specs.Edits.{edit_of, edited, list_at}
 use Rattle.frame_session.specs.Scripts.{script_reported}
 
--- the state that answers depend on: the tables, the file's head, the current packet list and script, the number of trailing
--- bytes of the file, the size that the first frame served has fixed, and the number of steps made
+-- the state that answers depend on: the tables, the head of source 0, the packet list of each source, the current source, on
+-- which edits act, the script, the number of trailing bytes of all files, the size that the first frame served has fixed, and the
+-- number of steps made
 pub record Now : Type 0 where
   pub tables : Tables
   pub head : Head
-  pub list : Listing
+  pub lists : List Listing
+  pub current : ℕ
   pub script : List Node
   pub spare : ℕ
   pub size : Option Size
   pub decoded : ℕ
 
--- a new session
-abbrev pub start : Tables → Ivf → Now
-start tables file = record { tables = tables; head = file.head; list = listing_of file.packets; script = []; spare = file.spare; size = None; decoded = 0 }
+-- the head of the first file; with no file, the head of an empty stream
+abbrev pub head_of_first : List Ivf → Head
+head_of_first [] = record { width = 0; height = 0; rate = 30; scale = 1 }
+head_of_first (file ∷ files) = file.head
+
+-- the greatest number of trailing bytes that is reported
+abbrev pub most_spare : ℕ
+most_spare = 2 ^ 64 - 1
+
+-- the number of trailing bytes of all files
+abbrev pub spare_of : List Ivf → ℕ
+spare_of files = min (sum (map (λ file. file.spare) files)) most_spare
+
+-- a new session over these files: one source for each
+abbrev pub start : Tables → List Ivf → Now
+start tables files = record {
+  tables = tables;
+  head = head_of_first files;
+  lists = map (λ file. listing_of file.packets) files;
+  current = 0;
+  script = [];
+  spare = spare_of files;
+  size = None;
+  decoded = 0;
+}
+
+-- the packet list on which edits act
+abbrev pub current_list : Now → Listing
+current_list now = list_at now.lists now.current
 
 -- the head, as long as no frame was served: the line that opens the frames is still to be written with it
 abbrev pub head_due : Now → Option Head
 head_due now = if is_none now.size then Some now.head else None
 
--- the outcome of shown packet n, if there is one
-abbrev pub outcome_of : Now → ℕ → Option Outcome
-outcome_of now n = option_and_then (λ place. slice_get (outcomes now.tables (stream_of now.list)) place) (slice_get (shown_indexes (stream_of now.list)) n)
+-- the outcome of shown packet n of a list, if there is one
+abbrev pub outcome_in : Tables → Listing → ℕ → Option Outcome
+outcome_in tables list n = option_and_then (λ place. slice_get (outcomes tables (stream_of list)) place) (slice_get (shown_indexes (stream_of list)) n)
 
--- the number of shown packets, which is the number of frames of the script's only source
-abbrev pub shown_count : Now → ℕ
-shown_count now = length (shown_indexes (stream_of now.list))
+-- the outcome of shown packet n of a source, if there is one
+abbrev pub outcome_of : Now → ℕ → ℕ → Option Outcome
+outcome_of now source n = outcome_in now.tables (list_at now.lists source) n
 
--- the picture of a packet, or the packet and cause that broke the stream
-abbrev pub picture_from : Option Outcome → Result PictureSamples Refusal
-picture_from None = Err refusals.NoSuchFrame
-picture_from (Some (Err broken)) = Err (refusals.Packet broken.place broken.cause)
-picture_from (Some (Ok decoded)) = Ok decoded.1
+-- the number of shown packets of each source, which is the number of its frames in a script
+abbrev pub shown_counts : Now → List ℕ
+shown_counts now = map (λ list. length (shown_indexes (stream_of list))) now.lists
+
+-- the picture of a packet, or the source, the packet and the cause that broke its stream
+abbrev pub picture_from : ℕ → Option Outcome → Result PictureSamples Refusal
+picture_from source None = Err refusals.NoSuchFrame
+picture_from source (Some (Err broken)) = Err (refusals.Packet source broken.place broken.cause)
+picture_from source (Some (Ok decoded)) = Ok decoded.1
 
 abbrev pub size_of : Shown → Size
 size_of shown = record { width = shown.width; height = shown.height }
@@ -75,11 +107,11 @@ frame_made size steps (Ok picture) = fitted size (steps_shown steps (shown_in pi
 -- the frame with this origin
 abbrev pub frame_from : Now → Option Origin → Result Shown Refusal
 frame_from now None = Err refusals.NoSuchFrame
-frame_from now (Some from) = frame_made now.size from.steps (picture_from (outcome_of now from.frame))
+frame_from now (Some from) = frame_made now.size from.steps (picture_from from.source (outcome_of now from.source from.frame))
 
--- frame n of the current script over the current shown packets: its shown samples, or the first refusal
+-- frame n of the current script over the current shown packets of the sources: its shown samples, or the first refusal
 abbrev pub frame_of : Now → ℕ → Result Shown Refusal
-frame_of now n = frame_from now (traced (shown_count now ∷ []) now.script n)
+frame_of now n = frame_from now (traced (shown_counts now) now.script n)
 
 -- the size of a frame that was served
 abbrev pub size_served : Result Shown Refusal → Option Size
@@ -101,23 +133,36 @@ pub record IsAfterFrame (old : Now) (served : Option Size) (new : Now) : Type 0 
   pub rest : new ≡ record (after_frame old served) { decoded = new.decoded }
   pub steps : old.decoded ≤ new.decoded
 
--- the state after an edit with this result
-abbrev pub now_after_edit : Edit → Now → Result ℕ Refusal → Now
-now_after_edit edit now answer = record now { list = after_edit now.tables edit now.list answer }
+-- an edit's result: the new number of packets of the current source, or the first refusal
+abbrev pub edit_answer : Now → Edit → Result ℕ Refusal
+edit_answer now edit = edit_of now.tables now.lists (current_list now) edit
 
--- the result of a script: the number of packets, or the first error of its text
+-- the state after an edit with this result: the current source's list is the edited one; a refused edit changes nothing
+abbrev pub now_after_edit : Edit → Now → Result ℕ Refusal → Now
+now_after_edit edit now (Ok count) = record now { lists = slice_set now.lists now.current (edited now.tables now.lists edit (current_list now)) }
+now_after_edit edit now (Err refusal) = now
+
+-- the result of choosing a source: the number of its packets, or that it does not exist
+abbrev pub choice_answer : Now → ℕ → Result ℕ Refusal
+choice_answer now source = if nat_lt source (length now.lists) then Ok (length (list_at now.lists source).entries) else Err refusals.Source
+
+-- the state after a source was chosen: edits act on it; a source that does not exist changes nothing
+abbrev pub now_after_choice : ℕ → Now → Now
+now_after_choice source now = if nat_lt source (length now.lists) then record now { current = source } else now
+
+-- the result of a script: the number of packets of the current source, or the first error of its text
 abbrev pub script_answer : Now → List ℕ → Result ℕ Refusal
-script_answer now text = script_reported (length now.list.entries) (script_of 1 text)
+script_answer now text = script_reported (length (current_list now).entries) (script_of (length now.lists) text)
 
 -- the state after a script with this result: a refused one leaves the one before
 abbrev pub now_after_script : List ℕ → Now → Result ℕ Refusal → Now
-now_after_script text now (Ok count) = record now { script = result_unwrap_or (script_of 1 text) [] }
+now_after_script text now (Ok count) = record now { script = result_unwrap_or (script_of (length now.lists) text) [] }
 now_after_script text now (Err refusal) = now
 
--- the number of packets
+-- the number of packets of the current source
 abbrev pub packet_count : Now → ℕ
-packet_count now = length now.list.entries
+packet_count now = length (current_list now).entries
 
 -- the number of frames that the script serves
 abbrev pub frame_count : Now → ℕ
-frame_count now = script_length (shown_count now ∷ []) now.script
+frame_count now = script_length (shown_counts now) now.script

@@ -1,17 +1,19 @@
-ghost use Rattle.std.specs.Prelude.{◌≡◌};
-ghost use Rattle.frame_session.specs.Cached.{marks_after};
+ghost use Rattle.std.specs.Prelude.{◌≡◌, ◌<◌, List, if◌then◌else◌, is_ok, length, slice_set};
+ghost use Rattle.packet_edits.specs.Edits.{Listing, refused_copy};
+ghost use Rattle.packet_edits.specs.Faults.{Answers};
+ghost use Rattle.frame_session.specs.Cached.{lists_of, marks_after, store_at, store_copied, stores_after};
 ghost use Rattle.vp8_tables.specs.declared.tables.Tables.{Tables};
 ghost use Rattle.frame_session.specs.Edits.{EditAnswers, after_edit, edit_of};
 ghost use Rattle.frame_session.specs.IsOrNoMemory.{IsOrNoMemory};
 
 use crate::forged::{insert_blank, insert_hold};
 use crate::refusal::Refusal;
-use packet_edits::Store;
+use packet_edits::{EditFault, Store};
 use std::alloc::Global;
 use stream_files::Bytes;
 use vp8_tables::Tables;
 
-/// A change of the packet list. Indices are counted from 0.
+/// A change of the packet list of the current source. Indices are counted from 0.
 #[derive(Debug, Drop)]
 pub enum Edit {
     /// Inserts a packet with a new id at index `at`, which is at most the number of packets.
@@ -22,6 +24,9 @@ pub enum Edit {
     Delete { at: u64 },
     /// Removes the packet at index `from` and inserts it at index `to` of the shortened list.
     Move { from: u64, to: u64 },
+    /// Inserts a copy of packet `from` of source `source` at index `at`, with its time stamp and a new id.
+    /// The packet is the one before the edit, if the source is the current one.
+    Copy { source: u64, from: u64, at: u64 },
     /// Inserts a packet whose picture is 128 throughout at index `at`: a key frame of `width` by
     /// `height` luma samples, each 1 to 16,383. It has the time stamp of the packet before it, or 0.
     Blank { at: u64, width: u64, height: u64 },
@@ -30,35 +35,86 @@ pub enum Edit {
     Hold { at: u64 },
 }
 
-/// Makes an edit, and returns the new number of packets.
+/// Makes an edit of the packets of source `current`, and returns their new number.
 ///
-/// Refusals come in this order. An insertion: `Place`, `Full`, `Spent`, `NoMemory`. A forged packet:
-/// `Place`, `Full`, `Spent`, `Size`, `TooLarge`, `NoMemory`; `NoMemory` may also come instead of
-/// `TooLarge`. A replacement: `Place`, `Spent`. The others: `Place`. A refused edit leaves the list
-/// unchanged.
+/// Refusals come in this order. An insertion: `Place`, `Full`, `Spent`, `NoMemory`. A copy: `Source`, and
+/// then those of an insertion. A forged packet: `Place`, `Full`, `Spent`, `Size`, `TooLarge`, `NoMemory`;
+/// `NoMemory` may also come instead of `TooLarge`. A replacement: `Place`, `Spent`. The others: `Place`. A
+/// refused edit changes nothing, and no edit changes another source.
 pub fn make_edit(
     alloc: Global,
     tables: &Tables,
-    list: &mut Store,
+    stores: &mut [Store],
+    current: usize,
     edit: Edit,
 ) -> Result<u64, Refusal>
-    ensures returned { EditAnswers tables.now list.old.list edit result }
-    ensures after { list.new.list ≡ after_edit tables.now edit list.old.list result }
-    ensures marks { list.new.marks ≡ marks_after edit list.old.marks result }
+    requires { current < length stores.old }
+    ensures returned { EditAnswers tables.now (lists_of stores.old) (store_at stores.old current).list edit result }
+    ensures after { stores.new ≡ stores_after tables.now current edit stores.old result }
 {
     match edit {
-        Edit::Insert { at, stamp, bytes } => insert(list, at, stamp, bytes),
-        Edit::Replace { at, bytes } => replace(list, at, bytes),
-        Edit::Delete { at } => delete(list, at),
-        Edit::Move { from, to } => move_to(list, from, to),
-        Edit::Blank { at, width, height } => insert_blank(alloc, tables, list, at, width, height),
-        Edit::Hold { at } => insert_hold(alloc, tables, list, at),
+        Edit::Insert { at, stamp, bytes } => insert(&mut stores[current], at, stamp, bytes),
+        Edit::Replace { at, bytes } => replace(&mut stores[current], at, bytes),
+        Edit::Delete { at } => delete(&mut stores[current], at),
+        Edit::Move { from, to } => move_to(&mut stores[current], from, to),
+        Edit::Copy { source, from, at } => copy(alloc, stores, current, source, from, at),
+        Edit::Blank { at, width, height } => {
+            insert_blank(alloc, tables, &mut stores[current], at, width, height)
+        }
+        Edit::Hold { at } => insert_hold(alloc, tables, &mut stores[current], at),
     }
 }
 
+/// Inserts a copy of packet `from` of a source at index `at` of source `current`.
+fn copy(
+    alloc: Global,
+    stores: &mut [Store],
+    current: usize,
+    source: u64,
+    from: u64,
+    at: u64,
+) -> Result<u64, Refusal>
+    requires { current < length stores.old }
+    ensures returned { (tables : Tables) → IsOrNoMemory (edit_of tables (lists_of stores.old) (store_at stores.old current).list (Edit.Copy source from at)) result }
+    ensures after { (tables : Tables) → stores.new ≡ stores_after tables current (Edit.Copy source from at) stores.old result }
+{
+    if source >= stores.len() as u64 {
+        return Err(Refusal::Source);
+    }
+    match copy_packet(alloc, stores, current, source as usize, from, at) {
+        Ok(()) => Ok(stores[current].len() as u64),
+        Err(fault) => Err(Refusal::by(fault)),
+    }
+}
+
+/// Inserts a copy of packet `from` of source `source` at index `at` of source `current`. Both exist.
+fn copy_packet(
+    alloc: Global,
+    stores: &mut [Store],
+    current: usize,
+    source: usize,
+    from: u64,
+    at: u64,
+) -> Result<(), EditFault>
+    requires current { current < length stores.old }
+    requires source { source < length stores.old }
+    ensures answers { Answers (refused_copy (store_at stores.old current).list at (store_at stores.old source).list from) result }
+    ensures after { stores.new ≡ (if is_ok result then slice_set stores.old current (store_copied at (store_at stores.old source).list from (store_at stores.old current)) else stores.old) }
+{
+    if source == current {
+        return stores[current].copy_within(alloc, at, from);
+    }
+    if source < current {
+        let (front, back) = stores.split_at_mut(current);
+        return back[0].copy_from(alloc, at, &front[source], from);
+    }
+    let (front, back) = stores.split_at_mut(source);
+    front[current].copy_from(alloc, at, &back[0], from)
+}
+
 pub(crate) fn insert(list: &mut Store, at: u64, stamp: u64, bytes: Bytes) -> Result<u64, Refusal>
-    ensures returned { (tables : Tables) → IsOrNoMemory (edit_of tables list.old.list (Edit.Insert at stamp bytes)) result }
-    ensures after { (tables : Tables) → list.new.list ≡ after_edit tables (Edit.Insert at stamp bytes) list.old.list result }
+    ensures returned { (tables : Tables) (lists : List Listing) → IsOrNoMemory (edit_of tables lists list.old.list (Edit.Insert at stamp bytes)) result }
+    ensures after { (tables : Tables) (lists : List Listing) → list.new.list ≡ after_edit tables lists (Edit.Insert at stamp bytes) list.old.list result }
     ensures marks { list.new.marks ≡ marks_after (Edit.Insert at stamp bytes) list.old.marks result }
 {
     match list.insert(at, stamp, bytes) {
@@ -68,8 +124,8 @@ pub(crate) fn insert(list: &mut Store, at: u64, stamp: u64, bytes: Bytes) -> Res
 }
 
 fn replace(list: &mut Store, at: u64, bytes: Bytes) -> Result<u64, Refusal>
-    ensures returned { (tables : Tables) → result ≡ edit_of tables list.old.list (Edit.Replace at bytes) }
-    ensures after { (tables : Tables) → list.new.list ≡ after_edit tables (Edit.Replace at bytes) list.old.list result }
+    ensures returned { (tables : Tables) (lists : List Listing) → result ≡ edit_of tables lists list.old.list (Edit.Replace at bytes) }
+    ensures after { (tables : Tables) (lists : List Listing) → list.new.list ≡ after_edit tables lists (Edit.Replace at bytes) list.old.list result }
     ensures marks { list.new.marks ≡ marks_after (Edit.Replace at bytes) list.old.marks result }
 {
     match list.replace(at, bytes) {
@@ -79,8 +135,8 @@ fn replace(list: &mut Store, at: u64, bytes: Bytes) -> Result<u64, Refusal>
 }
 
 fn delete(list: &mut Store, at: u64) -> Result<u64, Refusal>
-    ensures returned { (tables : Tables) → result ≡ edit_of tables list.old.list (Edit.Delete at) }
-    ensures after { (tables : Tables) → list.new.list ≡ after_edit tables (Edit.Delete at) list.old.list result }
+    ensures returned { (tables : Tables) (lists : List Listing) → result ≡ edit_of tables lists list.old.list (Edit.Delete at) }
+    ensures after { (tables : Tables) (lists : List Listing) → list.new.list ≡ after_edit tables lists (Edit.Delete at) list.old.list result }
     ensures marks { list.new.marks ≡ marks_after (Edit.Delete at) list.old.marks result }
 {
     match list.delete(at) {
@@ -90,8 +146,8 @@ fn delete(list: &mut Store, at: u64) -> Result<u64, Refusal>
 }
 
 fn move_to(list: &mut Store, from: u64, to: u64) -> Result<u64, Refusal>
-    ensures returned { (tables : Tables) → result ≡ edit_of tables list.old.list (Edit.Move from to) }
-    ensures after { (tables : Tables) → list.new.list ≡ after_edit tables (Edit.Move from to) list.old.list result }
+    ensures returned { (tables : Tables) (lists : List Listing) → result ≡ edit_of tables lists list.old.list (Edit.Move from to) }
+    ensures after { (tables : Tables) (lists : List Listing) → list.new.list ≡ after_edit tables lists (Edit.Move from to) list.old.list result }
     ensures marks { list.new.marks ≡ marks_after (Edit.Move from to) list.old.marks result }
 {
     match list.move_to(from, to) {

@@ -1,5 +1,6 @@
 // Edits that insert a forged packet.
-ghost use Rattle.std.specs.Prelude.{◌≡◌, Ok, IfOk, IfErr};
+ghost use Rattle.std.specs.Prelude.{◌≡◌, List, Ok, IfOk, IfErr};
+ghost use Rattle.packet_edits.specs.Edits.{Listing};
 ghost use Rattle.packet_forge.specs.Faults.{ForgeRefuses};
 ghost use Rattle.packet_forge.specs.Packets.{blank_of, is_side};
 ghost use Rattle.frame_session.specs.Edits.{after_edit, edit_of, hold_bytes, stamp_before};
@@ -75,8 +76,8 @@ pub(crate) fn insert_blank(
     width: u64,
     height: u64,
 ) -> Result<u64, Refusal>
-    ensures returned { IsOrNoMemory (edit_of tables.now list.old.list (Blank at width height)) result }
-    ensures after { list.new.list ≡ after_edit tables.now (Blank at width height) list.old.list result }
+    ensures returned { (lists : List Listing) → IsOrNoMemory (edit_of tables.now lists list.old.list (Blank at width height)) result }
+    ensures after { (lists : List Listing) → list.new.list ≡ after_edit tables.now lists (Blank at width height) list.old.list result }
     ensures marks { list.new.marks ≡ marks_after (Blank at width height) list.old.marks result }
 {
     if let Err(fault) = list.may_insert(at) {
@@ -96,8 +97,8 @@ pub(crate) fn insert_hold(
     list: &mut Store,
     at: u64,
 ) -> Result<u64, Refusal>
-    ensures returned { IsOrNoMemory (edit_of tables.now list.old.list (Hold at)) result }
-    ensures after { list.new.list ≡ after_edit tables.now (Hold at) list.old.list result }
+    ensures returned { (lists : List Listing) → IsOrNoMemory (edit_of tables.now lists list.old.list (Hold at)) result }
+    ensures after { (lists : List Listing) → list.new.list ≡ after_edit tables.now lists (Hold at) list.old.list result }
     ensures marks { list.new.marks ≡ marks_after (Hold at) list.old.marks result }
 {
     if let Err(fault) = list.may_insert(at) {

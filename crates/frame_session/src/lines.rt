@@ -5,7 +5,7 @@ ghost use Rattle.std.specs.Char.{is_ascii_digit};
 ghost use Rattle.std.specs.List.{list_all, position_or_len, prefix_len};
 ghost use Rattle.std.specs.Str.Lines.{lines, strip_carriage_return};
 ghost use Rattle.frame_session.specs.Words.{words_of, number_of, after_word};
-ghost use Rattle.frame_session.specs.Requests.{with_number, with_bytes, at_end, frame_by, insert_by, replace_by, delete_by, move_by, blank_by, hold_by, script_by, asked_by};
+ghost use Rattle.frame_session.specs.Requests.{with_number, with_bytes, at_end, frame_by, use_by, insert_by, replace_by, delete_by, move_by, copy_by, blank_by, hold_by, script_by, asked_by};
 ghost use Rattle.frame_session.specs.declared.lines.Line.{Line};
 ghost use Rattle.frame_session.specs.declared.lines.Line.TheVariants.{Unknown};
 
@@ -25,6 +25,8 @@ pub enum Line<'a> {
     Unknown,
     /// Serves the frame with this number, counted from 0.
     Frame(u64),
+    /// Chooses the source on which edits act.
+    Use(u64),
     /// Inserts a packet at index `at`.
     Insert { at: u64, stamp: u64, bytes: Hex<'a> },
     /// Replaces the bytes of the packet at index `at`.
@@ -33,6 +35,8 @@ pub enum Line<'a> {
     Delete { at: u64 },
     /// Moves the packet at index `from` to index `to` of the others.
     Move { from: u64, to: u64 },
+    /// Inserts a copy of packet `from` of a source at index `at`.
+    Copy { source: u64, from: u64, at: u64 },
     /// Inserts a blank packet of this many luma samples at index `at`.
     Blank { at: u64, width: u64, height: u64 },
     /// Inserts a packet at index `at` that repeats the last reference.
@@ -160,8 +164,8 @@ fn ended<'a>(asked: Line<'a>, rest: &[u8]) -> Line<'a>
 /// The request of a line.
 ///
 /// A line without words, or whose first word begins with `#`, has no reply. The requests are
-/// `frame N`, `insert AT STAMP HEX`, `replace AT HEX`, `delete AT`, `move FROM TO`, `blank AT W H`,
-/// `hold AT`, `script TEXT`, `count` and `stats`. HEX is `-` or an even number of hexadecimal digits, TEXT is the rest of
+/// `frame N`, `use K`, `insert AT STAMP HEX`, `replace AT HEX`, `delete AT`, `move FROM TO`,
+/// `copy S FROM AT`, `blank AT W H`, `hold AT`, `script TEXT`, `count` and `stats`. HEX is `-` or an even number of hexadecimal digits, TEXT is the rest of
 /// the line with at least one word, and the others are numbers; every other line is unknown.
 pub fn read_line(line: &[u8]) -> Line<'_>
     ensures { result ≡ asked_by line.now }
@@ -173,6 +177,8 @@ pub fn read_line(line: &[u8]) -> Line<'_>
         Line::Silent
     } else if command == b"frame".as_slice() {
         frame_line(words)
+    } else if command == b"use".as_slice() {
+        use_line(words)
     } else if command == b"insert".as_slice() {
         insert_line(words)
     } else if command == b"replace".as_slice() {
@@ -181,6 +187,8 @@ pub fn read_line(line: &[u8]) -> Line<'_>
         delete_line(words)
     } else if command == b"move".as_slice() {
         move_line(words)
+    } else if command == b"copy".as_slice() {
+        copy_line(words)
     } else if command == b"blank".as_slice() {
         blank_line(words)
     } else if command == b"hold".as_slice() {
@@ -203,6 +211,15 @@ fn frame_line(words: &[u8]) -> Line<'_>
         return Line::Unknown;
     };
     ended(Line::Frame(n), rest)
+}
+
+fn use_line(words: &[u8]) -> Line<'_>
+    ensures { result ≡ use_by (words_of words.now) }
+{
+    let Some((source, rest)) = next_number(words) else {
+        return Line::Unknown;
+    };
+    ended(Line::Use(source), rest)
 }
 
 fn insert_line(words: &[u8]) -> Line<'_>
@@ -253,6 +270,21 @@ fn move_line(words: &[u8]) -> Line<'_>
     ended(Line::Move { from, to }, rest)
 }
 
+fn copy_line(words: &[u8]) -> Line<'_>
+    ensures { result ≡ copy_by (words_of words.now) }
+{
+    let Some((source, rest)) = next_number(words) else {
+        return Line::Unknown;
+    };
+    let Some((from, rest)) = next_number(rest) else {
+        return Line::Unknown;
+    };
+    let Some((at, rest)) = next_number(rest) else {
+        return Line::Unknown;
+    };
+    ended(Line::Copy { source, from, at }, rest)
+}
+
 fn blank_line(words: &[u8]) -> Line<'_>
     ensures { result ≡ blank_by (words_of words.now) }
 {
@@ -283,146 +315,5 @@ fn script_line(text: &[u8]) -> Line<'_>
     match next_word(text) {
         None => Line::Unknown,
         Some(_) => Line::Script(ScriptText::new(text)),
-    }
-}
-
-#[cfg(test)]
-mod tests {
-    use super::*;
-    use std::test::Fail;
-    use stream_files::Bytes;
-
-    type Cut = Option<(&'static [u8], &'static [u8])>;
-
-    const TEXTS: [(&[u8], Cut); 8] = [
-        (b"", None),
-        (b"\n", Some((b"", b""))),
-        (b"frame 3\r\n\nframe 4", Some((b"frame 3", b"\nframe 4"))),
-        (b"\nframe 4", Some((b"", b"frame 4"))),
-        (b"frame 4", Some((b"frame 4", b""))),
-        (b"frame 4\r", Some((b"frame 4\r", b""))),
-        (b"frame 4\r\r\n", Some((b"frame 4\r", b""))),
-        (b"a\rb\n", Some((b"a\rb", b""))),
-    ];
-
-    #[test]
-    fn cuts_off_the_first_line(rt: HostRuntime) {
-        for (text, want) in TEXTS {
-            assert_eq!(rt; next_line(text), want, "at {text:?}");
-        }
-    }
-
-    /// A line's request: its name, its numbers in order, and its bytes.
-    type Asked = (&'static str, u64, u64, &'static [u8]);
-
-    fn name_of(line: &Line<'_>) -> (&'static str, u64, u64) {
-        match line {
-            Line::Silent => ("silent", 0, 0),
-            Line::Unknown => ("unknown", 0, 0),
-            Line::Frame(n) => ("frame", *n, 0),
-            Line::Insert { at, stamp, .. } => ("insert", *at, *stamp),
-            Line::Replace { at, .. } => ("replace", *at, 0),
-            Line::Delete { at } => ("delete", *at, 0),
-            Line::Move { from, to } => ("move", *from, *to),
-            Line::Blank { at, width, .. } => ("blank", *at, *width),
-            Line::Hold { at } => ("hold", *at, 0),
-            Line::Script(_) => ("script", 0, 0),
-            Line::Count => ("count", 0, 0),
-            Line::Stats => ("stats", 0, 0),
-        }
-    }
-
-    const UNKNOWN: Asked = ("unknown", 0, 0, b"");
-
-    const ROWS: [(&[u8], Asked); 56] = [
-        (b"", ("silent", 0, 0, b"")),
-        (b"   ", ("silent", 0, 0, b"")),
-        (b"# x", ("silent", 0, 0, b"")),
-        (b"  # x", ("silent", 0, 0, b"")),
-        (b"#frame 3", ("silent", 0, 0, b"")),
-        (b"frame 3", ("frame", 3, 0, b"")),
-        (b"  frame   3  ", ("frame", 3, 0, b"")),
-        (
-            b"frame 18446744073709551615",
-            ("frame", 18_446_744_073_709_551_615, 0, b""),
-        ),
-        (b"frame 00000000000000000001", ("frame", 1, 0, b"")),
-        (b"frame 18446744073709551616", UNKNOWN),
-        (b"frame 000000000000000000001", UNKNOWN),
-        (b"frame", UNKNOWN),
-        (b"frame 3 4", UNKNOWN),
-        (b"frame -1", UNKNOWN),
-        (b"frame +1", UNKNOWN),
-        (b"FRAME 1", UNKNOWN),
-        (b"frame\t3", UNKNOWN),
-        (b"frame 3\r", UNKNOWN),
-        (b"insert 1 2 0aF9", ("insert", 1, 2, &[10, 0xF9])),
-        (b" insert  1   2  - ", ("insert", 1, 2, b"")),
-        (
-            b"insert 18446744073709551615 18446744073709551615 00",
-            (
-                "insert",
-                18_446_744_073_709_551_615,
-                18_446_744_073_709_551_615,
-                &[0],
-            ),
-        ),
-        (b"insert 0 0 1", UNKNOWN),
-        (b"insert 0 0 0x10", UNKNOWN),
-        (b"insert 0 0 1g", UNKNOWN),
-        (b"insert 0 0 --", UNKNOWN),
-        (b"insert 0 0", UNKNOWN),
-        (b"insert 0 0 00 00", UNKNOWN),
-        (b"insert 0 18446744073709551616 -", UNKNOWN),
-        (b"replace 7 Ab", ("replace", 7, 0, &[0xAB])),
-        (b"replace 7 -", ("replace", 7, 0, b"")),
-        (b"replace 7 0 -", UNKNOWN),
-        (b"replace 7 a", UNKNOWN),
-        (b"delete 5", ("delete", 5, 0, b"")),
-        (b"delete", UNKNOWN),
-        (b"delete 5 6", UNKNOWN),
-        (b"move 1 0", ("move", 1, 0, b"")),
-        (b"move 1", UNKNOWN),
-        (b"blank 3 16 9", ("blank", 3, 16, b"")),
-        (
-            b" blank  0  18446744073709551615  0 ",
-            ("blank", 0, 18_446_744_073_709_551_615, b""),
-        ),
-        (b"blank 3 16", UNKNOWN),
-        (b"blank 3 16 9 1", UNKNOWN),
-        (b"blank 3 16 -", UNKNOWN),
-        (b"blank 3 16 18446744073709551616", UNKNOWN),
-        (b"hold 5", ("hold", 5, 0, b"")),
-        (b"hold", UNKNOWN),
-        (b"hold 5 6", UNKNOWN),
-        (b"holds 5", UNKNOWN),
-        (b"script", UNKNOWN),
-        (b"script  ", UNKNOWN),
-        (b"scripts -", UNKNOWN),
-        (b"script -", ("script", 0, 0, b" -")),
-        (
-            b" script  trim 0 1 2; splice 1 0 ",
-            ("script", 0, 0, b"  trim 0 1 2; splice 1 0 "),
-        ),
-        (b"count", ("count", 0, 0, b"")),
-        (b"count 1", UNKNOWN),
-        (b"stats ", ("stats", 0, 0, b"")),
-        (b"stat", UNKNOWN),
-    ];
-
-    #[test]
-    fn reads_each_row(rt: HostRuntime) -> Result<(), Fail> {
-        for (row, (name, first, second, bytes)) in ROWS {
-            let line = read_line(row);
-            assert_eq!(rt; name_of(&line), (name, first, second), "at {row:?}");
-            let written = match line {
-                Line::Insert { bytes, .. } => bytes.read(rt.alloc())?,
-                Line::Replace { bytes, .. } => bytes.read(rt.alloc())?,
-                Line::Script(text) => Bytes::from_slice(rt.alloc(), text.as_slice())?,
-                _ => Bytes::new(Vec::new(rt.alloc())),
-            };
-            assert_eq!(rt; written.as_slice(), bytes, "at {row:?}");
-        }
-        Ok(())
     }
 }

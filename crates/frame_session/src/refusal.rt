@@ -12,6 +12,9 @@ pub enum Refusal {
     /// The line is not a request.
     #[error("the line is not a request")]
     Line,
+    /// There is no source with this number.
+    #[error("there is no source with this number")]
+    Source,
     /// There is no packet at the index.
     #[error("there is no packet at this index")]
     Place,
@@ -30,9 +33,13 @@ pub enum Refusal {
     /// The script serves fewer frames.
     #[error("the script serves fewer frames")]
     NoSuchFrame,
-    /// The stream is broken at the packet at index `place`, counted from 0.
-    #[error("the stream is broken at packet {place}: {cause}")]
-    Packet { place: usize, cause: Cause },
+    /// The stream of a source is broken at the packet at index `place`, both counted from 0.
+    #[error("the stream of source {source} is broken at packet {place}: {cause}")]
+    Packet {
+        source: usize,
+        place: usize,
+        cause: Cause,
+    },
     /// A crop of the script reaches past the size that it is applied to.
     #[error("a crop of the script reaches past the picture")]
     CropOutside,
@@ -113,6 +120,7 @@ impl Refusal {
     {
         match self {
             Refusal::Line => "Line",
+            Refusal::Source => "Source",
             Refusal::Place => "Place",
             Refusal::Full => "Full",
             Refusal::Spent => "Spent",

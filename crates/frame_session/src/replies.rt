@@ -1,7 +1,7 @@
 ghost use Rattle.std.specs.Prelude.{◌≡◌, ◌++◌, OnOk, codes};
 ghost use Rattle.std.specs.Fmt.{decimal};
 ghost use Rattle.std.specs.Io.KnownBytes.{Appends};
-ghost use Rattle.frame_session.specs.Replies.{cause_text, count_line, edit_line, ok_line, refusal_text, refused_line, served_line, stats_line};
+ghost use Rattle.frame_session.specs.Replies.{cause_text, count_line, edit_line, ok_line, refusal_text, refused_line, served_line, source_text, stats_line};
 
 use crate::refusal::Refusal;
 use frame_header::Cause;
@@ -58,12 +58,27 @@ fn write_refusal<W: Write>(w: &mut W, refusal: Refusal) -> Result<(), WriteFault
     ensures { OnOk result (Appends (W.contents w.old) (W.contents w.new) (refusal_text refusal)) }
 {
     match refusal {
-        Refusal::Packet { place, cause } => {
+        Refusal::Packet {
+            source,
+            place,
+            cause,
+        } => {
+            write_source(w, source)?;
             write!(w, "packet {place} ").map_err(|_| WriteFault::Write)?;
             write_cause(w, cause)
         }
         _ => write_text(w, refusal.word()),
     }
+}
+
+/// Writes the source of a packet; source 0 is not named.
+fn write_source<W: Write>(w: &mut W, source: usize) -> Result<(), WriteFault>
+    ensures { OnOk result (Appends (W.contents w.old) (W.contents w.new) (source_text source)) }
+{
+    if source == 0 {
+        return Ok(());
+    }
+    write!(w, "source {source} ").map_err(|_| WriteFault::Write)
 }
 
 fn write_cause<W: Write>(w: &mut W, cause: Cause) -> Result<(), WriteFault>

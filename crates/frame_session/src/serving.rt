@@ -1,11 +1,11 @@
-ghost use Rattle.std.specs.Prelude.{◌≡◌, ◌⊎◌, ℕ, ◌≤◌, ◌++◌, IfOk, OnOk, IfErr, OnErr, Result};
+ghost use Rattle.std.specs.Prelude.{◌≡◌, ◌⊎◌, ℕ, ◌≤◌, ◌++◌, IfOk, OnOk, IfErr, OnErr, Result, length};
 ghost use Rattle.std.specs.Io.KnownBytes.{Appends, Keeps};
 ghost use Rattle.stream_files.specs.Y4m.{frame_text};
 ghost use Rattle.frame_session.specs.declared.refusal.Refusal.{Refusal};
 ghost use Rattle.frame_session.specs.Edits.{EditAnswers};
 ghost use Rattle.frame_session.specs.Replies.{count_line, edit_line, served_line};
-ghost use Rattle.frame_session.specs.Sessions.{now_after_edit, frame_count, packet_count};
-ghost use Rattle.frame_session.specs.Answers.{Leaves, Means, RunRefuses, RunStops, Runs, Serves, Stops, WritesFrameFirst, opening, requests_of};
+ghost use Rattle.frame_session.specs.Sessions.{current_list, now_after_edit, frame_count, packet_count};
+ghost use Rattle.frame_session.specs.Answers.{AreIvfs, IsSourceRefused, Leaves, Means, RunRefuses, RunStops, Runs, Serves, Stops, WritesFrameFirst, opening, requests_of, texts_of};
 
 use crate::edit::Edit;
 use crate::lines::{Line, next_line, read_line};
@@ -15,16 +15,17 @@ use crate::session::Session;
 use pixel_planes::Picture;
 use std::alloc::Global;
 use std::io::Write;
-use stream_files::{Head, IvfFault, WriteFault, ivf_read, y4m_frame, y4m_header};
+use stream_files::{Head, Ivf, IvfFault, WriteFault, ivf_read, y4m_frame, y4m_header};
 use thiserror::Error;
 use vp8_tables::Tables;
 
 /// Why a run returns no session.
 #[derive(Clone, Copy, Debug, PartialEq, Eq, Error)]
 pub enum RunFault {
-    /// The bytes of the stream are not an IVF file, or out of memory for its packets.
-    #[error("the stream cannot be read: {0}")]
-    Ivf(IvfFault),
+    /// The bytes of a source are not an IVF file, or out of memory for its packets. It is the first such
+    /// source.
+    #[error("source {source} cannot be read: {fault}")]
+    Ivf { source: usize, fault: IvfFault },
     /// A writer returned an error. How much was written is left open.
     #[error("a writer returned an error")]
     Write,
@@ -41,7 +42,7 @@ impl RunFault {
         ensures { result.now ≡ run_fault_word self }
     {
         match self {
-            RunFault::Ivf(_) => "Ivf",
+            RunFault::Ivf { .. } => "Ivf",
             RunFault::Write => "Write",
             RunFault::NoMemory => "NoMemory",
         }
@@ -129,7 +130,7 @@ fn serve_edit<R: Write>(
     edit: Edit,
     replies: &mut R,
 ) -> Result<(), WriteFault>
-    ensures answers { (edited : Result ℕ Refusal) × EditAnswers session.old.now.tables session.old.now.list edit edited × (session.new.now ≡ now_after_edit edit session.old.now edited) × OnOk result (Appends (R.contents replies.old) (R.contents replies.new) (edit_line edited)) }
+    ensures answers { (edited : Result ℕ Refusal) × EditAnswers session.old.now.tables session.old.now.lists (current_list session.old.now) edit edited × (session.new.now ≡ now_after_edit edit session.old.now edited) × OnOk result (Appends (R.contents replies.old) (R.contents replies.new) (edit_line edited)) }
     ensures capacity { session.new.cache.capacity ≡ session.old.cache.capacity }
 {
     let edited = session.edit(edit);
@@ -151,6 +152,10 @@ fn serve<F: Write, R: Write>(
         Line::Silent => Ok(()),
         Line::Unknown => write_refused(replies, Refusal::Line),
         Line::Frame(n) => serve_frame(session, n, frames, replies),
+        Line::Use(source) => {
+            let chosen = session.choose(source);
+            write_edited(replies, chosen)
+        }
         Line::Insert { at, stamp, bytes } => {
             let edited = session.insert_written(at, stamp, bytes);
             write_edited(replies, edited)
@@ -161,6 +166,9 @@ fn serve<F: Write, R: Write>(
         }
         Line::Delete { at } => serve_edit(session, Edit::Delete { at }, replies),
         Line::Move { from, to } => serve_edit(session, Edit::Move { from, to }, replies),
+        Line::Copy { source, from, at } => {
+            serve_edit(session, Edit::Copy { source, from, at }, replies)
+        }
         Line::Blank { at, width, height } => {
             serve_edit(session, Edit::Blank { at, width, height }, replies)
         }
@@ -195,38 +203,61 @@ fn serve_all<F: Write, R: Write>(
     }
 }
 
-/// Runs a request list over an IVF file.
+/// Reads the file of each source.
+///
+/// `RunFault::Ivf` with the first source whose bytes are not an IVF file, or for whose packets there is no
+/// memory.
+fn read_sources(alloc: Global, ivfs: &[&[u8]]) -> Result<Vec<Ivf>, RunFault>
+    ensures are { IfOk result (λ files. AreIvfs (texts_of ivfs.now) files.items) }
+    ensures refused { IfErr result (IsSourceRefused (texts_of ivfs.now)) }
+{
+    let mut files = Vec::new(alloc);
+    for bytes in ivfs {
+        let source = files.len();
+        let file = match ivf_read(alloc, bytes) {
+            Ok(file) => file,
+            Err(fault) => return Err(RunFault::Ivf { source, fault }),
+        };
+        let Ok(()) = files.push(file) else {
+            return Err(RunFault::Ivf {
+                source,
+                fault: IvfFault::NoMemory,
+            });
+        };
+    }
+    Ok(files)
+}
+
+/// Runs a request list over IVF files, 1 to 8: one source for each, numbered from 0.
 ///
 /// `capacity`, 1 to 4,096, is the most decoded states that are cached. Served frames go to
 /// `frames` as a YUV4MPEG2 text, whose first line is written with the first frame; a reply for each line
 /// that is neither empty nor a comment goes to `replies`. The session is returned as it is after the last
 /// line.
 ///
-/// `RunFault::Ivf` if the bytes are not an IVF file, or out of memory for its packets;
-/// `RunFault::NoMemory` if out of memory for the session: nothing is written then.
+/// `RunFault::Ivf` with the first source whose bytes are not an IVF file, or for whose packets there is no
+/// memory; `RunFault::NoMemory` if out of memory for the session: nothing is written then.
 /// `RunFault::Write` if a writer fails; the run ends there.
 pub fn run<F: Write, R: Write>(
     alloc: Global,
     tables: Tables,
     capacity: u16,
-    ivf: &[u8],
+    ivfs: &[&[u8]],
     requests: &[u8],
     frames: &mut F,
     replies: &mut R,
 ) -> Result<Session, RunFault>
-    requires { (1 ≤ capacity) × (capacity ≤ 4096) }
-    ensures means { IfOk result (λ session. Means tables ivf.now requests.now (F.contents frames.old) (F.contents frames.new) (R.contents replies.old) (R.contents replies.new) session.now) }
+    requires capacity { (1 ≤ capacity) × (capacity ≤ 4096) }
+    requires sources { (1 ≤ length ivfs.now) × (length ivfs.now ≤ 8) }
+    ensures means { IfOk result (λ session. Means tables (texts_of ivfs.now) requests.now (F.contents frames.old) (F.contents frames.new) (R.contents replies.old) (R.contents replies.new) session.now) }
     ensures capacity { IfOk result (λ session. session.cache.capacity ≡ capacity) }
-    ensures refused { IfErr result (RunRefuses ivf.now) }
-    ensures stops { IfErr result (RunStops tables ivf.now requests.now (F.contents frames.old) (F.contents frames.new) (R.contents replies.old) (R.contents replies.new)) }
+    ensures refused { IfErr result (RunRefuses (texts_of ivfs.now)) }
+    ensures stops { IfErr result (RunStops tables (texts_of ivfs.now) requests.now (F.contents frames.old) (F.contents frames.new) (R.contents replies.old) (R.contents replies.new)) }
     ensures frames { IfErr result (λ fault. Leaves fault (F.contents frames.old) (F.contents frames.new)) }
     ensures replies { IfErr result (λ fault. Leaves fault (R.contents replies.old) (R.contents replies.new)) }
 {
-    let file = match ivf_read(alloc, ivf) {
-        Ok(file) => file,
-        Err(fault) => return Err(RunFault::Ivf(fault)),
-    };
-    let mut session = match Session::new(alloc, tables, capacity, file) {
+    let files = read_sources(alloc, ivfs)?;
+    let mut session = match Session::new(alloc, tables, capacity, files) {
         Ok(session) => session,
         Err(_) => return Err(RunFault::NoMemory),
     };

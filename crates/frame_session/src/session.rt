@@ -1,12 +1,16 @@
-ghost use Rattle.std.specs.Prelude.{◌≡◌, ◌<◌, ◌≤◌, IfOk, OnErr, OnOk, is_ok, length, slice_get};
+ghost use Rattle.std.specs.Prelude.{◌≡◌, ◌<◌, ◌≤◌, IfOk, IfSome, OnErr, OnOk, is_ok, length, map, slice_get, slice_set};
+ghost use Rattle.std.specs.List.{All};
 ghost use Rattle.std.specs.Io.KnownBytes.{Appends};
 ghost use Rattle.stream_files.specs.Texts.{written_text};
 ghost use Rattle.packet_edits.specs.Saved.{packets_of};
-ghost use Rattle.packet_edits.specs.Shown.{stream_of};
+ghost use Rattle.packet_edits.specs.Shown.{shown_indexes, stream_of};
 ghost use Rattle.state_cache.specs.Decoding.{outcomes};
 ghost use Rattle.state_cache.specs.Costs.{Costs};
+ghost use Rattle.state_cache.specs.Reaching.{OthersDrop};
+ghost use Rattle.frame_session.specs.Cached.{shown_counts_of, store_at, store_of_file};
+ghost use Rattle.frame_session.specs.Sessions.{head_of_first, spare_of};
 ghost use Rattle.frame_session.specs.IsOrNoMemory.{IsOrNoMemory, IsFrameOrNoMemory};
-ghost use Rattle.frame_session.specs.Edits.{EditAnswers, edit_of};
+ghost use Rattle.frame_session.specs.Edits.{EditAnswers};
 ghost use Rattle.frame_session.specs.declared.edit.Edit.TheVariants.{Insert, Replace};
 
 use crate::edit::Edit;
@@ -14,6 +18,7 @@ use crate::hex_text::Hex;
 use crate::keeping::{edit_cached, list_is_well_formed, picture_at};
 use crate::refusal::Refusal;
 use crate::size::Size;
+use arrayvec::ArrayVec;
 use packet_edits::Store;
 use pixel_planes::{NoMemory, Picture};
 use script_nodes::{Script, apply};
@@ -24,14 +29,15 @@ use std::marker::Model;
 use stream_files::{Head, Ivf, WriteFault};
 use vp8_tables::Tables;
 
-/// A stream and the edits and script applied to it so far, with decoded states that are cached between
-/// requests.
+/// The sources, 1 to 8 streams, and the edits and script applied to them so far, with decoded states that
+/// are cached between requests.
 #[derive(Drop)]
 pub struct Session {
     alloc: Global,
     tables: Tables,
     head: Head,
-    list: Store,
+    stores: Vec<Store>,
+    current: usize,
     script: Script,
     spare: u64,
     size: Option<Size>,
@@ -39,68 +45,94 @@ pub struct Session {
 }
 
 impl Model for Session {
-    ghost use Rattle.frame_session.specs.Cached.{IsSound, SessionValue};
+    ghost use Rattle.frame_session.specs.Cached.{IsSession, SessionValue, lists_of};
 
     ghost Value = { SessionValue };
 
-    ghost view = { λ s. record { now = record { tables = s.tables; head = s.head; list = s.list.list; script = s.script; spare = s.spare; size = s.size; decoded = s.cache.decoded }; marks = s.list.marks; cache = s.cache } };
+    ghost view = { λ s. record { now = record { tables = s.tables; head = s.head; lists = lists_of s.stores.items; current = s.current; script = s.script; spare = s.spare; size = s.size; decoded = s.cache.decoded }; stores = s.stores.items; cache = s.cache } };
 
-    ghost invariant = { λ s. IsSound s.tables s.list s.cache };
+    ghost invariant = { λ s. IsSession s.tables s.stores.items s.current s.cache };
 }
 
 impl Session {
-    ghost use Rattle.frame_session.specs.Cached.{CacheWithout, FrameCosts, IsSound, begun, id_removed, marks_after, needs_picture, place_of, store_of};
-    ghost use Rattle.frame_session.specs.Sessions.{IsAfterFrame, now_after_edit, now_after_script, fits, frame_count, frame_of, head_due, packet_count, picture_from, script_answer, shown_count, size_given};
+    ghost use Rattle.frame_session.specs.Cached.{CacheWithout, FrameCosts, IsSession, begun, id_removed, lists_of, needs_picture, place_of, store_at, stores_after};
+    ghost use Rattle.frame_session.specs.Edits.{list_at};
+    ghost use Rattle.frame_session.specs.Sessions.{IsAfterFrame, choice_answer, current_list, edit_answer, now_after_choice, now_after_edit, now_after_script, fits, frame_count, frame_of, head_due, packet_count, picture_from, script_answer, shown_counts, size_given};
 
-    /// A session over a file's packets, at most 1,048,576. `capacity`, 1 to 4,096, is the most
-    /// decoded states that are cached; the cache starts empty. The packets get ids starting at 0, and the script
-    /// is empty.
+    /// A session over the packets of 1 to 8 files, at most 1,048,576 each: one source for each file, numbered
+    /// from 0. `capacity`, 1 to 4,096, is the most decoded states that are cached for all sources together; the
+    /// cache starts empty. The packets of each source get ids starting at 0, edits act on source 0, and the
+    /// script is empty.
     ///
-    /// `NoMemory` if out of memory for the packet list or the cache.
-    pub fn new(alloc: Global, tables: Tables, capacity: u16, file: Ivf) -> Result<Session, NoMemory>
+    /// `NoMemory` if out of memory for the packet lists or the cache.
+    pub fn new(
+        alloc: Global,
+        tables: Tables,
+        capacity: u16,
+        files: Vec<Ivf>,
+    ) -> Result<Session, NoMemory>
         requires capacity { (1 ≤ capacity) × (capacity ≤ 4096) }
-        requires few { length file.packets ≤ 1048576 }
-        ensures { IfOk result (λ session. session ≡ begun tables capacity file) }
+        requires sources { (1 ≤ length files.items) × (length files.items ≤ 8) }
+        requires few { All (λ file. length file.packets ≤ 1048576) files.items }
+        ensures { IfOk result (λ session. session ≡ begun tables capacity files.items) }
     {
         let Ok(cache) = Cache::new(alloc, capacity) else {
             return Err(NoMemory);
         };
-        let mut list = Store::starting(alloc, 0);
-        let Ok(()) = list.push_all(file.packets) else {
-            return Err(NoMemory);
-        };
+        let head = head_of_first(&files);
+        let spare = spare_of(&files);
+        let stores = stores_of(alloc, files)?;
         Ok(Session {
             alloc,
             tables,
-            head: file.head,
-            list,
+            head,
+            stores,
+            current: 0,
             script: Script::empty(alloc),
-            spare: file.spare,
+            spare,
             size: None,
             cache,
         })
     }
 
-    /// The number of shown packets, at most 1,048,576.
-    fn shown(&self) -> u64
-        ensures value { result ≡ shown_count self.now.now }
-        ensures few { result ≤ 1048576 }
-    {
-        list_is_well_formed(&self.list);
-        self.list.frames() as u64
-    }
-
-    /// The picture of the packet at index `place`.
-    fn decoded_at(&mut self, place: usize) -> Result<Picture, Refusal>
-        requires { place < length self.old.now.list.entries }
-        ensures returned { IsOrNoMemory (picture_from (slice_get (outcomes self.old.now.tables (stream_of self.old.now.list)) place)) result }
+    /// The picture of the packet at index `place` of a source.
+    fn decoded_at(&mut self, source: usize, place: usize) -> Result<Picture, Refusal>
+        requires source { source < length self.old.stores }
+        requires place { place < length (store_at self.old.stores source).list.entries }
+        ensures returned { IsOrNoMemory (picture_from source (slice_get (outcomes self.old.now.tables (stream_of (list_at self.old.now.lists source))) place)) result }
         ensures after { self.new.now ≡ record self.old.now { decoded = self.new.now.decoded } }
-        ensures costs { Costs self.old.now.tables 0 (store_of self.old) self.old.cache place (is_ok result) (store_of self.new) self.new.cache }
+        ensures packets { self.new.stores ≡ slice_set self.old.stores source (store_at self.new.stores source) }
+        ensures others { OthersDrop source self.old.cache self.new.cache }
+        ensures costs { Costs self.old.now.tables source (store_at self.old.stores source) self.old.cache place (is_ok result) (store_at self.new.stores source) self.new.cache }
         ensures reached { needs_picture result ≡ is_ok result }
         ensures capacity { self.new.cache.capacity ≡ self.old.cache.capacity }
         ensures rises { self.old.now.decoded ≤ self.new.now.decoded }
     {
-        picture_at(&self.tables, &mut self.list, &mut self.cache, place)
+        picture_at(
+            &self.tables,
+            &mut self.stores,
+            &mut self.cache,
+            source,
+            place,
+        )
+    }
+
+    /// The number of shown packets of each source.
+    fn shown_counts(&self) -> ArrayVec<u64, 8>
+        ensures value { result.items ≡ shown_counts self.now.now }
+        ensures few { All (λ count. count ≤ 1048576) result.items }
+        ensures sources { length result.items ≡ length self.now.stores }
+    {
+        shown_counts(&self.stores)
+    }
+
+    /// The index of shown packet `frame` of a source, if there is one.
+    fn shown_place(&self, source: usize, frame: u64) -> Option<usize>
+        requires { source < length self.now.stores }
+        ensures place { result ≡ slice_get (shown_indexes (stream_of (list_at self.now.now.lists source))) frame }
+        ensures within { IfSome result (λ place. place < length (store_at self.now.stores source).list.entries) }
+    {
+        self.stores[source].shown(frame)
     }
 
     /// Whether a picture has the size of the stream, if that is fixed.
@@ -113,26 +145,27 @@ impl Session {
         }
     }
 
-    /// Frame `n` of the current script over the current shown packets, counted from 0. The
+    /// Frame `n` of the current script over the current shown packets of the sources, counted from 0. The
     /// picture's coded samples outside its shown size are left open.
     ///
     /// Refused as `NoSuchFrame` if the script serves fewer frames; `Packet` if the packet that the
     /// frame comes from is broken; `CropOutside` if a crop reaches past the size that it is applied to;
-    /// `SizeDiffers` if the frame does not have the size of the first frame served; and `NoMemory`, instead
-    /// of any of these but the first.
+    /// `SizeDiffers` if the frame does not have the size of the first frame served, of whichever source; and
+    /// `NoMemory`, instead of any of these but the first.
     pub fn frame(&mut self, n: u64) -> Result<Picture, Refusal>
         ensures returned { IsFrameOrNoMemory (frame_of self.old.now n) result }
         ensures after { IsAfterFrame self.old.now (size_given result) self.new.now }
         ensures costs { FrameCosts (place_of self.old.now n) self.old result self.new }
         ensures capacity { self.new.cache.capacity ≡ self.old.cache.capacity }
     {
-        let Some((_, frame, trace)) = self.script.trace(&[self.shown()], n) else {
+        let counts = self.shown_counts();
+        let Some((source, frame, trace)) = self.script.trace(&counts, n) else {
             return Err(Refusal::NoSuchFrame);
         };
-        let Some(place) = self.list.shown(frame) else {
+        let Some(place) = self.shown_place(source, frame) else {
             return Err(Refusal::NoSuchFrame);
         };
-        let picture = self.decoded_at(place)?;
+        let picture = self.decoded_at(source, place)?;
         let made = match apply(self.alloc, &picture, &trace) {
             Ok(made) => made,
             Err(fault) => return Err(Refusal::by_apply(fault)),
@@ -148,8 +181,21 @@ impl Session {
         Ok(made)
     }
 
-    /// Sets the script that a text writes, and returns the number of
-    /// packets.
+    /// Chooses the source on which edits act from now on, and returns the number of its packets.
+    ///
+    /// Refused as `Source` if there is no such source: the current one remains then.
+    pub fn choose(&mut self, source: u64) -> Result<u64, Refusal>
+        ensures returned { result ≡ choice_answer self.old.now source }
+        ensures after { self.new ≡ record self.old { now = now_after_choice source self.old.now } }
+    {
+        if source >= self.stores.len() as u64 {
+            return Err(Refusal::Source);
+        }
+        self.current = source as usize;
+        Ok(self.stores[self.current].len() as u64)
+    }
+
+    /// Sets the script that a text writes, and returns the number of packets of the current source.
     ///
     /// Refused as `Syntax`, `Nodes`, `Reference`, `Number` and then `NoMemory`, each over the whole
     /// text: the old script remains then.
@@ -158,36 +204,39 @@ impl Session {
         ensures after { self.new ≡ record self.old { now = now_after_script text.now self.old.now result } }
         ensures refused { OnErr result (self.new ≡ self.old) }
     {
-        match Script::parse(self.alloc, text, 1) {
+        match Script::parse(self.alloc, text, self.stores.len() as u64) {
             Ok(script) => {
                 self.script = script;
-                Ok(self.list.len() as u64)
+                Ok(self.stores[self.current].len() as u64)
             }
             Err(fault) => Err(Refusal::by_script(fault)),
         }
     }
 
-    /// Makes an edit of the packet list, and returns the new number of packets.
+    /// Makes an edit of the current source's packets, and returns their new number. The other sources do not
+    /// change.
     ///
     /// Refusals come in this order. An insertion: `Place` if `at` is above the number of packets, `Full` if
-    /// there are 1,048,576 packets, `Spent` if no id is left, and `NoMemory`. A forged packet, after
+    /// there are 1,048,576 packets, `Spent` if no id is left, and `NoMemory`. A copy: `Source` if there is no
+    /// such source, `Place` if it has no packet `from`, and then those of an insertion. A forged packet, after
     /// `Spent`: `Size` if no frame has the size, `TooLarge` if its first partition has more than 524,287
     /// bytes, and `NoMemory`, which may also come instead of `TooLarge`. A replacement: `Place` if there
     /// is no packet at `at`, and `Spent`. A deletion or a move: `Place` if there is no packet at one of its
     /// indices. A refused edit changes nothing.
     pub fn edit(&mut self, edit: Edit) -> Result<u64, Refusal>
-        ensures returned { EditAnswers self.old.now.tables self.old.now.list edit result }
+        ensures returned { EditAnswers self.old.now.tables self.old.now.lists (current_list self.old.now) edit result }
         ensures after { self.new.now ≡ now_after_edit edit self.old.now result }
-        ensures marks { self.new.marks ≡ marks_after edit self.old.marks result }
-        ensures cache { CacheWithout (id_removed edit self.old.now.list result) self.old.cache self.new.cache }
+        ensures stores { self.new.stores ≡ stores_after self.old.now.tables self.old.now.current edit self.old.stores result }
+        ensures cache { CacheWithout self.old.now.current (id_removed edit (current_list self.old.now) result) self.old.cache self.new.cache }
         ensures capacity { self.new.cache.capacity ≡ self.old.cache.capacity }
         ensures refused { OnErr result (self.new ≡ self.old) }
     {
         edit_cached(
             self.alloc,
             &self.tables,
-            &mut self.list,
+            &mut self.stores,
             &mut self.cache,
+            self.current,
             edit,
         )
     }
@@ -199,14 +248,14 @@ impl Session {
         stamp: u64,
         bytes: Hex<'_>,
     ) -> Result<u64, Refusal>
-        ensures returned { IsOrNoMemory (edit_of self.old.now.tables self.old.now.list (Insert at stamp bytes.entry)) result }
+        ensures returned { IsOrNoMemory (edit_answer self.old.now (Insert at stamp bytes.entry)) result }
         ensures after { self.new.now ≡ now_after_edit (Insert at stamp bytes.entry) self.old.now result }
-        ensures marks { self.new.marks ≡ marks_after (Insert at stamp bytes.entry) self.old.marks result }
-        ensures cache { CacheWithout (id_removed (Insert at stamp bytes.entry) self.old.now.list result) self.old.cache self.new.cache }
+        ensures stores { self.new.stores ≡ stores_after self.old.now.tables self.old.now.current (Insert at stamp bytes.entry) self.old.stores result }
+        ensures cache { CacheWithout self.old.now.current (id_removed (Insert at stamp bytes.entry) (current_list self.old.now) result) self.old.cache self.new.cache }
         ensures capacity { self.new.cache.capacity ≡ self.old.cache.capacity }
         ensures refused { OnErr result (self.new ≡ self.old) }
     {
-        if let Err(fault) = self.list.may_insert(at) {
+        if let Err(fault) = self.stores[self.current].may_insert(at) {
             return Err(Refusal::by(fault));
         }
         match bytes.read(self.alloc) {
@@ -217,14 +266,14 @@ impl Session {
 
     /// Replaces a packet by bytes that are decoded only once nothing else is refused.
     pub(crate) fn replace_written(&mut self, at: u64, bytes: Hex<'_>) -> Result<u64, Refusal>
-        ensures returned { IsOrNoMemory (edit_of self.old.now.tables self.old.now.list (Replace at bytes.entry)) result }
+        ensures returned { IsOrNoMemory (edit_answer self.old.now (Replace at bytes.entry)) result }
         ensures after { self.new.now ≡ now_after_edit (Replace at bytes.entry) self.old.now result }
-        ensures marks { self.new.marks ≡ marks_after (Replace at bytes.entry) self.old.marks result }
-        ensures cache { CacheWithout (id_removed (Replace at bytes.entry) self.old.now.list result) self.old.cache self.new.cache }
+        ensures stores { self.new.stores ≡ stores_after self.old.now.tables self.old.now.current (Replace at bytes.entry) self.old.stores result }
+        ensures cache { CacheWithout self.old.now.current (id_removed (Replace at bytes.entry) (current_list self.old.now) result) self.old.cache self.new.cache }
         ensures capacity { self.new.cache.capacity ≡ self.old.cache.capacity }
         ensures refused { OnErr result (self.new ≡ self.old) }
     {
-        if let Err(fault) = self.list.may_replace(at) {
+        if let Err(fault) = self.stores[self.current].may_replace(at) {
             return Err(Refusal::by(fault));
         }
         match bytes.read(self.alloc) {
@@ -233,23 +282,24 @@ impl Session {
         }
     }
 
-    /// The number of packets, and the number of frames that the script serves.
+    /// The number of packets of the current source, and the number of frames that the script serves.
     pub fn count(&self) -> (u64, u64)
         ensures packets { result.0 ≡ packet_count self.now.now }
         ensures frames { result.1 ≡ frame_count self.now.now }
     {
-        (self.list.len() as u64, self.script.length(&[self.shown()]))
+        let packets = self.stores[self.current].len() as u64;
+        (packets, self.script.length(&self.shown_counts()))
     }
 
     /// The number of decoding steps made, whatever their result; at most 18,446,744,073,709,551,615.
     pub fn decoded(&self) -> u64
         ensures value { result ≡ self.now.now.decoded }
-        ensures sound { IsSound self.now.now.tables (store_of self.now) self.now.cache }
+        ensures sound { IsSession self.now.now.tables self.now.stores self.now.now.current self.now.cache }
     {
         self.cache.decoded()
     }
 
-    /// The file's head, as long as no frame was served and the line that opens the frames is not written.
+    /// The head of source 0, as long as no frame was served and the line that opens the frames is not written.
     pub(crate) fn head_due(&self) -> Option<Head>
         ensures { result ≡ head_due self.now.now }
     {
@@ -259,20 +309,97 @@ impl Session {
         }
     }
 
-    /// Writes the current packets as an IVF file, with the head of the file that the session started
-    /// with. No memory is taken, and the session does not change.
+    /// Writes the current packets of source 0 as an IVF file, with the head of its file. No memory is taken,
+    /// and the session does not change.
     ///
     /// `Write` if the writer returns an error; part of the file may have been written.
     pub fn save<W: Write>(&self, w: &mut W) -> Result<(), WriteFault>
-        ensures { OnOk result (Appends (W.contents w.old) (W.contents w.new) (written_text self.now.now.head (packets_of self.now.now.list))) }
+        ensures { OnOk result (Appends (W.contents w.old) (W.contents w.new) (written_text self.now.now.head (packets_of (list_at self.now.now.lists 0)))) }
     {
-        self.list.save(w, self.head)
+        self.stores[0].save(w, self.head)
     }
 
-    /// The number of trailing bytes after the last whole record of the file.
+    /// The number of trailing bytes after the last whole record of each file, of all files together.
     pub fn spare(&self) -> u64
         ensures { result ≡ self.now.now.spare }
     {
         self.spare
     }
+}
+
+/// The head of the first file; with no file, the head of an empty stream.
+fn head_of_first(files: &[Ivf]) -> Head
+    ensures { result ≡ head_of_first files.now }
+{
+    match files {
+        [first, ..] => first.head,
+        [] => Head {
+            width: 0,
+            height: 0,
+            rate: 30,
+            scale: 1,
+        },
+    }
+}
+
+/// The number of trailing bytes of all files, at most 18,446,744,073,709,551,615.
+fn spare_of(files: &[Ivf]) -> u64
+    ensures { result ≡ spare_of files.now }
+{
+    let mut spare: u64 = 0;
+    for file in files {
+        spare = spare.saturating_add(file.spare);
+    }
+    spare
+}
+
+/// The packets of each file, with no mark.
+fn stores_of(alloc: Global, files: Vec<Ivf>) -> Result<Vec<Store>, NoMemory>
+    requires { All (λ file. length file.packets ≤ 1048576) files.items }
+    ensures { IfOk result (λ stores. stores.items ≡ map store_of_file files.items) }
+{
+    let mut stores = Vec::new(alloc);
+    for file in files {
+        let Ok(store) = store_of_file(alloc, file) else {
+            return Err(NoMemory);
+        };
+        let Ok(()) = stores.push(store) else {
+            return Err(NoMemory);
+        };
+    }
+    Ok(stores)
+}
+
+/// The packets of a file, with no mark.
+fn store_of_file(alloc: Global, file: Ivf) -> Result<Store, NoMemory>
+    requires { length file.packets ≤ 1048576 }
+    ensures { IfOk result (λ store. store ≡ store_of_file file) }
+{
+    let mut store = Store::starting(alloc, 0);
+    match store.push_all(file.packets) {
+        Ok(()) => Ok(store),
+        Err(_) => Err(NoMemory),
+    }
+}
+
+/// The number of shown packets of each of at most 8 sources.
+fn shown_counts(stores: &[Store]) -> ArrayVec<u64, 8>
+    requires { length stores.now ≤ 8 }
+    ensures value { result.items ≡ shown_counts_of stores.now }
+    ensures few { All (λ count. count ≤ 1048576) result.items }
+{
+    let mut counts = ArrayVec::new();
+    for store in stores {
+        counts.push(shown_count(store));
+    }
+    counts
+}
+
+/// The number of shown packets of a source.
+fn shown_count(store: &Store) -> u64
+    ensures value { result ≡ length (shown_indexes (stream_of store.now.list)) }
+    ensures few { result ≤ 1048576 }
+{
+    list_is_well_formed(store);
+    store.frames() as u64
 }

@@ -1,3 +1,5 @@
+ghost use Rattle.std.specs.Prelude.{◌≤◌, length};
+
 use frame_session::{RunFault, run};
 use std::alloc::{AllocError, Global};
 use stream_files::{IvfFault, WriteFault};
@@ -39,13 +41,20 @@ pub fn ivf_of(alloc: Global, packets: &[&[u8]]) -> Result<Vec<u8>, AllocError> {
 
 /// Runs requests over the bytes of a file, with a cache of `capacity` states.
 pub fn run_with(alloc: Global, capacity: u16, file: &[u8], requests: &[u8]) -> Ran {
+    run_sources(alloc, capacity, &[file], requests)
+}
+
+/// Runs requests over the bytes of 1 to 8 files, with a cache of `capacity` states.
+pub fn run_sources(alloc: Global, capacity: u16, files: &[&[u8]], requests: &[u8]) -> Ran
+    requires { (1 ≤ length files.now) × (length files.now ≤ 8) }
+{
     let mut frames = Vec::new(alloc);
     let mut replies = Vec::new(alloc);
     let spare = match run(
         alloc,
         Tables::flat(),
         capacity.clamp(1, 4096),
-        file,
+        files,
         requests,
         &mut frames,
         &mut replies,

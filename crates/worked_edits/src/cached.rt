@@ -262,7 +262,8 @@ fn edit(alloc: Global, dice: &mut Dice, standing: &mut Vec<&'static [u8]>) -> Re
 fn session(alloc: Global, capacity: u16, packets: &[&[u8]]) -> Result<Session, Fail> {
     let text = ivf_of(alloc, packets)?;
     let file = ivf_read(alloc, text.as_slice())?;
-    Ok(Session::new(alloc, Tables::rfc(), capacity.clamp(1, 4096), file)?)
+    let files = vec![in alloc; file]?;
+    Ok(Session::new(alloc, Tables::rfc(), capacity.clamp(1, 4096), files)?)
 }
 
 /// Whether two sessions answer frame `n` alike.

@@ -118,7 +118,7 @@ fn a_session_is_edited(rt: HostRuntime) -> Result<(), Fail> {
     if file.packets.len() != 1 {
         return Ok(assert!(rt; false, "one packet is read"));
     }
-    let mut session = Session::new(alloc, Tables::flat(), 4096, file)?;
+    let mut session = Session::new(alloc, Tables::flat(), 4096, vec![in alloc; file]?)?;
     assert_eq!(rt; (session.count(), session.decoded()), ((1, 1), 0));
     let bytes = Bytes::from_slice(alloc, HIDDEN)?;
     let insert = Edit::Insert {
@@ -131,6 +131,7 @@ fn a_session_is_edited(rt: HostRuntime) -> Result<(), Fail> {
     let bytes = Bytes::from_slice(alloc, &[0x11, 0])?;
     assert_eq!(rt; session.edit(Edit::Replace { at: 0, bytes }), Ok(2));
     let broken = Refusal::Packet {
+        source: 0,
         place: 0,
         cause: Cause::ShortPacket,
     };

@@ -8,3 +8,5 @@ mod cached;
 mod dropped;
 #[cfg(test)]
 mod edits;
+#[cfg(test)]
+mod sources;

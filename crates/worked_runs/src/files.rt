@@ -58,7 +58,7 @@ fn files_that_are_none(rt: HostRuntime) -> Result<(), Fail> {
             changed[place] = value;
         }
         let ran = run_over(rt.alloc(), changed.as_slice(), b"frame 0\n");
-        assert_eq!(rt; ran.spare, Err(RunFault::Ivf(fault)));
+        assert_eq!(rt; ran.spare, Err(RunFault::Ivf { source: 0, fault }));
         assert!(rt; ran.replies.is_empty());
     }
     Ok(())
@@ -87,7 +87,7 @@ fn writers_that_refuse(rt: HostRuntime) -> Result<(), Fail> {
         rt.alloc(),
         Tables::flat(),
         8,
-        file.as_slice(),
+        &[file.as_slice()],
         b"frame 0\n",
         &mut Refusing,
         &mut taken,
@@ -98,7 +98,7 @@ fn writers_that_refuse(rt: HostRuntime) -> Result<(), Fail> {
         rt.alloc(),
         Tables::flat(),
         8,
-        file.as_slice(),
+        &[file.as_slice()],
         b"frame 0\n",
         &mut taken,
         &mut Refusing,

@@ -23,7 +23,7 @@ fn saved_by(alloc: Global, file: &[u8], requests: &[u8]) -> Result<Vec<u8>, Fail
         alloc,
         Tables::flat(),
         8,
-        file,
+        &[file],
         requests,
         &mut frames,
         &mut replies,
@@ -159,7 +159,7 @@ fn a_session_forges_and_saves(rt: HostRuntime) -> Result<(), Fail> {
     if file.packets.len() != 0 {
         return Ok(assert!(rt; false, "no packet is read"));
     }
-    let mut session = Session::new(alloc, Tables::flat(), 1, file)?;
+    let mut session = Session::new(alloc, Tables::flat(), 1, vec![in alloc; file]?)?;
     let blank = Edit::Blank {
         at: 0,
         width: 16,

@@ -96,7 +96,7 @@ fn a_session_takes_scripts(rt: HostRuntime) -> Result<(), Fail> {
     if file.packets.len() != 1 {
         return Ok(assert!(rt; false, "one packet is read"));
     }
-    let mut session = Session::new(alloc, Tables::flat(), 1, file)?;
+    let mut session = Session::new(alloc, Tables::flat(), 1, vec![in alloc; file]?)?;
     assert_eq!(rt; session.set_script(b"splice 0 0; splice 1 0"), Ok(1));
     assert_eq!(rt; session.count(), (1, 3));
     assert_eq!(rt; session.set_script(b"splice 0 1"), Err(Refusal::Reference));

@@ -24,8 +24,9 @@ fn a_session_gives_pictures(rt: HostRuntime) -> Result<(), Fail> {
     let text = ivf_of(rt.alloc(), &[INTER, KEY, &[0x11], WIDE_KEY])?;
     let file = ivf_read(rt.alloc(), text.as_slice())?;
     assert_eq!(rt; file.packets.len(), 4);
-    let mut session = Session::new(rt.alloc(), Tables::flat(), 1, file)?;
+    let mut session = Session::new(rt.alloc(), Tables::flat(), 1, vec![in rt.alloc(); file]?)?;
     let broken = Refusal::Packet {
+        source: 0,
         place: 0,
         cause: Cause::NoKeyFrame,
     };
@@ -33,6 +34,7 @@ fn a_session_gives_pictures(rt: HostRuntime) -> Result<(), Fail> {
     let picture = session.frame(1)?;
     assert!(rt; shows_key(&picture));
     let broken = Refusal::Packet {
+        source: 0,
         place: 2,
         cause: Cause::ShortPacket,
     };

@@ -1,7 +1,8 @@
 use Rattle.std.proofs.Common.{None, inr, ap}
 use Rattle.std.proofs.lemmas.Result.{on_ok_weaker}
 use Rattle.frame_session.specs.Cached.{SessionValue}
-use Rattle.frame_session.proofs.Served.{serves_silent, serves_unknown, serves_inserted, serves_replaced, serves_deleted, serves_moved, serves_blanked, serves_held, serves_script, serves_count, serves_stats}
+use Rattle.frame_session.specs.Sessions.{now_after_choice}
+use Rattle.frame_session.proofs.Served.{serves_silent, serves_unknown, serves_chosen, serves_copied, serves_inserted, serves_replaced, serves_deleted, serves_moved, serves_blanked, serves_held, serves_script, serves_count, serves_stats}
 use Rattle.frame_session.proofs.serving.serve.Goals as goal
 
 pub returns-in-Silent-clause-serves : goal.returns-in-Silent-clause-serves
@@ -27,12 +28,24 @@ returns-in-Unknown-clause-frame_first g c =
     let f = g.F.Write.contents c.args.frames.now in
     rw c.in-Unknown.is (inr (serves_unknown c.args.session.now.now f f None None tt))
 
+pub returns-in-Use-clause-serves : goal.returns-in-Use-clause-serves
+returns-in-Use-clause-serves g c =
+    let f = g.F.Write.contents c.args.frames.now in
+    let r = g.R.Write.contents c.args.replies.now in
+    let r' = g.R.Write.contents c.write_edited.new.w in
+    rw c.in-Use.is (on_ok_weaker c.write_edited.result (λ said. serves_chosen c.args.session.now.now f f r r' c.in-Use.source c.choose-chosen.result c.choose-chosen.new.self.now c.choose-chosen.ensures.returned (ap (λ (v : SessionValue). v.now) {y = record c.args.session.now { now = now_after_choice c.in-Use.source c.args.session.now.now }} c.choose-chosen.ensures.after) said) c.write_edited.ensures)
+
+pub returns-in-Use-clause-frame_first : goal.returns-in-Use-clause-frame_first
+returns-in-Use-clause-frame_first g c =
+    let f = g.F.Write.contents c.args.frames.now in
+    rw c.in-Use.is (inr (serves_chosen c.args.session.now.now f f None None c.in-Use.source c.choose-chosen.result c.choose-chosen.new.self.now c.choose-chosen.ensures.returned (ap (λ (v : SessionValue). v.now) {y = record c.args.session.now { now = now_after_choice c.in-Use.source c.args.session.now.now }} c.choose-chosen.ensures.after) tt))
+
 pub returns-in-Insert-clause-serves : goal.returns-in-Insert-clause-serves
 returns-in-Insert-clause-serves g c =
     let f = g.F.Write.contents c.args.frames.now in
     let r = g.R.Write.contents c.args.replies.now in
-    let r' = g.R.Write.contents c.write_edited.new.w in
-    rw c.in-Insert.is (on_ok_weaker c.write_edited.result (λ said. serves_inserted c.args.session.now.now f f r r' c.in-Insert.at c.in-Insert.stamp c.in-Insert.bytes c.insert_written-edited.result c.insert_written-edited.new.self.now c.insert_written-edited.ensures.returned c.insert_written-edited.ensures.after said) c.write_edited.ensures)
+    let r' = g.R.Write.contents c.write_edited-in-Insert.new.w in
+    rw c.in-Insert.is (on_ok_weaker c.write_edited-in-Insert.result (λ said. serves_inserted c.args.session.now.now f f r r' c.in-Insert.at c.in-Insert.stamp c.in-Insert.bytes c.insert_written-edited.result c.insert_written-edited.new.self.now c.insert_written-edited.ensures.returned c.insert_written-edited.ensures.after said) c.write_edited-in-Insert.ensures)
 
 pub returns-in-Insert-clause-frame_first : goal.returns-in-Insert-clause-frame_first
 returns-in-Insert-clause-frame_first g c =
@@ -74,6 +87,18 @@ pub returns-in-Move-clause-frame_first : goal.returns-in-Move-clause-frame_first
 returns-in-Move-clause-frame_first g c =
     let f = g.F.Write.contents c.args.frames.now in
     rw c.in-Move.is (inr (serves_moved c.args.session.now.now f f None None c.in-Move.from c.in-Move.to c.serve_edit-in-Move.new.session.now (c.serve_edit-in-Move.ensures.answers.0, c.serve_edit-in-Move.ensures.answers.1, c.serve_edit-in-Move.ensures.answers.2, tt)))
+
+pub returns-in-Copy-clause-serves : goal.returns-in-Copy-clause-serves
+returns-in-Copy-clause-serves g c =
+    let f = g.F.Write.contents c.args.frames.now in
+    let r = g.R.Write.contents c.args.replies.now in
+    let r' = g.R.Write.contents c.serve_edit-in-Copy.new.replies in
+    rw c.in-Copy.is (on_ok_weaker c.serve_edit-in-Copy.result (λ said. serves_copied c.args.session.now.now f f r r' c.in-Copy.source c.in-Copy.from c.in-Copy.at c.serve_edit-in-Copy.new.session.now (c.serve_edit-in-Copy.ensures.answers.0, c.serve_edit-in-Copy.ensures.answers.1, c.serve_edit-in-Copy.ensures.answers.2, said)) c.serve_edit-in-Copy.ensures.answers.3)
+
+pub returns-in-Copy-clause-frame_first : goal.returns-in-Copy-clause-frame_first
+returns-in-Copy-clause-frame_first g c =
+    let f = g.F.Write.contents c.args.frames.now in
+    rw c.in-Copy.is (inr (serves_copied c.args.session.now.now f f None None c.in-Copy.source c.in-Copy.from c.in-Copy.at c.serve_edit-in-Copy.new.session.now (c.serve_edit-in-Copy.ensures.answers.0, c.serve_edit-in-Copy.ensures.answers.1, c.serve_edit-in-Copy.ensures.answers.2, tt)))
 
 pub returns-in-Blank-clause-serves : goal.returns-in-Blank-clause-serves
 returns-in-Blank-clause-serves g c =

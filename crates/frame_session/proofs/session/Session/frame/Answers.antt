@@ -1,24 +1,30 @@
-use Rattle.std.proofs.Common.{◌≡◌, true, Ok, slice_get, rules, subst, sym}
-use Rattle.state_cache.specs.Decoding.{outcomes}
-use Rattle.frame_session.specs.Cached.{SessionValue}
-use Rattle.frame_session.specs.IsOrNoMemory.{IsFrameOrNoMemory}
-use Rattle.packet_edits.specs.Shown.{stream_of}
-use Rattle.frame_session.specs.Sessions.{Now, fits, frame_of, picture_from, shown_count}
-use Rattle.frame_session.proofs.Given.{frame_given}
+use Rattle.std.proofs.Common.{◌≡◌, ◌∙◌, ℕ, List, true, Some, slice_set, rules, ap, subst, sym}
+use Rattle.state_cache.specs.Costs.{Costs}
+use Rattle.state_cache.specs.Reaching.{OthersDrop}
+use Rattle.script_nodes.specs.Frames.{traced}
+use Rattle.script_nodes.specs.Scripts.{origin_of}
+use Rattle.frame_session.specs.Cached.{SessionValue, store_at}
+use Rattle.frame_session.specs.Sessions.{fits}
+use Rattle.frame_session.proofs.Given.{frame_costs, frame_given}
 use Rattle.frame_session.proofs.session.Session.frame.Goals as goal
 
 pub returns-clause-returned : goal.returns-clause-returned
 returns-clause-returned c =
-    let s = c.self.inside in
-    let old : Now = record { tables = s.tables; head = s.head; list = s.list.list; script = s.script; spare = s.spare; size = s.size; decoded = s.cache.decoded } in
     let made = c.in-Ok.made in
-    let C : SessionValue → Type 0 = λ v. c.shown.result ≡ shown_count v.now in
-    let D : SessionValue → Type 0 = λ v. picture_from (slice_get (outcomes v.now.tables (stream_of v.now.list)) c.in-Some-shown.place) ≡ Ok c.in_ok-picture.picture in
+    let T : SessionValue → Type 0 = λ v. traced c.shown_counts-counts.result.items v.now.script c.args.n ≡ Some (origin_of c.in-Some.source c.in-Some.frame c.in-Some.trace) in
     let F : SessionValue → Type 0 = λ v. fits v.now.size (record { width = made.width; height = made.height }) ≡ true in
-    let G : SessionValue → Type 0 = λ v. IsFrameOrNoMemory (frame_of v.now c.args.n) (Ok made) in
-    let whole : SessionValue = record { now = old; marks = s.list.marks; cache = s.cache } in
-    let counted : C whole = subst C (sym c.self.view_is) c.shown.ensures.value in
-    let decoded : D whole = subst D (sym c.self.view_is) c.in_ok-picture.ensures.returned in
+    let from : T c.args.self.now = subst T c.self.view_is (ap (λ (k : List ℕ). traced k c.self.inside.script c.args.n) (sym c.deref.ensures.0) ∙ c.in-Some.ensures.some) in
     let fit : F c.args.self.now = search rules in
-    subst G c.self.view_is
-    (frame_given old c.args.n c.shown.result _ c.in-Some.frame c.in-Some-shown.place c.in-Some.trace c.in_ok-picture.picture made counted c.in-Some.ensures.some c.in-Some-shown.ensures.place decoded c.in-Ok.ensures.shown (subst F (sym c.self.view_is) fit) c.width.ensures.whole)
+    frame_given c.args.self.now.now c.args.n c.shown_counts-counts.result.items c.in-Some.source c.in-Some.frame c.in-Some-shown_place.place c.in-Some.trace c.in_ok-picture.picture made c.shown_counts-counts.ensures.value from c.in-Some-shown_place.ensures.place c.in_ok-picture.ensures.returned
+    c.in-Ok.ensures.shown fit c.width.ensures.whole
+
+pub returns-clause-costs : goal.returns-clause-costs
+returns-clause-costs c =
+    let old = c.args.self.now in
+    let source = c.in-Some.source in
+    let T : SessionValue → Type 0 = λ v. traced c.shown_counts-counts.result.items v.now.script c.args.n ≡ Some (origin_of source c.in-Some.frame c.in-Some.trace) in
+    let P : SessionValue → Type 0 = λ v. Costs old.now.tables source (store_at old.stores source) old.cache c.in-Some-shown_place.place true (store_at v.stores source) v.cache × (v.stores ≡ slice_set old.stores source (store_at v.stores source)) × OthersDrop source old.cache v.cache in
+    let from : T old = subst T c.self.view_is (ap (λ (k : List ℕ). traced k c.self.inside.script c.args.n) (sym c.deref.ensures.0) ∙ c.in-Some.ensures.some) in
+    let reached : P c.decoded_at.new.self = (c.in_ok-picture.ensures.costs, c.in_ok-picture.ensures.packets, c.in_ok-picture.ensures.others) in
+    let so = subst P (sym c.self-2.view_is) reached in
+    frame_costs old _ c.args.n c.shown_counts-counts.result.items source c.in-Some.frame c.in-Some-shown_place.place c.in-Some.trace c.in-Ok.made c.shown_counts-counts.ensures.value from c.in-Some-shown_place.ensures.place so.0 (record { packets = so.1; outcomes = so.2 })

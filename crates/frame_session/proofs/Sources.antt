@@ -1,0 +1,67 @@
+-- Files that are read from the bytes of sources.
+use Rattle.std.proofs.Common.{◌≡◌, ℕ, zero, suc, ◌+◌, ◌<◌, ◌≤◌, List, [], ◌∷◌, ◌++◌, Some, length, slice_get, take, refl, sym, ap, subst, ◌∙◌, arith}
+use Rattle.std.specs.Borrow.{Bor}
+use Rattle.std.proofs.lemmas.List.{map_more}
+use Rattle.std.specs.Prelude.{slice_index_or}
+use Rattle.stream_files.specs.declared.ivf.Ivf.{Ivf}
+use Rattle.stream_files.specs.declared.ivf.IvfFault.{IvfFault}
+use Rattle.stream_files.specs.Ivf.{IsIvf, IvfRefuses}
+use Rattle.frame_session.specs.Answers.{AreIvfs, SourceRefuses, texts_of}
+
+-- one more file
+pub are_more : (texts : List (List ℕ)) (files : List Ivf) (bytes : List ℕ) (file : Ivf) → AreIvfs texts files → IsIvf bytes file → AreIvfs (texts ++ bytes ∷ []) (files ++ file ∷ [])
+are_more [] [] bytes file are is = (is, tt)
+are_more [] (f ∷ files) bytes file are is = absurd are
+are_more (t ∷ texts) [] bytes file are is = absurd are
+are_more (t ∷ texts) (f ∷ files) bytes file are is = (are.0, are_more texts files bytes file are.1 is)
+
+-- one file for each source
+pub are_as_many : (texts : List (List ℕ)) (files : List Ivf) → AreIvfs texts files → length files ≡ length texts
+are_as_many [] [] are = refl
+are_as_many [] (f ∷ files) are = absurd are
+are_as_many (t ∷ texts) [] are = absurd are
+are_as_many (t ∷ texts) (f ∷ files) are = ap suc (are_as_many texts files are.1)
+
+-- no file has too many packets
+pub are_few : (texts : List (List ℕ)) (files : List Ivf) → AreIvfs texts files → (k : ℕ) (other : Ivf) → k < length files → length (slice_index_or files k other).packets ≤ 1048576
+are_few [] [] are k other h = absurd (omega (arith, h))
+are_few [] (f ∷ files) are k other h = absurd are
+are_few (t ∷ texts) [] are k other h = absurd are
+are_few (t ∷ texts) (f ∷ files) are zero other h = are.0.few
+are_few (t ∷ texts) (f ∷ files) are (suc k) other h = are_few texts files are.1 k other (omega (arith, h))
+
+-- the bytes of a source
+text_at : (sources : List (Bor (List ℕ))) (n : ℕ) (d : Bor (List ℕ)) → n < length sources → slice_get (texts_of sources) n ≡ Some (slice_index_or sources n d).now
+text_at [] n d h = absurd (omega (arith, h))
+text_at (s ∷ sources) zero d h = refl
+text_at (s ∷ sources) (suc n) d h = text_at sources n d (omega (arith, h))
+
+take_texts : (sources : List (Bor (List ℕ))) (n : ℕ) → texts_of (take n sources) ≡ take n (texts_of sources)
+take_texts [] zero = refl
+take_texts [] (suc n) = refl
+take_texts (s ∷ sources) zero = refl
+take_texts (s ∷ sources) (suc n) = ap (λ (l : List (List ℕ)). s.now ∷ l) (take_texts sources n)
+
+as_many : (sources : List (Bor (List ℕ))) (n : ℕ) → n < length sources → length (texts_of (take n sources)) ≡ n
+as_many [] n h = absurd (omega (arith, h))
+as_many (s ∷ sources) zero h = refl
+as_many (s ∷ sources) (suc n) h = ap suc (as_many sources n (omega (arith, h)))
+
+-- an error of a source, after files of the sources before it
+pub refused_at : (sources : List (Bor (List ℕ))) (n source : ℕ) (d : Bor (List ℕ)) (files : List Ivf) (fault : IvfFault) → n < length sources → source ≡ length files → AreIvfs (texts_of (take n sources)) files → IvfRefuses (slice_index_or sources n d).now fault → SourceRefuses (texts_of sources) source fault
+refused_at sources n source d files fault within is are refuses =
+    let here : source ≡ n = is ∙ are_as_many (texts_of (take n sources)) files are ∙ as_many sources n within in
+    record {
+      bytes = (slice_index_or sources n d).now;
+      is_its = ap (slice_get (texts_of sources)) here ∙ text_at sources n d within;
+      refuses = refuses;
+      files = files;
+      earlier = subst (λ (k : ℕ). AreIvfs (take k (texts_of sources)) files) (sym here) (subst (λ (texts : List (List ℕ)). AreIvfs texts files) (take_texts sources n) are);
+    }
+
+-- one more source
+pub read_more : (sources : List (Bor (List ℕ))) (n : ℕ) (d : Bor (List ℕ)) (files more : List Ivf) (file : Ivf) → n < length sources → AreIvfs (texts_of (take n sources)) files → IsIvf (slice_index_or sources n d).now file → more ≡ files ++ file ∷ [] → AreIvfs (texts_of (take (n + 1) sources)) more
+read_more sources n d files more file within are is pushed =
+    let texts : texts_of (take (n + 1) sources) ≡ texts_of (take n sources) ++ (slice_index_or sources n d).now ∷ [] = map_more (λ (s : Bor (List ℕ)). s.now) sources n d within in
+    subst (λ (l : List Ivf). AreIvfs (texts_of (take (n + 1) sources)) l) (sym pushed)
+    (subst (λ (ts : List (List ℕ)). AreIvfs ts (files ++ file ∷ [])) (sym texts) (are_more (texts_of (take n sources)) files (slice_index_or sources n d).now file are is))
