@@ -12,7 +12,7 @@ use Rattle.frame_session.specs.Sessions.{Now}
 use Rattle.frame_session.specs.declared.serving.RunFault.{RunFault}
 use Rattle.frame_session.specs.declared.serving.RunFault.TheVariants as runs
 use Rattle.vp8serve.specs.declared.fault.Fault.{Fault}
-use Rattle.vp8serve.specs.declared.fault.Fault.TheVariants.{CommandLine, CannotRead, TooLong, Tables, Input, CannotWrite, NoMemory}
+use Rattle.vp8serve.specs.declared.fault.Fault.TheVariants.{CommandLine, NamedTwice, CannotRead, TooLong, Tables, Input, CannotWrite, NoMemory}
 
 -- the most bytes that a file may have
 abbrev pub limit : ℕ
@@ -92,6 +92,7 @@ IsUnread tables stream requests left left' name = ((tables ≡ Some name ⊎ str
 -- the tables or the stream before the first byte of the requests is read, and an error in the stream's bytes before the first reply
 abbrev pub IsEnded : (unnamed : List ℕ) → (tables : Option (List ℕ)) → (stream requests : List ℕ) → (left left' replies replies' : Option (List ℕ)) → Fault → Type 0
 IsEnded unnamed tables stream requests left left' replies replies' CommandLine = ⊥
+IsEnded unnamed tables stream requests left left' replies replies' (NamedTwice same) = ⊥
 IsEnded unnamed tables stream requests left left' replies replies' (CannotRead path) = IsUnread tables stream requests left left' path.now × (replies' ≡ replies)
 IsEnded unnamed tables stream requests left left' replies replies' (TooLong path) = IsUnread tables stream requests left left' path.now × (replies' ≡ replies)
 IsEnded unnamed tables stream requests left left' replies replies' Tables = IsSome tables × (left' ≡ left) × (replies' ≡ replies)

@@ -1,3 +1,4 @@
 pub mod Endings
 pub mod Statuses
 pub mod Capacities
+pub mod CommandLines

@@ -1,11 +1,12 @@
 -- The program's exit statuses.
 use Rattle.std.specs.Prelude.{ℕ, Result, Ok, Err}
 use Rattle.vp8serve.specs.declared.fault.Fault.{Fault}
-use Rattle.vp8serve.specs.declared.fault.Fault.TheVariants.{CommandLine, CannotRead, TooLong, Tables, Input, CannotWrite, NoMemory}
+use Rattle.vp8serve.specs.declared.fault.Fault.TheVariants.{CommandLine, NamedTwice, CannotRead, TooLong, Tables, Input, CannotWrite, NoMemory}
 
 -- a mistake on the command line has status 2, every other error 1
 abbrev pub status_of : Fault → ℕ
 status_of CommandLine = 2
+status_of (NamedTwice same) = 2
 status_of (CannotRead path) = 1
 status_of (TooLong path) = 1
 status_of Tables = 1

@@ -3,6 +3,7 @@ ghost use Rattle.std.specs.Prelude.{◌≡◌, ◌≤◌};
 ghost use Rattle.vp8serve.specs.Endings.{reported_as};
 ghost use Rattle.vp8serve.specs.Statuses.{status_of};
 
+use crate::files::SameFile;
 use frame_session::RunFault;
 use stream_files::IvfFault;
 use thiserror::Error;
@@ -14,6 +15,9 @@ pub enum Fault<'a> {
     /// The arguments are not the program's.
     #[error("command line")]
     CommandLine,
+    /// A file that would be written is named by another argument too.
+    #[error("command line: {0}")]
+    NamedTwice(SameFile<'a>),
     /// A file cannot be opened, or reading it failed.
     #[error("cannot read {0}")]
     CannotRead(&'a str),
@@ -40,7 +44,7 @@ impl Fault<'_> {
         ensures { result ≡ status_of self.entry }
     {
         match self {
-            Fault::CommandLine => 2,
+            Fault::CommandLine | Fault::NamedTwice(_) => 2,
             _ => 1,
         }
     }

@@ -14,7 +14,10 @@ It prints the replies `ok 1`, `ok 2`, `served 0` and `served 1`.
 
 To watch frames as they are served, with the replies in a file:
 
-  vp8serve in.ivf requests /dev/fd/3 3>&1 >replies | ffplay -";
+  vp8serve in.ivf requests /dev/fd/3 3>&1 >replies | ffplay -
+
+The files that are written, OUT and the one of --save, must not be the file of
+another argument. Paths under /dev/ may be named twice.";
 
 /// The lines of requests and the nodes of scripts.
 pub const GRAMMAR: &str = "\

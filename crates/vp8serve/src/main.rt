@@ -3,6 +3,7 @@
 #![tactic(auto)]
 
 mod fault;
+mod files;
 mod help;
 mod program;
 mod sources;

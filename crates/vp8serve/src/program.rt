@@ -194,10 +194,10 @@ fn answer_line<'a, R: Files + AllocGlobal, S: AsStr, I: Read, O: Write, E: Write
     errors: &mut E,
 ) -> Result<(), Fault<'a>> {
     match words::parse(rt.alloc(), words) {
-        Ok(words) => match words.capacity() {
-            Some(capacity) => answer(rt, words, capacity, input, output, errors),
-            None => Err(Fault::CommandLine),
-        },
+        Ok(words) => {
+            let capacity = words.accept()?;
+            answer(rt, words, capacity, input, output, errors)
+        }
         Err(error) => help_or_fault(error, output),
     }
 }

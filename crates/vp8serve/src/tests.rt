@@ -1,4 +1,5 @@
 use crate::fault::Fault;
+use crate::files::{Argument, SameFile};
 use crate::program::{run_to, serve, tell};
 use std::alloc::Global;
 use std::fs;
@@ -78,6 +79,9 @@ To watch frames as they are served, with the replies in a file:
 
   vp8serve in.ivf requests /dev/fd/3 3>&1 >replies | ffplay -
 
+The files that are written, OUT and the one of --save, must not be the file of
+another argument. Paths under /dev/ may be named twice.
+
 Usage: vp8serve [OPTIONS] [IN] [REQUESTS] [OUT]
 
 Arguments:
@@ -136,6 +140,15 @@ fn shows_help(rt: HostRuntime) {
 fn tells_each_fault(rt: HostRuntime) -> Result<(), Fail> {
     let cases = [
         (Fault::CommandLine, 2, "vp8serve: command line\n"),
+        (
+            Fault::NamedTwice(SameFile {
+                written: Argument::Save,
+                other: Argument::In,
+                path: "a b",
+            }),
+            2,
+            "vp8serve: command line: --save and IN are both a b: name another file for --save\n",
+        ),
         (Fault::CannotRead("a b"), 1, "vp8serve: cannot read a b\n"),
         (Fault::TooLong("-"), 1, "vp8serve: - is too long\n"),
         (Fault::Tables, 1, "vp8serve: tables are not 3012 bytes\n"),
@@ -156,6 +169,95 @@ fn tells_each_fault(rt: HostRuntime) -> Result<(), Fail> {
     Ok(())
 }
 
+/// A command line that names a file to be written twice is refused before anything is read. A path under
+/// `/dev/` may be named twice, and `-` is a file only for `--tables` and `--save`.
+#[test]
+fn refuses_files_named_twice(rt: HostRuntime) -> Result<(), Fail> {
+    let cases = [
+        (["a", "b", "a"].as_slice(), "OUT and IN are both a"),
+        (&["a", "b", "b"], "OUT and REQUESTS are both b"),
+        (
+            &["--tables", "t", "a", "b", "t"],
+            "OUT and --tables are both t",
+        ),
+        (&["a", "--save", "a"], "--save and IN are both a"),
+        (&["a", "b", "--save", "b"], "--save and REQUESTS are both b"),
+        (&["a", "b", "c", "--save", "c"], "--save and OUT are both c"),
+        (
+            &["--tables", "-", "--save", "-"],
+            "--save and --tables are both -",
+        ),
+        (
+            &["a", "b", "/dev", "--save", "/dev"],
+            "--save and OUT are both /dev",
+        ),
+    ];
+    for (named, text) in cases {
+        let mut words = vec![in rt.alloc(); "vp8serve"]?;
+        words.extend_from_slice(named)?;
+        let fault = run_program(&rt, words.as_slice(), "frame 0\n");
+        let mut want = format!(in rt.alloc();
+            "vp8serve: command line: {text}: name another file for "
+        )?;
+        let written = if text.starts_with("OUT") {
+            "OUT\n"
+        } else {
+            "--save\n"
+        };
+        want.push_str(written)?;
+        assert!(rt; fault.errors.as_slice() == want.as_bytes(), "{text}");
+        assert_eq!(rt; fault.status, 2, "{text}");
+        assert_eq!(rt; fault.output.len(), 0, "{text}");
+    }
+    Ok(())
+}
+
+#[test]
+fn takes_devices_named_twice(rt: HostRuntime) {
+    let words = [
+        "vp8serve",
+        "-",
+        "/dev/null",
+        "/dev/null",
+        "--save",
+        "/dev/null",
+    ];
+    let run = run_program(&rt, &words, "count\n");
+    assert_eq!(rt; run.status, 0);
+    assert_eq!(rt; (run.output.len(), run.errors.len()), (0, 0));
+}
+
+/// Every error in the bytes of a stream that a file can have.
+#[test]
+fn tells_faults_of_the_stream(rt: HostRuntime) -> Result<(), Fail> {
+    let cases = [
+        (0, b'd', "Magic"),
+        (8, b'v', "FourCc"),
+        (6, 31, "HeaderLength"),
+        (6, 33, "HeaderLength"),
+    ];
+    let words = ["vp8serve", "faulty.ivf", "-", "faulty.y4m"];
+    for (at, byte, word) in cases {
+        let mut file = EMPTY;
+        file[at] = byte;
+        fs::write(&rt, "faulty.ivf", &file)?;
+        let run = run_program(&rt, &words, "count\n");
+        let want = format!(in rt.alloc(); "vp8serve: input {word}\n")?;
+        assert!(rt; run.errors.as_slice() == want.as_bytes(), "{word}");
+        assert_eq!(rt; (run.status, run.output.len()), (1, 0), "{word}");
+    }
+    let mut file = Vec::from_slice(rt.alloc(), &EMPTY)?;
+    file.resize(32 + 12 * 1_048_577, 0)?;
+    fs::write(&rt, "faulty.ivf", file.as_slice())?;
+    let run = run_program(&rt, &words, "count\n");
+    assert!(rt; run.errors.as_slice() == b"vp8serve: input TooMany\n".as_slice());
+    assert_eq!(rt; (run.status, run.output.len()), (1, 0));
+    for name in ["faulty.ivf", "faulty.y4m"] {
+        fs::remove_file(&rt, name)?;
+    }
+    Ok(())
+}
+
 /// Of two errors the first in order is reported: the command line, the tables, the stream, the requests,
 /// the file for the frames, the run, the file for the packets.
 #[test]
@@ -169,6 +271,18 @@ fn finds_faults_in_order(rt: HostRuntime) -> Result<(), Fail> {
         (&["--cache", "x", "--tables", "none"], 2, "command line"),
         (&["--cache", "1", "--cache", "2"], 2, "command line"),
         (&["--save"], 2, "command line"),
+        (
+            &["--cache", "0", "none.ivf", "-", "none.ivf"],
+            2,
+            "command line",
+        ),
+        (
+            &[
+                "none.ivf", "none.txt", "a", "--save", "a", "--tables", "none",
+            ],
+            2,
+            "command line: --save and OUT are both a: name another file for --save",
+        ),
         (
             &["none.ivf", "--tables", "none.bin"],
             1,

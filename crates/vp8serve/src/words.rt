@@ -1,9 +1,11 @@
 // The arguments of the command line.
-ghost use Rattle.std.specs.Prelude.{◌≡◌, ◌≤◌, IfSome, None, codes};
+ghost use Rattle.std.specs.Prelude.{◌≡◌, ◌≤◌, IfErr, IfOk, IfSome, None, codes};
 ghost use Rattle.clap.specs.Matches.{first_value, found_of};
 ghost use Rattle.vp8serve.specs.Capacities.{capacity_given};
+ghost use Rattle.vp8serve.specs.CommandLines.{IsAccepted, IsMistake};
 
 use crate::fault::Fault;
+use crate::files::check_files;
 use crate::help::{ABOUT, GRAMMAR};
 use clap::{Arg, ArgMatches, Command};
 use std::alloc::Global;
@@ -37,7 +39,7 @@ pub struct Words<'a> {
 impl Words<'_> {
     /// The most cached states of a session: the number given, or 32. `None` if it is not 1
     /// to 4,096.
-    pub fn capacity(self) -> Option<u16>
+    fn capacity(self) -> Option<u16>
         ensures given { result ≡ capacity_given self.entry.cache }
         ensures range { IfSome result (λ count. (1 ≤ count) × (count ≤ 4096)) }
     {
@@ -45,6 +47,27 @@ impl Words<'_> {
             None => Some(CAPACITY),
             Some(count) if 1 <= count && count <= 4_096 => Some(count),
             Some(_) => None,
+        }
+    }
+}
+
+impl<'a> Words<'a> {
+    /// Checks the command line before any file is read, and returns the most cached states of a
+    /// session.
+    ///
+    /// `CommandLine` if that number is not 1 to 4,096; `NamedTwice` if OUT or the file of `--save` is
+    /// the file of another argument. Paths under `/dev/` may be named twice.
+    pub fn accept(self) -> Result<u16, Fault<'a>>
+        ensures accepted { IfOk result (IsAccepted self.entry) }
+        ensures mistake { IfErr result (IsMistake self.entry) }
+        ensures range { IfOk result (λ count. (1 ≤ count) × (count ≤ 4096)) }
+    {
+        let Some(capacity) = self.capacity() else {
+            return Err(Fault::CommandLine);
+        };
+        match check_files(self) {
+            Ok(()) => Ok(capacity),
+            Err(same) => Err(Fault::NamedTwice(same)),
         }
     }
 }

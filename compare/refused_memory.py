@@ -1,0 +1,320 @@
+#!/usr/bin/env python3
+"""Runs the program with each of its requests for memory refused, and compares its answers with those of ample memory.
+
+    compare/refused_memory.py [LISTS] [SEED]
+
+README.md says more.
+"""
+
+import collections
+import os
+import pathlib
+import random
+import struct
+import sys
+import tempfile
+from dataclasses import dataclass, field
+
+from bits import ivf
+from clips import packets_of, run, settings
+from run import PROGRAM
+from traced import Program, traced
+
+HERE = pathlib.Path(__file__).resolve().parent
+GROWTHS = HERE.parent / "crates/refused_growths"
+WIDTH, HEIGHT, FRAMES, CLIPS = 48, 32, 10, 4
+KEY = bytes.fromhex("1000009D012A10001000")
+INTER = bytes.fromhex("110000")
+EDITS = ("insert", "replace", "delete", "move", "blank", "hold", "script")
+NO_MEMORY = {"vp8serve: no memory\n", "vp8serve: input NoMemory\n"}
+
+
+@dataclass
+class RequestList:
+    """A list of requests over a stream, and the options that it is run with."""
+
+    name: str
+    stream: bytes
+    lines: list
+    options: list = field(default_factory=list)
+
+    def counted(self):
+        """The lines with a `count` at the start and after each edit."""
+        lines = ["count"]
+        for line in self.lines:
+            lines += [line, "count"] if is_edit(line) else [line]
+        return lines
+
+
+@dataclass(frozen=True)
+class Result:
+    """All that a run shows."""
+
+    status: int
+    replies: bytes
+    errors: str
+    frames: bytes | None
+    saved: bytes | None
+    requests: int = 0
+
+    def shown(self):
+        """The same for comparisons: without the numbers of `stats`."""
+        replies = tuple("decoded" if reply.startswith("decoded ") else reply for reply in self.lines())
+        return self.status, replies, self.errors, self.frames, self.saved
+
+    def lines(self):
+        return self.replies.decode().splitlines()
+
+
+def is_edit(line):
+    return line.split()[0] in EDITS
+
+
+def clip_packets(room, choose):
+    """The packets of a small clip of vpxenc with random settings."""
+    source = choose.choice(["mandelbrot", "testsrc2", "testsrc2,noise=alls=60:allf=t"])
+    shape = ["-vf", f"scale={WIDTH}:{HEIGHT}", "-frames:v", str(FRAMES), "-pix_fmt", "yuv420p"]
+    run(["ffmpeg", "-y", "-v", "error", "-f", "lavfi", "-i", source, *shape, room / "clip.y4m"])
+    run(["vpxenc", *settings(choose), "-o", room / "coded.ivf", room / "clip.y4m"])
+    return list(packets_of((room / "coded.ivf").read_bytes()))
+
+
+def hex_of(packet):
+    return packet.hex() or "-"
+
+
+def frames(*numbers):
+    return [f"frame {n}" for n in numbers]
+
+
+def worked_lists(clip, other):
+    """Lists for each kind of request, over real packets and over small ones."""
+    real, small = ivf(WIDTH, HEIGHT, clip), ivf(16, 16, [KEY, INTER, INTER, INTER])
+    bad = ivf(16, 16, [KEY, bytes([0x11, 0]), INTER, KEY, INTER])
+    many = []
+    for n in range(40):
+        many += [f"insert {n + 1} {n} {hex_of(INTER)}"] + (frames(n // 2) if n % 3 == 1 else [])
+    yield RequestList("no requests", small, [])
+    yield RequestList("fades", real, ["script trim 0 0 6; fade 1 1 3 256 0; trim 0 2 4; fade 3 0 3 0 256; splice 2 4", *frames(0, 2, 3, 7, 8, 10), "stats"], ["--cache", "4"])
+    yield RequestList("scripts", real, ["script crop 0 2 4 16 12", *frames(0, 3), "script trim 0 4 2; splice 1 0", *frames(0, 1, 2), "script splice 0", "script crop 0 0 0 48 99", "frame 1", "script -", "frame 1"])
+    yield RequestList("replaced packets", real, ["frame 4", f"replace 2 {hex_of(other[2])}", "frame 4", f"replace 0 {hex_of(other[0])}", *frames(0, 5), f"replace 9 {hex_of(clip[9])}", "frame 5", "replace 99 -"])
+    yield RequestList("inserted packets", real, ["frame 3", f"insert 0 7 {hex_of(other[0])}", *frames(0, 4), f"insert 3 18446744073709551615 {hex_of(clip[3])}", "frame 5", "insert 99 0 -"], ["--cache", "3"])
+    yield RequestList("moved and deleted packets", real, ["frame 3", "move 1 4", *frames(3, 4), "delete 2", *frames(2, 4), "move 4 0", "frame 1", "delete 0", "frame 2", "delete 99"], ["--cache", "2"])
+    yield RequestList("forged packets", real, ["frame 2", f"blank 2 {WIDTH} {HEIGHT}", "hold 3", *frames(2, 3, 5), "blank 0 1 1", "frame 0", "hold 1", "frame 1", "hold 99"])
+    yield RequestList("forged packets alone", ivf(1, 1, []), ["hold 0", "blank 0 33 17", "hold 1", "hold 2", *frames(0, 1, 2, 0), "blank 0 0 9", "stats"], ["--cache", "1"])
+    yield RequestList("dropped frames", small, ["insert 2 0 -", "insert 2 0 -", *frames(5, 1, 2), "replace 1 -", "frame 3", "delete 0", "frame 0"])
+    yield RequestList("40 insertions and 14 frames", ivf(16, 16, [KEY]), many)
+    yield RequestList("broken packets", bad, [*frames(0, 1, 2, 3, 4), "hold 1", "delete 2", *frames(1, 2, 4), "play", "frame", "stats"])
+    yield RequestList("a file that is cut off", real[:-3], [*frames(0, 8), "stats"])
+    yield RequestList("tables", real, [*frames(0, 4), "hold 2", "frame 4"], ["--tables", "tables.bin"])
+
+
+def random_line(choose, count, clip, other):
+    """A random line, mostly one that is not refused, and the number of packets after it."""
+    at = choose.randrange(count + 1)
+    kind = choose.choice(["frame"] * 8 + ["insert", "replace", "delete", "move", "blank", "hold", "script", "stats"])
+    packet = hex_of(choose.choice(clip + other + [b"", KEY, INTER]))
+    if kind == "insert":
+        return f"insert {at} {choose.randrange(99)} {packet}", count + 1
+    if kind == "replace":
+        return f"replace {at} {packet}", count
+    if kind == "delete":
+        return f"delete {at}", count - (at < count)
+    if kind == "move":
+        return f"move {at} {choose.randrange(count + 1)}", count
+    if kind == "blank":
+        return f"blank {at} {choose.choice([WIDTH, 16])} {choose.choice([HEIGHT, 16])}", count + 1
+    if kind == "hold":
+        return f"hold {at}", count + 1
+    if kind == "script":
+        first, number, level = choose.randrange(4), choose.randrange(1, 9), choose.randrange(257)
+        return choose.choice(["script -", f"script fade 0 {first} {number} {level} 256", f"script trim 0 {first} {number}; splice 1 0", "script crop 0 2 2 12 10"]), count
+    return (f"frame {at}" if kind == "frame" else kind), count
+
+
+def random_list(choose, number, clips):
+    clip, other = choose.choice(clips), choose.choice(clips)
+    packets = clip[: choose.randrange(1, len(clip) + 1)]
+    lines, count = [], len(packets)
+    for _ in range(choose.randrange(8, 17)):
+        line, count = random_line(choose, count, clip, other)
+        lines.append(line)
+    return RequestList(f"random list {number}", ivf(WIDTH, HEIGHT, packets), lines, ["--cache", str(choose.randrange(1, 9))])
+
+
+class Bench:
+    """A folder in which the program is run."""
+
+    def __init__(self, room, program):
+        self.room, self.program = room, program
+        self.ample = {}
+        (room / "tables.bin").write_bytes(bytes(1 + n % 255 for n in range(3012)))
+
+    def run(self, words, refuses, program=None, changes=None):
+        for name in ("out.y4m", "saved.ivf"):
+            (self.room / name).unlink(missing_ok=True)
+        with open(self.room / "replies", "w+b") as replies, open(self.room / "errors", "w+b") as errors, open(os.devnull, "rb") as nothing:
+            files = {0: nothing.fileno(), 1: replies.fileno(), 2: errors.fileno()}
+            ended = traced(program or self.program, words, files, refuses, changes)
+        left = [path.read_bytes() if path.exists() else None for path in (self.room / "out.y4m", self.room / "saved.ivf")]
+        return Result(ended.status, (self.room / "replies").read_bytes(), (self.room / "errors").read_text(), *left, ended.requests)
+
+    def run_list(self, requests, lines, refuses):
+        (self.room / "in.ivf").write_bytes(requests.stream)
+        (self.room / "requests").write_text("".join(f"{line}\n" for line in lines))
+        words = ["in.ivf", "requests", "out.y4m", "--save", "saved.ivf", *requests.options]
+        return self.run(words, refuses)
+
+    def run_with_ample_memory(self, requests, lines):
+        key = requests.name, tuple(lines)
+        if key not in self.ample:
+            self.ample[key] = self.run_list(requests, lines, lambda n: False)
+        return self.ample[key]
+
+
+def is_untouched(counts, lines, replies):
+    """Whether each edit that was refused left the numbers of packets and frames as they were; a `count` is after each edit."""
+    last = None
+    for line, reply in zip(lines, replies):
+        if line == "count":
+            if last is not None and counts[-1].startswith("refused") and reply != last:
+                return False
+            last = reply
+        elif is_edit(line):
+            counts.append(reply)
+    return True
+
+
+def difference(bench, requests, lines, got):
+    """What differs from a run with ample memory over the lines that were not refused for memory; None if nothing does."""
+    if got.status not in (0, 1):
+        return f"status {got.status}"
+    replies = got.lines()
+    if got.status == 1:
+        if got.errors not in NO_MEMORY:
+            return f"standard error {got.errors!r}"
+        if not replies:
+            return None if not got.frames and got.saved is None else "something was written"
+        if got.errors != "vp8serve: no memory\n" or got.saved:
+            return "a run that was answered and not saved says otherwise"
+    if len(replies) != len(lines):
+        return f"{len(replies)} replies to {len(lines)} lines"
+    kept = [(line, reply) for line, reply in zip(lines, replies) if reply != "refused NoMemory"]
+    ample = bench.run_with_ample_memory(requests, [line for line, _ in kept])
+    wanted = ample.shown()
+    if got.status == 1:
+        wanted = (1, wanted[1], got.errors, wanted[3], got.saved)
+    steps = [int(reply.split()[1]) for reply in replies if reply.startswith("decoded ")]
+    shown = got.shown()
+    shown = shown[0], tuple(reply for reply in shown[1] if reply != "refused NoMemory"), *shown[2:]
+    names = "status", "replies", "standard error", "frames", "saved file"
+    unlike = [name for name, one, other in zip(names, shown, wanted) if one != other]
+    if unlike:
+        return f"other {', '.join(unlike)}"
+    if steps != sorted(steps):
+        return "the number of steps fell"
+    return None if is_untouched([""], lines, replies) else "a refused line changed the numbers of count"
+
+
+def refusals_of(first):
+    """The ways to refuse: the request of this number alone, and all from it on."""
+    return {"alone": lambda n: n == first, "and all after it": lambda n: n >= first}
+
+
+def try_list(bench, requests, told):
+    """Runs a list with each request for memory refused, and returns the number of differences."""
+    lines, faults = requests.counted(), 0
+    first, made = 1, bench.run_with_ample_memory(requests, lines).requests
+    told["requests for memory of one run each"] += made
+    while True:
+        for name, refuses in refusals_of(first).items():
+            got = bench.run_list(requests, lines, refuses)
+            if got.requests < first:
+                return faults
+            told["runs"] += 1
+            told[f"status {got.status}"] += 1
+            told["lines refused for memory"] += got.lines().count("refused NoMemory")
+            told["runs not saved for memory"] += got.status == 1 and got.replies != b""
+            why = difference(bench, requests, lines, got)
+            if why:
+                faults += 1
+                print(f"{requests.name}: request {first} {name}: {why}", flush=True)
+        first += 1
+
+
+def try_help(bench, told):
+    """The same for `--help`: the whole text, or no memory and nothing written."""
+    whole, faults, first = bench.run(["--help"], lambda n: False), 0, 1
+    while True:
+        for name, refuses in refusals_of(first).items():
+            got = bench.run(["--help"], refuses)
+            if got.requests < first:
+                return faults
+            told["runs"] += 1
+            told[f"status {got.status}"] += 1
+            if got.shown() != whole.shown() and (got.status, got.replies, got.errors) != (1, b"", "vp8serve: no memory\n"):
+                faults += 1
+                print(f"--help: request {first} {name}: status {got.status}, {len(got.replies)} bytes, standard error {got.errors!r}")
+        first += 1
+
+
+def requests_of_lines(bench, program):
+    """A run of refused_growths with ample memory, and the number of requests for memory before each line of its output."""
+    writes = []
+
+    def note(call):
+        if call.descriptor == 1:
+            writes.append((call.requests, call.length))
+
+    ran = bench.run([], lambda n: False, program, note)
+    text, made = ran.replies, []
+    for requests, length in writes:
+        if len(text) == len(ran.replies) or ran.replies[: len(ran.replies) - len(text)].endswith(b"\n"):
+            made.append(requests)
+        text = text[length:]
+    return ran, [now - before for now, before in zip(made, [0, *made])]
+
+
+def try_growths(bench, told):
+    """Runs refused_growths with each request refused, which must print its text, and counts the requests for memory of its frames."""
+    program, whole = Program(str(GROWTHS / "out/refused_growths")), (GROWTHS / "stdout").read_bytes()
+    ample, made = requests_of_lines(bench, program)
+    faults = 0
+    for first in range(1, ample.requests + 1):
+        got = bench.run([], lambda n: n == first, program)
+        told["runs of refused_growths"] += 1
+        if (got.status, got.replies, got.errors) != (0, whole, ""):
+            faults += 1
+            print(f"refused_growths: request {first}: status {got.status}, standard error {got.errors!r}")
+    between = {line.partition(":")[0]: requests for line, requests in zip(ample.lines(), made, strict=True)}
+    steps, after, again = (between[name] for name in ("three steps from its state", "frame 3 after that", "frame 3 again"))
+    print(f"frame 3 of [K, P, P, P] makes {between['frame 3']} requests for memory, again {again}; three steps make {steps}, and the frame after a replacement of packet 1 {after}")
+    if again or after >= steps or ample.replies != whole:
+        faults += 1
+        print("refused_growths: other counts or another text")
+    return faults
+
+
+def main():
+    count = int(sys.argv[1]) if len(sys.argv) > 1 else 20
+    choose = random.Random(int(sys.argv[2]) if len(sys.argv) > 2 else 1)
+    told, faults = collections.Counter(), 0
+    with tempfile.TemporaryDirectory() as name:
+        room = pathlib.Path(name)
+        os.chdir(room)
+        clips = [clip_packets(room, choose) for _ in range(CLIPS)]
+        bench = Bench(room, Program(str(PROGRAM)))
+        lists = [*worked_lists(clips[0], clips[1]), *(random_list(choose, n, clips) for n in range(count))]
+        for requests in lists:
+            before = told["runs"]
+            faults += try_list(bench, requests, told)
+            print(f"{requests.name}: {told['runs'] - before} runs", flush=True)
+        faults += try_help(bench, told) + try_growths(bench, told)
+    for kind, number in sorted(told.items()):
+        print(f"{number:9} {kind}")
+    print(f"{len(lists)} lists, --help and refused_growths: {faults} differences")
+    return 1 if faults else 0
+
+
+if __name__ == "__main__":
+    sys.exit(main())
