@@ -2,9 +2,11 @@
 """Makes the clips of the crate real_streams, and what its program must print of them.
 
 Run by hand, not in the gate: real_streams.py. It needs vpxenc and vpxdec (Debian's vpx-tools) and ffmpeg. Each line that
-the program must print is a clip's name, how many frames vpxdec shows of it, and the MD5 that vpxdec gives of their samples.
+the program must print is a clip's name, how many frames vpxdec shows of it, and the MD5 that vpxdec gives of their samples; the
+last line is the same of three clips, one after another.
 """
 
+import hashlib
 import pathlib
 import subprocess
 
@@ -47,6 +49,10 @@ CLIPS = [
 ] + [(f"sharpness-{n}", FRACTAL if n % 2 else TURNED, 80, 64, 8, f"--sharpness={n} --min-q=40 --max-q=60") for n in range(8)]
 
 
+# Three clips of one size, which are the sources of one session.
+SPLICED = ["error-resilient.ivf", "independent-partitions.ivf", "scene-cuts.ivf"]
+
+
 def run(words, **more):
     return subprocess.run([str(word) for word in words], check=True, stdout=subprocess.PIPE, stderr=subprocess.PIPE, **more).stdout
 
@@ -77,6 +83,10 @@ def main():
         lines.append(f"{name}.ivf {count} {md5}\n")
         kinds = sorted({kind for packet in packets for kind in kinds_of(packet)})
         print(f"{name}: {size} bytes, {count} frames of {len(packets)} packets, {', '.join(kinds)}" + (", TOO LONG" if size > LIMIT else ""))
+    samples = [run(["vpxdec", "--codec=vp8", "--i420", "-o", "-", data / name]) for name in SPLICED]
+    together = sum(int(line.split()[1]) for line in lines if line.split()[0] in SPLICED)
+    names.append(" ".join(SPLICED) + "\n")
+    lines.append(" ".join(SPLICED) + f" {together} {hashlib.md5(b''.join(samples)).hexdigest()}\n")
     (CRATE / "stdin").write_text("".join(names))
     (CRATE / "stdout").write_text("".join(lines))
     print(f"{total} bytes")

@@ -1,5 +1,7 @@
 //! What is reported of a clip.
 
+ghost use Rattle.std.specs.Prelude.{◌≤◌, length};
+
 use crate::frame_texts::FrameTexts;
 use frame_session::{RunFault, run};
 use md5::{Digest, Md5};
@@ -9,7 +11,7 @@ use std::str::Utf8Error;
 use stream_files::ReadFault;
 use vp8_tables::Tables;
 
-/// How many states the session keeps.
+/// The number of decoded states that a session caches.
 const CAPACITY: u16 = 8;
 
 /// Why nothing is reported.
@@ -65,9 +67,14 @@ fn shuffled(n: usize, count: usize) -> usize {
     n.wrapping_mul(step).wrapping_add(3) % count.max(1)
 }
 
-/// The requests for all frames, in order or out of it.
-fn requests(alloc: Global, count: usize, in_order: bool) -> Result<Vec<u8>, Fault> {
-    let mut text = Vec::new(alloc);
+/// The requests for all frames, in order or out of it, after these lines.
+pub fn requests(
+    alloc: Global,
+    lines: &[u8],
+    count: usize,
+    in_order: bool,
+) -> Result<Vec<u8>, Fault> {
+    let mut text = Vec::from_slice(alloc, lines)?;
     for n in 0..count {
         let frame = if in_order { n } else { shuffled(n, count) };
         writeln!(text, "frame {frame}")?;
@@ -75,15 +82,23 @@ fn requests(alloc: Global, count: usize, in_order: bool) -> Result<Vec<u8>, Faul
     Ok(text)
 }
 
-/// What a run over the stream serves for these requests.
-fn served(alloc: Global, stream: &[u8], requests: &[u8]) -> Result<Vec<u8>, Fault> {
+/// The frames that a run over these sources serves for these requests.
+pub fn served(
+    alloc: Global,
+    capacity: u16,
+    sources: &[&[u8]],
+    requests: &[u8],
+) -> Result<Vec<u8>, Fault>
+    requires capacity { (1 ≤ capacity) × (capacity ≤ 4096) }
+    requires sources { (1 ≤ length sources.now) × (length sources.now ≤ 8) }
+{
     let mut frames = Vec::new(alloc);
     let mut replies = io::sink();
     run(
         alloc,
         Tables::rfc(),
-        CAPACITY,
-        &[stream],
+        capacity,
+        sources,
         requests,
         &mut frames,
         &mut replies,
@@ -91,8 +106,8 @@ fn served(alloc: Global, stream: &[u8], requests: &[u8]) -> Result<Vec<u8>, Faul
     Ok(frames)
 }
 
-/// How many frames a stream has.
-fn frame_count(alloc: Global, stream: &[u8]) -> Result<usize, Fault> {
+/// The number of packets of a stream, and of its frames.
+pub fn count_of(alloc: Global, stream: &[u8]) -> Result<(usize, usize), Fault> {
     let session = run(
         alloc,
         Tables::rfc(),
@@ -102,11 +117,12 @@ fn frame_count(alloc: Global, stream: &[u8]) -> Result<usize, Fault> {
         &mut io::sink(),
         &mut io::sink(),
     )?;
-    Ok(session.count().1 as usize)
+    let (packets, frames) = session.count();
+    Ok((packets as usize, frames as usize))
 }
 
 /// The MD5 of the samples of all frames.
-fn digest_of(frames: FrameTexts, count: usize) -> Option<[u8; 16]> {
+pub fn digest_of(frames: FrameTexts, count: usize) -> Option<[u8; 16]> {
     let mut hasher = Md5::new();
     for n in 0..count {
         hasher.update(frames.samples(n)?);
@@ -115,7 +131,7 @@ fn digest_of(frames: FrameTexts, count: usize) -> Option<[u8; 16]> {
 }
 
 /// Whether the frames that were served out of order are those in order.
-fn are_same(in_order: FrameTexts, out_of_order: FrameTexts, count: usize) -> bool {
+pub fn are_same(in_order: FrameTexts, out_of_order: FrameTexts, count: usize) -> bool {
     (0..count).all(|n| out_of_order.samples(n) == in_order.samples(shuffled(n, count)))
 }
 
@@ -126,14 +142,26 @@ pub fn report<O: Write>(
     stream: &[u8],
     output: &mut O,
 ) -> Result<(), Fault> {
-    let count = frame_count(alloc, stream)?;
-    let text = served(alloc, stream, requests(alloc, count, true)?.as_slice())?;
-    let again = served(alloc, stream, requests(alloc, count, false)?.as_slice())?;
+    let (_, count) = count_of(alloc, stream)?;
+    let in_order = requests(alloc, b"", count, true)?;
+    let out_of_order = requests(alloc, b"", count, false)?;
+    let text = served(alloc, CAPACITY, &[stream], in_order.as_slice())?;
+    let again = served(alloc, CAPACITY, &[stream], out_of_order.as_slice())?;
     let frames = FrameTexts::new(text.as_slice(), count).ok_or(Fault::Frames)?;
     let others = FrameTexts::new(again.as_slice(), count).ok_or(Fault::Frames)?;
     if !are_same(frames, others, count) {
         return Err(Fault::Frames);
     }
+    write_digest(output, name, frames, count)
+}
+
+/// Writes a line: a name, the number of frames, and the MD5 of their samples.
+pub fn write_digest<O: Write>(
+    output: &mut O,
+    name: &str,
+    frames: FrameTexts,
+    count: usize,
+) -> Result<(), Fault> {
     write!(output, "{name} {count} ")?;
     for byte in digest_of(frames, count).ok_or(Fault::Frames)? {
         write!(output, "{byte:02x}")?;
