@@ -1,7 +1,7 @@
 use frame_session::{RunFault, run};
-use run_fixtures::{KEY, ivf_of, run_over};
-use std::io;
-use std::io::{Error, ErrorKind, Write};
+use run_fixtures::{INTER, KEY, ivf_of, run_over};
+use std::alloc::{AllocError, Global};
+use std::io::{self, ErrorKind, Write};
 use std::test::Fail;
 use stream_files::IvfFault;
 use vp8_tables::Tables;
@@ -64,14 +64,36 @@ fn files_that_are_none(rt: HostRuntime) -> Result<(), Fail> {
     Ok(())
 }
 
-/// A writer that refuses everything.
+/// A writer that takes what it is given, but returns an error at one of its calls.
 #[derive(Drop)]
-struct Refusing;
+pub(crate) struct Refusing {
+    /// How many calls are before the one that returns an error.
+    failing: u64,
+    pub(crate) calls: u64,
+    pub(crate) taken: Vec<u8>,
+}
+
+impl Refusing {
+    pub(crate) fn at(alloc: Global, failing: u64) -> Refusing {
+        Refusing {
+            failing,
+            calls: 0,
+            taken: Vec::new(alloc),
+        }
+    }
+}
 
 impl Write for Refusing {
     fn write(&mut self, buf: &[u8]) -> io::Result<usize> {
-        let _ = buf;
-        Err(Error::from(ErrorKind::BrokenPipe))
+        let before = self.calls;
+        self.calls = self.calls.saturating_add(1);
+        if before == self.failing {
+            return Err(ErrorKind::BrokenPipe.into());
+        }
+        match self.taken.extend_from_slice(buf) {
+            Ok(()) => Ok(buf.len()),
+            Err(_) => Err(ErrorKind::OutOfMemory.into()),
+        }
     }
 
     fn flush(&mut self) -> io::Result<()> {
@@ -79,30 +101,64 @@ impl Write for Refusing {
     }
 }
 
+/// More calls than any writer here gets.
+pub(crate) const NEVER: u64 = u64::MAX;
+
+/// A run of two frames and a count. Its error, and what its writers have.
+fn run_refused(
+    alloc: Global,
+    frames: u64,
+    replies: u64,
+) -> Result<(Option<RunFault>, Refusing, Refusing), AllocError> {
+    let file = ivf_of(alloc, &[KEY, INTER])?;
+    let mut frames = Refusing::at(alloc, frames);
+    let mut replies = Refusing::at(alloc, replies);
+    let ran = run(
+        alloc,
+        Tables::flat(),
+        8,
+        &[file.as_slice()],
+        b"frame 0\ncount\nframe 1\n",
+        &mut frames,
+        &mut replies,
+    );
+    Ok((ran.err(), frames, replies))
+}
+
+// Each call of a writer of frames, and of replies, refused in turn. What was written before is the
+// beginning of what a whole run writes.
 #[test]
 fn writers_that_refuse(rt: HostRuntime) -> Result<(), Fail> {
-    let file = ivf_of(rt.alloc(), &[KEY])?;
-    let mut taken = Vec::new(rt.alloc());
-    let frames_refused = run(
-        rt.alloc(),
-        Tables::flat(),
-        8,
-        &[file.as_slice()],
-        b"frame 0\n",
-        &mut Refusing,
-        &mut taken,
+    let (fault, frames, replies) = run_refused(rt.alloc(), NEVER, NEVER)?;
+    assert!(rt; fault.is_none());
+    assert_eq!(rt; frames.taken.len(), 36 + 2 * 390);
+    assert_eq!(rt;
+        replies.taken.as_slice(),
+        b"served 0\npackets 2 frames 2\nserved 1\n".as_slice()
     );
-    assert_eq!(rt; frames_refused.err(), Some(RunFault::Write));
-    assert!(rt; taken.is_empty());
-    let replies_refused = run(
-        rt.alloc(),
-        Tables::flat(),
-        8,
-        &[file.as_slice()],
-        b"frame 0\n",
-        &mut taken,
-        &mut Refusing,
-    );
-    assert_eq!(rt; replies_refused.err(), Some(RunFault::Write));
+    for failing in 0..frames.calls {
+        let (fault, begun, replied) = run_refused(rt.alloc(), failing, NEVER)?;
+        assert_eq!(rt; fault, Some(RunFault::Write), "{failing}");
+        assert!(rt;
+            frames.taken.starts_with(begun.taken.as_slice()),
+            "{failing}"
+        );
+        assert!(rt;
+            replies.taken.starts_with(replied.taken.as_slice()),
+            "{failing}"
+        );
+    }
+    for failing in 0..replies.calls {
+        let (fault, begun, replied) = run_refused(rt.alloc(), NEVER, failing)?;
+        assert_eq!(rt; fault, Some(RunFault::Write), "{failing}");
+        assert!(rt;
+            frames.taken.starts_with(begun.taken.as_slice()),
+            "{failing}"
+        );
+        assert!(rt;
+            replies.taken.starts_with(replied.taken.as_slice()),
+            "{failing}"
+        );
+    }
     Ok(())
 }

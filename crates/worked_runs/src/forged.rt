@@ -1,9 +1,9 @@
 //! Forged packets and saving in a session.
 
+use crate::files::{NEVER, Refusing};
 use frame_session::{Edit, Refusal, Session, run};
 use run_fixtures::{HIDDEN, INTER, KEY, ivf_of, run_over, run_packets, y4m_of};
 use std::alloc::Global;
-use std::io::{self, ErrorKind, Write};
 use std::test::Fail;
 use stream_files::{EMPTY, WriteFault, ivf_read};
 use vp8_tables::Tables;
@@ -137,20 +137,6 @@ fn a_saved_stream_serves_the_same(rt: HostRuntime) -> Result<(), Fail> {
     Ok(())
 }
 
-/// A writer that returns only errors.
-#[derive(Drop)]
-struct Broken {}
-
-impl Write for Broken {
-    fn write(&mut self, _buf: &[u8]) -> io::Result<usize> {
-        Err(ErrorKind::Other.into())
-    }
-
-    fn flush(&mut self) -> io::Result<()> {
-        Err(ErrorKind::Other.into())
-    }
-}
-
 // The calls by themselves, with ample memory: a body that always answers NoMemory fails here.
 #[test]
 fn a_session_forges_and_saves(rt: HostRuntime) -> Result<(), Fail> {
@@ -169,8 +155,21 @@ fn a_session_forges_and_saves(rt: HostRuntime) -> Result<(), Fail> {
     assert_eq!(rt; session.edit(Edit::Hold { at: 1 }), Ok(2));
     assert_eq!(rt; session.edit(Edit::Hold { at: 3 }), Err(Refusal::Place));
     assert_eq!(rt; session.edit(Edit::Hold { at: 0 }), Err(Refusal::Size));
-    assert_eq!(rt; session.save(&mut Broken {}), Err(WriteFault::Write));
-    assert_eq!(rt; session.count(), (2, 2));
+    let mut whole = Refusing::at(alloc, NEVER);
+    assert_eq!(rt; session.save(&mut whole), Ok(()));
+    for failing in 0..whole.calls {
+        let mut refusing = Refusing::at(alloc, failing);
+        assert_eq!(rt;
+            session.save(&mut refusing),
+            Err(WriteFault::Write),
+            "{failing}"
+        );
+        assert!(rt;
+            whole.taken.starts_with(refusing.taken.as_slice()),
+            "{failing}"
+        );
+        assert_eq!(rt; session.count(), (2, 2));
+    }
     let picture = session.frame(1)?;
     assert_eq!(rt; (picture.width(), picture.height()), (16, 32));
     Ok(())

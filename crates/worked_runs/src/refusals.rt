@@ -1,4 +1,5 @@
 use bool_coder::Encoder;
+use frame_header::key_size;
 use run_fixtures::{INTER, KEY, packet_of, run_packets, write_bits};
 use std::alloc::Global;
 use std::process::Abort;
@@ -23,6 +24,13 @@ fn header_causes(rt: HostRuntime) -> Result<(), Fail> {
     refuses(&rt, rt.alloc(), &version, "refused packet 0 Version\n")?;
     let first = [0x30, 0, 0, 0x9D, 1, 0x2A, 0x10, 0, 0x10, 0];
     refuses(&rt, rt.alloc(), &first, "refused packet 0 FirstPartition\n")?;
+    let largest = [0xF0, 0xFF, 0xFF, 0x9D, 1, 0x2A, 0x10, 0, 0x10, 0];
+    refuses(
+        &rt,
+        rt.alloc(),
+        &largest,
+        "refused packet 0 FirstPartition\n",
+    )?;
     let short = [0x10, 0, 0, 0x9D, 1, 0x2A];
     refuses(&rt, rt.alloc(), &short, "refused packet 0 ShortPacket\n")?;
     let narrow = [0x10, 0, 0, 0x9D, 1, 0x2A, 0, 0, 0x10, 0];
@@ -49,11 +57,36 @@ fn versions_from_four_on(rt: HostRuntime) -> Result<(), Fail> {
 
 #[test]
 fn token_partitions(rt: HostRuntime) -> Result<(), Fail> {
-    let sizes = [0x50, 0, 0, 0x9D, 1, 0x2A, 0x10, 0, 0x10, 0, 0, 1];
-    refuses(&rt, rt.alloc(), &sizes, "refused packet 0 TokenSizes\n")?;
     let partition = [0x50, 0, 0, 0x9D, 1, 0x2A, 0x10, 0, 0x10, 0, 0, 1, 5, 0, 0];
     let reply = "refused packet 0 TokenPartition 0\n";
     refuses(&rt, rt.alloc(), &partition, reply)
+}
+
+// The first bytes of a key packet of two token partitions: its head, a first partition of 2 bytes
+// and the size of the first token partition.
+#[test]
+fn beginnings_of_two_token_partitions(rt: HostRuntime) -> Result<(), Fail> {
+    let packet = [0x50, 0, 0, 0x9D, 1, 0x2A, 0x10, 0, 0x10, 0, 0, 1, 0, 0, 0];
+    for length in 1..15 {
+        let reply = if length < 10 {
+            "refused packet 0 ShortPacket\n"
+        } else if length < 12 {
+            "refused packet 0 FirstPartition\n"
+        } else {
+            "refused packet 0 TokenSizes\n"
+        };
+        refuses(&rt, rt.alloc(), &packet[..length], reply)?;
+    }
+    let ran = run_packets(rt.alloc(), &[&packet], b"frame 0\n")?;
+    assert_eq!(rt; ran.replies.as_slice(), b"served 0\n".as_slice());
+    Ok(())
+}
+
+// A size has 14 bits a side; the two bits above them are for scaling.
+#[test]
+fn the_largest_size(rt: HostRuntime) {
+    let packet = [0x10, 0, 0, 0x9D, 1, 0x2A, 0xFF, 0xFF, 0xFF, 0xFF];
+    assert_eq!(rt; key_size(&packet), Some((16_383, 16_383)));
 }
 
 // A refused packet breaks the stream at its index up to the next key tag; what does not
