@@ -114,3 +114,72 @@ fn lines_that_are_no_request(rt: HostRuntime) -> Result<(), Fail> {
     assert_eq!(rt; ran.replies.as_slice(), replies.as_bytes());
     Ok(())
 }
+
+/// Lines that are not requests.
+const UNKNOWN: [&str; 39] = [
+    "frame",
+    "frame 3 4",
+    "frame -1",
+    "frame +1",
+    "FRAME 1",
+    "frame\t3",
+    "frame 18446744073709551616",
+    "frame 000000000000000000001",
+    "use",
+    "use 0 0",
+    "use -",
+    "insert 0 0",
+    "insert 0 0 1",
+    "insert 0 0 0x10",
+    "insert 0 0 1g",
+    "insert 0 0 --",
+    "insert 0 0 00 00",
+    "insert 0 18446744073709551616 -",
+    "replace 7 0 -",
+    "replace 7 a",
+    "delete",
+    "delete 5 6",
+    "move 1",
+    "copy 0 1",
+    "copy 0 1 -",
+    "copy 0 1 2 3",
+    "blank 3 16",
+    "blank 3 16 9 1",
+    "blank 3 16 -",
+    "blank 3 16 18446744073709551616",
+    "hold",
+    "hold 5 6",
+    "holds 5",
+    "script",
+    "script  ",
+    "scripts -",
+    "count 1",
+    "stat",
+    "frame 0\r\r",
+];
+
+#[test]
+fn each_unknown_line(rt: HostRuntime) -> Result<(), Fail> {
+    for line in UNKNOWN {
+        let ran = run_packets(rt.alloc(), &[KEY], line.as_bytes())?;
+        assert_eq!(rt;
+            ran.replies.as_slice(),
+            b"refused Line\n".as_slice(),
+            "{line}"
+        );
+    }
+    Ok(())
+}
+
+// Spaces, leading zeros, the largest number, comments, and carriage returns.
+#[test]
+fn lines_in_other_words(rt: HostRuntime) -> Result<(), Fail> {
+    let requests =
+        b"\n   \n# x\n  # x\n#frame 3\n  frame   3  \nframe 18446744073709551615\nframe 00000000000000000001\r\n\r\n insert  1   2  - \ninsert 18446744073709551615 18446744073709551615 00\n blank  0  18446744073709551615  0 \n script  trim 0 1 2; splice 1 0 \nstats ";
+    let ran = run_packets(rt.alloc(), &[KEY], requests)?;
+    assert_eq!(rt;
+        ran.replies.as_slice(),
+        b"refused NoSuchFrame\nrefused NoSuchFrame\nrefused NoSuchFrame\nok 2\nrefused Place\nrefused Size\nok 2\ndecoded 0\n".as_slice()
+    );
+    Ok(())
+}
