@@ -117,6 +117,16 @@ def fail_each(name, words, told):
     return faults
 
 
+def fail_writes(name, words, told):
+    """Lets all writes fail, also that of the error's text: only the status reports it then."""
+    got = run(words, lambda call: EIO if call.kind == "write" else None)
+    told["runs whose writes all fail"] += 1
+    if (got.status, got.replies, got.errors, got.frames or b"", got.saved) == (1, b"", "", b"", None):
+        return 0
+    print(f"{name}: all writes fail: status {got.status}, standard error {got.errors!r}")
+    return 1
+
+
 def shorten(name, words, told):
     """Lets each read and write move 7 bytes at most."""
     whole, got = run(words), run(words, lambda call: 7)
@@ -225,7 +235,7 @@ def main():
             "help": ["--help"],
         }
         for name, words in runs.items():
-            faults += fail_each(name, words, told) + shorten(name, words, told)
+            faults += fail_each(name, words, told) + fail_writes(name, words, told) + shorten(name, words, told)
         faults += full(whole, told) + closed(whole, told) + too_long(told)
         os.chdir("/")
     for kind, number in sorted(told.items()):

@@ -10,7 +10,6 @@ import collections
 import os
 import pathlib
 import random
-import struct
 import sys
 import tempfile
 from dataclasses import dataclass, field

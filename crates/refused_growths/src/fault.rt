@@ -1,0 +1,55 @@
+//! Why the program ends early.
+
+use frame_session::Refusal;
+use packet_edits::EditFault;
+use reference_frames::StepFault;
+use std::io;
+use stream_files::{IvfFault, WriteFault};
+
+/// Why the program ends early: a call was refused a second time, or for another reason than memory.
+#[derive(Debug, Drop)]
+pub enum Fault {
+    Io(io::Error),
+    Write(WriteFault),
+    Stream(IvfFault),
+    List(EditFault),
+    Step(StepFault),
+    Session(Refusal),
+    NoMemory,
+}
+
+impl From<io::Error> for Fault {
+    fn from(error: io::Error) -> Fault {
+        Fault::Io(error)
+    }
+}
+
+impl From<WriteFault> for Fault {
+    fn from(fault: WriteFault) -> Fault {
+        Fault::Write(fault)
+    }
+}
+
+impl From<IvfFault> for Fault {
+    fn from(fault: IvfFault) -> Fault {
+        Fault::Stream(fault)
+    }
+}
+
+impl From<EditFault> for Fault {
+    fn from(fault: EditFault) -> Fault {
+        Fault::List(fault)
+    }
+}
+
+impl From<StepFault> for Fault {
+    fn from(fault: StepFault) -> Fault {
+        Fault::Step(fault)
+    }
+}
+
+impl From<Refusal> for Fault {
+    fn from(refusal: Refusal) -> Fault {
+        Fault::Session(refusal)
+    }
+}

@@ -1,0 +1,82 @@
+//! The calls of a packet list that take memory.
+ghost use Rattle.std.specs.Prelude.{◌≤◌, IfOk, length};
+
+use crate::fault::Fault;
+use packet_edits::{EditFault, Store};
+use std::alloc::Global;
+use std::io::Write;
+use stream_files::{Bytes, Ivf, IvfFault, ivf_read};
+
+/// A packet with no key tag, whose picture is 128 throughout after any packet of 16x16 samples.
+pub const INTER: &[u8] = &[0x11, 0, 0];
+
+/// An IVF file of a key packet of 16x16 samples and three times `INTER`.
+const STREAM: [u8; 99] = [
+    b'D', b'K', b'I', b'F', 0, 0, 32, 0, b'V', b'P', b'8', b'0', 16, 0, 16, 0, 30, 0, 0, 0, 1, 0,
+    0, 0, 4, 0, 0, 0, 0, 0, 0, 0, //
+    10, 0, 0, 0, 0, 0, 0, 0, 0, 0, 0, 0, //
+    0x10, 0, 0, 0x9D, 0x01, 0x2A, 16, 0, 16, 0, //
+    3, 0, 0, 0, 1, 0, 0, 0, 0, 0, 0, 0, 0x11, 0, 0, //
+    3, 0, 0, 0, 2, 0, 0, 0, 0, 0, 0, 0, 0x11, 0, 0, //
+    3, 0, 0, 0, 3, 0, 0, 0, 0, 0, 0, 0, 0x11, 0, 0,
+];
+
+/// The packets of the stream.
+pub fn stream(alloc: Global) -> Result<Ivf, IvfFault>
+    ensures few { IfOk result (λ file. length file.packets ≤ 1048576) }
+{
+    match ivf_read(alloc, &STREAM) {
+        Err(IvfFault::NoMemory) => ivf_read(alloc, &STREAM),
+        read => read,
+    }
+}
+
+/// A copy of some bytes.
+pub fn copied(alloc: Global, bytes: &[u8]) -> Result<Bytes, Fault> {
+    if let Ok(copy) = Bytes::from_slice(alloc, bytes) {
+        return Ok(copy);
+    }
+    Bytes::from_slice(alloc, bytes).map_err(|_| Fault::NoMemory)
+}
+
+/// Appends the packets of the stream.
+fn push_all(alloc: Global, list: &mut Store) -> Result<(), Fault> {
+    match list.push_all(stream(alloc)?.packets) {
+        Err(EditFault::NoMemory) => Ok(list.push_all(stream(alloc)?.packets)?),
+        pushed => Ok(pushed?),
+    }
+}
+
+/// Inserts a packet.
+fn insert(alloc: Global, list: &mut Store, at: u64) -> Result<(), Fault> {
+    match list.insert(at, 7, copied(alloc, INTER)?) {
+        Err(EditFault::NoMemory) => Ok(list.insert(at, 7, copied(alloc, INTER)?)?),
+        inserted => Ok(inserted?),
+    }
+}
+
+/// Prints the ids of a list, with a star after those that are marked, and the number of frames.
+fn print<O: Write>(output: &mut O, name: &str, list: &Store) -> Result<(), Fault> {
+    write!(output, "{name}:")?;
+    for i in 0..list.len() {
+        let mark = if list.marked(i) { "*" } else { "" };
+        write!(output, " {}{mark}", list.id(i))?;
+    }
+    writeln!(output, ", {} frames", list.frames())?;
+    Ok(())
+}
+
+/// Makes the calls of a packet list, and prints the list after each.
+pub fn grow<O: Write>(alloc: Global, output: &mut O) -> Result<(), Fault> {
+    let mut list = Store::starting(alloc, 0);
+    push_all(alloc, &mut list)?;
+    print(output, "packets appended", &list)?;
+    push_all(alloc, &mut list)?;
+    print(output, "packets appended", &list)?;
+    for at in [0, 4, 10] {
+        insert(alloc, &mut list, at)?;
+        print(output, "a packet inserted", &list)?;
+    }
+    list.replace(1, copied(alloc, INTER)?)?;
+    print(output, "a packet replaced", &list)
+}
