@@ -1,11 +1,10 @@
 -- A text that is written for a head and packets is read as the same.
-use Rattle.std.proofs.Common.{◌≡◌, ℕ, ◌+◌, ◌^◌, ◌<◌, ◌≤◌, List, [], ◌++◌, length, refl, sym, arith, append-nil}
+use Rattle.std.proofs.Common.{◌≤◌, List, [], ◌++◌, length, refl, sym, arith, append-nil}
 use Rattle.byteorder.specs.Endian.{little_bytes}
 use Rattle.stream_files.specs.declared.packets.Packet.{Packet}
 use Rattle.stream_files.specs.declared.packets.TheConstants.{MAX_PACKETS}
 use Rattle.stream_files.specs.declared.ivf.Head.{Head}
-use Rattle.stream_files.specs.Ivf.{IsIvf}
-use Rattle.stream_files.specs.Texts.{FieldsFit, PacketsFit, IsIvfText, WrittenIsRead, file_of, written_text, record_text, records_text, header_text}
+use Rattle.stream_files.specs.Texts.{FieldsFit, PacketsFit, IsIvfText, WrittenIsRead, file_of, written_text, records_text, header_text}
 use Rattle.stream_files.proofs.Headers.{text_is_ivf}
 
 written_is_text : (head : Head) (packets : List Packet) → FieldsFit 0 32 head (length packets) → PacketsFit packets → length packets ≤ MAX_PACKETS → IsIvfText (written_text head packets) (file_of head packets)
