@@ -19,7 +19,10 @@ const KEY: &[u8] = &[0x10, 0, 0, 0x9D, 0x01, 0x2A, 16, 0, 16, 0];
 /// A session over the stream, in one attempt.
 fn try_start(alloc: Global) -> Result<Result<Session, NoMemory>, Fault> {
     let file = stream(alloc)?;
-    Ok(Session::new(alloc, Tables::rfc(), CAPACITY, file))
+    let Ok(files) = vec![in alloc; file] else {
+        return Ok(Err(NoMemory));
+    };
+    Ok(Session::new(alloc, Tables::rfc(), CAPACITY, files))
 }
 
 /// A session over the stream.
