@@ -37,6 +37,8 @@ PACKETS = [
 
 def cause(packet, has_state):
     """What is wrong with a packet, or None: these packets alone."""
+    if not packet:
+        return None if has_state else "NoKeyFrame"
     if len(packet) < 3 or (packet[0] % 2 == 0 and len(packet) < 10):
         return "ShortPacket"
     if packet[0] >> 1 & 7 > 3:
