@@ -4,10 +4,10 @@ use Rattle.std.specs.Fmt.{decimal}
 use Rattle.std.specs.Io.KnownBytes.{Keeps}
 use Rattle.vp8_tables.specs.Rfc.{rfc_entries}
 use Rattle.vp8_tables.specs.Tables.{TableEntries}
-use Rattle.stream_files.specs.Ivf.{IvfRefuses}
 use Rattle.stream_files.specs.Texts.{written_text}
 use Rattle.packet_edits.specs.Saved.{packets_of}
-use Rattle.frame_session.specs.Answers.{Means}
+use Rattle.frame_session.specs.Edits.{list_at}
+use Rattle.frame_session.specs.Answers.{Means, SourceRefuses}
 use Rattle.frame_session.specs.Sessions.{Now}
 use Rattle.frame_session.specs.declared.serving.RunFault.{RunFault}
 use Rattle.frame_session.specs.declared.serving.RunFault.TheVariants as runs
@@ -44,14 +44,14 @@ IsSaveFault CannotWrite = Unit {0}
 IsSaveFault NoMemory = Unit {0}
 IsSaveFault _ = ⊥
 
--- the requests were answered with these replies; it is not known where the frames went
-abbrev pub IsReplied : (tables : TableEntries) → (bytes requests : List ℕ) → (replies replies' : Option (List ℕ)) → Now → Type 0
-IsReplied tables bytes requests replies replies' end =
-    (frames : Option (List ℕ)) × (frames' : Option (List ℕ)) × Means tables bytes requests frames frames' replies replies' end
+-- the requests were answered over the files of these bytes with these replies; it is not known where the frames went
+abbrev pub IsReplied : (tables : TableEntries) → (sources : List (List ℕ)) → (requests : List ℕ) → (replies replies' : Option (List ℕ)) → Now → Type 0
+IsReplied tables sources requests replies replies' end =
+    (frames : Option (List ℕ)) × (frames' : Option (List ℕ)) × Means tables sources requests frames frames' replies replies' end
 
--- the file of the packets at the end
+-- the file of the packets of source 0 at the end
 abbrev pub saved_text : Now → List ℕ
-saved_text end = written_text end.head (packets_of end.list)
+saved_text end = written_text end.head (packets_of (list_at end.lists 0))
 
 -- the report of trailing bytes: nothing if there are none
 abbrev pub spare_text : ℕ → List ℕ
@@ -64,25 +64,25 @@ pub record IsServed (unnamed stream requests : List ℕ) (has_tables : Bool) (le
   pub bytes : List ℕ
   pub lines : List ℕ
   pub end : Now
-  pub replied : IsReplied tables bytes lines replies replies' end
+  pub replied : IsReplied tables (bytes ∷ []) lines replies replies' end
   pub empty : stream ≡ codes "-" → bytes ≡ unnamed
   pub input : requests ≡ codes "-" → IfSome left (λ bytes. lines ≡ bytes)
   pub rfc : has_tables ≡ false → tables ≡ rfc_entries
 
--- why the requests were not answered over the file of these bytes: except for a writer's error, nothing was written
-abbrev pub IsRunFault : List ℕ → (frames frames' replies replies' : Option (List ℕ)) → Fault → Type 0
-IsRunFault bytes frames frames' replies replies' (Input fault) = IvfRefuses bytes fault × Keeps frames frames' × Keeps replies replies'
-IsRunFault bytes frames frames' replies replies' NoMemory = Keeps frames frames' × Keeps replies replies'
-IsRunFault bytes frames frames' replies replies' CannotWrite = Unit {0}
-IsRunFault bytes frames frames' replies replies' _ = ⊥
+-- why the requests were not answered over the files of these bytes: except for a writer's error, nothing was written
+abbrev pub IsRunFault : List (List ℕ) → (frames frames' replies replies' : Option (List ℕ)) → Fault → Type 0
+IsRunFault sources frames frames' replies replies' (Input source fault) = SourceRefuses sources source fault × Keeps frames frames' × Keeps replies replies'
+IsRunFault sources frames frames' replies replies' NoMemory = Keeps frames frames' × Keeps replies replies'
+IsRunFault sources frames frames' replies replies' CannotWrite = Unit {0}
+IsRunFault sources frames frames' replies replies' _ = ⊥
 
--- why the requests were not answered over the file of these bytes, if it is not known where frames went: except
+-- why the requests were not answered over the files of these bytes, if it is not known where frames went: except
 -- for a writer's error, no reply was written
-abbrev pub IsRefused : List ℕ → (replies replies' : Option (List ℕ)) → Fault → Type 0
-IsRefused bytes replies replies' (Input fault) = IvfRefuses bytes fault × Keeps replies replies'
-IsRefused bytes replies replies' NoMemory = Keeps replies replies'
-IsRefused bytes replies replies' CannotWrite = Unit {0}
-IsRefused bytes replies replies' _ = ⊥
+abbrev pub IsRefused : List (List ℕ) → (replies replies' : Option (List ℕ)) → Fault → Type 0
+IsRefused sources replies replies' (Input source fault) = SourceRefuses sources source fault × Keeps replies replies'
+IsRefused sources replies replies' NoMemory = Keeps replies replies'
+IsRefused sources replies replies' CannotWrite = Unit {0}
+IsRefused sources replies replies' _ = ⊥
 
 -- a file with this name could not be read: the tables' or the stream's, and then no byte of the requests was read, or the requests'
 abbrev pub IsUnread : (tables : Option (List ℕ)) → (stream requests : List ℕ) → (left left' : Option (List ℕ)) → List ℕ → Type 0
@@ -96,13 +96,13 @@ IsEnded unnamed tables stream requests left left' replies replies' (NamedTwice s
 IsEnded unnamed tables stream requests left left' replies replies' (CannotRead path) = IsUnread tables stream requests left left' path.now × (replies' ≡ replies)
 IsEnded unnamed tables stream requests left left' replies replies' (TooLong path) = IsUnread tables stream requests left left' path.now × (replies' ≡ replies)
 IsEnded unnamed tables stream requests left left' replies replies' Tables = IsSome tables × (left' ≡ left) × (replies' ≡ replies)
-IsEnded unnamed tables stream requests left left' replies replies' (Input fault) =
-    (bytes : List ℕ) × (stream ≡ codes "-" → bytes ≡ unnamed) × IvfRefuses bytes fault × Keeps replies replies'
+IsEnded unnamed tables stream requests left left' replies replies' (Input source fault) =
+    (bytes : List ℕ) × (stream ≡ codes "-" → bytes ≡ unnamed) × SourceRefuses (bytes ∷ []) source fault × Keeps replies replies'
 IsEnded unnamed tables stream requests left left' replies replies' CannotWrite = Unit {0}
 IsEnded unnamed tables stream requests left left' replies replies' NoMemory = Unit {0}
 
 -- a run's error as the program's
 abbrev pub reported_as : RunFault → Fault
-reported_as (runs.Ivf fault) = Input fault
+reported_as (runs.Ivf source fault) = Input source fault
 reported_as runs.Write = CannotWrite
 reported_as runs.NoMemory = NoMemory

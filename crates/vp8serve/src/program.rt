@@ -1,9 +1,9 @@
 // The program over a reader and two writers.
-ghost use Rattle.std.specs.Prelude.{◌≡◌, ◌≢◌, ◌≤◌, [], IfOk, IfErr, OnOk, Err, is_some, option_map};
+ghost use Rattle.std.specs.Prelude.{◌≡◌, ◌≢◌, ◌≤◌, [], IfOk, IfErr, OnOk, Err, is_some, length, option_map};
 ghost use Rattle.std.specs.Io.Buffered.{writer_buffer, writer_contents};
 ghost use Rattle.std.specs.Io.KnownBytes.{Appends};
 ghost use Rattle.clap.specs.Values.{kind_of};
-ghost use Rattle.frame_session.specs.Answers.{Means};
+ghost use Rattle.frame_session.specs.Answers.{Means, texts_of};
 ghost use Rattle.vp8serve.specs.Endings.{IsEnded, IsRefused, IsReplied, IsRunFault, IsSaveFault, IsServed, saved_text, spare_text};
 ghost use Rattle.vp8serve.specs.Statuses.{exit_status, status_of};
 
@@ -48,23 +48,24 @@ fn help_or_fault<O: Write>(error: clap::Error, output: &mut O) -> Result<(), Fau
     }
 }
 
-/// Runs the requests over the stream, and flushes both writers. Returns the session after the last
+/// Runs the requests over the files of the sources, 1 to 8, and flushes both writers. Returns the session after the last
 /// request.
 pub fn run_to<F: Write, P: Write>(
     alloc: Global,
     tables: Tables,
     capacity: u16,
-    stream: &[u8],
+    sources: &[&[u8]],
     requests: &[u8],
     frames: &mut F,
     replies: &mut P,
 ) -> Result<Session, Fault<'static>>
-    requires { (1 ≤ capacity) × (capacity ≤ 4096) }
-    ensures answered { IfOk result (λ session. Means tables stream.now requests.now (F.contents frames.old) (F.contents frames.new) (P.contents replies.old) (P.contents replies.new) session.now) }
+    requires capacity { (1 ≤ capacity) × (capacity ≤ 4096) }
+    requires sources { (1 ≤ length sources.now) × (length sources.now ≤ 8) }
+    ensures answered { IfOk result (λ session. Means tables (texts_of sources.now) requests.now (F.contents frames.old) (F.contents frames.new) (P.contents replies.old) (P.contents replies.new) session.now) }
     ensures capacity { IfOk result (λ session. session.cache.capacity ≡ capacity) }
-    ensures refused { IfErr result (IsRunFault stream.now (F.contents frames.old) (F.contents frames.new) (P.contents replies.old) (P.contents replies.new)) }
+    ensures refused { IfErr result (IsRunFault (texts_of sources.now) (F.contents frames.old) (F.contents frames.new) (P.contents replies.old) (P.contents replies.new)) }
 {
-    let session = run(alloc, tables, capacity, stream, requests, frames, replies)?;
+    let session = run(alloc, tables, capacity, sources, requests, frames, replies)?;
     frames.flush().map_err(|_| Fault::CannotWrite)?;
     replies.flush().map_err(|_| Fault::CannotWrite)?;
     Ok(session)
@@ -75,15 +76,16 @@ fn run_to_path<R: Files + AllocGlobal, P: Write>(
     rt: &R,
     tables: Tables,
     capacity: u16,
-    stream: &[u8],
+    sources: &[&[u8]],
     requests: &[u8],
     path: &str,
     replies: &mut P,
 ) -> Result<Session, Fault<'static>>
-    requires { (1 ≤ capacity) × (capacity ≤ 4096) }
-    ensures replied { IfOk result (λ session. IsReplied tables stream.now requests.now (P.contents replies.old) (P.contents replies.new) session.now) }
+    requires capacity { (1 ≤ capacity) × (capacity ≤ 4096) }
+    requires sources { (1 ≤ length sources.now) × (length sources.now ≤ 8) }
+    ensures replied { IfOk result (λ session. IsReplied tables (texts_of sources.now) requests.now (P.contents replies.old) (P.contents replies.new) session.now) }
     ensures capacity { IfOk result (λ session. session.cache.capacity ≡ capacity) }
-    ensures refused { IfErr result (IsRefused stream.now (P.contents replies.old) (P.contents replies.new)) }
+    ensures refused { IfErr result (IsRefused (texts_of sources.now) (P.contents replies.old) (P.contents replies.new)) }
 {
     let alloc = rt.alloc();
     if path == NO_FILE {
@@ -91,7 +93,7 @@ fn run_to_path<R: Files + AllocGlobal, P: Write>(
             alloc,
             tables,
             capacity,
-            stream,
+            sources,
             requests,
             &mut io::sink(),
             replies,
@@ -105,7 +107,7 @@ fn run_to_path<R: Files + AllocGlobal, P: Write>(
         alloc,
         tables,
         capacity,
-        stream,
+        sources,
         requests,
         &mut frames,
         replies,
@@ -175,7 +177,7 @@ fn answer<'a, R: Files + AllocGlobal, I: Read, O: Write, E: Write>(
         rt,
         tables,
         capacity,
-        stream.as_slice(),
+        &[stream.as_slice()],
         requests.as_slice(),
         words.frames,
         output,
