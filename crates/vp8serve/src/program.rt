@@ -4,12 +4,13 @@ ghost use Rattle.std.specs.Io.Buffered.{writer_buffer, writer_contents};
 ghost use Rattle.std.specs.Io.KnownBytes.{Appends};
 ghost use Rattle.clap.specs.Values.{kind_of};
 ghost use Rattle.frame_session.specs.Answers.{Means, texts_of};
+ghost use Rattle.vp8serve.specs.CommandLines.{source_names};
 ghost use Rattle.vp8serve.specs.Endings.{IsEnded, IsRefused, IsReplied, IsRunFault, IsSaveFault, IsServed, saved_text, spare_text};
 ghost use Rattle.vp8serve.specs.Statuses.{exit_status, status_of};
 
 use crate::fault::Fault;
-use crate::sources::{read_requests, read_stream, read_tables};
-use crate::words::{self, NO_FILE, Words};
+use crate::sources::{read_requests, read_sources, read_tables, slices_of};
+use crate::words::{self, Accepted, NO_FILE};
 use clap::error::ErrorKind;
 use frame_session::{Session, run};
 use std::alloc::Global;
@@ -114,7 +115,7 @@ fn run_to_path<R: Files + AllocGlobal, P: Write>(
     )
 }
 
-/// Writes the current packets through a buffer, and flushes it.
+/// Writes the current packets of source 0 through a buffer, and flushes it.
 pub fn save_to<W: Write + Drop>(
     session: &Session,
     w: &mut BufWriter<W>,
@@ -145,7 +146,7 @@ fn save_to_path<R: Files + AllocGlobal>(
     save_to(session, &mut saved)
 }
 
-/// Reports the number of trailing bytes of the stream, if there are any.
+/// Reports the number of trailing bytes of all sources, if there are any.
 fn report_spare<E: Write>(session: &Session, errors: &mut E) -> io::Result<()>
     ensures { OnOk result (Appends (E.contents errors.old) (E.contents errors.new) (spare_text session.now.now.spare)) }
 {
@@ -156,28 +157,30 @@ fn report_spare<E: Write>(session: &Session, errors: &mut E) -> io::Result<()>
     writeln!(errors, "spare {spare}")
 }
 
-/// Does what parsed arguments ask for.
-#[tactic(auto, using(crate::proofs::Ended::tables_ended, crate::proofs::Ended::stream_ended, crate::proofs::Ended::requests_ended, crate::proofs::Ended::run_ended, crate::proofs::Ended::save_ended))]
+/// Does what an accepted command line asks for.
+#[tactic(auto, using(crate::proofs::Ended::tables_ended, crate::proofs::Ended::sources_ended, crate::proofs::Ended::requests_ended, crate::proofs::Ended::run_ended, crate::proofs::Ended::save_ended))]
 fn answer<'a, R: Files + AllocGlobal, I: Read, O: Write, E: Write>(
     rt: &R,
-    words: Words<'a>,
-    capacity: u16,
+    line: &Accepted<'a>,
     input: &mut I,
     output: &mut O,
     errors: &mut E,
 ) -> Result<(), Fault<'a>>
-    requires { (1 ≤ capacity) × (capacity ≤ 4096) }
-    ensures served { OnOk result (IsServed EMPTY words.entry.stream.now words.entry.requests.now (is_some words.entry.tables) (I.remaining input.old) (O.contents output.old) (O.contents output.new)) }
-    ensures ended { IfErr result (IsEnded EMPTY (option_map (λ path. path.now) words.entry.tables) words.entry.stream.now words.entry.requests.now (I.remaining input.old) (I.remaining input.new) (O.contents output.old) (O.contents output.new)) }
+    requires capacity { (1 ≤ line.now.capacity) × (line.now.capacity ≤ 4096) }
+    requires paths { length line.now.more.items ≤ 7 }
+    ensures served { OnOk result (IsServed EMPTY (source_names line.now) line.now.words.requests.now (is_some line.now.words.tables) (I.remaining input.old) (O.contents output.old) (O.contents output.new)) }
+    ensures ended { IfErr result (IsEnded EMPTY (option_map (λ path. path.now) line.now.words.tables) (source_names line.now) line.now.words.requests.now (I.remaining input.old) (I.remaining input.new) (O.contents output.old) (O.contents output.new)) }
 {
+    let words = line.words;
     let tables = read_tables(rt, words.tables)?;
-    let stream = read_stream(rt, words.stream)?;
+    let sources = read_sources(rt, words.stream, line.more.as_slice())?;
     let requests = read_requests(rt, words.requests, input)?;
+    let slices = slices_of(rt.alloc(), sources.as_slice())?;
     let session = run_to_path(
         rt,
         tables,
-        capacity,
-        &[stream.as_slice()],
+        line.capacity,
+        slices.as_slice(),
         requests.as_slice(),
         words.frames,
         output,
@@ -197,8 +200,8 @@ fn answer_line<'a, R: Files + AllocGlobal, S: AsStr, I: Read, O: Write, E: Write
 ) -> Result<(), Fault<'a>> {
     match words::parse(rt.alloc(), words) {
         Ok(words) => {
-            let capacity = words.accept()?;
-            answer(rt, words, capacity, input, output, errors)
+            let line = words.accept(rt.alloc())?;
+            answer(rt, &line, input, output, errors)
         }
         Err(error) => help_or_fault(error, output),
     }
@@ -218,10 +221,10 @@ fn exit_status<E: Write>(answer: Result<(), Fault<'_>>, errors: &mut E) -> u8
 /// status: 0 if every request was answered, also by a refusal, and for help; 2 for a
 /// mistake on the command line; 1 for every other error.
 ///
-/// All files are read whole, up to 1,073,741,824 bytes each, before the file for the frames is created;
-/// the file for the packets is created after the last request. Replies and help go to `output`;
-/// the text of an error, and after a run without one the number of trailing bytes of the stream, if
-/// there are any, go to `errors`.
+/// All files are read whole, up to 1,073,741,824 bytes each, before the file for the frames is created: the
+/// tables, IN, the files of `--sources` in their order, the requests. The file for the packets of source 0
+/// is created after the last request. Replies and help go to `output`; the text of an error, and after a
+/// run without one the number of trailing bytes of all sources together, if there are any, go to `errors`.
 pub fn serve<R: Files + AllocGlobal, S: AsStr, I: Read, O: Write, E: Write>(
     rt: &R,
     words: &[S],
