@@ -7,10 +7,10 @@ use Rattle.frame_session.specs.Answers.{Means, frames_of, replies_of}
 use Rattle.frame_session.specs.Sessions.{Now}
 
 -- the answers remain the same if the writers keep their bytes
-pub flushed : (tables : TableEntries) (bytes requests : List ℕ) (f f' f'' r r' r'' : Option (List ℕ)) (end : Now) → Means tables bytes requests f f' r r' end → Keeps f' f'' → Keeps r' r'' → Means tables bytes requests f f'' r r'' end
-flushed tables bytes requests f f' f'' r r' r'' end m kept kept' = record {
-  file = m.file;
-  is = m.is;
+pub flushed : (tables : TableEntries) (sources : List (List ℕ)) (requests : List ℕ) (f f' f'' r r' r'' : Option (List ℕ)) (end : Now) → Means tables sources requests f f' r r' end → Keeps f' f'' → Keeps r' r'' → Means tables sources requests f f'' r r'' end
+flushed tables sources requests f f' f'' r r' r'' end m kept kept' = record {
+  files = m.files;
+  are = m.are;
   runs = record {
     answers = m.runs.answers;
     means = m.runs.means;

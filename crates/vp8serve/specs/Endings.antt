@@ -1,13 +1,14 @@
 -- The results of the parts of a run.
-use Rattle.std.specs.Prelude.{◌≡◌, ◌≢◌, ◌⊎◌, Bool, false, ℕ, ◌<◌, ◌==◌, List, [], ◌∷◌, ◌++◌, length, Option, Some, IfSome, IsSome, codes, if◌then◌else◌}
+use Rattle.std.specs.Prelude.{◌≡◌, ◌≢◌, ◌⊎◌, Bool, false, ℕ, ◌<◌, ◌==◌, List, [], ◌∷◌, ◌++◌, length, Contains, Option, Some, IfSome, IsSome, codes, if◌then◌else◌}
+use Rattle.std.specs.List.{AllZip}
 use Rattle.std.specs.Fmt.{decimal}
 use Rattle.std.specs.Io.KnownBytes.{Keeps}
 use Rattle.vp8_tables.specs.Rfc.{rfc_entries}
 use Rattle.vp8_tables.specs.Tables.{TableEntries}
-use Rattle.stream_files.specs.Ivf.{IvfRefuses}
 use Rattle.stream_files.specs.Texts.{written_text}
 use Rattle.packet_edits.specs.Saved.{packets_of}
-use Rattle.frame_session.specs.Answers.{Means}
+use Rattle.frame_session.specs.Edits.{list_at}
+use Rattle.frame_session.specs.Answers.{Means, SourceRefuses}
 use Rattle.frame_session.specs.Sessions.{Now}
 use Rattle.frame_session.specs.declared.serving.RunFault.{RunFault}
 use Rattle.frame_session.specs.declared.serving.RunFault.TheVariants as runs
@@ -24,6 +25,17 @@ IsReadFault name left (CannotRead path) = path.now ≡ name
 IsReadFault name left (TooLong path) = (path.now ≡ name) × IfSome left (λ bytes. limit < length bytes)
 IsReadFault name left NoMemory = Unit {0}
 IsReadFault name left _ = ⊥
+
+-- the bytes of the files with these names, one for each: a file that is not named has the bytes `unnamed`
+abbrev pub AreNamed : (unnamed : List ℕ) → (names sources : List (List ℕ)) → Type 0
+AreNamed unnamed names sources = AllZip (λ name bytes. name ≡ codes "-" → bytes ≡ unnamed) names sources
+
+-- why one of the files with these names was not read
+abbrev pub AreUnread : List (List ℕ) → Fault → Type 0
+AreUnread names (CannotRead path) = Contains names path.now
+AreUnread names (TooLong path) = Contains names path.now
+AreUnread names NoMemory = Unit {0}
+AreUnread names _ = ⊥
 
 -- why the bytes of a text are not tables
 abbrev pub IsTableFault : List ℕ → Fault → Type 0
@@ -44,65 +56,65 @@ IsSaveFault CannotWrite = Unit {0}
 IsSaveFault NoMemory = Unit {0}
 IsSaveFault _ = ⊥
 
--- the requests were answered with these replies; it is not known where the frames went
-abbrev pub IsReplied : (tables : TableEntries) → (bytes requests : List ℕ) → (replies replies' : Option (List ℕ)) → Now → Type 0
-IsReplied tables bytes requests replies replies' end =
-    (frames : Option (List ℕ)) × (frames' : Option (List ℕ)) × Means tables bytes requests frames frames' replies replies' end
+-- the requests were answered over the files of these bytes with these replies; it is not known where the frames went
+abbrev pub IsReplied : (tables : TableEntries) → (sources : List (List ℕ)) → (requests : List ℕ) → (replies replies' : Option (List ℕ)) → Now → Type 0
+IsReplied tables sources requests replies replies' end =
+    (frames : Option (List ℕ)) × (frames' : Option (List ℕ)) × Means tables sources requests frames frames' replies replies' end
 
--- the file of the packets at the end
+-- the file of the packets of source 0 at the end
 abbrev pub saved_text : Now → List ℕ
-saved_text end = written_text end.head (packets_of end.list)
+saved_text end = written_text end.head (packets_of (list_at end.lists 0))
 
 -- the report of trailing bytes: nothing if there are none
 abbrev pub spare_text : ℕ → List ℕ
 spare_text spare = if spare == 0 then [] else codes "spare " ++ decimal spare ++ 10 ∷ []
 
--- the requests that the arguments name were answered: a stream that is not named has the bytes `unnamed`, requests that are not named are
--- the rest of the input, and without a file of tables the tables are those of RFC 6386
-pub record IsServed (unnamed stream requests : List ℕ) (has_tables : Bool) (left replies replies' : Option (List ℕ)) : Type 0 where
+-- the requests that the arguments name were answered over the sources with these names: a source that is not named has the bytes `unnamed`,
+-- requests that are not named are the rest of the input, and without a file of tables the tables are those of RFC 6386
+pub record IsServed (unnamed : List ℕ) (names : List (List ℕ)) (requests : List ℕ) (has_tables : Bool) (left replies replies' : Option (List ℕ)) : Type 0 where
   pub tables : TableEntries
-  pub bytes : List ℕ
+  pub sources : List (List ℕ)
   pub lines : List ℕ
   pub end : Now
-  pub replied : IsReplied tables bytes lines replies replies' end
-  pub empty : stream ≡ codes "-" → bytes ≡ unnamed
+  pub replied : IsReplied tables sources lines replies replies' end
+  pub named : AreNamed unnamed names sources
   pub input : requests ≡ codes "-" → IfSome left (λ bytes. lines ≡ bytes)
   pub rfc : has_tables ≡ false → tables ≡ rfc_entries
 
--- why the requests were not answered over the file of these bytes: except for a writer's error, nothing was written
-abbrev pub IsRunFault : List ℕ → (frames frames' replies replies' : Option (List ℕ)) → Fault → Type 0
-IsRunFault bytes frames frames' replies replies' (Input fault) = IvfRefuses bytes fault × Keeps frames frames' × Keeps replies replies'
-IsRunFault bytes frames frames' replies replies' NoMemory = Keeps frames frames' × Keeps replies replies'
-IsRunFault bytes frames frames' replies replies' CannotWrite = Unit {0}
-IsRunFault bytes frames frames' replies replies' _ = ⊥
+-- why the requests were not answered over the files of these bytes: except for a writer's error, nothing was written
+abbrev pub IsRunFault : List (List ℕ) → (frames frames' replies replies' : Option (List ℕ)) → Fault → Type 0
+IsRunFault sources frames frames' replies replies' (Input source fault) = SourceRefuses sources source fault × Keeps frames frames' × Keeps replies replies'
+IsRunFault sources frames frames' replies replies' NoMemory = Keeps frames frames' × Keeps replies replies'
+IsRunFault sources frames frames' replies replies' CannotWrite = Unit {0}
+IsRunFault sources frames frames' replies replies' _ = ⊥
 
--- why the requests were not answered over the file of these bytes, if it is not known where frames went: except
+-- why the requests were not answered over the files of these bytes, if it is not known where frames went: except
 -- for a writer's error, no reply was written
-abbrev pub IsRefused : List ℕ → (replies replies' : Option (List ℕ)) → Fault → Type 0
-IsRefused bytes replies replies' (Input fault) = IvfRefuses bytes fault × Keeps replies replies'
-IsRefused bytes replies replies' NoMemory = Keeps replies replies'
-IsRefused bytes replies replies' CannotWrite = Unit {0}
-IsRefused bytes replies replies' _ = ⊥
+abbrev pub IsRefused : List (List ℕ) → (replies replies' : Option (List ℕ)) → Fault → Type 0
+IsRefused sources replies replies' (Input source fault) = SourceRefuses sources source fault × Keeps replies replies'
+IsRefused sources replies replies' NoMemory = Keeps replies replies'
+IsRefused sources replies replies' CannotWrite = Unit {0}
+IsRefused sources replies replies' _ = ⊥
 
--- a file with this name could not be read: the tables' or the stream's, and then no byte of the requests was read, or the requests'
-abbrev pub IsUnread : (tables : Option (List ℕ)) → (stream requests : List ℕ) → (left left' : Option (List ℕ)) → List ℕ → Type 0
-IsUnread tables stream requests left left' name = ((tables ≡ Some name ⊎ stream ≡ name) × (left' ≡ left)) ⊎ (requests ≡ name)
+-- a file with this name could not be read: the tables' or a source's, and then no byte of the requests was read, or the requests'
+abbrev pub IsUnread : (tables : Option (List ℕ)) → (sources : List (List ℕ)) → (requests : List ℕ) → (left left' : Option (List ℕ)) → List ℕ → Type 0
+IsUnread tables sources requests left left' name = ((tables ≡ Some name ⊎ Contains sources name) × (left' ≡ left)) ⊎ (requests ≡ name)
 
 -- why the program exits without an answer to all requests, in the order of its parts: a reading error comes before the first reply, a reading error of
--- the tables or the stream before the first byte of the requests is read, and an error in the stream's bytes before the first reply
-abbrev pub IsEnded : (unnamed : List ℕ) → (tables : Option (List ℕ)) → (stream requests : List ℕ) → (left left' replies replies' : Option (List ℕ)) → Fault → Type 0
-IsEnded unnamed tables stream requests left left' replies replies' CommandLine = ⊥
-IsEnded unnamed tables stream requests left left' replies replies' (NamedTwice same) = ⊥
-IsEnded unnamed tables stream requests left left' replies replies' (CannotRead path) = IsUnread tables stream requests left left' path.now × (replies' ≡ replies)
-IsEnded unnamed tables stream requests left left' replies replies' (TooLong path) = IsUnread tables stream requests left left' path.now × (replies' ≡ replies)
-IsEnded unnamed tables stream requests left left' replies replies' Tables = IsSome tables × (left' ≡ left) × (replies' ≡ replies)
-IsEnded unnamed tables stream requests left left' replies replies' (Input fault) =
-    (bytes : List ℕ) × (stream ≡ codes "-" → bytes ≡ unnamed) × IvfRefuses bytes fault × Keeps replies replies'
-IsEnded unnamed tables stream requests left left' replies replies' CannotWrite = Unit {0}
-IsEnded unnamed tables stream requests left left' replies replies' NoMemory = Unit {0}
+-- the tables or a source before the first byte of the requests is read, and an error in a source's bytes before the first reply
+abbrev pub IsEnded : (unnamed : List ℕ) → (tables : Option (List ℕ)) → (names : List (List ℕ)) → (requests : List ℕ) → (left left' replies replies' : Option (List ℕ)) → Fault → Type 0
+IsEnded unnamed tables names requests left left' replies replies' CommandLine = ⊥
+IsEnded unnamed tables names requests left left' replies replies' (NamedTwice same) = ⊥
+IsEnded unnamed tables names requests left left' replies replies' (CannotRead path) = IsUnread tables names requests left left' path.now × (replies' ≡ replies)
+IsEnded unnamed tables names requests left left' replies replies' (TooLong path) = IsUnread tables names requests left left' path.now × (replies' ≡ replies)
+IsEnded unnamed tables names requests left left' replies replies' Tables = IsSome tables × (left' ≡ left) × (replies' ≡ replies)
+IsEnded unnamed tables names requests left left' replies replies' (Input source fault) =
+    (sources : List (List ℕ)) × AreNamed unnamed names sources × SourceRefuses sources source fault × Keeps replies replies'
+IsEnded unnamed tables names requests left left' replies replies' CannotWrite = Unit {0}
+IsEnded unnamed tables names requests left left' replies replies' NoMemory = Unit {0}
 
 -- a run's error as the program's
 abbrev pub reported_as : RunFault → Fault
-reported_as (runs.Ivf fault) = Input fault
+reported_as (runs.Ivf source fault) = Input source fault
 reported_as runs.Write = CannotWrite
 reported_as runs.NoMemory = NoMemory

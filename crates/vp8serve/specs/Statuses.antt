@@ -10,7 +10,7 @@ status_of (NamedTwice same) = 2
 status_of (CannotRead path) = 1
 status_of (TooLong path) = 1
 status_of Tables = 1
-status_of (Input fault) = 1
+status_of (Input source fault) = 1
 status_of CannotWrite = 1
 status_of NoMemory = 1
 

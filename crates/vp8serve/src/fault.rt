@@ -5,8 +5,22 @@ ghost use Rattle.vp8serve.specs.Statuses.{status_of};
 
 use crate::files::SameFile;
 use frame_session::RunFault;
+use std::fmt;
 use stream_files::IvfFault;
 use thiserror::Error;
+
+/// A source as the text of an error names it: `input` for source 0, which is IN.
+#[derive(Clone, Copy)]
+struct SourceName(usize);
+
+impl fmt::Display for SourceName {
+    fn fmt<W: fmt::Write>(&self, f: &mut fmt::Formatter<W>) -> fmt::Result {
+        match self.0 {
+            0 => f.write_str("input"),
+            number => write!(f, "source {number}"),
+        }
+    }
+}
 
 /// Why the program exits before all requests were answered. Its `Display` is the text that the user
 /// sees after the program's name. A path is the argument as given, `-` for standard input.
@@ -27,9 +41,10 @@ pub enum Fault<'a> {
     /// The file of the tables does not have 3012 bytes.
     #[error("tables are not 3012 bytes")]
     Tables,
-    /// The bytes of the stream are not an IVF file, or out of memory for its packets.
-    #[error("input {word}", word = .0.word())]
-    Input(IvfFault),
+    /// The bytes of a source are not an IVF file, or out of memory for its packets. It is the first such
+    /// source.
+    #[error("{name} {word}", name = SourceName(*.source), word = .fault.word())]
+    Input { source: usize, fault: IvfFault },
     /// The file for the frames or for the packets cannot be created, or a writer returned an error.
     #[error("cannot write")]
     CannotWrite,
@@ -55,7 +70,7 @@ impl From<RunFault> for Fault<'_> {
 
     fn from(fault: RunFault) -> Self {
         match fault {
-            RunFault::Ivf(fault) => Fault::Input(fault),
+            RunFault::Ivf { source, fault } => Fault::Input { source, fault },
             RunFault::Write => Fault::CannotWrite,
             RunFault::NoMemory => Fault::NoMemory,
         }

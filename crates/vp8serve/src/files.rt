@@ -1,14 +1,17 @@
 // The files that the command line names: a file that is written is not named twice.
-ghost use Rattle.std.specs.Prelude.{◌≡◌, ◌↔◌, IfErr, IsTrue, OnOk, Some, map, option_map};
-ghost use Rattle.vp8serve.specs.CommandLines.{AreApart, IsApart, IsNamedTwice, IsSameFile, file_of, is_device, named_file, out_file, read_files, saved_file};
+ghost use Rattle.std.specs.Prelude.{◌≡◌, ◌↔◌, IfErr, IfOk, IsTrue, OnOk, Some, map, option_map};
+ghost use Rattle.vp8serve.specs.CommandLines.{AreApart, IsApart, IsFileFault, IsNamedTwice, IsSameFile, file_of, is_device, named_file, names_of, out_file, read_files, saved_file};
 
+use crate::fault::Fault;
 use crate::words::{NO_FILE, Words};
+use std::alloc::{AllocError, Global};
 use std::fmt;
 
 /// An argument of the command line that names a file.
 #[derive(Clone, Copy, Debug, PartialEq, Eq)]
 pub enum Argument {
     In,
+    Sources,
     Requests,
     Out,
     Tables,
@@ -20,6 +23,7 @@ impl Argument {
     pub fn name(self) -> &'static str {
         match self {
             Argument::In => "IN",
+            Argument::Sources => "--sources",
             Argument::Requests => "REQUESTS",
             Argument::Out => "OUT",
             Argument::Tables => "--tables",
@@ -105,11 +109,15 @@ fn check_apart<'a>(written: Named<'a>, others: &[Named<'a>]) -> Result<(), SameF
     Ok(())
 }
 
-/// The arguments whose files are only read.
-fn read_files(words: Words<'_>) -> [Named<'_>; 3]
-    ensures { map named_file result ≡ read_files words.entry }
+/// The arguments whose files are only read, with these paths of `--sources`.
+fn read_files<'a>(
+    alloc: Global,
+    words: Words<'a>,
+    more: &[&'a str],
+) -> Result<Vec<Named<'a>>, AllocError>
+    ensures { IfOk result (λ named. map named_file named.items ≡ read_files words.entry (names_of more.now)) }
 {
-    [
+    let mut files = vec![in alloc;
         Named {
             argument: Argument::In,
             path: file_of(words.stream),
@@ -122,7 +130,14 @@ fn read_files(words: Words<'_>) -> [Named<'_>; 3]
             argument: Argument::Tables,
             path: words.tables,
         },
-    ]
+    ]?;
+    for path in more {
+        files.push(Named {
+            argument: Argument::Sources,
+            path: file_of(path),
+        })?;
+    }
+    Ok(files)
 }
 
 /// The file for the frames.
@@ -145,16 +160,26 @@ fn saved_file(words: Words<'_>) -> Named<'_>
     }
 }
 
-/// Checks that no file that is written is named twice. If one is, two arguments that name it are returned.
-pub fn check_files(words: Words<'_>) -> Result<(), SameFile<'_>>
-    ensures apart { OnOk result (AreApart words.entry) }
-    ensures found { IfErr result (IsNamedTwice words.entry) }
+/// Checks that no file that is written is the file of one of these arguments, or written twice.
+fn check_written<'a>(words: Words<'a>, read: &[Named<'a>]) -> Result<(), SameFile<'a>>
+    ensures apart { OnOk result (AreApart words.entry (map named_file read.now)) }
+    ensures found { IfErr result (IsNamedTwice words.entry (map named_file read.now)) }
 {
-    let read = read_files(words);
     let out = out_file(words);
     let saved = saved_file(words);
-    check_apart(out, &read)?;
-    check_apart(saved, &read)?;
+    check_apart(out, read)?;
+    check_apart(saved, read)?;
     check_apart(saved, &[out])?;
     Ok(())
+}
+
+/// Checks that no file that is written is named twice, with these paths of `--sources`.
+///
+/// `NamedTwice` with two arguments that name one; `NoMemory`.
+pub fn check_files<'a>(alloc: Global, words: Words<'a>, more: &[&'a str]) -> Result<(), Fault<'a>>
+    ensures apart { OnOk result (AreApart words.entry (read_files words.entry (names_of more.now))) }
+    ensures fault { IfErr result (IsFileFault words.entry (read_files words.entry (names_of more.now))) }
+{
+    let read = read_files(alloc, words, more).map_err(|_| Fault::NoMemory)?;
+    check_written(words, read.as_slice()).map_err(Fault::NamedTwice)
 }

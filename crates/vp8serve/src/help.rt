@@ -23,27 +23,32 @@ another argument. Paths under /dev/ may be named twice.";
 pub const GRAMMAR: &str = "\
 Requests, a line each; the reply goes to standard output:
   frame N               write frame N to OUT          served N
-  insert AT STAMP HEX   insert a packet               ok K (K packets now)
+  use S                 edit source S                 ok K (K packets now)
+  insert AT STAMP HEX   insert a packet               ok K
   replace AT HEX        replace a packet's bytes      ok K
   delete AT             remove a packet               ok K
   move FROM TO          remove one, insert it at TO   ok K
+  copy S FROM AT        insert packet FROM of S at AT ok K
   blank AT W H          insert a grey W x H key frame ok K
   hold AT               insert a repeat of the frame  ok K
   script TEXT           edit the frames, see below    ok K
   count                                               packets K frames F
   stats                                               decoded D (packets so far)
-Packets and frames are numbered from 0. STAMP is a packet's time stamp, HEX its
-bytes as hexadecimal digits, or `-` for none. Empty lines and lines that begin
-with # have no reply.
+Packets, frames and sources are numbered from 0; source 0 is IN. Edits and K are
+of the current source: 0 at first, then the one of the last `use`. STAMP is a
+packet's time stamp, HEX its bytes as hexadecimal digits, or `-` for none. Empty
+lines and lines that begin with # have no reply.
 A refused request changes nothing; the reply gives the reason:
-  refused Line | Place | Full | Spent | Size | TooLarge | NoMemory
+  refused Line | Source | Place | Full | Spent | Size | TooLarge | NoMemory
   refused Syntax | Nodes | Reference | Number             (script)
   refused NoSuchFrame | CropOutside | SizeDiffers         (frame)
   refused packet J CAUSE    packet J cannot be decoded    (frame)
+  refused source S packet J CAUSE    the same, S above 0  (frame)
 
-Scripts: `-` for none, or nodes separated by `;`. Node 0 is the stream; the
+Scripts: `-` for none, or nodes separated by `;`. Node 0 is source 0; the
 others are numbered from 1, and the last one is served. A and B are earlier
 nodes:
+  source S                      the frames of source S
   trim A FIRST COUNT            COUNT frames of A, starting at FIRST
   splice A B                    A's frames, then B's
   crop A X Y W H                W x H samples from column X, row Y (both even)

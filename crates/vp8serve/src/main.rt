@@ -1,4 +1,4 @@
-//! Serves the frames of a VP8 stream: an IVF file and a list of requests in, a YUV4MPEG2 text and
+//! Serves the frames of VP8 streams: IVF files and a list of requests in, a YUV4MPEG2 text and
 //! replies out.
 #![tactic(auto)]
 

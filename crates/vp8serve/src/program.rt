@@ -1,15 +1,16 @@
 // The program over a reader and two writers.
-ghost use Rattle.std.specs.Prelude.{◌≡◌, ◌≢◌, ◌≤◌, [], IfOk, IfErr, OnOk, Err, is_some, option_map};
+ghost use Rattle.std.specs.Prelude.{◌≡◌, ◌≢◌, ◌≤◌, [], IfOk, IfErr, OnOk, Err, is_some, length, option_map};
 ghost use Rattle.std.specs.Io.Buffered.{writer_buffer, writer_contents};
 ghost use Rattle.std.specs.Io.KnownBytes.{Appends};
 ghost use Rattle.clap.specs.Values.{kind_of};
-ghost use Rattle.frame_session.specs.Answers.{Means};
+ghost use Rattle.frame_session.specs.Answers.{Means, texts_of};
+ghost use Rattle.vp8serve.specs.CommandLines.{source_names};
 ghost use Rattle.vp8serve.specs.Endings.{IsEnded, IsRefused, IsReplied, IsRunFault, IsSaveFault, IsServed, saved_text, spare_text};
 ghost use Rattle.vp8serve.specs.Statuses.{exit_status, status_of};
 
 use crate::fault::Fault;
-use crate::sources::{read_requests, read_stream, read_tables};
-use crate::words::{self, NO_FILE, Words};
+use crate::sources::{read_requests, read_sources, read_tables, slices_of};
+use crate::words::{self, Accepted, NO_FILE};
 use clap::error::ErrorKind;
 use frame_session::{Session, run};
 use std::alloc::Global;
@@ -48,23 +49,24 @@ fn help_or_fault<O: Write>(error: clap::Error, output: &mut O) -> Result<(), Fau
     }
 }
 
-/// Runs the requests over the stream, and flushes both writers. Returns the session after the last
+/// Runs the requests over the files of the sources, 1 to 8, and flushes both writers. Returns the session after the last
 /// request.
 pub fn run_to<F: Write, P: Write>(
     alloc: Global,
     tables: Tables,
     capacity: u16,
-    stream: &[u8],
+    sources: &[&[u8]],
     requests: &[u8],
     frames: &mut F,
     replies: &mut P,
 ) -> Result<Session, Fault<'static>>
-    requires { (1 ≤ capacity) × (capacity ≤ 4096) }
-    ensures answered { IfOk result (λ session. Means tables stream.now requests.now (F.contents frames.old) (F.contents frames.new) (P.contents replies.old) (P.contents replies.new) session.now) }
+    requires capacity { (1 ≤ capacity) × (capacity ≤ 4096) }
+    requires sources { (1 ≤ length sources.now) × (length sources.now ≤ 8) }
+    ensures answered { IfOk result (λ session. Means tables (texts_of sources.now) requests.now (F.contents frames.old) (F.contents frames.new) (P.contents replies.old) (P.contents replies.new) session.now) }
     ensures capacity { IfOk result (λ session. session.cache.capacity ≡ capacity) }
-    ensures refused { IfErr result (IsRunFault stream.now (F.contents frames.old) (F.contents frames.new) (P.contents replies.old) (P.contents replies.new)) }
+    ensures refused { IfErr result (IsRunFault (texts_of sources.now) (F.contents frames.old) (F.contents frames.new) (P.contents replies.old) (P.contents replies.new)) }
 {
-    let session = run(alloc, tables, capacity, stream, requests, frames, replies)?;
+    let session = run(alloc, tables, capacity, sources, requests, frames, replies)?;
     frames.flush().map_err(|_| Fault::CannotWrite)?;
     replies.flush().map_err(|_| Fault::CannotWrite)?;
     Ok(session)
@@ -75,15 +77,16 @@ fn run_to_path<R: Files + AllocGlobal, P: Write>(
     rt: &R,
     tables: Tables,
     capacity: u16,
-    stream: &[u8],
+    sources: &[&[u8]],
     requests: &[u8],
     path: &str,
     replies: &mut P,
 ) -> Result<Session, Fault<'static>>
-    requires { (1 ≤ capacity) × (capacity ≤ 4096) }
-    ensures replied { IfOk result (λ session. IsReplied tables stream.now requests.now (P.contents replies.old) (P.contents replies.new) session.now) }
+    requires capacity { (1 ≤ capacity) × (capacity ≤ 4096) }
+    requires sources { (1 ≤ length sources.now) × (length sources.now ≤ 8) }
+    ensures replied { IfOk result (λ session. IsReplied tables (texts_of sources.now) requests.now (P.contents replies.old) (P.contents replies.new) session.now) }
     ensures capacity { IfOk result (λ session. session.cache.capacity ≡ capacity) }
-    ensures refused { IfErr result (IsRefused stream.now (P.contents replies.old) (P.contents replies.new)) }
+    ensures refused { IfErr result (IsRefused (texts_of sources.now) (P.contents replies.old) (P.contents replies.new)) }
 {
     let alloc = rt.alloc();
     if path == NO_FILE {
@@ -91,7 +94,7 @@ fn run_to_path<R: Files + AllocGlobal, P: Write>(
             alloc,
             tables,
             capacity,
-            stream,
+            sources,
             requests,
             &mut io::sink(),
             replies,
@@ -105,14 +108,14 @@ fn run_to_path<R: Files + AllocGlobal, P: Write>(
         alloc,
         tables,
         capacity,
-        stream,
+        sources,
         requests,
         &mut frames,
         replies,
     )
 }
 
-/// Writes the current packets through a buffer, and flushes it.
+/// Writes the current packets of source 0 through a buffer, and flushes it.
 pub fn save_to<W: Write + Drop>(
     session: &Session,
     w: &mut BufWriter<W>,
@@ -143,7 +146,7 @@ fn save_to_path<R: Files + AllocGlobal>(
     save_to(session, &mut saved)
 }
 
-/// Reports the number of trailing bytes of the stream, if there are any.
+/// Reports the number of trailing bytes of all sources, if there are any.
 fn report_spare<E: Write>(session: &Session, errors: &mut E) -> io::Result<()>
     ensures { OnOk result (Appends (E.contents errors.old) (E.contents errors.new) (spare_text session.now.now.spare)) }
 {
@@ -154,28 +157,30 @@ fn report_spare<E: Write>(session: &Session, errors: &mut E) -> io::Result<()>
     writeln!(errors, "spare {spare}")
 }
 
-/// Does what parsed arguments ask for.
-#[tactic(auto, using(crate::proofs::Ended::tables_ended, crate::proofs::Ended::stream_ended, crate::proofs::Ended::requests_ended, crate::proofs::Ended::run_ended, crate::proofs::Ended::save_ended))]
+/// Does what an accepted command line asks for.
+#[tactic(auto, using(crate::proofs::Ended::tables_ended, crate::proofs::Ended::sources_ended, crate::proofs::Ended::requests_ended, crate::proofs::Ended::run_ended, crate::proofs::Ended::save_ended))]
 fn answer<'a, R: Files + AllocGlobal, I: Read, O: Write, E: Write>(
     rt: &R,
-    words: Words<'a>,
-    capacity: u16,
+    line: &Accepted<'a>,
     input: &mut I,
     output: &mut O,
     errors: &mut E,
 ) -> Result<(), Fault<'a>>
-    requires { (1 ≤ capacity) × (capacity ≤ 4096) }
-    ensures served { OnOk result (IsServed EMPTY words.entry.stream.now words.entry.requests.now (is_some words.entry.tables) (I.remaining input.old) (O.contents output.old) (O.contents output.new)) }
-    ensures ended { IfErr result (IsEnded EMPTY (option_map (λ path. path.now) words.entry.tables) words.entry.stream.now words.entry.requests.now (I.remaining input.old) (I.remaining input.new) (O.contents output.old) (O.contents output.new)) }
+    requires capacity { (1 ≤ line.now.capacity) × (line.now.capacity ≤ 4096) }
+    requires paths { length line.now.more.items ≤ 7 }
+    ensures served { OnOk result (IsServed EMPTY (source_names line.now) line.now.words.requests.now (is_some line.now.words.tables) (I.remaining input.old) (O.contents output.old) (O.contents output.new)) }
+    ensures ended { IfErr result (IsEnded EMPTY (option_map (λ path. path.now) line.now.words.tables) (source_names line.now) line.now.words.requests.now (I.remaining input.old) (I.remaining input.new) (O.contents output.old) (O.contents output.new)) }
 {
+    let words = line.words;
     let tables = read_tables(rt, words.tables)?;
-    let stream = read_stream(rt, words.stream)?;
+    let sources = read_sources(rt, words.stream, line.more.as_slice())?;
     let requests = read_requests(rt, words.requests, input)?;
+    let slices = slices_of(rt.alloc(), sources.as_slice())?;
     let session = run_to_path(
         rt,
         tables,
-        capacity,
-        stream.as_slice(),
+        line.capacity,
+        slices.as_slice(),
         requests.as_slice(),
         words.frames,
         output,
@@ -195,8 +200,8 @@ fn answer_line<'a, R: Files + AllocGlobal, S: AsStr, I: Read, O: Write, E: Write
 ) -> Result<(), Fault<'a>> {
     match words::parse(rt.alloc(), words) {
         Ok(words) => {
-            let capacity = words.accept()?;
-            answer(rt, words, capacity, input, output, errors)
+            let line = words.accept(rt.alloc())?;
+            answer(rt, &line, input, output, errors)
         }
         Err(error) => help_or_fault(error, output),
     }
@@ -216,10 +221,10 @@ fn exit_status<E: Write>(answer: Result<(), Fault<'_>>, errors: &mut E) -> u8
 /// status: 0 if every request was answered, also by a refusal, and for help; 2 for a
 /// mistake on the command line; 1 for every other error.
 ///
-/// All files are read whole, up to 1,073,741,824 bytes each, before the file for the frames is created;
-/// the file for the packets is created after the last request. Replies and help go to `output`;
-/// the text of an error, and after a run without one the number of trailing bytes of the stream, if
-/// there are any, go to `errors`.
+/// All files are read whole, up to 1,073,741,824 bytes each, before the file for the frames is created: the
+/// tables, IN, the files of `--sources` in their order, the requests. The file for the packets of source 0
+/// is created after the last request. Replies and help go to `output`; the text of an error, and after a
+/// run without one the number of trailing bytes of all sources together, if there are any, go to `errors`.
 pub fn serve<R: Files + AllocGlobal, S: AsStr, I: Read, O: Write, E: Write>(
     rt: &R,
     words: &[S],

@@ -1,8 +1,10 @@
 // The files that the program reads.
-ghost use Rattle.std.specs.Prelude.{◌≡◌, IfOk, IfErr, IfSome, Ok, codes, None, false, is_some, option_map};
+ghost use Rattle.std.specs.Prelude.{◌≡◌, ◌+◌, ◌∷◌, IfOk, IfErr, IfSome, Ok, codes, None, false, is_some, length, map, option_map};
+ghost use Rattle.frame_session.specs.Answers.{texts_of};
 ghost use Rattle.vp8_tables.specs.Rfc.{rfc_entries};
 ghost use Rattle.vp8_tables.specs.Tables.{entries_of};
-ghost use Rattle.vp8serve.specs.Endings.{IsReadFault, IsTableFault, IsTablesFault};
+ghost use Rattle.vp8serve.specs.CommandLines.{names_of};
+ghost use Rattle.vp8serve.specs.Endings.{AreNamed, AreUnread, IsReadFault, IsTableFault, IsTablesFault};
 
 use crate::fault::Fault;
 use crate::words::NO_FILE;
@@ -68,8 +70,8 @@ pub fn read_tables<'a, R: Files + AllocGlobal>(
     }
 }
 
-/// The bytes of the stream: those of a file with no packets if no file is given.
-pub fn read_stream<'a, R: Files + AllocGlobal>(rt: &R, path: &'a str) -> Result<Vec<u8>, Fault<'a>>
+/// The bytes of a source: those of a file with no packets if no file is given.
+fn read_source<'a, R: Files + AllocGlobal>(rt: &R, path: &'a str) -> Result<Vec<u8>, Fault<'a>>
     ensures empty { path.now ≡ codes "-" → IfOk result (λ all. all.items ≡ EMPTY) }
     ensures fault { IfErr result (IsReadFault path.now None) }
 {
@@ -78,6 +80,38 @@ pub fn read_stream<'a, R: Files + AllocGlobal>(rt: &R, path: &'a str) -> Result<
     } else {
         read_file(rt, path)
     }
+}
+
+/// The bytes of the sources: of source 0, and then of those with these paths.
+pub fn read_sources<'a, R: Files + AllocGlobal>(
+    rt: &R,
+    first: &'a str,
+    more: &[&'a str],
+) -> Result<Vec<Vec<u8>>, Fault<'a>>
+    ensures named { IfOk result (λ all. AreNamed EMPTY (first.now ∷ names_of more.now) (map (λ bytes. bytes.items) all.items)) }
+    ensures fault { IfErr result (AreUnread (first.now ∷ names_of more.now)) }
+{
+    let bytes = read_source(rt, first)?;
+    let mut all = vec![in rt.alloc(); bytes].map_err(|_| Fault::NoMemory)?;
+    for path in more {
+        let bytes = read_source(rt, path)?;
+        let Ok(()) = all.push(bytes) else {
+            return Err(Fault::NoMemory);
+        };
+    }
+    Ok(all)
+}
+
+/// The bytes of each of these.
+pub fn slices_of(alloc: Global, all: &[Vec<u8>]) -> Result<Vec<&[u8]>, Fault<'static>>
+    ensures slices { IfOk result (λ slices. texts_of slices.items ≡ map (λ bytes. bytes.items) all.now) }
+    ensures fault { IfErr result (λ fault. fault ≡ Fault.NoMemory) }
+{
+    let mut slices = Vec::new(alloc);
+    for bytes in all {
+        slices.push(bytes.as_slice()).map_err(|_| Fault::NoMemory)?;
+    }
+    Ok(slices)
 }
 
 /// The request lines: those of `input` if no file is given.

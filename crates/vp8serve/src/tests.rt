@@ -90,34 +90,40 @@ Arguments:
   [OUT]       YUV4MPEG2 file for the frames; `-` drops them [default: -]
 
 Options:
-      --cache <N>      The most decoded frames to cache, 1 to 4096 [default: 32]
-      --tables <FILE>  File of 3012 bytes to use instead of RFC 6386's long tables
-      --save <FILE>    IVF file for the packets after the last request
-  -h, --help           Print help
+      --sources <LIST>  IVF files of sources 1 to 7, separated by `:`
+      --cache <N>       Most decoded frames to cache, 1 to 4096 [default: 32]
+      --tables <FILE>   3012 bytes to use instead of RFC 6386's long tables
+      --save <FILE>     IVF file for the packets of IN after the last request
+  -h, --help            Print help
 
 Requests, a line each; the reply goes to standard output:
   frame N               write frame N to OUT          served N
-  insert AT STAMP HEX   insert a packet               ok K (K packets now)
+  use S                 edit source S                 ok K (K packets now)
+  insert AT STAMP HEX   insert a packet               ok K
   replace AT HEX        replace a packet's bytes      ok K
   delete AT             remove a packet               ok K
   move FROM TO          remove one, insert it at TO   ok K
+  copy S FROM AT        insert packet FROM of S at AT ok K
   blank AT W H          insert a grey W x H key frame ok K
   hold AT               insert a repeat of the frame  ok K
   script TEXT           edit the frames, see below    ok K
   count                                               packets K frames F
   stats                                               decoded D (packets so far)
-Packets and frames are numbered from 0. STAMP is a packet's time stamp, HEX its
-bytes as hexadecimal digits, or `-` for none. Empty lines and lines that begin
-with # have no reply.
+Packets, frames and sources are numbered from 0; source 0 is IN. Edits and K are
+of the current source: 0 at first, then the one of the last `use`. STAMP is a
+packet's time stamp, HEX its bytes as hexadecimal digits, or `-` for none. Empty
+lines and lines that begin with # have no reply.
 A refused request changes nothing; the reply gives the reason:
-  refused Line | Place | Full | Spent | Size | TooLarge | NoMemory
+  refused Line | Source | Place | Full | Spent | Size | TooLarge | NoMemory
   refused Syntax | Nodes | Reference | Number             (script)
   refused NoSuchFrame | CropOutside | SizeDiffers         (frame)
   refused packet J CAUSE    packet J cannot be decoded    (frame)
+  refused source S packet J CAUSE    the same, S above 0  (frame)
 
-Scripts: `-` for none, or nodes separated by `;`. Node 0 is the stream; the
+Scripts: `-` for none, or nodes separated by `;`. Node 0 is source 0; the
 others are numbered from 1, and the last one is served. A and B are earlier
 nodes:
+  source S                      the frames of source S
   trim A FIRST COUNT            COUNT frames of A, starting at FIRST
   splice A B                    A's frames, then B's
   crop A X Y W H                W x H samples from column X, row Y (both even)
@@ -153,9 +159,20 @@ fn tells_each_fault(rt: HostRuntime) -> Result<(), Fail> {
         (Fault::TooLong("-"), 1, "vp8serve: - is too long\n"),
         (Fault::Tables, 1, "vp8serve: tables are not 3012 bytes\n"),
         (
-            Fault::Input(IvfFault::TooMany),
+            Fault::Input {
+                source: 0,
+                fault: IvfFault::TooMany,
+            },
             1,
             "vp8serve: input TooMany\n",
+        ),
+        (
+            Fault::Input {
+                source: 7,
+                fault: IvfFault::Header,
+            },
+            1,
+            "vp8serve: source 7 Header\n",
         ),
         (Fault::CannotWrite, 1, "vp8serve: cannot write\n"),
         (Fault::NoMemory, 1, "vp8serve: no memory\n"),
@@ -186,6 +203,14 @@ fn refuses_files_named_twice(rt: HostRuntime) -> Result<(), Fail> {
         (
             &["--tables", "-", "--save", "-"],
             "--save and --tables are both -",
+        ),
+        (
+            &["a", "b", "c", "--sources", "-:d:c"],
+            "OUT and --sources are both c",
+        ),
+        (
+            &["--save", "d", "--sources", "d"],
+            "--save and --sources are both d",
         ),
         (
             &["a", "b", "/dev", "--save", "/dev"],
@@ -252,14 +277,18 @@ fn tells_faults_of_the_stream(rt: HostRuntime) -> Result<(), Fail> {
     let run = run_program(&rt, &words, "count\n");
     assert!(rt; run.errors.as_slice() == b"vp8serve: input TooMany\n".as_slice());
     assert_eq!(rt; (run.status, run.output.len()), (1, 0));
+    fs::write(&rt, "faulty.ivf", "no IVF file, and longer than its header")?;
+    let run = run_program(&rt, &["vp8serve", "--sources", "-:faulty.ivf"], "count\n");
+    assert!(rt; run.errors.as_slice() == b"vp8serve: source 2 Magic\n".as_slice());
+    assert_eq!(rt; (run.status, run.output.len()), (1, 0));
     for name in ["faulty.ivf", "faulty.y4m"] {
         fs::remove_file(&rt, name)?;
     }
     Ok(())
 }
 
-/// Of two errors the first in order is reported: the command line, the tables, the stream, the requests,
-/// the file for the frames, the run, the file for the packets.
+/// Of two errors the first in order is reported: the command line, the tables, IN, the files of `--sources`,
+/// the requests, the file for the frames, the run, the file for the packets.
 #[test]
 fn finds_faults_in_order(rt: HostRuntime) -> Result<(), Fail> {
     fs::write(&rt, "order.ivf", "DKIF")?;
@@ -271,6 +300,13 @@ fn finds_faults_in_order(rt: HostRuntime) -> Result<(), Fail> {
         (&["--cache", "x", "--tables", "none"], 2, "command line"),
         (&["--cache", "1", "--cache", "2"], 2, "command line"),
         (&["--save"], 2, "command line"),
+        (&["--sources"], 2, "command line"),
+        (&["--sources", "a", "--sources", "b"], 2, "command line"),
+        (&["--sources", "-:-:-:-:-:-:-:-"], 2, "command line"),
+        (&["--sources", ""], 2, "command line"),
+        (&["--sources", "none.ivf:"], 2, "command line"),
+        (&["--sources", ":none.ivf"], 2, "command line"),
+        (&["none.ivf", "--sources", "-::-"], 2, "command line"),
         (
             &["--cache", "0", "none.ivf", "-", "none.ivf"],
             2,
@@ -305,6 +341,28 @@ fn finds_faults_in_order(rt: HostRuntime) -> Result<(), Fail> {
             "cannot read none.txt",
         ),
         (&[".", "-"], 1, "cannot read ."),
+        (
+            &["none.ivf", "--sources", "none"],
+            1,
+            "cannot read none.ivf",
+        ),
+        (
+            &["order.ivf", "none.txt", "--sources", "-:none:."],
+            1,
+            "cannot read none",
+        ),
+        (
+            &["-", "none.txt", "--sources", "order.ivf"],
+            1,
+            "cannot read none.txt",
+        ),
+        (&["order.ivf", "--sources", "order.ivf"], 1, "input Header"),
+        (&["--sources", "order.ivf:order.ivf"], 1, "source 1 Header"),
+        (
+            &["--sources", "-:-:-:-:-:-:order.ivf"],
+            1,
+            "source 7 Header",
+        ),
         (&["order.ivf", "-", "none/out"], 1, "cannot write"),
         (&["order.ivf", "--save", "none/out"], 1, "input Header"),
     ];
@@ -361,7 +419,7 @@ fn flushes_its_writers(rt: HostRuntime) -> Result<(), Fail> {
         rt.alloc(),
         Tables::rfc(),
         1,
-        &ONE,
+        &[ONE.as_slice()],
         b"frame 0\n",
         &mut frames,
         &mut taken,
@@ -372,7 +430,7 @@ fn flushes_its_writers(rt: HostRuntime) -> Result<(), Fail> {
         rt.alloc(),
         Tables::rfc(),
         1,
-        &ONE,
+        &[ONE.as_slice()],
         b"frame 0\n",
         &mut taken,
         &mut replies,
@@ -453,6 +511,11 @@ fn tells_spare_bytes(rt: HostRuntime) -> Result<(), Fail> {
         &mut Broken {},
     );
     assert_eq!(rt; (output.len(), status), (0, 0));
+    let words = ["vp8serve", "spare.ivf", "--sources", "-:spare.ivf"];
+    let run = run_program(&rt, &words, "count\n");
+    assert!(rt; run.output.as_slice() == b"packets 0 frames 0\n".as_slice());
+    assert!(rt; run.errors.as_slice() == b"spare 38\n".as_slice());
+    assert_eq!(rt; run.status, 0);
     fs::remove_file(&rt, "spare.ivf")?;
     Ok(())
 }
@@ -516,13 +579,18 @@ fn takes_numbers_of_cached_states(rt: HostRuntime) -> Result<(), Fail> {
 /// The frame of `CODED`, as written with tables whose entries are all the same.
 fn coded_frame(alloc: Global, entry: u8) -> Result<Vec<u8>, Fault<'static>> {
     let tables = Tables::read(&[entry; 3012]).map_err(|_| Fault::Tables)?;
+    frame_with(alloc, tables)
+}
+
+/// The frame of `CODED`, as written with these tables.
+fn frame_with(alloc: Global, tables: Tables) -> Result<Vec<u8>, Fault<'static>> {
     let mut frames = Vec::new(alloc);
     let mut replies = Vec::new(alloc);
     run_to(
         alloc,
         tables,
         1,
-        &CODED,
+        &[CODED.as_slice()],
         b"frame 0\n",
         &mut frames,
         &mut replies,
@@ -553,6 +621,45 @@ fn uses_the_tables_of_a_file(rt: HostRuntime) -> Result<(), Fail> {
         assert!(rt; fs::read(&rt, "coded.y4m").ok() == frame.ok());
     }
     for name in ["coded.ivf", "entries.bin", "coded.y4m"] {
+        fs::remove_file(&rt, name)?;
+    }
+    Ok(())
+}
+
+/// Requests over three sources, of which the last has no file. Only source 0 is saved.
+#[test]
+fn serves_sources(rt: HostRuntime) -> Result<(), Fail> {
+    fs::write(&rt, "first.ivf", &ONE)?;
+    fs::write(&rt, "second.ivf", &CODED)?;
+    let words = [
+        "vp8serve",
+        "first.ivf",
+        "-",
+        "sources.y4m",
+        "--sources",
+        "second.ivf:-",
+        "--save",
+        "sources.ivf",
+    ];
+    let requests =
+        "script source 1\nframe 0\nuse 2\ncopy 0 0 0\nhold 1\nuse 1\nscript source 1; source 2; splice 0 2\ncount\nframe 0\nframe 2\nuse 3\ncopy 3 0 0\nscript source 3\nreplace 0 10\nscript source 1\nframe 0\n";
+    let replies =
+        "ok 1\nserved 0\nok 0\nok 1\nok 2\nok 1\nok 1\npackets 1 frames 3\nserved 0\nserved 2\nrefused Source\nrefused Source\nrefused Reference\nok 1\nok 1\nrefused source 1 packet 0 ShortPacket\n";
+    let run = run_program(&rt, &words, requests);
+    assert!(rt; run.output.as_slice() == replies.as_bytes());
+    assert_eq!(rt; (run.errors.len(), run.status), (0, 0));
+    let mut want = frame_with(rt.alloc(), Tables::rfc())?;
+    for _ in 0..2 {
+        want.extend_from_slice(b"FRAME\n")?;
+        for (count, sample) in [(64, 0x80), (192, 0x81), (128, 0x80)] {
+            for _ in 0..count {
+                want.push(sample)?;
+            }
+        }
+    }
+    assert!(rt; fs::read(&rt, "sources.y4m")?.as_slice() == want.as_slice());
+    assert!(rt; fs::read(&rt, "sources.ivf")?.as_slice() == ONE.as_slice());
+    for name in ["first.ivf", "second.ivf", "sources.y4m", "sources.ivf"] {
         fs::remove_file(&rt, name)?;
     }
     Ok(())

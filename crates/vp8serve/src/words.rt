@@ -1,20 +1,27 @@
 // The arguments of the command line.
-ghost use Rattle.std.specs.Prelude.{◌≡◌, ◌≤◌, IfErr, IfOk, IfSome, None, codes};
+ghost use Rattle.std.specs.Prelude.{◌≡◌, ◌≤◌, ◌==◌, IfErr, IfOk, IfSome, OnOk, None, codes, length, option_map};
+ghost use Rattle.std.specs.List.{slice_split};
 ghost use Rattle.clap.specs.Matches.{first_value, found_of};
 ghost use Rattle.vp8serve.specs.Capacities.{capacity_given};
-ghost use Rattle.vp8serve.specs.CommandLines.{IsAccepted, IsMistake};
+ghost use Rattle.vp8serve.specs.CommandLines.{AreNoPaths, ArePaths, IsAccepted, IsMistake, names_of, paths_in};
 
 use crate::fault::Fault;
 use crate::files::check_files;
 use crate::help::{ABOUT, GRAMMAR};
 use clap::{Arg, ArgMatches, Command};
-use std::alloc::Global;
+use std::alloc::{AllocError, Global};
 use std::convert::AsStr;
 use std::env::{self, Env};
 use std::io::ErrorKind;
 
 /// The argument for no file, which is also the default.
 pub const NO_FILE: &str = "-";
+
+/// The character between the paths of `--sources`.
+const SEPARATOR: char = ':';
+
+/// The most paths of `--sources`.
+const MOST_PATHS: usize = 7;
 
 /// The default for the most cached states of a session.
 const CAPACITY: u16 = 32;
@@ -24,6 +31,8 @@ const CAPACITY: u16 = 32;
 pub struct Words<'a> {
     /// The IVF file; `-` for a stream with no packets.
     pub stream: &'a str,
+    /// The IVF files of sources 1 to 7, separated by `:`, if given; a path `-` for a stream with no packets.
+    pub sources: Option<&'a str>,
     /// The requests; `-` for standard input.
     pub requests: &'a str,
     /// The file for the frames; `-` drops them.
@@ -51,24 +60,73 @@ impl Words<'_> {
     }
 }
 
+/// An accepted command line.
+#[derive(Drop)]
+pub struct Accepted<'a> {
+    pub words: Words<'a>,
+    /// The most cached states of a session.
+    pub capacity: u16,
+    /// The IVF files of the sources after source 0.
+    pub more: Vec<&'a str>,
+}
+
+/// The paths of a list.
+fn split_paths(alloc: Global, list: &str) -> Result<Vec<&str>, AllocError>
+    ensures { IfOk result (λ paths. names_of paths.items ≡ slice_split (λ b. b == 58) list.now) }
+{
+    list.split(SEPARATOR).collect(alloc)
+}
+
+/// The paths of a list, if there is one.
+fn paths_in<'a>(alloc: Global, list: Option<&'a str>) -> Result<Vec<&'a str>, AllocError>
+    ensures { IfOk result (λ paths. names_of paths.items ≡ paths_in (option_map (λ list. list.now) list.entry)) }
+{
+    match list {
+        None => Ok(Vec::new(alloc)),
+        Some(list) => split_paths(alloc, list),
+    }
+}
+
+/// Checks the paths of the sources after source 0: at most 7, and none is empty.
+fn check_paths(paths: &[&str]) -> Result<(), Fault<'static>>
+    ensures paths { OnOk result (ArePaths (names_of paths.now)) }
+    ensures fault { IfErr result (λ fault. fault ≡ Fault.CommandLine) }
+    ensures mistake { IfErr result (λ fault. AreNoPaths (names_of paths.now)) }
+{
+    if MOST_PATHS < paths.len() {
+        return Err(Fault::CommandLine);
+    }
+    for path in paths {
+        if path.is_empty() {
+            return Err(Fault::CommandLine);
+        }
+    }
+    Ok(())
+}
+
 impl<'a> Words<'a> {
-    /// Checks the command line before any file is read, and returns the most cached states of a
-    /// session.
+    /// Checks the command line before any file is read.
     ///
-    /// `CommandLine` if that number is not 1 to 4,096; `NamedTwice` if OUT or the file of `--save` is
-    /// the file of another argument. Paths under `/dev/` may be named twice.
-    pub fn accept(self) -> Result<u16, Fault<'a>>
+    /// `CommandLine` if the number of cached states is not 1 to 4,096, if `--sources` has more than seven
+    /// paths, or an empty one; `NamedTwice` if OUT or the file of `--save` is the file of another argument;
+    /// `NoMemory`. Paths under `/dev/` may be named twice.
+    pub fn accept(self, alloc: Global) -> Result<Accepted<'a>, Fault<'a>>
         ensures accepted { IfOk result (IsAccepted self.entry) }
         ensures mistake { IfErr result (IsMistake self.entry) }
-        ensures range { IfOk result (λ count. (1 ≤ count) × (count ≤ 4096)) }
+        ensures capacity { IfOk result (λ line. (1 ≤ line.capacity) × (line.capacity ≤ 4096)) }
+        ensures paths { IfOk result (λ line. length line.more.items ≤ 7) }
     {
         let Some(capacity) = self.capacity() else {
             return Err(Fault::CommandLine);
         };
-        match check_files(self) {
-            Ok(()) => Ok(capacity),
-            Err(same) => Err(Fault::NamedTwice(same)),
-        }
+        let more = paths_in(alloc, self.sources).map_err(|_| Fault::NoMemory)?;
+        check_paths(more.as_slice())?;
+        check_files(alloc, self, more.as_slice())?;
+        Ok(Accepted {
+            words: self,
+            capacity,
+            more,
+        })
     }
 }
 
@@ -107,24 +165,31 @@ fn word_of<'a>(matches: &ArgMatches<'a>, id: &str) -> &'a str
 
 /// Parses the command line, whose first argument is the program's name.
 pub fn parse<'a, S: AsStr>(alloc: Global, words: &'a [S]) -> Result<Words<'a>, clap::Error> {
+    let sources = option(
+        alloc,
+        "sources",
+        "LIST",
+        "IVF files of sources 1 to 7, separated by `:`",
+    )
+    .allow_hyphen_values(true);
     let cache = option(
         alloc,
         "cache",
         "N",
-        "The most decoded frames to cache, 1 to 4096 [default: 32]",
+        "Most decoded frames to cache, 1 to 4096 [default: 32]",
     )
     .value_parser(clap::value_parser!(u16).range(1..=4096));
     let tables = option(
         alloc,
         "tables",
         "FILE",
-        "File of 3012 bytes to use instead of RFC 6386's long tables",
+        "3012 bytes to use instead of RFC 6386's long tables",
     );
     let saved = option(
         alloc,
         "save",
         "FILE",
-        "IVF file for the packets after the last request",
+        "IVF file for the packets of IN after the last request",
     );
     let command = Command::new(alloc, "vp8serve")
         .about(ABOUT)
@@ -140,12 +205,14 @@ pub fn parse<'a, S: AsStr>(alloc: Global, words: &'a [S]) -> Result<Words<'a>, c
             "OUT",
             "YUV4MPEG2 file for the frames; `-` drops them",
         ))?
+        .arg(sources)?
         .arg(cache)?
         .arg(tables)?
         .arg(saved)?;
     let matches = command.try_get_matches_from(words)?;
     Ok(Words {
         stream: word_of(&matches, "IN"),
+        sources: matches.get_str("sources"),
         requests: word_of(&matches, "REQUESTS"),
         frames: word_of(&matches, "OUT"),
         cache: matches.get_one::<u16>("cache"),
