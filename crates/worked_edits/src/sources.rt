@@ -36,7 +36,8 @@ fn run_two(
 // Packets are copied between two sources, and a script splices them.
 #[test]
 fn edits_and_scripts_over_two_sources(rt: HostRuntime) -> Result<(), Fail> {
-    let requests = b"use 1\ncopy 0 1 1\ncopy 1 0 2\nscript source 1; splice 0 1\ncount\nframe 3\nstats\ndelete 0\nframe 2\nframe 3\nstats\nuse 2\ncopy 2 0 0\ncopy 0 2 0\nscript source 2\n";
+    let requests =
+        b"use 1\ncopy 0 1 1\ncopy 1 0 2\nscript source 1; splice 0 1\ncount\nframe 3\nstats\ndelete 0\nframe 2\nframe 3\nstats\nuse 2\ncopy 2 0 0\ncopy 0 2 0\nscript source 2\n";
     let ran = run_two(rt.alloc(), 8, &[KEY, INTER], &[KEY], requests)?;
     assert_eq!(rt;
         ran.replies.as_slice(),
@@ -76,7 +77,8 @@ fn each_frame_is_of_its_own_source(rt: HostRuntime) -> Result<(), Fail> {
 // changes nothing.
 #[test]
 fn copies_and_choices(rt: HostRuntime) -> Result<(), Fail> {
-    let requests = b"copy 0 1 0\nframe 0\nframe 1\ndelete 0\nuse 1\nuse 2\ncount\ncopy 1 1 0\ncopy 0 0 2\n";
+    let requests =
+        b"copy 0 1 0\nframe 0\nframe 1\ndelete 0\nuse 1\nuse 2\ncount\ncopy 1 1 0\ncopy 0 0 2\n";
     let ran = run_two(rt.alloc(), 8, &[KEY, INTER], &[KEY], requests)?;
     assert_eq!(rt;
         ran.replies.as_slice(),
