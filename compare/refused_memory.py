@@ -24,18 +24,19 @@ GROWTHS = HERE.parent / "crates/refused_growths"
 WIDTH, HEIGHT, FRAMES, CLIPS = 48, 32, 10, 4
 KEY = bytes.fromhex("1000009D012A10001000")
 INTER = bytes.fromhex("110000")
-EDITS = ("insert", "replace", "delete", "move", "blank", "hold", "script")
-NO_MEMORY = {"vp8serve: no memory\n", "vp8serve: input NoMemory\n"}
+EDITS = ("use", "insert", "replace", "delete", "move", "copy", "blank", "hold", "script")
+NO_MEMORY = {"vp8serve: no memory\n", "vp8serve: input NoMemory\n", "vp8serve: source 1 NoMemory\n", "vp8serve: source 2 NoMemory\n"}
 
 
 @dataclass
 class RequestList:
-    """A list of requests over a stream, and the options that it is run with."""
+    """A list of requests over a stream, the options that it is run with, and the stream of `other.ivf`."""
 
     name: str
     stream: bytes
     lines: list
     options: list = field(default_factory=list)
+    other: bytes = b""
 
     def counted(self):
         """The lines with a `count` at the start and after each edit."""
@@ -102,6 +103,8 @@ def worked_lists(clip, other):
     yield RequestList("forged packets", real, ["frame 2", f"blank 2 {WIDTH} {HEIGHT}", "hold 3", *frames(2, 3, 5), "blank 0 1 1", "frame 0", "hold 1", "frame 1", "hold 99"])
     yield RequestList("forged packets alone", ivf(1, 1, []), ["hold 0", "blank 0 33 17", "hold 1", "hold 2", *frames(0, 1, 2, 0), "blank 0 0 9", "stats"], ["--cache", "1"])
     yield RequestList("dropped frames", small, ["insert 2 0 -", "insert 2 0 -", *frames(5, 1, 2), "replace 1 -", "frame 3", "delete 0", "frame 0"])
+    spliced = ["frame 1", "use 1", "copy 0 2 1", "copy 1 0 0", "script source 1; splice 0 1", *frames(1, 12, 13), "delete 1", "use 2", "copy 1 0 0", "use 0", "copy 1 3 4", *frames(4, 13), "use 9", "copy 9 0 0", "stats"]
+    yield RequestList("sources", real, spliced, ["--sources", "other.ivf:-", "--cache", "3"], ivf(WIDTH, HEIGHT, other))
     yield RequestList("40 insertions and 14 frames", ivf(16, 16, [KEY]), many)
     yield RequestList("broken packets", bad, [*frames(0, 1, 2, 3, 4), "hold 1", "delete 2", *frames(1, 2, 4), "play", "frame", "stats"])
     yield RequestList("a file that is cut off", real[:-3], [*frames(0, 8), "stats"])
@@ -160,6 +163,7 @@ class Bench:
 
     def run_list(self, requests, lines, refuses):
         (self.room / "in.ivf").write_bytes(requests.stream)
+        (self.room / "other.ivf").write_bytes(requests.other)
         (self.room / "requests").write_text("".join(f"{line}\n" for line in lines))
         words = ["in.ivf", "requests", "out.y4m", "--save", "saved.ivf", *requests.options]
         return self.run(words, refuses)
