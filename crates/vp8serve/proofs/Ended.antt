@@ -2,41 +2,53 @@
 use Rattle.std.proofs.Common.{ℕ, List, Option, inl, inr, refl, sym}
 use Rattle.vp8serve.specs.declared.fault.Fault.{Fault}
 use Rattle.vp8serve.specs.declared.fault.Fault.TheVariants.{CommandLine, NamedTwice, CannotRead, TooLong, Tables, Input, CannotWrite, NoMemory}
-use Rattle.vp8serve.specs.Endings.{AreNamed, AreUnread, IsEnded, IsReadFault, IsRefused, IsSaveFault, IsTablesFault}
+use Rattle.vp8serve.specs.Endings.{AreNamed, AreUnread, IsEnded, IsInputFault, IsReadFault, IsRefused, IsSaveFault, IsTablesFault}
 
-module _ (unnamed : List ℕ) (tables : Option (List ℕ)) (names : List (List ℕ)) (requests : List ℕ) where
+module _ (tables : Option (List ℕ)) (names : List (List ℕ)) (requests : List ℕ) where
   -- the tables were not read
-  pub tables_ended : (left replies : Option (List ℕ)) (fault : Fault) → IsTablesFault tables fault → IsEnded unnamed tables names requests left left replies replies fault
-  tables_ended left replies CommandLine why = absurd why
-  tables_ended left replies (NamedTwice same) why = absurd why
-  tables_ended left replies (CannotRead path) why = (inl (inl why, refl), refl)
-  tables_ended left replies (TooLong path) why = (inl (inl why, refl), refl)
-  tables_ended left replies Tables why = (why, refl, refl)
-  tables_ended left replies (Input source fault) why = absurd why
-  tables_ended left replies CannotWrite why = absurd why
-  tables_ended left replies NoMemory why = tt
+  pub tables_unread : (left : Option (List ℕ)) (fault : Fault) → IsTablesFault tables fault → IsInputFault tables names requests left left fault
+  tables_unread left CommandLine why = absurd why
+  tables_unread left (NamedTwice same) why = absurd why
+  tables_unread left (CannotRead path) why = inl (inl why, refl)
+  tables_unread left (TooLong path) why = inl (inl why, refl)
+  tables_unread left Tables why = (why, refl)
+  tables_unread left (Input source fault) why = absurd why
+  tables_unread left CannotWrite why = absurd why
+  tables_unread left NoMemory why = tt
 
   -- a source was not read
-  pub sources_ended : (left replies : Option (List ℕ)) (fault : Fault) → AreUnread names fault → IsEnded unnamed tables names requests left left replies replies fault
-  sources_ended left replies CommandLine why = absurd why
-  sources_ended left replies (NamedTwice same) why = absurd why
-  sources_ended left replies (CannotRead path) why = (inl (inr why, refl), refl)
-  sources_ended left replies (TooLong path) why = (inl (inr why, refl), refl)
-  sources_ended left replies Tables why = absurd why
-  sources_ended left replies (Input source fault) why = absurd why
-  sources_ended left replies CannotWrite why = absurd why
-  sources_ended left replies NoMemory why = tt
+  pub sources_unread : (left : Option (List ℕ)) (fault : Fault) → AreUnread names fault → IsInputFault tables names requests left left fault
+  sources_unread left CommandLine why = absurd why
+  sources_unread left (NamedTwice same) why = absurd why
+  sources_unread left (CannotRead path) why = inl (inr why, refl)
+  sources_unread left (TooLong path) why = inl (inr why, refl)
+  sources_unread left Tables why = absurd why
+  sources_unread left (Input source fault) why = absurd why
+  sources_unread left CannotWrite why = absurd why
+  sources_unread left NoMemory why = tt
 
   -- the requests were not read
-  pub requests_ended : (left left' known replies : Option (List ℕ)) (fault : Fault) → IsReadFault requests known fault → IsEnded unnamed tables names requests left left' replies replies fault
-  requests_ended left left' known replies CommandLine why = absurd why
-  requests_ended left left' known replies (NamedTwice same) why = absurd why
-  requests_ended left left' known replies (CannotRead path) why = (inr (sym why), refl)
-  requests_ended left left' known replies (TooLong path) why = (inr (sym why.0), refl)
-  requests_ended left left' known replies Tables why = absurd why
-  requests_ended left left' known replies (Input source fault) why = absurd why
-  requests_ended left left' known replies CannotWrite why = absurd why
-  requests_ended left left' known replies NoMemory why = tt
+  pub requests_unread : (left left' known : Option (List ℕ)) (fault : Fault) → IsReadFault requests known fault → IsInputFault tables names requests left left' fault
+  requests_unread left left' known CommandLine why = absurd why
+  requests_unread left left' known (NamedTwice same) why = absurd why
+  requests_unread left left' known (CannotRead path) why = inr (sym why)
+  requests_unread left left' known (TooLong path) why = inr (sym why.0)
+  requests_unread left left' known Tables why = absurd why
+  requests_unread left left' known (Input source fault) why = absurd why
+  requests_unread left left' known CannotWrite why = absurd why
+  requests_unread left left' known NoMemory why = tt
+
+module _ (unnamed : List ℕ) (tables : Option (List ℕ)) (names : List (List ℕ)) (requests : List ℕ) where
+  -- a file was not read
+  pub unread_ended : (left left' replies : Option (List ℕ)) (fault : Fault) → IsInputFault tables names requests left left' fault → IsEnded unnamed tables names requests left left' replies replies fault
+  unread_ended left left' replies CommandLine why = absurd why
+  unread_ended left left' replies (NamedTwice same) why = absurd why
+  unread_ended left left' replies (CannotRead path) why = (why, refl)
+  unread_ended left left' replies (TooLong path) why = (why, refl)
+  unread_ended left left' replies Tables why = (why.0, why.1, refl)
+  unread_ended left left' replies (Input source fault) why = absurd why
+  unread_ended left left' replies CannotWrite why = absurd why
+  unread_ended left left' replies NoMemory why = tt
 
   -- the requests were not answered
   pub run_ended : (left left' replies replies' : Option (List ℕ)) (sources : List (List ℕ)) (fault : Fault) → AreNamed unnamed names sources → IsRefused sources replies replies' fault → IsEnded unnamed tables names requests left left' replies replies' fault

@@ -100,6 +100,14 @@ IsRefused sources replies replies' _ = ⊥
 abbrev pub IsUnread : (tables : Option (List ℕ)) → (sources : List (List ℕ)) → (requests : List ℕ) → (left left' : Option (List ℕ)) → List ℕ → Type 0
 IsUnread tables sources requests left left' name = ((tables ≡ Some name ⊎ Contains sources name) × (left' ≡ left)) ⊎ (requests ≡ name)
 
+-- why a file was not read: the tables, a source or the requests
+abbrev pub IsInputFault : (tables : Option (List ℕ)) → (sources : List (List ℕ)) → (requests : List ℕ) → (left left' : Option (List ℕ)) → Fault → Type 0
+IsInputFault tables sources requests left left' (CannotRead path) = IsUnread tables sources requests left left' path.now
+IsInputFault tables sources requests left left' (TooLong path) = IsUnread tables sources requests left left' path.now
+IsInputFault tables sources requests left left' Tables = IsSome tables × (left' ≡ left)
+IsInputFault tables sources requests left left' NoMemory = Unit {0}
+IsInputFault tables sources requests left left' _ = ⊥
+
 -- why the program exits without an answer to all requests, in the order of its parts: a reading error comes before the first reply, a reading error of
 -- the tables or a source before the first byte of the requests is read, and an error in a source's bytes before the first reply
 abbrev pub IsEnded : (unnamed : List ℕ) → (tables : Option (List ℕ)) → (names : List (List ℕ)) → (requests : List ℕ) → (left left' replies replies' : Option (List ℕ)) → Fault → Type 0

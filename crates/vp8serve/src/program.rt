@@ -1,11 +1,13 @@
 // The program over a reader and two writers.
-ghost use Rattle.std.specs.Prelude.{◌≡◌, ◌≢◌, ◌≤◌, [], IfOk, IfErr, OnOk, Err, is_some, length, option_map};
+ghost use Rattle.std.specs.Prelude.{◌≡◌, ◌≢◌, ◌≤◌, ◌∷◌, [], ℕ, IfOk, IfErr, IfSome, List, OnOk, Option, Err, codes, false, is_some, length, map, option_map};
 ghost use Rattle.std.specs.Io.Buffered.{writer_buffer, writer_contents};
 ghost use Rattle.std.specs.Io.KnownBytes.{Appends};
 ghost use Rattle.clap.specs.Values.{kind_of};
 ghost use Rattle.frame_session.specs.Answers.{Means, texts_of};
+ghost use Rattle.frame_session.specs.Sessions.{Now};
+ghost use Rattle.vp8_tables.specs.Rfc.{rfc_entries};
 ghost use Rattle.vp8serve.specs.CommandLines.{source_names};
-ghost use Rattle.vp8serve.specs.Endings.{IsEnded, IsRefused, IsReplied, IsRunFault, IsSaveFault, IsServed, saved_text, spare_text};
+ghost use Rattle.vp8serve.specs.Endings.{AreNamed, IsEnded, IsInputFault, IsRefused, IsReplied, IsRunFault, IsSaveFault, IsServed, saved_text, spare_text};
 ghost use Rattle.vp8serve.specs.Statuses.{exit_status, status_of};
 
 use crate::fault::Fault;
@@ -157,8 +159,71 @@ fn report_spare<E: Write>(session: &Session, errors: &mut E) -> io::Result<()>
     writeln!(errors, "spare {spare}")
 }
 
+/// What is read before the first request is answered.
+#[derive(Drop)]
+struct Inputs {
+    tables: Tables,
+    /// The bytes of each source.
+    sources: Vec<Vec<u8>>,
+    requests: Vec<u8>,
+}
+
+/// Reads the files of an accepted command line: the tables, the sources in their order, the requests.
+#[tactic(auto, using(crate::proofs::Ended::tables_unread, crate::proofs::Ended::sources_unread, crate::proofs::Ended::requests_unread))]
+fn read_inputs<'a, R: Files + AllocGlobal, I: Read>(
+    rt: &R,
+    line: &Accepted<'a>,
+    input: &mut I,
+) -> Result<Inputs, Fault<'a>>
+    ensures rfc { is_some line.now.words.tables ≡ false → IfOk result (λ inputs. inputs.tables ≡ rfc_entries) }
+    ensures named { IfOk result (λ inputs. AreNamed EMPTY (source_names line.now) (map (λ bytes. bytes.items) inputs.sources.items)) }
+    ensures input { line.now.words.requests.now ≡ codes "-" → IfOk result (λ inputs. IfSome (I.remaining input.old) (λ left. inputs.requests.items ≡ left)) }
+    ensures fault { IfErr result (IsInputFault (option_map (λ path. path.now) line.now.words.tables) (source_names line.now) line.now.words.requests.now (I.remaining input.old) (I.remaining input.new)) }
+{
+    let words = line.words;
+    let tables = read_tables(rt, words.tables)?;
+    let sources = read_sources(rt, words.stream, line.more.as_slice())?;
+    let requests = read_requests(rt, words.requests, input)?;
+    Ok(Inputs {
+        tables,
+        sources,
+        requests,
+    })
+}
+
+/// Answers the requests over what was read, and saves the packets of source 0 if that is asked for.
+#[tactic(auto, using(crate::proofs::Ended::run_ended, crate::proofs::Ended::save_ended))]
+fn answer_inputs<R: Files + AllocGlobal, O: Write, E: Write>(
+    rt: &R,
+    line: &Accepted<'_>,
+    inputs: Inputs,
+    output: &mut O,
+    errors: &mut E,
+) -> Result<(), Fault<'static>>
+    requires capacity { (1 ≤ line.now.capacity) × (line.now.capacity ≤ 4096) }
+    requires paths { length line.now.more.items ≤ 7 }
+    requires named { AreNamed EMPTY (source_names line.now) (map (λ bytes. bytes.items) inputs.sources.items) }
+    ensures replied { OnOk result ((end : Now) × IsReplied inputs.tables (map (λ bytes. bytes.items) inputs.sources.items) inputs.requests.items (O.contents output.old) (O.contents output.new) end) }
+    ensures ended { IfErr result (λ fault. (left : Option (List ℕ)) → (left' : Option (List ℕ)) → IsEnded EMPTY (option_map (λ path. path.now) line.now.words.tables) (source_names line.now) line.now.words.requests.now left left' (O.contents output.old) (O.contents output.new) fault) }
+{
+    let Inputs { tables, sources, requests } = inputs;
+    let slices = slices_of(rt.alloc(), sources.as_slice())?;
+    let session = run_to_path(
+        rt,
+        tables,
+        line.capacity,
+        slices.as_slice(),
+        requests.as_slice(),
+        line.words.frames,
+        output,
+    )?;
+    save_to_path(rt, &session, line.words.saved)?;
+    let _ = report_spare(&session, errors);
+    Ok(())
+}
+
 /// Does what an accepted command line asks for.
-#[tactic(auto, using(crate::proofs::Ended::tables_ended, crate::proofs::Ended::sources_ended, crate::proofs::Ended::requests_ended, crate::proofs::Ended::run_ended, crate::proofs::Ended::save_ended))]
+#[tactic(auto, using(crate::proofs::Ended::unread_ended))]
 fn answer<'a, R: Files + AllocGlobal, I: Read, O: Write, E: Write>(
     rt: &R,
     line: &Accepted<'a>,
@@ -171,23 +236,8 @@ fn answer<'a, R: Files + AllocGlobal, I: Read, O: Write, E: Write>(
     ensures served { OnOk result (IsServed EMPTY (source_names line.now) line.now.words.requests.now (is_some line.now.words.tables) (I.remaining input.old) (O.contents output.old) (O.contents output.new)) }
     ensures ended { IfErr result (IsEnded EMPTY (option_map (λ path. path.now) line.now.words.tables) (source_names line.now) line.now.words.requests.now (I.remaining input.old) (I.remaining input.new) (O.contents output.old) (O.contents output.new)) }
 {
-    let words = line.words;
-    let tables = read_tables(rt, words.tables)?;
-    let sources = read_sources(rt, words.stream, line.more.as_slice())?;
-    let requests = read_requests(rt, words.requests, input)?;
-    let slices = slices_of(rt.alloc(), sources.as_slice())?;
-    let session = run_to_path(
-        rt,
-        tables,
-        line.capacity,
-        slices.as_slice(),
-        requests.as_slice(),
-        words.frames,
-        output,
-    )?;
-    save_to_path(rt, &session, words.saved)?;
-    let _ = report_spare(&session, errors);
-    Ok(())
+    let inputs = read_inputs(rt, line, input)?;
+    answer_inputs(rt, line, inputs, output, errors)
 }
 
 /// Does what a command line asks for.

@@ -163,37 +163,31 @@ fn word_of<'a>(matches: &ArgMatches<'a>, id: &str) -> &'a str
     }
 }
 
-/// Parses the command line, whose first argument is the program's name.
-pub fn parse<'a, S: AsStr>(alloc: Global, words: &'a [S]) -> Result<Words<'a>, clap::Error> {
-    let sources = option(
+/// The option for the files of the sources after source 0. A list may begin with `-`, which is the empty stream.
+fn sources_option<'a>(alloc: Global) -> Arg<'a> {
+    option(
         alloc,
         "sources",
         "LIST",
         "IVF files of sources 1 to 7, separated by `:`",
     )
-    .allow_hyphen_values(true);
-    let cache = option(
+    .allow_hyphen_values(true)
+}
+
+/// The option for the most cached states.
+fn cache_option<'a>(alloc: Global) -> Arg<'a> {
+    option(
         alloc,
         "cache",
         "N",
         "Most decoded frames to cache, 1 to 4096 [default: 32]",
     )
-    .value_parser(clap::value_parser!(u16).range(1..=4096));
-    let tables = option(
-        alloc,
-        "tables",
-        "FILE",
-        "3012 bytes to use instead of RFC 6386's long tables",
-    );
-    let saved = option(
-        alloc,
-        "save",
-        "FILE",
-        "IVF file for the packets of IN after the last request",
-    );
-    let command = Command::new(alloc, "vp8serve")
-        .about(ABOUT)
-        .after_help(GRAMMAR)
+    .value_parser(clap::value_parser!(u16).range(1..=4096))
+}
+
+/// Adds the arguments that have a place.
+fn with_places<'a>(alloc: Global, command: Command<'a>) -> Result<Command<'a>, AllocError> {
+    command
         .arg(optional(alloc, "IN", "IVF file; `-` for a stream with no packets"))?
         .arg(optional(
             alloc,
@@ -204,19 +198,50 @@ pub fn parse<'a, S: AsStr>(alloc: Global, words: &'a [S]) -> Result<Words<'a>, c
             alloc,
             "OUT",
             "YUV4MPEG2 file for the frames; `-` drops them",
+        ))
+}
+
+/// Adds the options for the files that are not always there.
+fn with_files<'a>(alloc: Global, command: Command<'a>) -> Result<Command<'a>, AllocError> {
+    command
+        .arg(option(
+            alloc,
+            "tables",
+            "FILE",
+            "3012 bytes to use instead of RFC 6386's long tables",
         ))?
-        .arg(sources)?
-        .arg(cache)?
-        .arg(tables)?
-        .arg(saved)?;
-    let matches = command.try_get_matches_from(words)?;
-    Ok(Words {
-        stream: word_of(&matches, "IN"),
+        .arg(option(
+            alloc,
+            "save",
+            "FILE",
+            "IVF file for the packets of IN after the last request",
+        ))
+}
+
+/// The program's arguments.
+fn arguments<'a>(alloc: Global) -> Result<Command<'a>, AllocError> {
+    let command = Command::new(alloc, "vp8serve").about(ABOUT).after_help(GRAMMAR);
+    let command = with_places(alloc, command)?
+        .arg(sources_option(alloc))?
+        .arg(cache_option(alloc))?;
+    with_files(alloc, command)
+}
+
+/// The values in a command line that was parsed.
+fn words_of<'a>(matches: &ArgMatches<'a>) -> Words<'a> {
+    Words {
+        stream: word_of(matches, "IN"),
         sources: matches.get_str("sources"),
-        requests: word_of(&matches, "REQUESTS"),
-        frames: word_of(&matches, "OUT"),
+        requests: word_of(matches, "REQUESTS"),
+        frames: word_of(matches, "OUT"),
         cache: matches.get_one::<u16>("cache"),
         tables: matches.get_str("tables"),
         saved: matches.get_str("save"),
-    })
+    }
+}
+
+/// Parses the command line, whose first argument is the program's name.
+pub fn parse<'a, S: AsStr>(alloc: Global, words: &'a [S]) -> Result<Words<'a>, clap::Error> {
+    let matches = arguments(alloc)?.try_get_matches_from(words)?;
+    Ok(words_of(&matches))
 }
