@@ -1,6 +1,6 @@
 ghost use Rattle.std.specs.Prelude.{◌≡◌, ℕ, ◌+◌, ◌-◌, ◌*◌, ◌<◌, ◌≤◌, length, sum, min, slice_index};
 ghost use Rattle.std.specs.Simd.Lanes.{zip2};
-ghost use Rattle.intra_predict.specs.Blocks.{IsBlock};
+ghost use Rattle.intra_predict.specs.Blocks.{IsBlockAmong};
 ghost use Rattle.intra_predict.specs.Means.{gradient as gradient_of};
 
 use std::simd::Simd;
@@ -19,28 +19,32 @@ pub fn sum_of<const N: usize>(samples: &[u8]) -> u16
         .reduce_sum()
 }
 
-/// Sets each row of a block of `N` by `N` samples to `line`.
+/// Sets each row of a block of `N` by `N` samples, in rows `stride` apart, to `line`.
 #[inline]
-pub fn fill_rows<const N: usize>(line: Simd<u8, N>, out: &mut [u8])
+#[tactic(auto, using(crate::proofs::Rows::upper_row))]
+pub fn fill_rows<const N: usize>(line: Simd<u8, N>, out: &mut [u8], stride: usize)
     requires lanes { N ≤ 16 }
-    requires out { length out.old ≡ N * N }
-    ensures { IsBlock N (λ column row. slice_index line.entry column) out.new }
+    requires stride { (N ≤ stride) × (stride ≤ 16384) }
+    requires room { (N - 1) * stride + N ≤ length out.old }
+    ensures { IsBlockAmong (λ column row. slice_index line.entry column) N N stride out.old out.new }
 {
     for row in 0..N {
-        line.copy_to_slice(&mut out[row * N..]);
+        line.copy_to_slice(&mut out[row * stride..]);
     }
 }
 
-/// Sets each row of a block of `N` by `N` samples to the sample to its left.
+/// Sets each row of a block of `N` by `N` samples, in rows `stride` apart, to the sample to its left.
 #[inline]
-pub fn fill_columns<const N: usize>(left: Simd<u8, N>, out: &mut [u8])
+#[tactic(auto, using(crate::proofs::Rows::upper_row))]
+pub fn fill_columns<const N: usize>(left: Simd<u8, N>, out: &mut [u8], stride: usize)
     requires lanes { N ≤ 16 }
-    requires out { length out.old ≡ N * N }
-    ensures { IsBlock N (λ column row. slice_index left.entry row) out.new }
+    requires stride { (N ≤ stride) × (stride ≤ 16384) }
+    requires room { (N - 1) * stride + N ≤ length out.old }
+    ensures { IsBlockAmong (λ column row. slice_index left.entry row) N N stride out.old out.new }
 {
     let left = left.to_array();
     for row in 0..N {
-        Simd::<u8, N>::splat(left[row]).copy_to_slice(&mut out[row * N..]);
+        Simd::<u8, N>::splat(left[row]).copy_to_slice(&mut out[row * stride..]);
     }
 }
 
@@ -60,27 +64,30 @@ fn clamped_rests<const N: usize>(first: Simd<u8, N>, second: Simd<u8, N>) -> Sim
     first.saturating_sub(second)
 }
 
-/// Sets each sample of a block of `N` by `N` samples to its gradient.
+/// Sets each sample of a block of `N` by `N` samples, in rows `stride` apart, to its gradient.
 ///
 /// The samples above are `more` above the corner, or `less` below it, and a row differs from the
 /// sample to its left by exactly that: no sum needs more than 8 bits.
 #[inline]
+#[tactic(auto, using(crate::proofs::Rows::upper_row))]
 pub fn fill_gradients<const N: usize>(
     above: Simd<u8, N>,
     left: Simd<u8, N>,
     corner: u8,
     out: &mut [u8],
+    stride: usize,
 )
     requires lanes { N ≤ 16 }
-    requires out { length out.old ≡ N * N }
-    ensures { IsBlock N (λ column row. gradient_of (slice_index left.entry row) (slice_index above.entry column) corner) out.new }
+    requires stride { (N ≤ stride) × (stride ≤ 16384) }
+    requires room { (N - 1) * stride + N ≤ length out.old }
+    ensures { IsBlockAmong (λ column row. gradient_of (slice_index left.entry row) (slice_index above.entry column) corner) N N stride out.old out.new }
 {
     let left = left.to_array();
     let corner = Simd::<u8, N>::splat(corner);
     let more = clamped_rests(above, corner);
     let less = clamped_rests(corner, above);
     for row in 0..N {
-        let line = clamped_rests(clamped_sums(Simd::<u8, N>::splat(left[row]), more), less);
-        line.copy_to_slice(&mut out[row * N..]);
+        let moved = clamped_rests(clamped_sums(Simd::<u8, N>::splat(left[row]), more), less);
+        moved.copy_to_slice(&mut out[row * stride..]);
     }
 }

@@ -49,6 +49,7 @@ fn true_motion(left: [u8; 4], corner: u8, above: [u8; 8]) -> [u8; 16]
         u8x4::from_array(left),
         corner,
         &mut block,
+        4,
     );
     block
 }

@@ -114,7 +114,7 @@ fn chroma(mode: WholeMode, above: bool, left: bool, corner: u8) -> [u8; 64] {
     let mut block = [0; 64];
     let above = if above { Some(ROW.as_slice()) } else { None };
     let left = if left { Some(COLUMN.as_slice()) } else { None };
-    whole(mode, BlockSize::Eight, above, left, corner, &mut block);
+    whole(mode, BlockSize::Eight, above, left, corner, &mut block, 8);
     block
 }
 
@@ -180,7 +180,30 @@ fn luma_blocks_are_as_worked_by_hand(rt: HostRuntime) {
             Some(&[101; 16]),
             corner,
             &mut block,
+            16,
         );
         assert_eq!(rt; block.as_slice(), [value; 256].as_slice(), "{mode:?}");
     }
+}
+
+/// The samples between the rows of a block and below it are unchanged: 10 samples a row, of which
+/// the block has the first 8, and a last row of which it has none.
+#[test]
+fn samples_round_a_block_are_unchanged(rt: HostRuntime) {
+    let mut samples = [7; 90];
+    let above = Some(ROW.as_slice());
+    whole(
+        WholeMode::V,
+        BlockSize::Eight,
+        above,
+        None,
+        0,
+        &mut samples,
+        10,
+    );
+    let line = [10, 20, 30, 40, 50, 60, 70, 80, 7, 7];
+    for row in 0..8 {
+        assert_eq!(rt; &samples[10 * row..10 * row + 10], line.as_slice(), "{row}");
+    }
+    assert_eq!(rt; &samples[80..], [7; 10].as_slice());
 }

@@ -1,6 +1,6 @@
-ghost use Rattle.std.specs.Prelude.{◌≡◌, ◌+◌, ◌*◌, ◌/◌, ◌≤◌, ◌<◌, length, ℕ, ◌++◌, slice_index};
+ghost use Rattle.std.specs.Prelude.{◌≡◌, ◌+◌, ◌-◌, ◌*◌, ◌/◌, ◌≤◌, ◌<◌, length, ℕ, ◌++◌, slice_index};
 ghost use Rattle.std.specs.Option.{option_copied, ForSome};
-ghost use Rattle.intra_predict.specs.Blocks.{IsBlock};
+ghost use Rattle.intra_predict.specs.Blocks.{IsBlockAmong};
 ghost use Rattle.intra_predict.specs.Means.{mean_of};
 ghost use Rattle.intra_predict.specs.WholeSample.{side_of, inside, above_at, left_at, whole_sample};
 
@@ -18,7 +18,8 @@ const LEFT_OF_FRAME: u8 = 129;
 ///
 /// `above` is the row above the block and `left` the column to its left from the top, as many
 /// samples as the block has in a row; `None` is a side outside the frame. `corner` is the sample
-/// above the left column. `out` is the block, row by row.
+/// above the left column. The block begins at `out[0]`, and its rows are `stride` samples apart: at
+/// least its side, and at most 16,384. The samples between its rows and below it are unchanged.
 #[inline]
 pub fn whole(
     mode: WholeMode,
@@ -27,19 +28,21 @@ pub fn whole(
     left: Option<&[u8]>,
     corner: u8,
     out: &mut [u8],
+    stride: usize,
 )
     requires above { ForSome above (λ samples. length samples.now ≡ side_of size) }
     requires left { ForSome left (λ samples. length samples.now ≡ side_of size) }
-    requires out { length out.old ≡ side_of size * side_of size }
-    ensures { IsBlock (side_of size) (whole_sample mode (option_copied above.entry) (option_copied left.entry) corner) out.new }
+    requires stride { (side_of size ≤ stride) × (stride ≤ 16384) }
+    requires room { (side_of size - 1) * stride + side_of size ≤ length out.old }
+    ensures { IsBlockAmong (whole_sample mode (option_copied above.entry) (option_copied left.entry) corner) (side_of size) (side_of size) stride out.old out.new }
 {
     match size {
-        BlockSize::Sixteen => predict::<16>(mode, above, left, corner, out),
-        BlockSize::Eight => predict::<8>(mode, above, left, corner, out),
+        BlockSize::Sixteen => predict::<16>(mode, above, left, corner, out, stride),
+        BlockSize::Eight => predict::<8>(mode, above, left, corner, out, stride),
     }
 }
 
-/// Predicts a block of `N` by `N` samples, in lanes of a row each.
+/// Predicts a block of `N` by `N` samples in rows `stride` apart, in lanes of a row each.
 #[inline]
 fn predict<const N: usize>(
     mode: WholeMode,
@@ -47,18 +50,26 @@ fn predict<const N: usize>(
     left: Option<&[u8]>,
     corner: u8,
     out: &mut [u8],
+    stride: usize,
 )
     requires lanes { (0 < N) × (N ≤ 16) }
     requires above { ForSome above (λ samples. length samples.now ≡ N) }
     requires left { ForSome left (λ samples. length samples.now ≡ N) }
-    requires out { length out.old ≡ N * N }
-    ensures { IsBlock N (whole_sample mode (option_copied above.entry) (option_copied left.entry) corner) out.new }
+    requires stride { (N ≤ stride) × (stride ≤ 16384) }
+    requires room { (N - 1) * stride + N ≤ length out.old }
+    ensures { IsBlockAmong (whole_sample mode (option_copied above.entry) (option_copied left.entry) corner) N N stride out.old out.new }
 {
     match mode {
-        WholeMode::Dc => fill_rows(Simd::<u8, N>::splat(mean_inside::<N>(above, left)), out),
-        WholeMode::V => fill_rows(row_above::<N>(above), out),
-        WholeMode::H => fill_columns::<N>(column_left::<N>(left), out),
-        WholeMode::Tm => fill_gradients(row_above::<N>(above), column_left::<N>(left), corner, out),
+        WholeMode::Dc => {
+            let mean = mean_inside::<N>(above, left);
+            fill_rows(Simd::<u8, N>::splat(mean), out, stride);
+        }
+        WholeMode::V => fill_rows(row_above::<N>(above), out, stride),
+        WholeMode::H => fill_columns::<N>(column_left::<N>(left), out, stride),
+        WholeMode::Tm => {
+            let (row, column) = (row_above::<N>(above), column_left::<N>(left));
+            fill_gradients(row, column, corner, out, stride);
+        }
     }
 }
 

@@ -14,7 +14,7 @@ use Rattle.pixel_planes.specs.Samples.{Samples}
 use Rattle.reference_frames.specs.Restored.{Residual, block_at, restored}
 use Rattle.vp8_tables.specs.Bounds.{clamped_sample}
 use Rattle.transforms.specs.Transforms.{inverse_dct}
-use Rattle.reference_frames.specs.Unfiltered.{above_row, left_column, corner, block_row, with_block, with_block_rows, whole_block_sample, predicted_whole}
+use Rattle.reference_frames.specs.Unfiltered.{above_row, left_column, corner, block_row, with_block, with_block_rows, whole_block_sample}
 
 -- a written part of a row, inserted into the row
 pub written_part : (row part span : List ℕ) (x side : ℕ) → part ≡ span → length span ≡ side → x + side ≤ length row → take x row ++ (part ++ drop (x + side - x) (drop x row)) ≡ put_chunk x row span
@@ -54,18 +54,18 @@ part_length row x side within =
     let fits : x + side - x ≤ length (drop x row) = omega (arith, length-drop x row) in
     length-take-le (x + side - x) (drop x row) fits ∙ omega arith
 
--- a whole block that was predicted between sides that were read
-pub whole_read : (p : Samples) (side size mx my n m edge : ℕ) (mode : WholeMode) (residual : Residual) (first : ℕ) (upper beside block : List ℕ) (above_it left_of_it : Option (List ℕ)) → side ≡ size → n ≡ size → m ≡ size →
-    upper ≡ above_row p (side * mx) (side * my) n → beside ≡ left_column p (side * mx) (side * my) m → edge ≡ corner p (side * mx) (side * my) →
-    above_it ≡ cond (side * my == 0) None (Some upper) → left_of_it ≡ cond (side * mx == 0) None (Some beside) → IsBlock size (restored size first residual (whole_sample mode above_it left_of_it edge)) block →
-    with_block p (side * mx) (side * my) side (λ column row. slice_index block (row * side + column)) ≡ predicted_whole p size mx my mode residual first
-whole_read p side size mx my n m edge mode residual first upper beside block above_it left_of_it sized wide high upper_is beside_is edge_is above_is left_is is =
-    let between : IsBlock size (restored size first residual (whole_block_sample p (size * mx) (size * my) size mode)) block = rw (above_is, left_is, upper_is, beside_is, edge_is, wide, high, sized) at is in
-    rw sized (written_block p (size * mx) (size * my) size block (restored size first residual (whole_block_sample p (size * mx) (size * my) size mode)) between)
+-- the samples of a whole block by the sides that were read
+pub sides_read : (p : Samples) (side size mx my n m edge : ℕ) (mode : WholeMode) (upper beside : List ℕ) (above_it left_of_it : Option (List ℕ)) → side ≡ size → n ≡ size → m ≡ size → upper ≡ above_row p (side * mx) (side * my) n → beside ≡ left_column p (side * mx) (side * my) m →
+    edge ≡ corner p (side * mx) (side * my) → above_it ≡ cond (side * my == 0) None (Some upper) → left_of_it ≡ cond (side * mx == 0) None (Some beside) → whole_sample mode above_it left_of_it edge ≡ whole_block_sample p (size * mx) (size * my) size mode
+sides_read p side size mx my n m edge mode upper beside above_it left_of_it sized wide high upper_is beside_is edge_is above_is left_is = rw (above_is, left_is, upper_is, beside_is, edge_is, wide, high, sized) refl
 
 pub side_small : (size : BlockSize) → side_of size ≤ 16
 side_small Sixteen = omega arith
 side_small Eight = omega arith
+
+pub side_some : (size : BlockSize) → 0 < side_of size
+side_some Sixteen = omega arith
+side_some Eight = omega arith
 
 -- a part of sixteen samples as long as a side
 pub side_part : (side : ℕ) (size : BlockSize) (samples : List ℕ) → side ≡ side_of size → length samples ≡ 16 → length (take side samples) ≡ side_of size

@@ -5,7 +5,7 @@ use Rattle.std.proofs.lemmas.Bool.{cases_lt}
 use Rattle.inter_predict.specs.Blocks.{IsBlockIn}
 use Rattle.inter_predict.specs.InterSample.{inter_sample, predicted}
 use Rattle.inter_predict.specs.declared.kinds.Kind.{Kind}
-use Rattle.intra_predict.specs.Blocks.{IsBlock}
+use Rattle.intra_predict.specs.Blocks.{IsBlockAmong}
 use Rattle.pixel_planes.specs.Samples.{Samples}
 use Rattle.vp8_tables.specs.Bounds.{clamped_sample}
 use Rattle.transforms.specs.Transforms.{inverse_dct}
@@ -138,20 +138,6 @@ restored_placed side first residual sample across x y s0 s1 s2 is added = record
   others = λ i j a out. added.others i j a out ∙ is.others i j a out;
 }
 
--- a square that is all there is
-pub whole_placed : (side first across : ℕ) (residual : Residual) (old new : List ℕ) → across ≡ side → length old ≡ side * side → IsPlaced (from_corner 0 0 (restored side first residual (square_from old across 0 0))) across side 0 0 old new →
-    IsBlock side (restored side first residual (λ column row. slice_index old (row * side + column))) new
-whole_placed side first across residual old new same square is =
-    let placed : IsPlaced (from_corner 0 0 (restored side first residual (square_from old side 0 0))) side side 0 0 old new = rw same at is in
-    record {
-      whole = placed.whole ∙ square;
-      each = λ i j a b.
-          let right : i - 0 ≡ i = omega arith in
-          let down : j - 0 ≡ j = omega arith in
-          let zero_i : 0 + i ≡ i = omega arith in
-          let zero_j : 0 + j ≡ j = omega arith in
-          let place : (0 + j) * side + (0 + i) ≡ j * side + i = rw (zero_i, zero_j) refl in
-          placed.each i j (omega arith, omega (arith, a), omega arith, omega (arith, b))
-          ∙ ap (λ n. restored side first residual (square_from old side 0 0) n (j - 0)) right ∙ ap (λ n. restored side first residual (square_from old side 0 0) i n) down
-          ∙ restored_same side first residual (square_from old side 0 0) (λ column row. slice_index old (row * side + column)) i j (ap (λ n. slice_index old n) place);
-    }
+-- a block of equal sides, as inter prediction writes it
+pub as_block_in : (sample : ℕ → ℕ → ℕ) (side stride : ℕ) (old new : List ℕ) → IsBlockAmong sample side side stride old new → IsBlockIn sample side side stride old new
+as_block_in sample side stride old new is = record { whole = is.whole; each = is.each; others = is.others }

@@ -1,15 +1,16 @@
 ghost use Rattle.std.specs.Prelude.{◌≡◌, ◌*◌, ◌+◌, ◌-◌, ◌/◌, ◌<◌, ◌≤◌, All, IfOk, length, map, min, slice_index, if◌then◌else◌};
 ghost use Rattle.std.specs.List.{range_with_len};
 ghost use Rattle.std.specs.Option.{option_copied, ForSome};
-ghost use Rattle.intra_predict.specs.WholeSample.{side_of};
+ghost use Rattle.intra_predict.specs.WholeSample.{side_of, whole_sample};
 ghost use Rattle.pixel_planes.specs.PlaneSamples.{shown_of};
 ghost use Rattle.pixel_planes.specs.Samples.{sample_at};
+ghost use Rattle.reference_frames.specs.PlacedBlocks.{IsPlaced, from_corner};
 ghost use Rattle.reference_frames.specs.WrittenBlocks.{block_rows_put};
 ghost use Rattle.reference_frames.specs.Unfiltered.{HoldsSquare, HoldsMacroblock, HaveRoomFor, SameSides, SameShape, above, left, corner, above_row, left_column, above_eight, with_block, predicted_sub_block, predicted_sub_blocks, predicted_whole, predicted_luma, intra_macroblock, referred_macroblock, predicted_macroblock};
 
 use crate::inter::predict_inter;
 use crate::references::References;
-use crate::residuals::{Blocks, add_to_sub_block, add_to_whole};
+use crate::residuals::{Blocks, add_to_square, add_to_sub_block};
 use frame_header::Reference;
 use intra_predict::{BlockSize, SubMode, WholeMode, sub, whole};
 use mode_parser::{MbMode, VectorMode, YMode};
@@ -218,8 +219,33 @@ fn side_inside(is_outside: bool, samples: &[u8]) -> Option<&[u8]>
     if is_outside { None } else { Some(samples) }
 }
 
-/// Predicts the whole block of a macroblock of this size in a plane, and adds its residual, whose
-/// blocks are numbered starting at `first`.
+/// Predicts the square of this size that begins in column `x` of row `y` of a plane, between its
+/// sides, in the plane's samples, `across` in a row.
+#[inline(always)]
+fn predict_square(
+    mode: WholeMode,
+    size: BlockSize,
+    above: Option<&[u8]>,
+    left: Option<&[u8]>,
+    corner: u8,
+    samples: &mut [u8],
+    across: usize,
+    x: usize,
+    y: usize,
+)
+    requires above { ForSome above (λ side. length side.now ≡ side_of size) }
+    requires left { ForSome left (λ side. length side.now ≡ side_of size) }
+    requires small { (across ≤ 16384) × (y + side_of size ≤ 16384) }
+    requires column { x + side_of size ≤ across }
+    requires room { (y + side_of size) * across ≤ length samples.old }
+    ensures { IsPlaced (from_corner x y (whole_sample mode (option_copied above.entry) (option_copied left.entry) corner)) across (side_of size) x y samples.old samples.new }
+{
+    let samples = &mut samples[across * y + x..];
+    whole(mode, size, above, left, corner, samples, across);
+}
+
+/// Predicts the whole block of a macroblock of this size straight into a plane, and adds its
+/// residual there, whose blocks are numbered starting at `first`.
 #[inline(always)]
 fn predict_whole(
     plane: &mut Plane,
@@ -237,19 +263,17 @@ fn predict_whole(
 {
     let side = size.side();
     let (x, y) = (side * mx, side * my);
-    let (mut above, mut left, mut block) = ([0; 16], [0; 16], [0; 256]);
-    let (above, left, block) = (
-        &mut above[..side],
-        &mut left[..side],
-        &mut block[..side * side],
-    );
+    let (mut above, mut left) = ([0; 16], [0; 16]);
+    let (above, left) = (&mut above[..side], &mut left[..side]);
     read_above(plane, x, y, above);
     read_left(plane, x, y, left);
     let above = side_inside(y == 0, above);
     let left = side_inside(x == 0, left);
-    whole(mode, size, above, left, sample_corner(plane, x, y), block);
-    add_to_whole(residual, first, size, block);
-    write_block(plane, x, y, side, block);
+    let corner = sample_corner(plane, x, y);
+    let across = plane.width();
+    let samples = plane.samples_mut();
+    predict_square(mode, size, above, left, corner, samples, across, x, y);
+    add_to_square(residual, first, size, samples, across, x, y);
 }
 
 /// Predicts the luma of a macroblock, as one block or by sub blocks, and adds its residual.

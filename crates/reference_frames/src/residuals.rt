@@ -113,17 +113,6 @@ pub fn add_to_square(
     }
 }
 
-/// Adds the residual of a macroblock, if it has one, to the samples of one of its squares, whose
-/// blocks are numbered starting at `first`.
-#[inline]
-pub fn add_to_whole(residual: Option<&Blocks>, first: usize, size: BlockSize, samples: &mut [u8])
-    requires first { first + side_of size / 4 * (side_of size / 4) ≤ 24 }
-    requires square { length samples.old ≡ side_of size * side_of size }
-    ensures { IsBlock (side_of size) (restored (side_of size) first (option_copied residual.entry) (λ column row. slice_index samples.old (row * side_of size + column))) samples.new }
-{
-    add_to_square(residual, first, size, samples, size.side(), 0, 0);
-}
-
 /// Adds the residual of a macroblock, if it has one, to its sub block of this number.
 #[inline]
 pub fn add_to_sub_block(residual: Option<&Blocks>, block: usize, samples: &mut [u8; 16])
