@@ -40,7 +40,7 @@ pub extern "C" fn predict_luma(
     corner: u8,
     out: &mut [u8; 256],
 ) {
-    whole(mode_of(mode), BlockSize::Sixteen, Some(above), Some(left), corner, out);
+    whole(mode_of(mode), BlockSize::Sixteen, Some(above), Some(left), corner, out, 16);
 }
 
 #[unsafe(no_mangle)]
@@ -51,7 +51,7 @@ pub extern "C" fn predict_chroma(
     corner: u8,
     out: &mut [u8; 64],
 ) {
-    whole(mode_of(mode), BlockSize::Eight, Some(above), Some(left), corner, out);
+    whole(mode_of(mode), BlockSize::Eight, Some(above), Some(left), corner, out, 8);
 }
 END
 (cd "$room/crates/intra_times" && rt lib --jobs 1 < /dev/null) > "$room/build.log" 2>&1 || { tail -n 20 "$room/build.log"; exit 1; }
