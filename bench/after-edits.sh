@@ -1,5 +1,6 @@
 #!/bin/sh
-# Times frames behind edits, where decoded states are kept, beside vpxdec from the stream's start. README.md says more.
+# Times frames after edits and frames in several orders, with cached states, next to vpxdec from the stream's start and
+# ffmpeg's own seek. README.md says more.
 set -eu
 here=$(cd "$(dirname "$0")" && pwd)
 program=$here/../crates/vp8serve/out/vp8serve
@@ -11,7 +12,7 @@ done
 room=$(mktemp -d)
 trap 'rm -rf "$room"' EXIT
 
-# A clip with one key packet, made where that was not done before.
+# A clip with one key packet, made once.
 if [ ! -f "$clip" ]; then
     mkdir -p "$clips"
     ffmpeg -v error -f lavfi \
@@ -74,14 +75,43 @@ def again(what, lines, times):
     row(what, (taken - whole) / times, steps(replies) / times, beside)
 
 again(f"frame {LAST} asked again", [f"frame {LAST}"], 200000)
-again("behind packet 150 replaced by its own bytes", [f"replace 150 {packets[150].hex()}", f"frame {LAST}"], 200)
+again("after packet 150 was replaced by its own bytes", [f"replace 150 {packets[150].hex()}", f"frame {LAST}"], 200)
 other, own = f"replace 150 {packets[149].hex()}", f"replace 150 {packets[150].hex()}"
-again("behind packet 150 replaced by another, and put back", [other, f"frame {LAST}", own, f"frame {LAST}"], 3)
+again("after packet 150 was replaced by another, and restored", [other, f"frame {LAST}", own, f"frame {LAST}"], 3)
+
+def ffmpeg(frame):
+    """Seconds of ffmpeg's own seek to a frame, the least of three runs."""
+    best = float("inf")
+    for _ in range(3):
+        start = time.perf_counter()
+        subprocess.run(["ffmpeg", "-v", "error", "-threads", "1", "-ss", f"{frame / 30:.6f}", "-i", clip, "-frames:v", "1", "-f", "null", "-"], check=True, capture_output=True)
+        best = min(best, time.perf_counter() - start)
+    return best
 
 choose = random.Random(6386)
-order = [choose.randrange(LAST + 1) for _ in range(1000)]
-sample = [vpxdec(n + 1) for n in order[:20]]
-for cache in (32, 300):
-    taken, replies = run(["stats"] + [f"frame {n}" for n in order] + ["stats"], cache, 1)
-    row(f"one of 1,000 frames in random order, --cache {cache}", taken / 1000, steps(replies) / 1000, sum(sample) / len(sample))
+
+def walk(step):
+    frame, frames = LAST // 2, []
+    for _ in range(1000):
+        frame = min(LAST, max(0, frame + choose.choice((-1, 1)) * choose.randint(1, step)))
+        frames.append(frame)
+    return frames
+
+orders = [
+    ("in order", list(range(LAST + 1))),
+    ("random order", [choose.randrange(LAST + 1) for _ in range(1000)]),
+    ("backward", list(range(LAST, -1, -1))),
+    ("scrubbing by 1", walk(1)),
+    ("scrubbing by up to 5", walk(5)),
+    ("scrubbing by up to 30", walk(30)),
+    ("local, 25 frames", [LAST // 2 + choose.randint(-12, 12) for _ in range(1000)]),
+]
+print(f"{'a frame, by order of requests':32}{'states':>8}{'steps':>8}{'ms':>9}{'vpxdec, ms':>12}{'ffmpeg -ss, ms':>16}")
+for what, frames in orders:
+    sample = choose.sample(frames, 20)
+    whole_stream = sum(vpxdec(n + 1) for n in sample) / len(sample)
+    seek = sum(ffmpeg(n) for n in sample) / len(sample)
+    for cache in (8, 32, 300):
+        taken, replies = run(["stats"] + [f"frame {n}" for n in frames] + ["stats"], cache, 1)
+        print(f"{what:32}{cache:8}{steps(replies) / len(frames):8.2f}{1000 * taken / len(frames):9.2f}{1000 * whole_stream:12.1f}{1000 * seek:16.1f}")
 END

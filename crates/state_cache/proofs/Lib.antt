@@ -26,3 +26,4 @@ pub mod KeptView
 pub mod CostLaw
 pub mod WalkSteps
 pub mod Decided
+pub mod Evicted

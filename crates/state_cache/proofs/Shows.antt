@@ -1,9 +1,10 @@
 -- The results of a store's calls for the packet at an index.
-use Rattle.std.proofs.Common.{◌≡◌, ℕ, zero, suc, ◌-◌, ◌<◌, Bool, false, List, [], ◌∷◌, Option, Some, option_map, option_and_then, is_some, length, map, slice_get, refl, sym, ap, ◌∙◌, arith}
+use Rattle.std.proofs.Common.{◌≡◌, ℕ, zero, suc, ◌-◌, ◌<◌, Bool, true, false, cond, None, List, [], ◌∷◌, Option, Some, option_map, option_and_then, is_some, length, map, slice_get, refl, sym, ap, ◌∙◌, arith}
 use Rattle.frame_header.specs.Tags.{has_key_tag}
 use Rattle.packet_edits.specs.declared.entry.Entry.{Entry}
 use Rattle.state_cache.specs.declared.outcomes.Kept.{Kept}
-use Rattle.state_cache.specs.Reaching.{state_from}
+use Rattle.state_cache.specs.Evictions.{outcome_before, outcome_from}
+use Rattle.state_cache.specs.Reaching.{state_before, state_from}
 use Rattle.state_cache.specs.Searches.{mark_at}
 use Rattle.state_cache.specs.Views.{MarkedPacket, View, key_at, cached_at, marked_packet, marked_packets_of}
 use Rattle.state_cache.proofs.Marked.{bytes_seens}
@@ -60,11 +61,20 @@ kept_answered es ms kept i r k h step_result e =
     let s = shows es ms i h in
     ap (λ (o : Option MarkedPacket). option_and_then (λ (packet : MarkedPacket). kept packet.id) o) s.is ∙ ap kept (sym (id_shown es ms i s.packet r s.is step_result)) ∙ e
 
-pub state_told : (es : List Entry) (ms : List Bool) (kept : View) (i r : ℕ) → 0 < i → i < length es → key_at (marked_packets_of es ms) i ≡ false → option_map (λ (e : Entry). e.id) (slice_get es (i - 1)) ≡ Some r → option_map (λ (k : Kept). k.state) (kept r) ≡ state_from (marked_packets_of es ms) kept i
-state_told es ms kept zero r some h k step_result = absurd (omega (arith, some))
-state_told es ms kept (suc i) r some h k step_result =
+pub outcome_told : (es : List Entry) (ms : List Bool) (kept : View) (i r : ℕ) → 0 < i → i < length es → key_at (marked_packets_of es ms) i ≡ false → option_map (λ (e : Entry). e.id) (slice_get es (i - 1)) ≡ Some r → kept r ≡ outcome_from (marked_packets_of es ms) kept i
+outcome_told es ms kept zero r some h k step_result = absurd (omega (arith, some))
+outcome_told es ms kept (suc i) r some h k step_result =
     let s = shows es ms i (omega (arith, h)) in
     let back : suc i - 1 ≡ i = omega arith in
     let there : option_map (λ (e : Entry). e.id) (slice_get es i) ≡ Some r = ap (λ (n : ℕ). option_map (λ (e : Entry). e.id) (slice_get es n)) (sym back) ∙ step_result in
     let id_is : r ≡ s.packet.id = id_shown es ms i s.packet r s.is there in
     rw (k, s.is, id_is) refl
+
+state_case : (b : Bool) (xs : List MarkedPacket) (kept : View) (i : ℕ) → option_map (λ (k : Kept). k.state) (cond b None (outcome_before xs kept i)) ≡ cond b None (state_before xs kept i)
+state_case true xs kept i = refl
+state_case false xs kept zero = refl
+state_case false xs kept (suc i) = refl
+
+-- the state of that outcome is the one from which the packet is stepped
+pub state_told : (xs : List MarkedPacket) (kept : View) (i : ℕ) → option_map (λ (k : Kept). k.state) (outcome_from xs kept i) ≡ state_from xs kept i
+state_told xs kept i = state_case (key_at xs i) xs kept i

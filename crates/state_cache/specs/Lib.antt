@@ -10,3 +10,4 @@ pub mod CacheViews
 pub mod CostLaws
 pub mod WalkLaws
 pub mod Faults
+pub mod Evictions

@@ -1,11 +1,13 @@
-ghost use Rattle.std.specs.Prelude.{◌≡◌, ◌+◌, ◌^◌, ◌<◌, ◌≤◌, ◌&&◌, ℕ, [], cond, length, not, IfErr, IfOk, IfSome, None, OnErr, OnOk, Result, Some, false, is_ok, min, option_copied, true};
-ghost use Rattle.lru.specs.LruCache.{IsValid};
+ghost use Rattle.std.specs.Prelude.{◌≡◌, ◌+◌, ◌-◌, ◌^◌, ◌<◌, ◌≤◌, ◌&&◌, ℕ, [], cond, length, nat_eq, not, IfErr, IfOk, IfSome, IsSome, None, OnErr, OnOk, Result, Some, false, is_ok, is_some, min, option_copied, option_map, true};
+ghost use Rattle.std.specs.Map.{lookup};
+ghost use Rattle.lru.specs.LruCache.{IsValid, lru_cache};
 ghost use Rattle.frame_header.specs.declared.cause.Cause.{Cause};
 ghost use Rattle.pixel_planes.specs.Pictures.{PictureSamples};
 ghost use Rattle.reference_frames.specs.Steps.{StepAnswers};
 ghost use Rattle.reference_frames.specs.States.{StateValue};
 ghost use Rattle.state_cache.specs.Costs.{Costs, cut_at, most_steps};
-ghost use Rattle.state_cache.specs.Reaching.{Begins, AnswersAt, IsNext, CachedAnswers, Converged, OthersDrop, OthersStay, Reaches, IterationAnswers, Reports, passed_marks, state_from, view_of};
+ghost use Rattle.state_cache.specs.Evictions.{Evicts, IsVictim, outcome_from, steps_from, without};
+ghost use Rattle.state_cache.specs.Reaching.{Begins, AnswersAt, IsNext, CachedAnswers, Converged, OthersDrop, OthersStay, Reaches, IterationAnswers, Reports, passed_marks, view_of};
 ghost use Rattle.state_cache.specs.Searches.{looked, mark_at, next_of};
 ghost use Rattle.state_cache.specs.Walks.{Advances, IsAfterCached, IsPut, IsIteration, IsWalk, IsWalkStep, ConvergesWithSame, entries_with};
 ghost use Rattle.state_cache.specs.Views.{Drops, IsCoherent, is_usable, cached_at, cached_in, key_at, marked_packets, same_key, with_cached};
@@ -31,11 +33,14 @@ pub struct Cache {
 }
 
 impl Model for Cache {
+    ghost use Rattle.std.specs.Prelude.{◌+◌, ◌-◌, ◌<◌, ◌≤◌, length};
     ghost use Rattle.state_cache.specs.Reaching.{CacheValue};
 
     ghost Value = { CacheValue };
 
-    ghost view = { λ c. record { entries = c.kept.entries; capacity = c.kept.cap; decoded = c.steps } };
+    ghost view = { λ c. record { entries = c.kept.entries; capacity = c.kept.cap - 1; decoded = c.steps } };
+
+    ghost invariant = { λ c. (length c.kept.entries < c.kept.cap) × (1 < c.kept.cap) };
 }
 
 impl Cache {
@@ -46,7 +51,8 @@ impl Cache {
         requires { (1 ≤ capacity) × (capacity ≤ 4096) }
         ensures { IfOk result (λ cache. cache ≡ record { entries = []; capacity = capacity; decoded = 0 }) }
     {
-        let Some(most) = NonZeroUsize::new(capacity as usize) else {
+        // One more, so that an outcome is dropped only after another was inserted.
+        let Some(most) = NonZeroUsize::new(capacity as usize + 1) else {
             return Err(NoMemory);
         };
         match LruCache::new(alloc, most) {
@@ -250,14 +256,17 @@ impl Cache {
     ) -> Result<Kept, ReachFault>
         requires { place < length store.now.list.entries }
         ensures gives { IterationAnswers tables.now (marked_packets store.now) (view_of source self.old) place result }
+        ensures distance { IfOk result (λ kept. kept.steps ≡ steps_from (outcome_from (marked_packets store.now) (view_of source self.old) place)) }
         ensures counted { self.new ≡ record self.old { decoded = min (self.old.decoded + 1) most_steps } }
     {
-        let state = state_before(&self.kept, source, store, place);
+        let before = outcome_before(&self.kept, source, store, place);
+        let state = state_of(before);
         let packet = store.packet(place);
-        outcome_at(place, self.steps.step(self.alloc, tables, state, packet))
+        let answer = self.steps.step(self.alloc, tables, state, packet);
+        outcome_at(place, steps_after(before), answer)
     }
 
-    /// Caches an outcome. Returns whether an outcome with the same state was cached for this key. If
+    /// Caches an outcome; if the cache is full, it then drops the victim. Returns whether an outcome with the same state was cached for this key. If
     /// memory is refused, nothing changes.
     fn keep(&mut self, key: PacketKey, new: Kept) -> Result<bool, NoMemory>
         ensures drops { OnOk result ((q : ℕ) → Drops (view_of key.source self.new q) (with_cached (view_of key.source self.old) key.id new q)) }
@@ -273,8 +282,12 @@ impl Cache {
     {
         is_valid(&self.kept);
         let has_converged = self.converges(key, &new);
+        let victim = victim_of(&self.kept, key);
         match self.kept.put(key, new) {
-            Ok(_) => Ok(has_converged),
+            Ok(_) => {
+                evict(&mut self.kept, victim);
+                Ok(has_converged)
+            }
             Err(_) => Err(NoMemory),
         }
     }
@@ -370,26 +383,117 @@ fn is_valid(kept: &LruCache<PacketKey, Kept>)
     let _few = kept.len();
 }
 
-/// The answer of the step at `place` as an outcome of its packet.
-fn outcome_at(place: usize, answer: Result<(State, Picture), StepFault>) -> Result<Kept, ReachFault>
-    ensures { (want : Result (StateValue × PictureSamples) Cause) → StepAnswers want answer → AnswersAt place want result }
+/// Whether a key is not cached and the cache is full; `cap` of the table is 1 more than the
+/// capacity.
+fn needs_victim(kept: &LruCache<PacketKey, Kept>, key: PacketKey) -> bool
+    requires { length kept.now.entries < kept.now.cap }
+    ensures { result ≡ (not (is_some (lookup (same_key key) kept.now.entries)) && nat_eq (length kept.now.entries + 1) kept.now.cap) }
+{
+    !kept.contains(&key) && kept.len() + 1 == kept.cap().get()
+}
+
+/// The key of the outcome to drop once another is inserted for `key`: none if an outcome is cached
+/// for `key`, or there is room.
+fn victim_of(kept: &LruCache<PacketKey, Kept>, key: PacketKey) -> Option<PacketKey>
+    requires few { length kept.now.entries < kept.now.cap }
+    requires some { 1 < kept.now.cap }
+    ensures { Evicts kept.now.entries (kept.now.cap - 1) key result }
+{
+    if needs_victim(kept, key) {
+        least_ranked(kept)
+    } else {
+        None
+    }
+}
+
+/// The key of the lowest rank in the older half of the outcomes, the oldest among equals; none if
+/// there are no outcomes.
+fn least_ranked(kept: &LruCache<PacketKey, Kept>) -> Option<PacketKey>
+    ensures victim { IfSome result (IsVictim kept.now.entries) }
+    ensures some { 0 < length kept.now.entries → IsSome result }
+{
+    let len = kept.len();
+    let mut rest = kept.iter();
+    let (oldest, outcome) = rest.next_back()?;
+    let mut victim = *oldest;
+    let mut least = outcome.rank();
+    let mut at = len - 1;
+    while at > len / 2 {
+        let (key, outcome) = rest.next_back()?;
+        at -= 1;
+        let rank = outcome.rank();
+        if rank < least {
+            victim = *key;
+            least = rank;
+        }
+    }
+    Some(victim)
+}
+
+/// Drops the outcome of `victim`, if there is one to drop.
+fn evict(kept: &mut LruCache<PacketKey, Kept>, victim: Option<PacketKey>)
+    ensures valid { IsValid same_key kept.old }
+    ensures entries { kept.new ≡ lru_cache (without victim kept.old.entries) kept.old.cap }
+{
+    is_valid(kept);
+    match victim {
+        Some(victim) => {
+            kept.pop(&victim);
+        }
+        None => {}
+    }
+}
+
+/// The answer of the step at `place` as an outcome of its packet, this number of steps from a key
+/// packet.
+fn outcome_at(
+    place: usize,
+    steps: u32,
+    answer: Result<(State, Picture), StepFault>,
+) -> Result<Kept, ReachFault>
+    ensures answers { (want : Result (StateValue × PictureSamples) Cause) → StepAnswers want answer → AnswersAt place want result }
+    ensures distance { IfOk result (λ kept. kept.steps ≡ steps) }
 {
     match answer {
-        Ok((state, picture)) => Ok(Kept { state, picture }),
+        Ok((state, picture)) => Ok(Kept {
+            state,
+            picture,
+            steps,
+        }),
         Err(StepFault::Refused(cause)) => Err(ReachFault::Refused(Broken { place, cause })),
         Err(StepFault::NoMemory) => Err(ReachFault::NoMemory),
     }
 }
 
-/// The state from which the packet at `place` is stepped.
-fn state_before<'a>(
+/// The state of an outcome.
+fn state_of(outcome: Option<&Kept>) -> Option<&State>
+    ensures { option_copied result ≡ option_map (λ kept. kept.state) (option_copied outcome.entry) }
+{
+    match outcome {
+        Some(kept) => Some(&kept.state),
+        None => None,
+    }
+}
+
+/// The number of steps from a key packet to an outcome stepped from this one.
+fn steps_after(outcome: Option<&Kept>) -> u32
+    ensures { result ≡ steps_from (option_copied outcome.entry) }
+{
+    match outcome {
+        Some(kept) => kept.steps.saturating_add(1),
+        None => 0,
+    }
+}
+
+/// The outcome from whose state the packet at `place` is stepped.
+fn outcome_before<'a>(
     kept: &'a LruCache<PacketKey, Kept>,
     source: usize,
     store: &Store,
     place: usize,
-) -> Option<&'a State>
+) -> Option<&'a Kept>
     requires { place < length store.now.list.entries }
-    ensures { option_copied result ≡ state_from (marked_packets store.now) (cached_in kept.now.entries source) place }
+    ensures { option_copied result ≡ outcome_from (marked_packets store.now) (cached_in kept.now.entries source) place }
 {
     if has_key(store, place) {
         return None;
@@ -398,10 +502,7 @@ fn state_before<'a>(
         return None;
     }
     let id = store.id(place - 1);
-    match kept.peek(&PacketKey { source, id }) {
-        Some(kept) => Some(&kept.state),
-        None => None,
-    }
+    kept.peek(&PacketKey { source, id })
 }
 
 /// Whether the packet at `place` has a key tag.

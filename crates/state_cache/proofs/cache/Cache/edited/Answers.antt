@@ -1,4 +1,4 @@
-use Rattle.std.proofs.Common.{◌∙◌, ℕ, ◌≤◌, arith, length, ap, subst, sym}
+use Rattle.std.proofs.Common.{◌∙◌, ℕ, ◌≤◌, ◌<◌, ◌-◌, arith, length, ap, subst, sym}
 use Rattle.lru.specs.LruCache.{LruCache}
 use Rattle.state_cache.specs.declared.outcomes.Kept.{Kept}
 use Rattle.state_cache.specs.declared.outcomes.PacketKey.{PacketKey}
@@ -33,5 +33,11 @@ returns-clause-other_sources c =
 pub returns-clause-bounded : goal.returns-clause-bounded
 returns-clause-bounded c =
     let fewer = removed_less (same_key (key c.args.source c.args.id)) c.self.inside.kept.entries in
-    let bounded = c.is_valid.ensures.1 in
-    subst (λ (kept : LruCache PacketKey Kept). length kept.entries ≤ kept.cap) (sym c.pop.ensures.entries) (omega (arith, fewer, bounded))
+    let bounded = c.self.invariant.0 in
+    subst (λ (kept : LruCache PacketKey Kept). length kept.entries ≤ kept.cap - 1) (sym c.pop.ensures.entries) (omega (arith, fewer, bounded))
+
+pub invariant_of-self : goal.invariant_of-self
+invariant_of-self c =
+    let fewer = removed_less (same_key (key c.args.source c.args.id)) c.self.inside.kept.entries in
+    let few = c.self.invariant.0 in
+    subst (λ (kept : LruCache PacketKey Kept). (length kept.entries < kept.cap) × (1 < kept.cap)) (sym c.pop.ensures.entries) (omega (arith, fewer, few), c.self.invariant.1)
