@@ -266,8 +266,8 @@ impl Cache {
         outcome_at(place, steps_after(before), answer)
     }
 
-    /// Caches an outcome; if the cache is full, it then drops the victim. Returns whether an outcome with the same state was cached for this key. If
-    /// memory is refused, nothing changes.
+    /// Caches an outcome; if the cache is full, it then drops the victim. Returns whether an outcome
+    /// with the same state was cached for this key. If memory is refused, nothing changes.
     fn keep(&mut self, key: PacketKey, new: Kept) -> Result<bool, NoMemory>
         ensures drops { OnOk result ((q : ℕ) → Drops (view_of key.source self.new q) (with_cached (view_of key.source self.old) key.id new q)) }
         ensures others { OnOk result (OthersDrop key.source self.old self.new) }

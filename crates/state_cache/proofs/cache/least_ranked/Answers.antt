@@ -27,9 +27,12 @@ loop-at-preserved-then-rank-least c =
     let x : PacketKey × Kept = (c.in_ok-key.key.now, c.in_ok-key.outcome.now) in
     let is = c.rank-rank.ensures in
     let low = c.if-rank-least.true in
-    let more = c.loop-at-test.true in
-    (subst (λ (n : ℕ). Searched es c.next_back-in-loop-at.new.self (c.loop-at.at - 1) n x.0) (sym is)
-        (taken_searched es c.next_back-in-loop-at.new.self x c.loop-at.rest c.loop-at.at c.loop-at.least c.loop-at.victim c.loop-at.invariant.0 c.in_ok-key.ensures.steps (omega (arith, is, low))), c.loop-at.invariant.1, omega (arith, more))
+    let more = c.loop-at-test.true in (
+      subst (λ (n : ℕ). Searched es c.next_back-in-loop-at.new.self (c.loop-at.at - 1) n x.0) (sym is)
+          (taken_searched es c.next_back-in-loop-at.new.self x c.loop-at.rest c.loop-at.at c.loop-at.least c.loop-at.victim c.loop-at.invariant.0 c.in_ok-key.ensures.steps (omega (arith, is, low))),
+      c.loop-at.invariant.1,
+      omega (arith, more),
+    )
 
 pub loop-at-preserved : goal.loop-at-preserved
 loop-at-preserved c =
