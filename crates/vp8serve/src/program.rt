@@ -206,7 +206,11 @@ fn answer_inputs<R: Files + AllocGlobal, O: Write, E: Write>(
     ensures replied { OnOk result ((end : Now) × IsReplied inputs.tables (map (λ bytes. bytes.items) inputs.sources.items) inputs.requests.items (O.contents output.old) (O.contents output.new) end) }
     ensures ended { IfErr result (λ fault. (left : Option (List ℕ)) → (left' : Option (List ℕ)) → IsEnded EMPTY (option_map (λ path. path.now) line.now.words.tables) (source_names line.now) line.now.words.requests.now left left' (O.contents output.old) (O.contents output.new) fault) }
 {
-    let Inputs { tables, sources, requests } = inputs;
+    let Inputs {
+        tables,
+        sources,
+        requests,
+    } = inputs;
     let slices = slices_of(rt.alloc(), sources.as_slice())?;
     let session = run_to_path(
         rt,

@@ -220,7 +220,9 @@ fn with_files<'a>(alloc: Global, command: Command<'a>) -> Result<Command<'a>, Al
 
 /// The program's arguments.
 fn arguments<'a>(alloc: Global) -> Result<Command<'a>, AllocError> {
-    let command = Command::new(alloc, "vp8serve").about(ABOUT).after_help(GRAMMAR);
+    let command = Command::new(alloc, "vp8serve")
+        .about(ABOUT)
+        .after_help(GRAMMAR);
     let command = with_places(alloc, command)?
         .arg(sources_option(alloc))?
         .arg(cache_option(alloc))?;
