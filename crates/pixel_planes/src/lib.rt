@@ -5,10 +5,12 @@ mod borders;
 pub mod laws;
 mod pictures;
 mod planes;
+mod spares;
 #[cfg(test)]
 mod tests;
 
 pub use pictures::{Component, Picture, Planes, same};
 pub use planes::{Plane, Window};
+pub use spares::Spare;
 /// An allocation was refused.
 pub use std::alloc::AllocError as NoMemory;

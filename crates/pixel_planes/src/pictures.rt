@@ -1,4 +1,4 @@
-ghost use Rattle.std.specs.Prelude.{◌≡◌, ◌<◌, ◌≤◌, ◌↔◌, length, IfOk, IsTrue};
+ghost use Rattle.std.specs.Prelude.{◌≡◌, ◌<◌, ◌≤◌, ◌↔◌, length, IfOk, IfSome, IsTrue};
 ghost use Rattle.pixel_planes.specs.Pictures.{IsWholePicture, AreCoded, shown_height, shown_width, shown_row_of};
 ghost use Rattle.pixel_planes.specs.PlaneSamples.{shown_of, picture_of};
 
@@ -152,6 +152,27 @@ impl Picture {
             luma: self.luma.clone()?,
             cb: self.cb.clone()?,
             cr: self.cr.clone()?,
+        })
+    }
+
+    /// The planes, if the picture shares them with no other.
+    pub(crate) fn into_planes(self) -> Option<Planes>
+        ensures { IfSome result (λ planes. picture_of self.width self.height (shown_of planes) ≡ self) }
+    {
+        let Picture {
+            width: _,
+            height: _,
+            luma,
+            cb,
+            cr,
+        } = self;
+        let luma = Rc::into_inner(luma);
+        let cb = Rc::into_inner(cb);
+        let cr = Rc::into_inner(cr);
+        Some(Planes {
+            luma: luma?,
+            cb: cb?,
+            cr: cr?,
         })
     }
 

@@ -252,6 +252,16 @@ impl Plane {
         self.is_current = true;
     }
 
+    /// Writes `value` over each sample. The border is then up to date, and no memory is taken.
+    pub(crate) fn clear(&mut self, value: u8)
+        ensures { self.new ≡ bordered (uniform self.old.shown.width self.old.shown.height value) self.old.border }
+    {
+        self.samples.fill(value);
+        self.first = 0;
+        self.stride = self.width;
+        self.is_current = true;
+    }
+
     /// Marks the border as out of date and moves the shown rows one directly after the other, to be
     /// written.
     fn open(&mut self)

@@ -1,6 +1,6 @@
 ghost use Rattle.std.specs.Prelude.{◌≡◌, ◌<◌, ◌≤◌, length, IfOk};
 
-use crate::{Component, NoMemory, Picture, Plane, Planes, same};
+use crate::{Component, NoMemory, Picture, Plane, Planes, Spare, same};
 use std::alloc::Global;
 use std::test::Fail;
 
@@ -245,5 +245,50 @@ fn pictures_of_two_shown_sizes_are_not_the_same(rt: HostRuntime) -> Result<(), F
     };
     let narrow = Picture::share(alloc, planes, 15, 16)?;
     assert!(rt; !same(&narrow, &one_macroblock(alloc, 1, 2, 3)?));
+    Ok(())
+}
+
+/// Whether the spare planes, made again for this many macroblocks each way, have these sides and
+/// are 0, with a border that is up to date.
+fn makes_zeros(spare: &mut Spare, alloc: Global, side: usize) -> Result<bool, NoMemory>
+    requires { (0 < side) × (side ≤ 1024) }
+{
+    let planes = spare.make_planes(alloc, side, side)?;
+    let zeros = Planes {
+        luma: Plane::make(alloc, 16 * side, 16 * side, 0)?,
+        cb: Plane::make(alloc, 8 * side, 8 * side, 0)?,
+        cr: Plane::make(alloc, 8 * side, 8 * side, 0)?,
+    };
+    Ok(
+        planes.luma.same(&zeros.luma)
+            && planes.cb.same(&zeros.cb)
+            && planes.cr.same(&zeros.cr)
+            && has_span(&planes.luma, -32, -32, &[0; 64])
+            && has_span(&planes.cb, -32, 39, &[0; 72])
+            && has_span(&planes.cr, 39, 39, &[0]),
+    )
+}
+
+#[test]
+fn spare_planes_are_made_again(rt: HostRuntime) -> Result<(), Fail> {
+    let alloc = rt.alloc();
+    let mut spare = Spare::new();
+    assert!(rt; makes_zeros(&mut spare, alloc, 1)?);
+    for side in [1, 1, 2, 1] {
+        spare.put(one_macroblock(alloc, 7, 8, 9)?);
+        assert!(rt; makes_zeros(&mut spare, alloc, side)?);
+    }
+    Ok(())
+}
+
+#[test]
+fn planes_of_a_shared_picture_are_no_spare_ones(rt: HostRuntime) -> Result<(), Fail> {
+    let alloc = rt.alloc();
+    let mut spare = Spare::new();
+    let picture = one_macroblock(alloc, 7, 8, 9)?;
+    spare.put(picture.again()?);
+    let mut planes = spare.make_planes(alloc, 1, 1)?;
+    planes.luma.row_mut(0).fill(1);
+    assert!(rt; same(&picture, &one_macroblock(alloc, 7, 8, 9)?));
     Ok(())
 }

@@ -2,6 +2,7 @@ pub mod Squares
 pub mod Placed
 pub mod Quarters
 pub mod AboveRight
+pub mod KeptBlocks
 pub mod Added
 pub mod AddedFirst
 pub mod Blocks

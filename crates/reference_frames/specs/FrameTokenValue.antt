@@ -6,7 +6,7 @@ use Rattle.reference_frames.specs.Restored.{Residual}
 use Rattle.reference_frames.specs.declared.frame_tokens.FrameTokens.{FrameTokens}
 
 abbrev pub state_of : FrameTokens → TokenState
-state_of tokens = record { readers = tokens.readers.items; above = tokens.above.items; left = tokens.tokens.left }
+state_of tokens = record { readers = tokens.readers.items; above = tokens.above.items; left = tokens.left }
 
 -- the residual that it keeps of the macroblock with this record, which was read last
 abbrev pub kept_residual : FrameTokens → MbMode → Residual

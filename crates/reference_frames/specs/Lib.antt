@@ -3,6 +3,7 @@ pub mod AddedBlocks
 pub mod PlacedBlocks
 pub mod InterPrediction
 pub mod FrameTokens
+pub mod KeptBlocks
 pub mod FrameTokenValue
 pub mod References
 pub mod States

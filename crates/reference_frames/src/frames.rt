@@ -7,14 +7,14 @@ ghost use Rattle.pixel_planes.specs.PlaneSamples.{shown_of};
 ghost use Rattle.reference_frames.specs.FrameTokens.{flags_of, residual_at};
 ghost use Rattle.reference_frames.specs.FrameTokenValue.{state_of};
 ghost use Rattle.reference_frames.specs.Steps.{decoded_picture};
-ghost use Rattle.reference_frames.specs.Unfiltered.{HaveRoomFor, SameShape, predicted_macroblocks, empty_planes as empty_planes_of};
+ghost use Rattle.reference_frames.specs.Unfiltered.{HaveRoomFor, SameShape, empty_planes, predicted_macroblocks};
 
 use crate::frame_tokens::FrameTokens;
 use crate::prediction::{Sources, predict_macroblock};
 use crate::references::References;
 use frame_header::Header;
 use mode_parser::{MbMode, Modes};
-use pixel_planes::{NoMemory, Picture, Plane, Planes};
+use pixel_planes::{NoMemory, Picture, Planes};
 use std::alloc::Global;
 
 /// Predicts the macroblocks of a frame in raster order, each by its record, and adds the residual
@@ -65,49 +65,46 @@ pub(crate) fn macroblocks(side: u16) -> usize
     usize::from(side).div_ceil(16)
 }
 
-/// Makes the planes of a frame of this many macroblocks, 1 to 1,024 each way, before any is predicted.
-fn empty_planes(alloc: Global, columns: usize, rows: usize) -> Result<Planes, NoMemory>
-    requires wide { (0 < columns) × (columns ≤ 1024) }
-    requires high { (0 < rows) × (rows ≤ 1024) }
-    ensures { IfOk result (λ planes. shown_of planes ≡ empty_planes_of columns rows) }
-{
-    Ok(Planes {
-        luma: Plane::make(alloc, 16 * columns, 16 * rows, 0)?,
-        cb: Plane::make(alloc, 8 * columns, 8 * rows, 0)?,
-        cr: Plane::make(alloc, 8 * columns, 8 * rows, 0)?,
-    })
+/// The planes of a frame before its first macroblock is predicted, and its shown size.
+pub(crate) struct Blank {
+    pub planes: Planes,
+    pub width: u16,
+    pub height: u16,
 }
 
-/// Makes the picture of a frame of this shown size from its packet, of which this is the header:
+/// Makes the picture of a frame in its blank planes from its packet, of which this is the header:
 /// each macroblock is predicted by its record, of which there is one for each in raster order, and
 /// the residual of its tokens is added to it (RFC 6386, sections 12 to 14 and 18). After the last
 /// of them the loop filter runs over the whole (section 15).
 ///
-/// `NoMemory` if memory for a plane, for its shared block, or for the state between macroblocks is
-/// refused.
+/// `NoMemory` if memory for a plane's shared block, or for the state between macroblocks is refused.
 pub(crate) fn decoded_picture(
     alloc: Global,
     packet: &[u8],
     header: &Header,
     references: Option<&References>,
-    width: u16,
-    height: u16,
+    blank: Blank,
     modes: &Modes,
 ) -> Result<Picture, NoMemory>
-    requires wide { (0 < width) × (width ≤ 16383) }
-    requires high { (0 < height) × (height ≤ 16383) }
-    requires each { length modes.now.records ≡ macroblocks_of width * macroblocks_of height }
+    requires wide { (0 < blank.width) × (blank.width ≤ 16383) }
+    requires high { (0 < blank.height) × (blank.height ≤ 16383) }
+    requires empty { shown_of blank.planes ≡ empty_planes (macroblocks_of blank.width) (macroblocks_of blank.height) }
+    requires each { length modes.now.records ≡ macroblocks_of blank.width * macroblocks_of blank.height }
     requires some { 0 < length header.now.partitions.items }
     requires inside { All (λ place. place.start + place.length ≤ length packet.now) header.now.partitions.items }
-    ensures { IfOk result (λ p. p ≡ decoded_picture packet.now header.now (option_copied references.entry) width height modes.now.records) }
+    ensures { IfOk result (λ p. p ≡ decoded_picture packet.now header.now (option_copied references.entry) blank.width blank.height modes.now.records) }
 {
+    let Blank {
+        mut planes,
+        width,
+        height,
+    } = blank;
     let columns = macroblocks(width);
     let rows = macroblocks(height);
     let sources = Sources {
         version: header.version,
         references,
     };
-    let mut planes = empty_planes(alloc, columns, rows)?;
     let mut tokens = FrameTokens::new(alloc, packet, &header.partitions, columns)?;
     let flags = predict_macroblocks(
         alloc,

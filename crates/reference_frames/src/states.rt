@@ -6,7 +6,7 @@ ghost use Rattle.reference_frames.specs.States.{HasMap, HaveOneSize, IsState};
 use crate::comparison::{same_bytes, same_context};
 use crate::references::References;
 use frame_header::Context;
-use pixel_planes::NoMemory;
+use pixel_planes::{NoMemory, Spare};
 use std::alloc::Global;
 use std::marker::Model;
 use std::rc::Rc;
@@ -82,6 +82,25 @@ impl State {
             references: self.references.again()?,
         })
     }
+
+    /// Drops the state. Planes of its references that no other picture shares become the spare
+    /// ones.
+    pub fn drop_into(self, spare: &mut Spare) {
+        let State {
+            context: _,
+            segment_map,
+            references,
+        } = self;
+        drop(segment_map);
+        let References {
+            last,
+            golden,
+            altref,
+        } = references;
+        spare.put(last);
+        spare.put(golden);
+        spare.put(altref);
+    }
 }
 
 /// Whether two states are the same in every field and every sample of every reference.
@@ -96,8 +115,9 @@ pub fn same_state(a: &State, b: &State) -> bool
 #[cfg(test)]
 mod tests {
     use super::*;
-    use crate::steps::step;
+    use crate::steps::{step, step_with};
     use bool_coder::Encoder;
+    use pixel_planes::same;
     use std::process::Abort;
     use std::test::Fail;
     use vp8_tables::Tables;
@@ -192,6 +212,45 @@ mod tests {
         other.segment_map = Rc::new(alloc, map)?;
         assert_eq!(rt; state.segment_map(), [0].as_slice());
         assert!(rt; !same_state(&state, &other));
+        Ok(())
+    }
+
+    /// A key packet of this width and 16 rows that reads 0 at every bit.
+    fn wide_key(width: u8) -> [u8; 10] {
+        let mut packet = KEY;
+        packet[6] = width;
+        packet
+    }
+
+    /// Steps a packet with the spare planes and with fresh ones, and returns whether both give the
+    /// same. The planes of the first are then the spare ones.
+    fn steps_alike(
+        rt: &impl Abort,
+        alloc: Global,
+        spare: &mut Spare,
+        state: Option<&State>,
+        packet: &[u8],
+    ) -> bool {
+        let fresh = step(alloc, &Tables::flat(), state, packet);
+        let (fresh_state, fresh_picture) = fresh.expect(rt, "a packet that decodes");
+        let decoded = step_with(alloc, &Tables::flat(), spare, state, packet);
+        let (new, picture) = decoded.expect(rt, "the same packet");
+        let is_alike = same_state(&new, &fresh_state) && same(&picture, &fresh_picture);
+        spare.put(picture);
+        new.drop_into(spare);
+        is_alike
+    }
+
+    #[test]
+    fn spare_planes_change_no_step(rt: HostRuntime) -> Result<(), Fail> {
+        let alloc = rt.alloc();
+        let mut spare = Spare::new();
+        let inter = inter_packet(alloc, b"0000000001")?;
+        for width in [16, 16, 40, 8] {
+            assert!(rt; steps_alike(&rt, alloc, &mut spare, None, &wide_key(width)));
+            let state = key_state(&rt, alloc);
+            assert!(rt; steps_alike(&rt, alloc, &mut spare, Some(&state), inter.as_slice()));
+        }
         Ok(())
     }
 }

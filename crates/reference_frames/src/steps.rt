@@ -3,13 +3,13 @@ ghost use Rattle.std.specs.Option.{option_copied, option_map, ForSome};
 ghost use Rattle.reference_frames.specs.Steps.{StepAnswers, coded_step, decoded, height_of, references_before, references_after_frame, repeated, step_of, width_of};
 ghost use Rattle.reference_frames.specs.States.{HasMap, HaveOneSize};
 
-use crate::frames::{decoded_picture, macroblocks};
+use crate::frames::{Blank, decoded_picture, macroblocks};
 use crate::references::References;
 use crate::states::State;
 use crate::step_fault::StepFault;
 use frame_header::{Cause, Header, read_header};
 use mode_parser::read_modes;
-use pixel_planes::{NoMemory, Picture};
+use pixel_planes::{NoMemory, Picture, Spare};
 use std::alloc::Global;
 use vp8_tables::Tables;
 
@@ -72,6 +72,7 @@ fn references_after_frame(
 fn decode(
     alloc: Global,
     tables: &Tables,
+    spare: &mut Spare,
     packet: &[u8],
     header: &Header,
     before: Option<&State>,
@@ -89,7 +90,13 @@ fn decode(
     let columns = macroblocks(width);
     let rows = macroblocks(height);
     let modes = read_modes(alloc, tables, header, columns, rows, map)?;
-    let picture = decoded_picture(alloc, packet, header, references, width, height, &modes)?;
+    let planes = spare.make_planes(alloc, columns, rows)?;
+    let blank = Blank {
+        planes,
+        width,
+        height,
+    };
+    let picture = decoded_picture(alloc, packet, header, references, blank, &modes)?;
     let references = references_after_frame(header, &picture, before)?;
     let segment_map = modes.into_segment_map();
     let state = State::new(alloc, header.context_after, segment_map, references)?;
@@ -124,6 +131,7 @@ fn repeat(state: Option<&State>) -> Result<(State, Picture), StepFault>
 fn step_coded(
     alloc: Global,
     tables: &Tables,
+    spare: &mut Spare,
     state: Option<&State>,
     packet: &[u8],
 ) -> Result<(State, Picture), StepFault>
@@ -138,7 +146,7 @@ fn step_coded(
         Err(cause) => return Err(StepFault::Refused(cause)),
     };
     let before = if header.is_key { None } else { state };
-    match decode(alloc, tables, packet, &header, before) {
+    match decode(alloc, tables, spare, packet, &header, before) {
         Ok(decoded) => Ok(decoded),
         Err(_) => Err(StepFault::NoMemory),
     }
@@ -151,7 +159,6 @@ fn step_coded(
 /// `Refused` with the first cause against the packet; `NoMemory` if memory runs out for the modes, the
 /// readers of the token partitions, the flags between macroblocks, a plane, a shared block or one more
 /// share of a plane.
-#[tactic(auto, unfolding(crate::specs::Steps::step_of))]
 pub fn step(
     alloc: Global,
     tables: &Tables,
@@ -160,8 +167,22 @@ pub fn step(
 ) -> Result<(State, Picture), StepFault>
     ensures { StepAnswers (step_of tables.now (option_copied state.entry) packet.now) result }
 {
+    step_with(alloc, tables, &mut Spare::new(), state, packet)
+}
+
+/// The same step, with the spare planes for its picture, if they have its size.
+#[tactic(auto, unfolding(crate::specs::Steps::step_of))]
+pub fn step_with(
+    alloc: Global,
+    tables: &Tables,
+    spare: &mut Spare,
+    state: Option<&State>,
+    packet: &[u8],
+) -> Result<(State, Picture), StepFault>
+    ensures { StepAnswers (step_of tables.now (option_copied state.entry) packet.now) result }
+{
     if packet.is_empty() {
         return repeat(state);
     }
-    step_coded(alloc, tables, state, packet)
+    step_coded(alloc, tables, spare, state, packet)
 }

@@ -14,7 +14,7 @@ use Rattle.state_cache.proofs.Keys.{same_is_equal, same_key_equiv}
 use Rattle.state_cache.proofs.Rooms.{found_same, length_removed, one_missing, put_number, put_others, put_room}
 use Rattle.state_cache.proofs.Runs.{same_or_not}
 
-abbrev Stored : Type 0
+abbrev pub Stored : Type 0
 Stored = PacketKey × Kept
 
 -- the last of the first n entries
@@ -60,7 +60,7 @@ past_end [] p x h = cc
 past_end (y ∷ es) zero x h = omega arith
 past_end (y ∷ es) (suc p) x h = let more = past_end es p x h in omega (arith, more)
 
-same_entry : (es : List Stored) (p q : ℕ) (x y : Stored) → slice_get es p ≡ Some x → slice_get es q ≡ Some y → p ≡ q → x ≡ y
+pub same_entry : (es : List Stored) (p q : ℕ) (x y : Stored) → slice_get es p ≡ Some x → slice_get es q ≡ Some y → p ≡ q → x ≡ y
 same_entry es p q x y h k e = let there : slice_get es q ≡ Some x = ap (slice_get es) (sym e) ∙ h in cc
 
 module _ (es t : List Stored) (x : Stored) where

@@ -27,3 +27,4 @@ pub mod CostLaw
 pub mod WalkSteps
 pub mod Decided
 pub mod Evicted
+pub mod Victims

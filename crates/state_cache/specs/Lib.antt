@@ -11,3 +11,4 @@ pub mod CostLaws
 pub mod WalkLaws
 pub mod Faults
 pub mod Evictions
+pub mod EvictionLaws

@@ -17,7 +17,7 @@ use crate::outcomes::{Broken, Kept, PacketKey, ReachFault};
 use frame_header::has_key_tag;
 use lru::LruCache;
 use packet_edits::Store;
-use pixel_planes::{NoMemory, Picture};
+use pixel_planes::{NoMemory, Picture, Spare};
 use reference_frames::{State, StepFault, same_state};
 use std::alloc::Global;
 use std::marker::Model;
@@ -30,6 +30,8 @@ pub struct Cache {
     alloc: Global,
     kept: LruCache<PacketKey, Kept>,
     steps: Counter,
+    // The planes of an outcome that was dropped, for the next step.
+    spare: Spare,
 }
 
 impl Model for Cache {
@@ -60,6 +62,7 @@ impl Cache {
                 alloc,
                 kept,
                 steps: Counter::new(),
+                spare: Spare::new(),
             }),
             Err(_) => Err(NoMemory),
         }
@@ -262,7 +265,8 @@ impl Cache {
         let before = outcome_before(&self.kept, source, store, place);
         let state = state_of(before);
         let packet = store.packet(place);
-        let answer = self.steps.step(self.alloc, tables, state, packet);
+        let spare = &mut self.spare;
+        let answer = self.steps.step(self.alloc, tables, spare, state, packet);
         outcome_at(place, steps_after(before), answer)
     }
 
@@ -284,8 +288,10 @@ impl Cache {
         let has_converged = self.converges(key, &new);
         let victim = victim_of(&self.kept, key);
         match self.kept.put(key, new) {
-            Ok(_) => {
-                evict(&mut self.kept, victim);
+            Ok(replaced) => {
+                let evicted = evict(&mut self.kept, victim);
+                drop_into(replaced, &mut self.spare);
+                drop_into(evicted, &mut self.spare);
                 Ok(has_converged)
             }
             Err(_) => Err(NoMemory),
@@ -312,7 +318,8 @@ impl Cache {
         ensures rest { (self.new.capacity ≡ self.old.capacity) × (self.new.decoded ≡ self.old.decoded) }
     {
         is_valid(&self.kept);
-        self.kept.pop(&PacketKey { source, id });
+        let dropped = self.kept.pop(&PacketKey { source, id });
+        drop_into(dropped, &mut self.spare);
     }
 
     /// Whether an outcome of the packet at `place` is cached.
@@ -430,17 +437,22 @@ fn least_ranked(kept: &LruCache<PacketKey, Kept>) -> Option<PacketKey>
     Some(victim)
 }
 
-/// Drops the outcome of `victim`, if there is one to drop.
-fn evict(kept: &mut LruCache<PacketKey, Kept>, victim: Option<PacketKey>)
+/// Removes the outcome of `victim`, if there is one to drop, and returns it.
+fn evict(kept: &mut LruCache<PacketKey, Kept>, victim: Option<PacketKey>) -> Option<Kept>
     ensures valid { IsValid same_key kept.old }
     ensures entries { kept.new ≡ lru_cache (without victim kept.old.entries) kept.old.cap }
 {
     is_valid(kept);
     match victim {
-        Some(victim) => {
-            kept.pop(&victim);
-        }
-        None => {}
+        Some(victim) => kept.pop(&victim),
+        None => None,
+    }
+}
+
+/// Drops an outcome, if there is one. Planes that nothing else shares become the spare ones.
+fn drop_into(outcome: Option<Kept>, spare: &mut Spare) {
+    if let Some(outcome) = outcome {
+        outcome.drop_into(spare);
     }
 }
 

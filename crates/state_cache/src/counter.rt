@@ -4,8 +4,8 @@ ghost use Rattle.std.specs.Option.{option_copied};
 ghost use Rattle.reference_frames.specs.Steps.{StepAnswers, step_of};
 ghost use Rattle.state_cache.specs.Costs.{most_steps};
 
-use pixel_planes::Picture;
-use reference_frames::{State, StepFault, step};
+use pixel_planes::{Picture, Spare};
+use reference_frames::{State, StepFault, step_with};
 use std::alloc::Global;
 use std::marker::Model;
 use vp8_tables::Tables;
@@ -41,11 +41,12 @@ impl Counter {
         self.made
     }
 
-    /// Decodes a packet by `reference_frames::step` and counts the step, refused or not.
+    /// Decodes a packet by `reference_frames::step_with` and counts the step, refused or not.
     pub fn step(
         &mut self,
         alloc: Global,
         tables: &Tables,
+        spare: &mut Spare,
         state: Option<&State>,
         packet: &[u8],
     ) -> Result<(State, Picture), StepFault>
@@ -53,6 +54,6 @@ impl Counter {
         ensures answers { StepAnswers (step_of tables.now (option_copied state.entry) packet.now) result }
     {
         self.made = self.made.saturating_add(1);
-        step(alloc, tables, state, packet)
+        step_with(alloc, tables, spare, state, packet)
     }
 }

@@ -3,6 +3,7 @@
 
 ghost use Rattle.state_cache.specs.CostLaws.{UnsettledAreListed};
 ghost use Rattle.state_cache.specs.DecodingLaws.{BreaksAreNamed, EachHasOutcome, KeysDependOnNothing};
+ghost use Rattle.state_cache.specs.EvictionLaws.{VictimIsUnique, WorkedVictims};
 ghost use Rattle.state_cache.specs.EditLaws.{DropsKeepCoherence, EditsKeepCoherence, EditsKeepIds, LaterIdsAreNotCached, NextIdIsNotCached};
 ghost use Rattle.state_cache.specs.CacheViews.{CoherentIsCacheView};
 ghost use Rattle.state_cache.specs.WalkLaws.{NextIsUnique, WalksStepInOrder};
@@ -71,4 +72,15 @@ pub fn next_is_unique()
 /// the index after the last one.
 pub fn walks_step_in_order()
     ensures { WalksStepInOrder }
+{}
+
+/// A full cache drops one outcome, which is unique.
+pub fn victim_is_unique()
+    ensures { VictimIsUnique }
+{}
+
+/// A cache of 8 outcomes drops packets 1, 3, 5 and 2 if packets are played in order from a key
+/// packet on.
+pub fn worked_victims()
+    ensures { WorkedVictims }
 {}

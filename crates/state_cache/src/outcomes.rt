@@ -3,7 +3,7 @@ ghost use Rattle.state_cache.specs.Evictions.{rank};
 ghost use Rattle.state_cache.specs.Faults.{reach_fault_word};
 
 use frame_header::Cause;
-use pixel_planes::{NoMemory, Picture};
+use pixel_planes::{NoMemory, Picture, Spare};
 use reference_frames::State;
 use thiserror::Error;
 
@@ -72,5 +72,16 @@ impl Kept {
             picture: self.picture.again()?,
             steps: self.steps,
         })
+    }
+
+    /// Drops the outcome. Planes that nothing else shares become the spare ones.
+    pub(crate) fn drop_into(self, spare: &mut Spare) {
+        let Kept {
+            state,
+            picture,
+            steps: _,
+        } = self;
+        state.drop_into(spare);
+        spare.put(picture);
     }
 }

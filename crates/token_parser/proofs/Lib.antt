@@ -8,3 +8,4 @@ pub mod Zigzag
 pub mod BlockSteps
 pub mod TokenLaws
 pub mod ChainLemmas
+pub mod Ends

@@ -7,7 +7,8 @@ ghost use Rattle.token_parser.specs.declared.places.TheConstants.{BANDS, ZIGZAG}
 ghost use Rattle.token_parser.specs.declared.tokens.Tokens.{Tokens};
 ghost use Rattle.token_parser.specs.TokenTree.{end_of_block, token, size_in, size_of};
 ghost use Rattle.token_parser.specs.Tokens.{tokens_from};
-ghost use Rattle.token_parser.specs.Blocks.{place_of, block, macroblock, no_tokens, skipped, has_tokens};
+ghost use Rattle.token_parser.specs.Blocks.{place_of, block, macroblock, cleared, no_tokens, skipped, has_tokens};
+ghost use Rattle.token_parser.specs.Ends.{EndsHold};
 ghost use Rattle.token_parser.specs.Worked.{entry_after, reader_of, even_odds, three_tokens, HasSameY2};
 
 /// The bits of each token, as RFC 6386, section 13.2 lists them with its tree.
@@ -69,6 +70,11 @@ pub fn worked_tokens()
 pub fn y2_waits()
     ensures read { (probs : List ℕ) (before : Tokens) (r : Reader) → HasSameY2 before (macroblock probs false before r).0 }
     ensures skipped { (before : Tokens) → HasSameY2 before (skipped false before) }
+{}
+
+/// A block that ends at index 1 or before has no coefficient after its first, whatever is read.
+pub fn ends_hold()
+    ensures { (probs : List ℕ) (has_y2 : Bool) (before : Tokens) (r : Reader) → EndsHold (macroblock probs has_y2 (cleared before) r).0 }
 {}
 
 /// The tokens of a macroblock are a chain of reads, so RFC 6386's reader reads the same tokens.

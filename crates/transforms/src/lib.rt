@@ -12,5 +12,5 @@ mod walsh;
 
 pub use dct::{dct_add, dct_add_first};
 pub use factor_set::Factors;
-pub use quantisation::{dequantise, factors};
+pub use quantisation::{dequantise, dequantise_others, factors};
 pub use walsh::wht;

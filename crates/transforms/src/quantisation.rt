@@ -1,4 +1,4 @@
-ghost use Rattle.std.specs.Prelude.{◌≡◌, ◌≤◌, pos, ◌+ℤ◌, slice_index_or};
+ghost use Rattle.std.specs.Prelude.{◌≡◌, ◌≤◌, pos, ◌+ℤ◌, slice_index_or, slice_set};
 ghost use Rattle.transforms.specs.Factors.{clamped_index, index_of, factor, factors_of, dequantised};
 ghost use Rattle.vp8_tables.specs.declared.quantizers.TheConstants.{DC_QUANTIZERS, AC_QUANTIZERS};
 
@@ -101,6 +101,25 @@ pub fn dequantise(coefficients: &[i16; 16], dc: i16, ac: i16) -> [i16; 16]
     let factors = i16x8::splat(dc).shuffle(others, [0, 8, 8, 8, 8, 8, 8, 8]);
     let low = (low * factors).to_array();
     let high = (high * others).to_array();
+    [
+        low[0], low[1], low[2], low[3], low[4], low[5], low[6], low[7], //
+        high[0], high[1], high[2], high[3], high[4], high[5], high[6], high[7],
+    ]
+}
+
+/// The coefficients of a block's tokens for a block whose first coefficient is `first`, which is
+/// dequantised already or a result of Y2: the others times `ac`, in the low 16 bits of each product
+/// (RFC 6386, sections 14.1 and 14.3).
+#[inline]
+pub fn dequantise_others(coefficients: &[i16; 16], first: i16, ac: i16) -> [i16; 16]
+    ensures { result ≡ slice_set (dequantised coefficients.now ac ac) 0 first }
+{
+    let at = coefficients;
+    let low = i16x8::from_array([at[0], at[1], at[2], at[3], at[4], at[5], at[6], at[7]]);
+    let high = i16x8::from_array([at[8], at[9], at[10], at[11], at[12], at[13], at[14], at[15]]);
+    let factor = i16x8::splat(ac);
+    let low = i16x8::splat(first).shuffle(low * factor, [0, 9, 10, 11, 12, 13, 14, 15]);
+    let (low, high) = (low.to_array(), (high * factor).to_array());
     [
         low[0], low[1], low[2], low[3], low[4], low[5], low[6], low[7], //
         high[0], high[1], high[2], high[3], high[4], high[5], high[6], high[7],

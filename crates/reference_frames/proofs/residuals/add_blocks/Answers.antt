@@ -1,5 +1,4 @@
-use Rattle.std.proofs.Common.{◌≡◌, ◌+◌, ◌*◌, ◌/◌, ◌<◌, length, [], arith}
-use Rattle.std.proofs.lemmas.List.{get_or_default}
+use Rattle.std.proofs.Common.{◌≡◌, ◌+◌, ◌*◌, ◌/◌, length, refl, arith}
 use Rattle.intra_predict.specs.WholeSample.{side_of}
 use Rattle.reference_frames.proofs.AddedFirst.{none_first, block_inside, one_more, all_added}
 use Rattle.reference_frames.proofs.Squares.{rows_room}
@@ -31,8 +30,7 @@ pub loop-k-preserved : goal.loop-k-preserved
 loop-k-preserved c =
     let is = rw c.side-blocks_across.ensures at c.add_at.ensures in
     let few = rw c.side-blocks_across.ensures at c.loop-k-test.true in
-    let within : c.args.first + c.loop-k.k < length c.args.blocks.now = omega (arith, few, c.requires.first, c.told-blocks) in
-    one_more c.args.size c.args.first c.args.blocks.now c.args.across c.args.x c.args.y c.loop-k.k _ c.args.samples.now c.loop-k.samples c.add_at.new.samples c.requires.column few c.loop-k.invariant (get_or_default c.args.blocks.now (c.args.first + c.loop-k.k) _ [] within) is
+    one_more c.args.size c.args.first c.args.blocks.now c.args.across c.args.x c.args.y c.loop-k.k _ c.args.samples.now c.loop-k.samples c.add_at.new.samples c.requires.column few c.loop-k.invariant refl is
 
 pub returns : goal.returns
 returns c =

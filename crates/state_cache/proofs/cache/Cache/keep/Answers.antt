@@ -18,8 +18,8 @@ returns-in-Ok-clause-drops c =
     let old = c.self.inside.kept in
     let k = c.args.key in
     let victim = c.victim_of-victim.result in
-    let is : c.evict.new.kept ≡ lru_cache (left old k c.args.new victim) old.cap = c.evict.ensures.entries ∙ ap (λ (kept : LruCache PacketKey Kept). lru_cache (without victim kept.entries) kept.cap) c.in-Ok.ensures.entries in
-    let distinct : IsDistinct same_key (keys_of (put_entries same_key old k c.args.new)) = subst (λ (kept : LruCache PacketKey Kept). IsDistinct same_key (keys_of kept.entries)) c.in-Ok.ensures.entries c.evict.ensures.valid.0 in
+    let is : c.evict-evicted.new.kept ≡ lru_cache (left old k c.args.new victim) old.cap = c.evict-evicted.ensures.entries ∙ ap (λ (kept : LruCache PacketKey Kept). lru_cache (without victim kept.entries) kept.cap) c.in-Ok.ensures.entries in
+    let distinct : IsDistinct same_key (keys_of (put_entries same_key old k c.args.new)) = subst (λ (kept : LruCache PacketKey Kept). IsDistinct same_key (keys_of kept.entries)) c.in-Ok.ensures.entries c.evict-evicted.ensures.valid.0 in
     rw (← c.self.view_is) (λ q.
     let put = evicted_drops old k c.args.new c.self.invariant.0 c.self.invariant.1 c.is_valid.ensures.0 distinct victim (record { source = k.source; id = q }) in
     subst (λ (kept : LruCache PacketKey Kept). Drops (cached_in kept.entries k.source q) (with_cached (cached_in old.entries k.source) k.id c.args.new q)) (sym is)
@@ -30,8 +30,8 @@ returns-in-Ok-clause-others c =
     let old = c.self.inside.kept in
     let k = c.args.key in
     let victim = c.victim_of-victim.result in
-    let is : c.evict.new.kept ≡ lru_cache (left old k c.args.new victim) old.cap = c.evict.ensures.entries ∙ ap (λ (kept : LruCache PacketKey Kept). lru_cache (without victim kept.entries) kept.cap) c.in-Ok.ensures.entries in
-    let distinct : IsDistinct same_key (keys_of (put_entries same_key old k c.args.new)) = subst (λ (kept : LruCache PacketKey Kept). IsDistinct same_key (keys_of kept.entries)) c.in-Ok.ensures.entries c.evict.ensures.valid.0 in
+    let is : c.evict-evicted.new.kept ≡ lru_cache (left old k c.args.new victim) old.cap = c.evict-evicted.ensures.entries ∙ ap (λ (kept : LruCache PacketKey Kept). lru_cache (without victim kept.entries) kept.cap) c.in-Ok.ensures.entries in
+    let distinct : IsDistinct same_key (keys_of (put_entries same_key old k c.args.new)) = subst (λ (kept : LruCache PacketKey Kept). IsDistinct same_key (keys_of kept.entries)) c.in-Ok.ensures.entries c.evict-evicted.ensures.valid.0 in
     rw (← c.self.view_is) (λ other q apart.
     let put = evicted_drops old k c.args.new c.self.invariant.0 c.self.invariant.1 c.is_valid.ensures.0 distinct victim (record { source = other; id = q }) in
     subst (λ (kept : LruCache PacketKey Kept). Drops (cached_in kept.entries other q) (cached_in old.entries other q)) (sym is)
@@ -42,8 +42,8 @@ returns-in-Ok-clause-kept c =
     let old = c.self.inside.kept in
     let k = c.args.key in
     let victim = c.victim_of-victim.result in
-    let is : c.evict.new.kept ≡ lru_cache (left old k c.args.new victim) old.cap = c.evict.ensures.entries ∙ ap (λ (kept : LruCache PacketKey Kept). lru_cache (without victim kept.entries) kept.cap) c.in-Ok.ensures.entries in
-    let distinct : IsDistinct same_key (keys_of (put_entries same_key old k c.args.new)) = subst (λ (kept : LruCache PacketKey Kept). IsDistinct same_key (keys_of kept.entries)) c.in-Ok.ensures.entries c.evict.ensures.valid.0 in
+    let is : c.evict-evicted.new.kept ≡ lru_cache (left old k c.args.new victim) old.cap = c.evict-evicted.ensures.entries ∙ ap (λ (kept : LruCache PacketKey Kept). lru_cache (without victim kept.entries) kept.cap) c.in-Ok.ensures.entries in
+    let distinct : IsDistinct same_key (keys_of (put_entries same_key old k c.args.new)) = subst (λ (kept : LruCache PacketKey Kept). IsDistinct same_key (keys_of kept.entries)) c.in-Ok.ensures.entries c.evict-evicted.ensures.valid.0 in
     ap (λ (kept : LruCache PacketKey Kept). lookup (same_key k) kept.entries) is
     ∙ evicted_kept old k c.args.new c.self.invariant.0 c.self.invariant.1 c.is_valid.ensures.0 distinct victim c.victim_of-victim.ensures
 
@@ -52,7 +52,7 @@ returns-in-Ok-clause-room c =
     let old = c.self.inside.kept in
     let k = c.args.key in
     let victim = c.victim_of-victim.result in
-    let is : c.evict.new.kept ≡ lru_cache (left old k c.args.new victim) old.cap = c.evict.ensures.entries ∙ ap (λ (kept : LruCache PacketKey Kept). lru_cache (without victim kept.entries) kept.cap) c.in-Ok.ensures.entries in
+    let is : c.evict-evicted.new.kept ≡ lru_cache (left old k c.args.new victim) old.cap = c.evict-evicted.ensures.entries ∙ ap (λ (kept : LruCache PacketKey Kept). lru_cache (without victim kept.entries) kept.cap) c.in-Ok.ensures.entries in
     rw (← c.self.view_is) (λ room. record {
       number = ap (λ (kept : LruCache PacketKey Kept). length kept.entries) is ∙ evicted_length old k c.args.new c.self.invariant.0 c.self.invariant.1 c.is_valid.ensures.0 victim c.victim_of-victim.ensures room;
       others = λ q. ap (λ (kept : LruCache PacketKey Kept). cached_in kept.entries k.source q) is
@@ -66,7 +66,7 @@ returns-in-Ok-clause-number c =
     let old = c.self.inside.kept in
     let k = c.args.key in
     let victim = c.victim_of-victim.result in
-    let is : c.evict.new.kept ≡ lru_cache (left old k c.args.new victim) old.cap = c.evict.ensures.entries ∙ ap (λ (kept : LruCache PacketKey Kept). lru_cache (without victim kept.entries) kept.cap) c.in-Ok.ensures.entries in
+    let is : c.evict-evicted.new.kept ≡ lru_cache (left old k c.args.new victim) old.cap = c.evict-evicted.ensures.entries ∙ ap (λ (kept : LruCache PacketKey Kept). lru_cache (without victim kept.entries) kept.cap) c.in-Ok.ensures.entries in
     rw (← c.self.view_is) (subst (λ (kept : LruCache PacketKey Kept). length old.entries ≤ length kept.entries) (sym is)
     (evicted_number old k c.args.new c.self.invariant.0 c.self.invariant.1 c.is_valid.ensures.0 victim c.victim_of-victim.ensures))
 
@@ -75,7 +75,7 @@ returns-in-Ok-clause-bounded c =
     let old = c.self.inside.kept in
     let k = c.args.key in
     let victim = c.victim_of-victim.result in
-    let is : c.evict.new.kept ≡ lru_cache (left old k c.args.new victim) old.cap = c.evict.ensures.entries ∙ ap (λ (kept : LruCache PacketKey Kept). lru_cache (without victim kept.entries) kept.cap) c.in-Ok.ensures.entries in
+    let is : c.evict-evicted.new.kept ≡ lru_cache (left old k c.args.new victim) old.cap = c.evict-evicted.ensures.entries ∙ ap (λ (kept : LruCache PacketKey Kept). lru_cache (without victim kept.entries) kept.cap) c.in-Ok.ensures.entries in
     let few = evicted_bounded old k c.args.new c.self.invariant.0 c.self.invariant.1 c.is_valid.ensures.0 victim c.victim_of-victim.ensures in
     subst (λ (kept : LruCache PacketKey Kept). length kept.entries ≤ kept.cap - 1) (sym is) (omega (arith, few))
 
@@ -84,6 +84,6 @@ invariant_of-self c =
     let old = c.self.inside.kept in
     let k = c.args.key in
     let victim = c.victim_of-victim.result in
-    let is : c.evict.new.kept ≡ lru_cache (left old k c.args.new victim) old.cap = c.evict.ensures.entries ∙ ap (λ (kept : LruCache PacketKey Kept). lru_cache (without victim kept.entries) kept.cap) c.in-Ok.ensures.entries in
+    let is : c.evict-evicted.new.kept ≡ lru_cache (left old k c.args.new victim) old.cap = c.evict-evicted.ensures.entries ∙ ap (λ (kept : LruCache PacketKey Kept). lru_cache (without victim kept.entries) kept.cap) c.in-Ok.ensures.entries in
     let few = evicted_bounded old k c.args.new c.self.invariant.0 c.self.invariant.1 c.is_valid.ensures.0 victim c.victim_of-victim.ensures in
     subst (λ (kept : LruCache PacketKey Kept). (length kept.entries < kept.cap) × (1 < kept.cap)) (sym is) (few, c.self.invariant.1)

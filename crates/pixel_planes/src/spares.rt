@@ -1,0 +1,103 @@
+//! The planes of a dropped picture, whose memory is used again.
+
+ghost use Rattle.std.specs.Prelude.{◌≡◌, ◌*◌, ◌<◌, ◌≤◌, ◌↔◌, IfOk, IfSome, IsTrue};
+ghost use Rattle.pixel_planes.specs.Samples.{uniform};
+ghost use Rattle.pixel_planes.specs.Pictures.{HasBlocks};
+ghost use Rattle.pixel_planes.specs.PlaneSamples.{shown_of};
+
+use crate::NoMemory;
+use crate::pictures::{Picture, Planes};
+use crate::planes::Plane;
+use std::alloc::Global;
+use std::marker::Model;
+
+/// The planes of a dropped picture, or none. The next picture of the same size is made in their
+/// memory, without the allocations and the page faults of fresh planes.
+///
+/// No contract sees which planes they are: nothing that is made of them depends on it.
+#[derive(Debug, Drop)]
+pub struct Spare {
+    planes: Option<Planes>,
+}
+
+impl Model for Spare {
+    ghost Value = { Unit {0} };
+
+    ghost view = { λ _. tt };
+}
+
+impl Spare {
+    /// No planes.
+    pub fn new() -> Spare {
+        Spare { planes: None }
+    }
+
+    /// Drops a picture. If no other picture shares its planes, they are the spare ones from now on.
+    pub fn put(&mut self, picture: Picture) {
+        if let Some(planes) = picture.into_planes() {
+            self.planes = Some(planes);
+        }
+    }
+
+    /// Makes the planes of a picture of `columns` by `rows` macroblocks, 1 to 1,024 each way. All
+    /// their samples are 0.
+    ///
+    /// They are the spare planes if these have that size, which takes no memory. Spare planes of
+    /// another size are dropped first. `NoMemory` if the block of a plane is refused.
+    pub fn make_planes(
+        &mut self,
+        alloc: Global,
+        columns: usize,
+        rows: usize,
+    ) -> Result<Planes, NoMemory>
+        requires wide { (0 < columns) × (columns ≤ 1024) }
+        requires high { (0 < rows) × (rows ≤ 1024) }
+        ensures { IfOk result (λ planes. shown_of planes ≡ record { luma = uniform (16 * columns) (16 * rows) 0; cb = uniform (8 * columns) (8 * rows) 0; cr = uniform (8 * columns) (8 * rows) 0 }) }
+    {
+        match with_size(self.planes.take(), columns, rows) {
+            Some(mut planes) => {
+                clear(&mut planes);
+                Ok(planes)
+            }
+            None => Ok(Planes {
+                luma: Plane::make(alloc, 16 * columns, 16 * rows, 0)?,
+                cb: Plane::make(alloc, 8 * columns, 8 * rows, 0)?,
+                cr: Plane::make(alloc, 8 * columns, 8 * rows, 0)?,
+            }),
+        }
+    }
+}
+
+/// Whether a plane has this many squares of these sides each way.
+fn has_squares(plane: &Plane, side: usize, columns: usize, rows: usize) -> bool
+    requires side { side ≤ 16 }
+    requires few { (columns ≤ 1024) × (rows ≤ 1024) }
+    ensures { IsTrue result ↔ HasBlocks plane.now.shown side columns rows }
+{
+    plane.width() == side * columns && plane.height() == side * rows
+}
+
+/// The planes if they are those of a picture of this many macroblocks. Otherwise they are dropped.
+fn with_size(planes: Option<Planes>, columns: usize, rows: usize) -> Option<Planes>
+    requires { (columns ≤ 1024) × (rows ≤ 1024) }
+    ensures luma { IfSome result (λ planes. HasBlocks planes.luma.shown 16 columns rows) }
+    ensures cb { IfSome result (λ planes. HasBlocks planes.cb.shown 8 columns rows) }
+    ensures cr { IfSome result (λ planes. HasBlocks planes.cr.shown 8 columns rows) }
+{
+    let planes = planes?;
+    let has_size = has_squares(&planes.luma, 16, columns, rows)
+        && has_squares(&planes.cb, 8, columns, rows)
+        && has_squares(&planes.cr, 8, columns, rows);
+    if has_size { Some(planes) } else { None }
+}
+
+/// Writes 0 over each sample of the planes.
+fn clear(planes: &mut Planes)
+    ensures luma { planes.new.luma.shown ≡ uniform planes.old.luma.shown.width planes.old.luma.shown.height 0 }
+    ensures cb { planes.new.cb.shown ≡ uniform planes.old.cb.shown.width planes.old.cb.shown.height 0 }
+    ensures cr { planes.new.cr.shown ≡ uniform planes.old.cr.shown.width planes.old.cr.shown.height 0 }
+{
+    planes.luma.clear(0);
+    planes.cb.clear(0);
+    planes.cr.clear(0);
+}

@@ -1,0 +1,94 @@
+-- Blocks as they are kept are the blocks of their tokens.
+use Rattle.std.specs.Prelude.{nat_lt, slice_index_or, slice_set, Option, None, Some, if◌then◌else◌}
+use Rattle.std.proofs.Common.{◌≡◌, ℕ, ◌+◌, ◌<◌, ◌≤◌, inl, inr, Bool, List, [], ◌∷◌, map, replicate, ℤ, pos, ◌*ℤ◌, w16, lit<, refl, sym, ◌∙◌, arith}
+use Rattle.std.specs.List.{range_with_len}
+use Rattle.std.proofs.lemmas.Bool.{cases_lt, lt-ltb, le-ltb}
+use Rattle.std.proofs.lemmas.Int.{ints, int_wrap_fits}
+use Rattle.std.proofs.lemmas.List.FromFn.{fill_by_all, length-map-range_with_len, get_or-map-range_with_len}
+use Rattle.token_parser.specs.Ends.{IsFirstAlone, EndsHold}
+use Rattle.token_parser.specs.declared.tokens.Tokens.{Tokens}
+use Rattle.transforms.specs.Factors.{dequantised}
+use Rattle.transforms.specs.Transforms.{reduced}
+use Rattle.transforms.specs.declared.factor_set.Factors.{Factors}
+use Rattle.reference_frames.specs.FrameTokens.{block_of, block_with, blocks_of, firsts_of, with_first}
+use Rattle.reference_frames.specs.KeptBlocks.{kept_block, kept_blocks}
+
+-- a block with this first coefficient and its others dequantised
+abbrev pub with_others : List ℤ → ℤ → ℤ → List ℤ
+with_others coefficients first ac = slice_set (dequantised coefficients ac ac) 0 first
+
+no_product : (ac : ℤ) → reduced (pos 0 *ℤ ac) ≡ pos 0
+no_product ac = let none : pos 0 *ℤ ac ≡ pos 0 = omega (arith, ints) in rw none (int_wrap_fits w16 (pos 0) (record { sfits = lit< tt }))
+
+-- a block with no coefficient after its first has none when it is dequantised
+alone : (coefficients : List ℤ) (first ac : ℤ) → IsFirstAlone coefficients → with_others coefficients first ac ≡ first ∷ replicate 15 (pos 0)
+alone coefficients first ac is = rw (is, no_product ac) refl
+
+-- a block by its end
+by_end : (end : ℕ) (coefficients : List ℤ) (first ac : ℤ) → (end ≤ 1 → IsFirstAlone coefficients) → (if nat_lt 1 end then with_others coefficients first ac else first ∷ replicate 15 (pos 0)) ≡ with_others coefficients first ac
+by_end end coefficients first ac held = elim (cases_lt 1 end) [
+  | inl more ↦ rw (lt-ltb 1 end more) refl
+  | inr few ↦ rw (le-ltb 1 end few) (sym (alone coefficients first ac (held few)))
+]
+
+-- a dequantised block by its first coefficient and its others
+first_known : (coefficients : List ℤ) (dc ac : ℤ) → with_others coefficients (slice_index_or (dequantised coefficients dc ac) 0 (pos 0)) ac ≡ dequantised coefficients dc ac
+first_known coefficients dc ac = refl
+
+first_given : (firsts : Option (List ℤ)) (k : ℕ) (coefficients : List ℤ) (dc ac : ℤ) →
+    with_others coefficients (slice_index_or (with_first firsts k (block_with coefficients dc ac)) 0 (pos 0)) ac ≡ with_first firsts k (block_with coefficients dc ac)
+unfolding block_with
+first_given None k coefficients dc ac = refl
+first_given (Some firsts) k coefficients dc ac = refl
+
+chroma_first : (coefficients : List ℤ) (dc ac : ℤ) → with_others coefficients (slice_index_or (block_with coefficients dc ac) 0 (pos 0)) ac ≡ block_with coefficients dc ac
+unfolding block_with
+chroma_first coefficients dc ac = refl
+
+kept_is : (factors : Factors) (y2 : Bool) (tokens : Tokens) (k : ℕ) → k < 24 → EndsHold tokens →
+    (let block = block_of factors (firsts_of factors y2 tokens.coefficients) tokens.coefficients k in let ac = if nat_lt k 16 then factors.y_ac else factors.uv_ac in with_others (slice_index_or tokens.coefficients k []) (slice_index_or block 0 (pos 0)) ac ≡ block)
+unfolding block_of
+kept_is factors y2 tokens k within held = elim (cases_lt k 16) [
+  | inl luma ↦ rw (lt-ltb k 16 luma) (first_given (firsts_of factors y2 tokens.coefficients) k (slice_index_or tokens.coefficients k []) factors.y_dc factors.y_ac)
+  | inr chroma ↦ rw (le-ltb k 16 chroma) (chroma_first (slice_index_or tokens.coefficients k []) factors.uv_dc factors.uv_ac)
+]
+
+-- all blocks
+pub kept_all : (factors : Factors) (y2 : Bool) (tokens : Tokens) (firsts : List ℤ) → EndsHold tokens →
+    ((k : ℕ) → k < 24 → slice_index_or firsts k (pos 0) ≡ slice_index_or (block_of factors (firsts_of factors y2 tokens.coefficients) tokens.coefficients k) 0 (pos 0)) → kept_blocks tokens firsts factors ≡ blocks_of factors y2 tokens.coefficients
+unfolding kept_blocks blocks_of
+kept_all factors y2 tokens firsts held first_is =
+    fill_by_all (block_of factors (firsts_of factors y2 tokens.coefficients) tokens.coefficients) (map (kept_block tokens firsts factors) (range_with_len 0 24)) 24 [] (length-map-range_with_len (kept_block tokens firsts factors) 0 24)
+    (λ k less.
+    let there : 0 + k ≡ k = omega arith in
+    get_or-map-range_with_len (kept_block tokens firsts factors) 0 24 k k [] less there
+    ∙ by_end (slice_index_or tokens.ends k 0) (slice_index_or tokens.coefficients k []) (slice_index_or firsts k (pos 0)) (if nat_lt k 16 then factors.y_ac else factors.uv_ac) (held k (omega arith))
+    ∙ rw (first_is k less) (kept_is factors y2 tokens k less held))
+
+-- one of them
+pub kept_at : (tokens : Tokens) (firsts : List ℤ) (factors : Factors) (k : ℕ) → k < 24 → slice_index_or (kept_blocks tokens firsts factors) k [] ≡ kept_block tokens firsts factors k
+unfolding kept_blocks
+kept_at tokens firsts factors k less =
+    let there : 0 + k ≡ k = omega arith in
+    get_or-map-range_with_len (kept_block tokens firsts factors) 0 24 k k [] less there
+
+-- by its end
+pub kept_first : (tokens : Tokens) (firsts : List ℤ) (factors : Factors) (k : ℕ) (blocks : List (List ℤ)) → k < 24 → kept_blocks tokens firsts factors ≡ blocks → slice_index_or tokens.ends k 0 ≤ 1 → slice_index_or blocks k [] ≡ slice_index_or firsts k (pos 0) ∷ replicate 15 (pos 0)
+kept_first tokens firsts factors k blocks less is few = rw (← is, kept_at tokens firsts factors k less, le-ltb 1 (slice_index_or tokens.ends k 0) few) refl
+
+pub kept_others : (tokens : Tokens) (firsts : List ℤ) (factors : Factors) (k : ℕ) (blocks : List (List ℤ)) → k < 24 → kept_blocks tokens firsts factors ≡ blocks → 1 < slice_index_or tokens.ends k 0 →
+    slice_index_or blocks k [] ≡ with_others (slice_index_or tokens.coefficients k []) (slice_index_or firsts k (pos 0)) (if nat_lt k 16 then factors.y_ac else factors.uv_ac)
+kept_others tokens firsts factors k blocks less is more = rw (← is, kept_at tokens firsts factors k less, lt-ltb 1 (slice_index_or tokens.ends k 0) more) refl
+
+-- the first coefficient of a block
+pub chroma_own : (factors : Factors) (firsts : Option (List ℤ)) (coefficients : List (List ℤ)) (k : ℕ) → 16 ≤ k → reduced (slice_index_or (slice_index_or coefficients k []) 0 (pos 0) *ℤ factors.uv_dc) ≡ slice_index_or (block_of factors firsts coefficients k) 0 (pos 0)
+unfolding block_of block_with
+chroma_own factors firsts coefficients k chroma = rw (le-ltb k 16 chroma) refl
+
+pub luma_own : (factors : Factors) (coefficients : List (List ℤ)) (k : ℕ) → k < 16 → reduced (slice_index_or (slice_index_or coefficients k []) 0 (pos 0) *ℤ factors.y_dc) ≡ slice_index_or (block_of factors None coefficients k) 0 (pos 0)
+unfolding block_of block_with
+luma_own factors coefficients k luma = rw (lt-ltb k 16 luma) refl
+
+pub luma_given : (factors : Factors) (results : List ℤ) (coefficients : List (List ℤ)) (k : ℕ) → k < 16 → slice_index_or results k (pos 0) ≡ slice_index_or (block_of factors (Some results) coefficients k) 0 (pos 0)
+unfolding block_of block_with
+luma_given factors results coefficients k luma = rw (lt-ltb k 16 luma) refl

@@ -1,0 +1,200 @@
+//! The residual of a macroblock, as it is kept between its tokens and its samples (RFC 6386,
+//! sections 13 and 14).
+
+ghost use Rattle.std.specs.Prelude.{◌≡◌, ℕ, ◌+◌, ◌*◌, ◌<◌, ◌≤◌, [], length, pos, ◌*ℤ◌, if◌then◌else◌, None, Some, slice_index_or};
+ghost use Rattle.transforms.specs.Factors.{factors_of};
+ghost use Rattle.transforms.specs.Residuals.{IsAdded};
+ghost use Rattle.transforms.specs.Transforms.{inverse_dct, reduced};
+ghost use Rattle.reference_frames.specs.FrameTokens.{has_y2 as has_y2_of, block_with, y2_results, block_of, firsts_of, flag_with, residual_with};
+ghost use Rattle.reference_frames.specs.KeptBlocks.{flags_with, tokens_by};
+
+use crate::inter::is_split;
+use bool_coder::Decoder;
+use frame_header::Header;
+use mode_parser::{MbMode, YMode};
+use std::marker::Model;
+use token_parser::{Tokens, read_macroblock, skip_macroblock};
+use transforms::{Factors, dct_add, dct_add_first, dequantise, dequantise_others, factors, wht};
+
+/// Whether a macroblock has a block Y2, of the first coefficients of its luma (RFC 6386, section 13).
+#[inline]
+fn has_y2(mode: &MbMode) -> bool
+    ensures { result ≡ has_y2_of mode.now.y_mode }
+{
+    match mode.y_mode {
+        YMode::Whole(_) => true,
+        YMode::B => false,
+        YMode::Inter(_, mode) => !is_split(mode),
+    }
+}
+
+/// A block, dequantised (RFC 6386, section 14.1).
+#[inline]
+#[tactic(auto, unfolding(crate::specs::FrameTokens::block_with))]
+fn block_with(coefficients: &[i16; 16], dc: i16, ac: i16) -> [i16; 16]
+    ensures { result ≡ block_with coefficients.now dc ac }
+{
+    dequantise(coefficients, dc, ac)
+}
+
+/// The results of Y2, which are the first coefficients of the luma blocks (RFC 6386, section 14.3).
+#[inline]
+#[tactic(auto, unfolding(crate::specs::FrameTokens::y2_results))]
+fn y2_results(factors: Factors, coefficients: &[i16; 16]) -> [i16; 16]
+    ensures { result ≡ y2_results factors coefficients.now }
+{
+    wht(&block_with(coefficients, factors.y2_dc, factors.y2_ac))
+}
+
+/// Writes the first coefficients of the blocks from `start` to before `end`, dequantised.
+#[inline(always)]
+fn write_firsts(
+    coefficients: &[[i16; 16]; 25],
+    start: usize,
+    end: usize,
+    dc: i16,
+    firsts: &mut [i16; 24],
+)
+    requires { (start ≤ end) × (end ≤ 24) }
+    ensures inside { (k : ℕ) → start ≤ k → k < end → slice_index_or firsts.new k (pos 0) ≡ reduced (slice_index_or (slice_index_or coefficients.now k []) 0 (pos 0) *ℤ dc) }
+    ensures before { (k : ℕ) → k < start → slice_index_or firsts.new k (pos 0) ≡ slice_index_or firsts.old k (pos 0) }
+{
+    for k in start..end {
+        firsts[k] = coefficients[k][0].wrapping_mul(dc);
+    }
+}
+
+/// The first coefficients of the blocks that have samples: of luma the results of Y2, if there is
+/// one, and otherwise their own, dequantised (RFC 6386, sections 14.1 and 14.3).
+#[inline]
+fn first_coefficients(factors: Factors, has_y2: bool, coefficients: &[[i16; 16]; 25]) -> [i16; 24]
+    ensures { (k : ℕ) → k < 24 → slice_index_or result k (pos 0) ≡ slice_index_or (block_of factors (firsts_of factors has_y2 coefficients.now) coefficients.now k) 0 (pos 0) }
+{
+    let mut firsts = [0; 24];
+    if has_y2 {
+        let results = y2_results(factors, &coefficients[24]);
+        firsts[..16].copy_from_slice(&results);
+    } else {
+        write_firsts(coefficients, 0, 16, factors.y_dc, &mut firsts);
+    }
+    write_firsts(coefficients, 16, 24, factors.uv_dc, &mut firsts);
+    firsts
+}
+
+/// The flags of a macroblock: those above it and to its left before its tokens, and its own after
+/// them.
+#[derive(Clone, Copy)]
+pub struct Flags {
+    pub above: [bool; 9],
+    pub left: [bool; 9],
+    /// One of its blocks has a token.
+    pub has_tokens: bool,
+}
+
+/// The flags after a macroblock.
+#[inline]
+fn flags_of(tokens: &Tokens, has_tokens: bool) -> Flags
+    ensures { result ≡ record { above = tokens.now.above; left = tokens.now.left; has_tokens = has_tokens } }
+{
+    let (above, left) = (tokens.above, tokens.left);
+    Flags {
+        above,
+        left,
+        has_tokens,
+    }
+}
+
+/// The residual of a macroblock: 16 blocks of luma, 4 of U and 4 of V, each in raster order. A block
+/// is dequantised where it is added to its samples, if it has more than a first coefficient.
+#[derive(Drop)]
+pub struct Blocks {
+    /// The coefficients as they were read, and where each block ends.
+    tokens: Tokens,
+    /// The first coefficients, dequantised, or results of Y2.
+    firsts: [i16; 24],
+    factors: Factors,
+}
+
+impl Model for Blocks {
+    ghost use Rattle.std.specs.Prelude.{List, ℤ};
+    ghost use Rattle.reference_frames.specs.KeptBlocks.{kept_blocks};
+
+    ghost Value = { List (List ℤ) };
+
+    ghost view = { λ b. kept_blocks b.tokens b.firsts b.factors };
+}
+
+impl Blocks {
+    /// No block has a coefficient.
+    pub fn new() -> Blocks {
+        Blocks {
+            tokens: Tokens::new(),
+            firsts: [0; 24],
+            factors: Factors {
+                y_dc: 0,
+                y_ac: 0,
+                y2_dc: 0,
+                y2_ac: 0,
+                uv_dc: 0,
+                uv_ac: 0,
+            },
+        }
+    }
+
+    /// Reads the tokens of a macroblock after its flags, and keeps its residual. Returns its own
+    /// flags. If it is skipped, nothing is read.
+    pub fn read(
+        &mut self,
+        reader: &mut Decoder,
+        header: &Header,
+        mode: &MbMode,
+        flags: Flags,
+    ) -> Flags
+        ensures reader { reader.new ≡ (tokens_by header.now.context.probabilities.coefficients mode.now flags reader.old).1 }
+        ensures flags { result ≡ flags_with mode.now (tokens_by header.now.context.probabilities.coefficients mode.now flags reader.old).0 }
+        ensures residual { (if mode.now.is_skipped then None else Some self.new) ≡ residual_with (factors_of header.now mode.now.segment) mode.now (tokens_by header.now.context.probabilities.coefficients mode.now flags reader.old).0 }
+    {
+        let has_y2 = has_y2(mode);
+        let (above, left) = (flags.above, flags.left);
+        self.tokens.above = above;
+        self.tokens.left = left;
+        if mode.is_skipped {
+            skip_macroblock(has_y2, &mut self.tokens);
+            return flags_of(&self.tokens, false);
+        }
+        self.tokens.clear();
+        let probabilities = &header.context.probabilities.coefficients;
+        read_macroblock(reader, probabilities, has_y2, &mut self.tokens);
+        let factors = factors(header, mode.segment);
+        let firsts = first_coefficients(factors, has_y2, &self.tokens.coefficients);
+        self.factors = factors;
+        self.firsts = firsts;
+        flags_of(&self.tokens, self.tokens.has_tokens(has_y2))
+    }
+
+    /// Adds the residual of block `k` to its 4 by 4 samples at the start of `samples`, in rows
+    /// `stride` apart.
+    #[inline(always)]
+    pub fn add(&self, k: usize, samples: &mut [u8], stride: usize)
+        requires block { k < 24 }
+        requires wide { (4 ≤ stride) × (stride ≤ 16384) }
+        requires room { 3 * stride + 4 ≤ length samples.old }
+        ensures { IsAdded (inverse_dct (slice_index_or self.now k [])) stride samples.old samples.new }
+    {
+        let first = self.firsts[k];
+        if self.tokens.ends[k] > 1 {
+            let ac = if k < 16 {
+                self.factors.y_ac
+            } else {
+                self.factors.uv_ac
+            };
+            dct_add(
+                &dequantise_others(&self.tokens.coefficients[k], first, ac),
+                samples,
+                stride,
+            );
+        } else if first != 0 {
+            dct_add_first(first, samples, stride);
+        }
+    }
+}
