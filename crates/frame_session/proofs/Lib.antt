@@ -11,3 +11,6 @@ pub mod Kept
 pub mod Stores
 pub mod Sound
 pub mod Sources
+pub mod LiveReads
+pub mod LiveLines
+pub mod LiveRuns

@@ -9,3 +9,5 @@ pub mod Sessions
 pub mod Cached
 pub mod Answers
 pub mod Laws
+pub mod Live
+pub mod LiveSteps

@@ -8,6 +8,7 @@ mod hex_text;
 mod keeping;
 pub mod laws;
 mod lines;
+mod live;
 mod refusal;
 mod replies;
 mod script_text;
@@ -16,6 +17,7 @@ mod session;
 mod size;
 
 pub use edit::Edit;
+pub use live::{LiveFault, Settings, run_live};
 pub use refusal::Refusal;
 pub use serving::{RunFault, run};
 pub use session::Session;

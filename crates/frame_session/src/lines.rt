@@ -69,7 +69,7 @@ pub fn next_line(text: &[u8]) -> Option<(&[u8], &[u8])>
 }
 
 // The number of bytes before the first of this value, or before the end.
-fn length_before(byte: u8, text: &[u8]) -> usize
+pub(crate) fn length_before(byte: u8, text: &[u8]) -> usize
     ensures value { result ≡ position_or_len (λ b. b == byte) text.now }
     ensures within { result ≤ length text.now }
 {

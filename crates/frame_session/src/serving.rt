@@ -49,6 +49,27 @@ impl RunFault {
     }
 }
 
+/// When the writers are flushed.
+#[derive(Clone, Copy)]
+pub(crate) enum Flushing {
+    /// By the caller, after the last answer.
+    AtEnd,
+    /// Each frame before its reply is written, and each reply before the next line is read.
+    EachAnswer,
+}
+
+impl Flushing {
+    /// Flushes a writer, if its part of an answer is due.
+    fn flush<W: Write>(self, w: &mut W) -> Result<(), WriteFault>
+        ensures { Keeps (W.contents w.old) (W.contents w.new) }
+    {
+        match self {
+            Flushing::AtEnd => Ok(()),
+            Flushing::EachAnswer => w.flush().map_err(|_| WriteFault::Write),
+        }
+    }
+}
+
 /// Writes the line that opens the frames, if its head is due.
 fn write_opening<F: Write>(
     frames: &mut F,
@@ -89,12 +110,14 @@ fn write_answer<F: Write, R: Write>(
     head_due: Option<Head>,
     picture: &Picture,
     n: u64,
+    flushing: Flushing,
 ) -> Result<(), WriteFault>
     ensures frame { OnOk result (Appends (F.contents frames.old) (F.contents frames.new) (opening head_due picture.now.width picture.now.height ++ frame_text picture.now)) }
     ensures reply { OnOk result (Appends (R.contents replies.old) (R.contents replies.new) (served_line n)) }
     ensures frame_first { Keeps (R.contents replies.old) (R.contents replies.new) ⊎ Appends (F.contents frames.old) (F.contents frames.new) (opening head_due picture.now.width picture.now.height ++ frame_text picture.now) }
 {
     write_frame(frames, head_due, picture)?;
+    flushing.flush(frames)?;
     write_served(replies, n)
 }
 
@@ -104,6 +127,7 @@ fn serve_frame<F: Write, R: Write>(
     n: u64,
     frames: &mut F,
     replies: &mut R,
+    flushing: Flushing,
 ) -> Result<(), WriteFault>
     ensures serves { OnOk result (Serves session.old.now (Line.Frame n) (F.contents frames.old) (F.contents frames.new) (R.contents replies.old) (R.contents replies.new) session.new.now) }
     ensures frame_first { WritesFrameFirst session.old.now (Line.Frame n) (F.contents frames.old) (F.contents frames.new) (R.contents replies.old) (R.contents replies.new) session.new.now }
@@ -111,7 +135,7 @@ fn serve_frame<F: Write, R: Write>(
 {
     let head_due = session.head_due();
     match session.frame(n) {
-        Ok(picture) => write_answer(frames, replies, head_due, &picture, n),
+        Ok(picture) => write_answer(frames, replies, head_due, &picture, n, flushing),
         Err(refusal) => write_refused(replies, refusal),
     }
 }
@@ -143,6 +167,7 @@ fn serve<F: Write, R: Write>(
     line: Line<'_>,
     frames: &mut F,
     replies: &mut R,
+    flushing: Flushing,
 ) -> Result<(), WriteFault>
     ensures serves { OnOk result (Serves session.old.now line.entry (F.contents frames.old) (F.contents frames.new) (R.contents replies.old) (R.contents replies.new) session.new.now) }
     ensures frame_first { WritesFrameFirst session.old.now line.entry (F.contents frames.old) (F.contents frames.new) (R.contents replies.old) (R.contents replies.new) session.new.now }
@@ -151,7 +176,7 @@ fn serve<F: Write, R: Write>(
     match line {
         Line::Silent => Ok(()),
         Line::Unknown => write_refused(replies, Refusal::Line),
-        Line::Frame(n) => serve_frame(session, n, frames, replies),
+        Line::Frame(n) => serve_frame(session, n, frames, replies, flushing),
         Line::Use(source) => {
             let chosen = session.choose(source);
             write_edited(replies, chosen)
@@ -182,12 +207,29 @@ fn serve<F: Write, R: Write>(
     }
 }
 
+/// Answers one line, and flushes the reply if that is due.
+fn serve_line<F: Write, R: Write>(
+    session: &mut Session,
+    line: Line<'_>,
+    frames: &mut F,
+    replies: &mut R,
+    flushing: Flushing,
+) -> Result<(), WriteFault>
+    ensures serves { OnOk result (Serves session.old.now line.entry (F.contents frames.old) (F.contents frames.new) (R.contents replies.old) (R.contents replies.new) session.new.now) }
+    ensures frame_first { WritesFrameFirst session.old.now line.entry (F.contents frames.old) (F.contents frames.new) (R.contents replies.old) (R.contents replies.new) session.new.now }
+    ensures capacity { session.new.cache.capacity ≡ session.old.cache.capacity }
+{
+    serve(session, line, frames, replies, flushing)?;
+    flushing.flush(replies)
+}
+
 /// Answers all lines of a text.
-fn serve_all<F: Write, R: Write>(
+pub(crate) fn serve_all<F: Write, R: Write>(
     session: &mut Session,
     requests: &[u8],
     frames: &mut F,
     replies: &mut R,
+    flushing: Flushing,
 ) -> Result<(), WriteFault>
     ensures runs { OnOk result (Runs session.old.now (requests_of requests.now) (F.contents frames.old) (F.contents frames.new) (R.contents replies.old) (R.contents replies.new) session.new.now) }
     ensures stops { OnErr result (Stops session.old.now (requests_of requests.now) (F.contents frames.old) (F.contents frames.new) (R.contents replies.old) (R.contents replies.new)) }
@@ -198,7 +240,7 @@ fn serve_all<F: Write, R: Write>(
         let Some((line, following)) = next_line(rest) else {
             return Ok(());
         };
-        serve(session, read_line(line), frames, replies)?;
+        serve_line(session, read_line(line), frames, replies, flushing)?;
         rest = following;
     }
 }
@@ -207,7 +249,7 @@ fn serve_all<F: Write, R: Write>(
 ///
 /// `RunFault::Ivf` with the first source whose bytes are not an IVF file, or for whose packets there is no
 /// memory.
-fn read_sources(alloc: Global, ivfs: &[&[u8]]) -> Result<Vec<Ivf>, RunFault>
+pub(crate) fn read_sources(alloc: Global, ivfs: &[&[u8]]) -> Result<Vec<Ivf>, RunFault>
     ensures are { IfOk result (λ files. AreIvfs (texts_of ivfs.now) files.items) }
     ensures refused { IfErr result (IsSourceRefused (texts_of ivfs.now)) }
 {
@@ -261,7 +303,7 @@ pub fn run<F: Write, R: Write>(
         Ok(session) => session,
         Err(_) => return Err(RunFault::NoMemory),
     };
-    match serve_all(&mut session, requests, frames, replies) {
+    match serve_all(&mut session, requests, frames, replies, Flushing::AtEnd) {
         Ok(()) => Ok(session),
         Err(_) => Err(RunFault::Write),
     }

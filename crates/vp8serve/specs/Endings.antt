@@ -8,8 +8,13 @@ use Rattle.vp8_tables.specs.Tables.{TableEntries}
 use Rattle.stream_files.specs.Texts.{written_text}
 use Rattle.packet_edits.specs.Saved.{packets_of}
 use Rattle.frame_session.specs.Edits.{list_at}
-use Rattle.frame_session.specs.Answers.{Means, SourceRefuses}
-use Rattle.frame_session.specs.Sessions.{Now}
+use Rattle.std.specs.Borrow.{Bor}
+use Rattle.stream_files.specs.declared.ivf.Ivf.{Ivf}
+use Rattle.frame_session.specs.Answers.{AreIvfs, Means, SourceRefuses}
+use Rattle.frame_session.specs.Live.{CutsOff}
+use Rattle.frame_session.specs.Sessions.{Now, start}
+use Rattle.frame_session.specs.declared.live.LiveFault.{LiveFault}
+use Rattle.frame_session.specs.declared.live.LiveFault.TheVariants as lives
 use Rattle.frame_session.specs.declared.serving.RunFault.{RunFault}
 use Rattle.frame_session.specs.declared.serving.RunFault.TheVariants as runs
 use Rattle.vp8serve.specs.declared.fault.Fault.{Fault}
@@ -126,3 +131,79 @@ abbrev pub reported_as : RunFault → Fault
 reported_as (runs.Ivf source fault) = Input source fault
 reported_as runs.Write = CannotWrite
 reported_as runs.NoMemory = NoMemory
+
+-- Requests that are answered as they come. `given` is what their reader gives, if it is known.
+
+-- if no file of requests is named, their reader is the input
+abbrev pub IsInput : (requests : List ℕ) → (left given : Option (List ℕ)) → Type 0
+IsInput requests left given = requests ≡ codes "-" → given ≡ left
+
+-- all lines that the reader gave were answered over the files of these bytes with these replies
+pub record IsLiveReplied (tables : TableEntries) (sources : List (List ℕ)) (given replies replies' : Option (List ℕ)) (end : Now) : Type 0 where
+  pub text : List ℕ
+  pub all : IfSome given (λ bytes. text ≡ bytes)
+  pub replied : IsReplied tables sources text replies replies' end
+
+-- the lines before one that the reader did not give whole were answered over the files of these bytes with these replies
+pub record IsInterrupted (tables : TableEntries) (sources : List (List ℕ)) (given replies replies' : Option (List ℕ)) (fault : LiveFault) : Type 0 where
+  pub files : List Ivf
+  pub are : AreIvfs sources files
+  pub given' : Option (List ℕ)
+  pub frames : Option (List ℕ)
+  pub frames' : Option (List ℕ)
+  pub cut : CutsOff (start tables files) given given' frames frames' replies replies' fault
+
+-- why not all lines were answered, if it is not known where frames went
+abbrev pub IsLiveFault : (tables : TableEntries) → (sources : List (List ℕ)) → (given replies replies' : Option (List ℕ)) → LiveFault → Type 0
+IsLiveFault tables sources given replies replies' (lives.Ivf source fault) = SourceRefuses sources source fault × Keeps replies replies'
+IsLiveFault tables sources given replies replies' lives.Read = IsInterrupted tables sources given replies replies' lives.Read
+IsLiveFault tables sources given replies replies' lives.TooLong = IsInterrupted tables sources given replies replies' lives.TooLong
+IsLiveFault tables sources given replies replies' lives.Write = Unit {0}
+IsLiveFault tables sources given replies replies' lives.NoMemory = Unit {0}
+
+-- a live run's error as the program's, with the path that the user gave for the requests
+abbrev pub reported_live : Bor (List ℕ) → LiveFault → Fault
+reported_live path (lives.Ivf source fault) = Input source fault
+reported_live path lives.Read = CannotRead path
+reported_live path lives.TooLong = TooLong path
+reported_live path lives.Write = CannotWrite
+reported_live path lives.NoMemory = NoMemory
+
+-- the requests with this name were interrupted
+abbrev pub AreInterrupted : (tables : TableEntries) → (sources : List (List ℕ)) → (requests : List ℕ) → (left replies replies' : Option (List ℕ)) → LiveFault → Type 0
+AreInterrupted tables sources requests left replies replies' fault =
+    (given : Option (List ℕ)) × IsInput requests left given × IsInterrupted tables sources given replies replies' fault
+
+-- why not all requests with this name were answered: their file could not be opened, or it ended within a line, or as for requests in a list
+abbrev pub IsLiveRefused : (tables : TableEntries) → (sources : List (List ℕ)) → (requests : List ℕ) → (left replies replies' : Option (List ℕ)) → Fault → Type 0
+IsLiveRefused tables sources requests left replies replies' (CannotRead path) =
+    (path.now ≡ requests) × ((replies' ≡ replies) ⊎ AreInterrupted tables sources requests left replies replies' lives.Read)
+IsLiveRefused tables sources requests left replies replies' (TooLong path) = (path.now ≡ requests) × AreInterrupted tables sources requests left replies replies' lives.TooLong
+IsLiveRefused tables sources requests left replies replies' (Input source fault) = SourceRefuses sources source fault × Keeps replies replies'
+IsLiveRefused tables sources requests left replies replies' CannotWrite = Unit {0}
+IsLiveRefused tables sources requests left replies replies' NoMemory = Unit {0}
+IsLiveRefused tables sources requests left replies replies' _ = ⊥
+
+-- the requests with this name were interrupted, over the sources with these names
+pub record IsCutShort (unnamed : List ℕ) (names : List (List ℕ)) (requests : List ℕ) (left replies replies' : Option (List ℕ)) (fault : LiveFault) : Type 0 where
+  pub tables : TableEntries
+  pub sources : List (List ℕ)
+  pub named : AreNamed unnamed names sources
+  pub interrupted : AreInterrupted tables sources requests left replies replies' fault
+
+-- why the program exits before it answered all requests that come one after another: as for requests in a list, but the lines before an error of
+-- reading the requests were answered
+abbrev pub IsLiveEnded : (unnamed : List ℕ) → (tables : Option (List ℕ)) → (names : List (List ℕ)) → (requests : List ℕ) → (left left' replies replies' : Option (List ℕ)) → Fault → Type 0
+IsLiveEnded unnamed tables names requests left left' replies replies' CommandLine = ⊥
+IsLiveEnded unnamed tables names requests left left' replies replies' (NamedTwice same) = ⊥
+IsLiveEnded unnamed tables names requests left left' replies replies' (CannotRead path) =
+    (IsUnread tables names requests left left' path.now × (replies' ≡ replies))
+    ⊎ ((path.now ≡ requests) × IsCutShort unnamed names requests left replies replies' lives.Read)
+IsLiveEnded unnamed tables names requests left left' replies replies' (TooLong path) =
+    (IsUnread tables names requests left left' path.now × (replies' ≡ replies))
+    ⊎ ((path.now ≡ requests) × IsCutShort unnamed names requests left replies replies' lives.TooLong)
+IsLiveEnded unnamed tables names requests left left' replies replies' Tables = IsSome tables × (left' ≡ left) × (replies' ≡ replies)
+IsLiveEnded unnamed tables names requests left left' replies replies' (Input source fault) =
+    (sources : List (List ℕ)) × AreNamed unnamed names sources × SourceRefuses sources source fault × Keeps replies replies'
+IsLiveEnded unnamed tables names requests left left' replies replies' CannotWrite = Unit {0}
+IsLiveEnded unnamed tables names requests left left' replies replies' NoMemory = Unit {0}

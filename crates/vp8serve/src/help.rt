@@ -16,6 +16,14 @@ To watch frames as they are served, with the replies in a file:
 
   vp8serve in.ivf requests /dev/fd/3 3>&1 >replies | ffplay -
 
+To look at a frame before the next edit, answer each line as it comes:
+
+  vp8serve in.ivf - out.y4m --save edited.ivf --live
+
+Type `frame 0`; `served 0` comes when the frame is in out.y4m. `hold 1` repeats
+it, `delete 1` takes the repeat out again. At the end of input (Ctrl-D) the
+packets are saved.
+
 The files that are written, OUT and the one of --save, must not be the file of
 another argument. Paths under /dev/ may be named twice.";
 

@@ -5,6 +5,7 @@
 mod fault;
 mod files;
 mod help;
+mod live;
 mod program;
 mod sources;
 mod words;
@@ -30,5 +31,7 @@ fn main(rt: HostRuntime) -> ExitCode {
     ExitCode::from(status)
 }
 
+#[cfg(test)]
+mod live_tests;
 #[cfg(test)]
 mod tests;

@@ -11,6 +11,7 @@ ghost use Rattle.vp8serve.specs.Endings.{AreNamed, IsEnded, IsInputFault, IsRefu
 ghost use Rattle.vp8serve.specs.Statuses.{exit_status, status_of};
 
 use crate::fault::Fault;
+use crate::live::answer_live;
 use crate::sources::{read_requests, read_sources, read_tables, slices_of};
 use crate::words::{self, Accepted, NO_FILE};
 use clap::error::ErrorKind;
@@ -24,7 +25,7 @@ use stream_files::EMPTY;
 use vp8_tables::Tables;
 
 /// The number of bytes of frames or packets that are buffered.
-const BYTES_AT_ONCE: usize = 65_536;
+pub const BYTES_AT_ONCE: usize = 65_536;
 
 /// Shows an error to the user, and returns its exit status. If `errors` refuses the
 /// text, only the status reports it.
@@ -35,14 +36,15 @@ pub fn tell<E: Write>(fault: Fault<'_>, errors: &mut E) -> u8
     fault.status()
 }
 
-/// Answers arguments that could not be parsed: help, if it was asked for.
+/// Answers arguments that could not be parsed: help or the version, if that was asked for.
 fn help_or_fault<O: Write>(error: clap::Error, output: &mut O) -> Result<(), Fault<'static>>
     ensures help { kind_of error ≡ ErrorKind.DisplayHelp → IfErr result (λ fault. fault ≡ Fault.CannotWrite) }
+    ensures version { kind_of error ≡ ErrorKind.DisplayVersion → IfErr result (λ fault. fault ≡ Fault.CannotWrite) }
     ensures memory { kind_of error ≡ ErrorKind.OutOfMemory → result ≡ Err Fault.NoMemory }
-    ensures mistake { kind_of error ≢ ErrorKind.DisplayHelp → kind_of error ≢ ErrorKind.OutOfMemory → result ≡ Err Fault.CommandLine }
+    ensures mistake { kind_of error ≢ ErrorKind.DisplayHelp → kind_of error ≢ ErrorKind.DisplayVersion → kind_of error ≢ ErrorKind.OutOfMemory → result ≡ Err Fault.CommandLine }
 {
     match error.kind() {
-        ErrorKind::DisplayHelp => {
+        ErrorKind::DisplayHelp | ErrorKind::DisplayVersion => {
             write!(output, "{error}").map_err(|_| Fault::CannotWrite)?;
             output.flush().map_err(|_| Fault::CannotWrite)
         }
@@ -131,7 +133,7 @@ pub fn save_to<W: Write + Drop>(
 }
 
 /// The same to the file at `path`, which is created now, if one is given.
-fn save_to_path<R: Files + AllocGlobal>(
+pub fn save_to_path<R: Files + AllocGlobal>(
     rt: &R,
     session: &Session,
     path: Option<&str>,
@@ -149,7 +151,7 @@ fn save_to_path<R: Files + AllocGlobal>(
 }
 
 /// Reports the number of trailing bytes of all sources, if there are any.
-fn report_spare<E: Write>(session: &Session, errors: &mut E) -> io::Result<()>
+pub fn report_spare<E: Write>(session: &Session, errors: &mut E) -> io::Result<()>
     ensures { OnOk result (Appends (E.contents errors.old) (E.contents errors.new) (spare_text session.now.now.spare)) }
 {
     let spare = session.spare();
@@ -255,7 +257,11 @@ fn answer_line<'a, R: Files + AllocGlobal, S: AsStr, I: Read, O: Write, E: Write
     match words::parse(rt.alloc(), words) {
         Ok(words) => {
             let line = words.accept(rt.alloc())?;
-            answer(rt, &line, input, output, errors)
+            if line.words.is_live {
+                answer_live(rt, &line, input, output, errors)
+            } else {
+                answer(rt, &line, input, output, errors)
+            }
         }
         Err(error) => help_or_fault(error, output),
     }
@@ -272,12 +278,13 @@ fn exit_status<E: Write>(answer: Result<(), Fault<'_>>, errors: &mut E) -> u8
 }
 
 /// Runs the program on a command line, whose first argument is the program's name, and returns its exit
-/// status: 0 if every request was answered, also by a refusal, and for help; 2 for a
+/// status: 0 if every request was answered, also by a refusal, and for help and the version; 2 for a
 /// mistake on the command line; 1 for every other error.
 ///
 /// All files are read whole, up to 1,073,741,824 bytes each, before the file for the frames is created: the
 /// tables, IN, the files of `--sources` in their order, the requests. The file for the packets of source 0
-/// is created after the last request. Replies and help go to `output`; the text of an error, and after a
+/// is created after the last request. With `--live` the requests are not read before: each line is answered when its
+/// newline is read, and a line has at most 1,073,741,824 bytes. Replies, help and the version go to `output`; the text of an error, and after a
 /// run without one the number of trailing bytes of all sources together, if there are any, go to `errors`.
 pub fn serve<R: Files + AllocGlobal, S: AsStr, I: Read, O: Write, E: Write>(
     rt: &R,

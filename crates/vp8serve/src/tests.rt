@@ -79,6 +79,14 @@ To watch frames as they are served, with the replies in a file:
 
   vp8serve in.ivf requests /dev/fd/3 3>&1 >replies | ffplay -
 
+To look at a frame before the next edit, answer each line as it comes:
+
+  vp8serve in.ivf - out.y4m --save edited.ivf --live
+
+Type `frame 0`; `served 0` comes when the frame is in out.y4m. `hold 1` repeats
+it, `delete 1` takes the repeat out again. At the end of input (Ctrl-D) the
+packets are saved.
+
 The files that are written, OUT and the one of --save, must not be the file of
 another argument. Paths under /dev/ may be named twice.
 
@@ -94,7 +102,9 @@ Options:
       --cache <N>       Most decoded frames to cache, 1 to 4096 [default: 32]
       --tables <FILE>   3012 bytes to use instead of RFC 6386's long tables
       --save <FILE>     IVF file for the packets of IN after the last request
+      --live            Answer each request line as it comes, before the next is read
   -h, --help            Print help
+  -V, --version         Print version
 
 Requests, a line each; the reply goes to standard output:
   frame N               write frame N to OUT          served N
@@ -139,6 +149,15 @@ fn shows_help(rt: HostRuntime) {
         assert!(rt; help.output.as_slice() == HELP.as_bytes());
         assert_eq!(rt; help.errors.len(), 0);
         assert_eq!(rt; help.status, 0);
+    }
+}
+
+#[test]
+fn shows_its_version(rt: HostRuntime) {
+    for word in ["--version", "-V"] {
+        let run = run_program(&rt, &["vp8serve", word], "frame 0\n");
+        assert!(rt; run.output.as_slice() == b"vp8serve 0.1.0\n".as_slice());
+        assert_eq!(rt; (run.errors.len(), run.status), (0, 0));
     }
 }
 

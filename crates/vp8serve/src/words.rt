@@ -8,7 +8,7 @@ ghost use Rattle.vp8serve.specs.CommandLines.{AreNoPaths, ArePaths, IsAccepted, 
 use crate::fault::Fault;
 use crate::files::check_files;
 use crate::help::{ABOUT, GRAMMAR};
-use clap::{Arg, ArgMatches, Command};
+use clap::{Arg, ArgAction, ArgMatches, Command};
 use std::alloc::{AllocError, Global};
 use std::convert::AsStr;
 use std::env::{self, Env};
@@ -22,6 +22,9 @@ const SEPARATOR: char = ':';
 
 /// The most paths of `--sources`.
 const MOST_PATHS: usize = 7;
+
+/// The program's version.
+const VERSION: &str = "0.1.0";
 
 /// The default for the most cached states of a session.
 const CAPACITY: u16 = 32;
@@ -43,6 +46,8 @@ pub struct Words<'a> {
     pub tables: Option<&'a str>,
     /// The file for the packets after the run, if given.
     pub saved: Option<&'a str>,
+    /// Whether each request line is answered as it comes.
+    pub is_live: bool,
 }
 
 impl Words<'_> {
@@ -185,6 +190,14 @@ fn cache_option<'a>(alloc: Global) -> Arg<'a> {
     .value_parser(clap::value_parser!(u16).range(1..=4096))
 }
 
+/// The option that has no value.
+fn live_option<'a>(alloc: Global) -> Arg<'a> {
+    Arg::new(alloc, "live")
+        .long("live")
+        .action(ArgAction::SetTrue)
+        .help("Answer each request line as it comes, before the next is read")
+}
+
 /// Adds the arguments that have a place.
 fn with_places<'a>(alloc: Global, command: Command<'a>) -> Result<Command<'a>, AllocError> {
     command
@@ -221,12 +234,13 @@ fn with_files<'a>(alloc: Global, command: Command<'a>) -> Result<Command<'a>, Al
 /// The program's arguments.
 fn arguments<'a>(alloc: Global) -> Result<Command<'a>, AllocError> {
     let command = Command::new(alloc, "vp8serve")
+        .version(VERSION)
         .about(ABOUT)
         .after_help(GRAMMAR);
     let command = with_places(alloc, command)?
         .arg(sources_option(alloc))?
         .arg(cache_option(alloc))?;
-    with_files(alloc, command)
+    with_files(alloc, command)?.arg(live_option(alloc))
 }
 
 /// The values in a command line that was parsed.
@@ -239,6 +253,7 @@ fn words_of<'a>(matches: &ArgMatches<'a>) -> Words<'a> {
         cache: matches.get_one::<u16>("cache"),
         tables: matches.get_str("tables"),
         saved: matches.get_str("save"),
+        is_live: matches.get_flag("live"),
     }
 }
 

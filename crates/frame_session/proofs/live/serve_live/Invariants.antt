@@ -1,0 +1,9 @@
+use Rattle.std.proofs.Common.{◌≡◌, true}
+use Rattle.frame_session.specs.LiveSteps.{RunsText}
+use Rattle.frame_session.proofs.live.serve_live.Given as goal
+
+abbrev pub invariant-lines : goal.invariant-lines
+invariant-lines g l = record {
+  ran : RunsText l.fn.session.now l.session.now (g.I.Read.remaining l.fn.input) (g.I.Read.remaining l.input) (g.F.Write.contents l.fn.frames) (g.F.Write.contents l.frames) (g.R.Write.contents l.fn.replies) (g.R.Write.contents l.replies) true;
+  capacity : l.session.cache.capacity ≡ l.fn.session.cache.capacity;
+}
