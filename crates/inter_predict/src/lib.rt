@@ -10,8 +10,6 @@ mod passes;
 mod pieces;
 mod strips;
 mod taps;
-#[cfg(test)]
-mod tests;
 mod windows;
 
 pub use blocks::{block, block_in};

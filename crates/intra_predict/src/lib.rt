@@ -6,8 +6,6 @@ pub mod laws;
 mod means;
 mod modes;
 mod sub_blocks;
-#[cfg(test)]
-mod tests;
 mod whole_blocks;
 
 pub use modes::{BlockSize, SubMode, WholeMode};

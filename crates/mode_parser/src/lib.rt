@@ -6,8 +6,6 @@ mod chroma_vectors;
 mod frame_modes;
 mod frame_records;
 mod inter_modes;
-#[cfg(test)]
-mod inter_tests;
 mod key_modes;
 mod key_sub_modes;
 pub mod laws;
@@ -17,8 +15,6 @@ mod places;
 mod records;
 mod segments;
 mod split_vectors;
-#[cfg(test)]
-mod tests;
 mod vector_reading;
 mod vectors;
 

@@ -5,8 +5,6 @@ mod faults;
 pub mod laws;
 mod packets;
 mod pairs;
-#[cfg(test)]
-mod tests;
 
 pub use faults::ForgeFault;
 pub use packets::{blank, hold};

@@ -11,8 +11,6 @@ mod planes;
 mod reading;
 mod rows;
 mod scripts;
-#[cfg(test)]
-mod tests;
 mod traces;
 mod words;
 

@@ -16,5 +16,3 @@ pub use packets::{Bytes, MAX_PACKETS, Packet, Packets};
 pub use reading::{ReadFault, read_all};
 pub use y4m::{WriteFault, y4m_frame, y4m_header};
 
-#[cfg(test)]
-mod tests;

@@ -7,8 +7,6 @@ pub mod laws;
 mod macroblocks;
 mod places;
 mod sizes;
-#[cfg(test)]
-mod tests;
 mod tokens;
 
 pub use macroblocks::{read_macroblock, skip_macroblock};

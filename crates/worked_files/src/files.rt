@@ -1,8 +1,11 @@
-use super::*;
 use pixel_planes::{Picture, Plane, Planes};
 use std::alloc::{AllocError, Global};
 use std::io::{self, ErrorKind, Read};
 use std::test::Fail;
+use stream_files::{
+    EMPTY, Head, IvfFault, MAX_PACKETS, ReadFault, WriteFault, ivf_packet, ivf_read, ivf_start,
+    read_all, y4m_frame, y4m_header,
+};
 
 /// A reader that returns one byte a call, as long as it has one, and an error at a later call.
 #[derive(Drop)]

@@ -1,7 +1,7 @@
-use crate::{MbMode, Vector, YMode, read_modes};
 use bool_coder::Encoder;
 use frame_header::read_header;
 use intra_predict::{SubMode, WholeMode};
+use mode_parser::{MbMode, Vector, YMode, read_modes};
 use std::alloc::{AllocError, Global};
 use std::test::Fail;
 use vp8_tables::Tables;

@@ -1,8 +1,8 @@
 ghost use Rattle.std.specs.Prelude.{◌≡◌, ◌<◌, ◌≤◌};
 ghost use Rattle.pixel_planes.specs.Pictures.{shown_height};
 
-use crate::{ApplyFault, CropOutside, Script, ScriptFault, Step, apply};
 use pixel_planes::{Component, NoMemory, Picture, Plane, Planes, same};
+use script_nodes::{ApplyFault, CropOutside, Script, ScriptFault, Step, apply};
 use std::alloc::Global;
 use std::test::Fail;
 

@@ -1,4 +1,4 @@
-use super::*;
+use intra_predict::{BlockSize, SubMode, WholeMode, sub, whole};
 
 /// The samples to the left of the worked sub blocks (L0 to L3).
 const LEFT: [u8; 4] = [7, 20, 4, 100];

@@ -1,7 +1,7 @@
-use crate::{Tokens, read_macroblock, skip_macroblock};
 use bool_coder::{Decoder, Encoder};
 use std::alloc::{AllocError, Global};
 use std::test::Fail;
+use token_parser::{Tokens, read_macroblock, skip_macroblock};
 
 /// The bits of each token from the root of the tree, and the node of each bit: 0 to 4, the six
 /// categories, the end of a block (RFC 6386, section 13.2).

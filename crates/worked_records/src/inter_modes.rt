@@ -1,7 +1,7 @@
-use crate::{MbMode, Vector, VectorMode, YMode, chroma_vector, read_modes};
 use bool_coder::Encoder;
 use frame_header::{Reference, read_header};
 use intra_predict::{SubMode, WholeMode};
+use mode_parser::{MbMode, Vector, VectorMode, YMode, chroma_vector, read_modes};
 use std::alloc::{AllocError, Global};
 use std::process::Abort;
 use std::test::Fail;

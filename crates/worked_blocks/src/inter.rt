@@ -1,6 +1,6 @@
 ghost use Rattle.std.specs.Prelude.{◌<◌, ◌≤◌};
 
-use crate::{Kind, block, block_in};
+use inter_predict::{Kind, block, block_in};
 use pixel_planes::{NoMemory, Picture, Plane, Planes};
 use std::alloc::Global;
 use std::test::Fail;

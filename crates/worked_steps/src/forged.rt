@@ -1,4 +1,4 @@
-use super::*;
+use packet_forge::{blank, hold};
 use pixel_planes::{Picture, Plane, same};
 use reference_frames::{State, step};
 use std::alloc::Global;

@@ -1,0 +1,5 @@
+//! Worked forged packets: what they decode to.
+#![tactic(auto)]
+
+#[cfg(test)]
+mod forged;
