@@ -66,7 +66,7 @@ trimmed-zeros : (count : ℕ) → trimmed (replicate count 0) ≡ []
 trimmed-zeros zero = trimmed-none
 trimmed-zeros (suc count) = trimmed-bit 0 (replicate count 0) ∙ ap (before 0) (trimmed-zeros count)
 
-trimmed-padded : (bits : List ℕ) (count : ℕ) → trimmed (bits ++ replicate count 0) ≡ trimmed bits
+pub trimmed-padded : (bits : List ℕ) (count : ℕ) → trimmed (bits ++ replicate count 0) ≡ trimmed bits
 trimmed-padded [] count = trimmed-zeros count ∙ sym trimmed-none
 trimmed-padded (bit ∷ bits) count = trimmed-bit bit (bits ++ replicate count 0) ∙ ap (before bit) (trimmed-padded bits count) ∙ sym (trimmed-bit bit bits)
 

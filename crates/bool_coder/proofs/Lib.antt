@@ -12,3 +12,5 @@ pub mod Shifts
 pub mod Leaves
 pub mod Level
 pub mod Chains
+pub mod Ends
+pub mod Marks

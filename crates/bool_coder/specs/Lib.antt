@@ -7,3 +7,4 @@ pub mod Low
 pub mod Window
 pub mod Worked
 pub mod Chains
+pub mod Taken

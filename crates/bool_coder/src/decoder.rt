@@ -1,6 +1,6 @@
 //! The decoder of RFC 6386, section 7.
 
-ghost use Rattle.std.specs.Prelude.{◌≡◌, ◌*◌, ◌<◌, ◌≤◌, ◌^◌, IsTrue, unsigned_abs};
+ghost use Rattle.std.specs.Prelude.{◌≡◌, ◌*◌, ◌<◌, ◌≤◌, ◌^◌, IsTrue, length, unsigned_abs};
 ghost use Rattle.bool_coder.specs.Reader.{started, read};
 ghost use Rattle.bool_coder.specs.Reading.{flag, literal, signed};
 ghost use Rattle.bool_coder.specs.Trees.{is_tree, leaf};
@@ -48,6 +48,18 @@ impl<'a> Decoder<'a> {
             window: self.window,
             range: self.range,
         }
+    }
+
+    /// The number of bits that it has not taken in yet, up to and with the last 1 of its text: past
+    /// that it reads zeros only.
+    ///
+    /// A text with a mark after it, a byte 1, shows how far it is read. For example, `[0x9F, 0xC0]`
+    /// read as `[0x9F, 0xC0, 0, 0, 1]` returns the same bits as long as any are left, and has been
+    /// read past its end when fewer than 24 are left (`laws::marks_count_bits`).
+    pub fn left(&self) -> u128
+        ensures { result ≡ length self.now.rest }
+    {
+        self.window.unread()
     }
 
     /// One bit that is 0 with a probability of `prob` in 256.

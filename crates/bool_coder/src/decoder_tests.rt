@@ -94,6 +94,30 @@ fn window_reads_as_bit_by_bit(rt: HostRuntime) {
     }
 }
 
+// The plain reader counts the bits that it takes in. The text is read as if four zero bytes and a
+// mark came after it, which are 40 bits more.
+#[test]
+fn mark_counts_bits_taken_in(rt: HostRuntime) {
+    let mut bytes = Bytes(3);
+    let mut text = [0; 13];
+    text[12] = 1;
+    for byte in text.iter_mut().take(8) {
+        *byte = bytes.next();
+    }
+    let mut decoder = Decoder::new(&text);
+    let mut reader = PlainReader::new(&text[..8]);
+    for _bit in 0..1_000 {
+        let left = 104usize.saturating_sub(reader.place);
+        assert_eq!(rt; decoder.left(), left as u128);
+        let prob = bytes.next_prob();
+        let _bits = (decoder.bit(prob), reader.bit(prob));
+    }
+    assert_eq!(rt; decoder.left(), 0);
+    assert_eq!(rt; Decoder::new(&[]).left(), 0);
+    assert_eq!(rt; Decoder::new(&[0xFF]).left(), 0);
+    assert_eq!(rt; Decoder::new(&[0, 0x40, 0]).left(), 2);
+}
+
 #[test]
 fn text_of_ones_reads_ones(rt: HostRuntime) {
     for prob in [0, 128, 255] {

@@ -1,12 +1,13 @@
 //! Laws that show that the definitions have their intended meaning.
 
-ghost use Rattle.std.specs.Prelude.{◌≡◌, ◌<◌, ◌≤◌, ◌+◌, ℕ, length, pos, negsuc, neg_ℤ, true, false, [], ◌∷◌, replicate, IsTrue};
+ghost use Rattle.std.specs.Prelude.{◌≡◌, ◌<◌, ◌≤◌, ◌+◌, ◌-◌, ◌*◌, ℕ, length, pos, negsuc, neg_ℤ, true, false, [], ◌∷◌, replicate, IsTrue};
 ghost use Rattle.bool_coder.specs.Chains.{Chain, HasProbabilities, IsChain, and_then, run};
 ghost use Rattle.bool_coder.specs.Reader.{Reader, text_start, started, read};
 ghost use Rattle.bool_coder.specs.Reading.{Reading, give, flag, literal, signed};
 ghost use Rattle.bool_coder.specs.Trees.{is_tree, leaf_below, leaf};
 ghost use Rattle.bool_coder.specs.Uncut.{uncut_read, settled, bits_read};
-ghost use Rattle.bool_coder.specs.Worked.{steps};
+ghost use Rattle.bool_coder.specs.Taken.{marked, taken_from, past_end};
+ghost use Rattle.bool_coder.specs.Worked.{steps, even_bits};
 
 /// The reader of a decoder, whose window is clamped to the range and whose bits end with the last
 /// 1, reads the same bits as RFC 6386's reader, which is not clamped and has the whole bit string,
@@ -39,6 +40,26 @@ pub fn numbers_are_chains(tree: &[i8], probs: &[u8])
     ensures literal { (count : ℕ) → IsChain (literal count) }
     ensures signed { (count : ℕ) → IsChain (signed count) }
     ensures leaf { IsChain (leaf tree.now probs.now) }
+{}
+
+/// A mark counts the bits that a chain of reads takes in: so many zero bytes after the text, and
+/// then a byte 1. As long as the mark is not reached, the chain returns the value that it returns
+/// without it, and the bits left are those of the text, the zero bytes and the mark, except for the
+/// bits taken in. None are left if it takes in all of them or more.
+pub fn marks_count_bits<T>(bytes: &[u8])
+    ensures left { (chain : Chain T) (zeros : ℕ) → length (run read chain (started (marked zeros bytes.now))).1.rest ≡ 8 * (length bytes.now + zeros + 1) - taken_from chain bytes.now }
+    ensures value { (chain : Chain T) (zeros : ℕ) → taken_from chain bytes.now < 8 * (length bytes.now + zeros + 1) → (run read chain (started (marked zeros bytes.now))).0 ≡ (run read chain (started bytes.now)).0 }
+{}
+
+/// Bits read past the end of a text: before the first bit is read, eight of an empty text and none
+/// of one byte; after three even bits, 2 of one zero byte, and after nine of 0x80 it is 9.
+pub fn worked_ends()
+    ensures empty { past_end (even_bits 0) [] ≡ 8 }
+    ensures first { past_end (even_bits 0) (0 ∷ []) ≡ 0 }
+    ensures zeros { past_end (even_bits 3) (0 ∷ []) ≡ 2 }
+    ensures ones { past_end (even_bits 9) (0x80 ∷ []) ≡ 9 }
+    ensures inside { past_end (even_bits 8) (0x9F ∷ 0xC0 ∷ []) ≡ 0 }
+    ensures last { past_end (even_bits 9) (0x9F ∷ 0xC0 ∷ []) ≡ 1 }
 {}
 
 /// The bits that a reader returns for texts that an encoder wrote, and for one whose window stays

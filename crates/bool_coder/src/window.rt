@@ -1,6 +1,6 @@
 //! The 64-bit window through which a decoder reads its bytes.
 
-ghost use Rattle.std.specs.Prelude.{◌≡◌, ◌+◌, ◌-◌, ◌*◌, ◌<◌, ◌≤◌, ◌^◌, ℕ, [], ◌∷◌, ◌++◌};
+ghost use Rattle.std.specs.Prelude.{◌≡◌, ◌+◌, ◌-◌, ◌*◌, ◌<◌, ◌≤◌, ◌^◌, ℕ, [], ◌∷◌, ◌++◌, length};
 ghost use Rattle.bool_coder.specs.Reader.{text_start, level};
 ghost use Rattle.bool_coder.specs.Window.{reader_of};
 
@@ -34,6 +34,22 @@ impl<'a> Window<'a> {
                 left: 0,
             },
         }
+    }
+
+    /// The number of unread bits up to and with the last 1.
+    pub fn unread(&self) -> u128
+        requires { self.now.left ≤ 56 }
+        ensures { (range : ℕ) → result ≡ length (level (reader_of self.now.value self.now.left self.now.bytes.now range)).rest }
+    {
+        let mut count = self.bytes.len();
+        while count > 0 && self.bytes[count - 1] == 0 {
+            count -= 1;
+        }
+        if count == 0 {
+            return self.left.saturating_sub(self.value.trailing_zeros()) as u128;
+        }
+        let last = 8 - self.bytes[count - 1].trailing_zeros();
+        self.left as u128 + 8 * (count - 1) as u128 + last as u128
     }
 
     /// Loads bytes if fewer than 7 bits are unread, the most by which a bit shifts the range.

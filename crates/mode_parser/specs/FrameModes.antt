@@ -1,5 +1,5 @@
 -- The modes of a frame: one record for each macroblock, in raster order.
-use Rattle.std.specs.Prelude.{ℕ, zero, suc, ◌-◌, ◌*◌, ◌/◌, ◌%◌, ◌==◌, ◌||◌, nat_lt, Option, None, List, [], ◌∷◌, ◌++◌, slice_get, if◌then◌else◌}
+use Rattle.std.specs.Prelude.{ℕ, zero, suc, ◌-◌, ◌*◌, ◌/◌, ◌%◌, ◌==◌, ◌||◌, nat_lt, Option, None, List, [], ◌∷◌, ◌++◌, length, slice_get, if◌then◌else◌}
 use Rattle.bool_coder.specs.Reading.{Reading, ◌>>=◌, give}
 use Rattle.vp8_tables.specs.Tables.{TableEntries}
 use Rattle.frame_header.specs.declared.header.Header.{Header}
@@ -45,13 +45,15 @@ first_modes (suc place) tables header columns rows map = do
   mode ← mode_at tables header columns rows map place before
   give (before ++ mode ∷ [])
 
--- the records of a frame, and the segment of each macroblock after it
+-- the records of a frame, the segment of each macroblock after it, and the number of bits of the first partition that are
+-- left after the records
 pub record FrameModes : Type 0 where
   pub records : List MbMode
   pub segment_map : List ℕ
+  pub left : ℕ
 
 -- the modes of a frame of so many macroblocks each way, after a segment map (section 19.3)
 abbrev pub modes_of : TableEntries → Header → ℕ → ℕ → Option (List ℕ) → FrameModes
 modes_of tables header columns rows before =
-    let records = (first_modes (columns * rows) tables header columns rows before header.reader).0 in
-    record { records = records; segment_map = map_after header (columns * rows) before records }
+    let read = first_modes (columns * rows) tables header columns rows before header.reader in
+    record { records = read.0; segment_map = map_after header (columns * rows) before read.0; left = length read.1.rest }

@@ -18,6 +18,7 @@ use vp8_tables::Tables;
 pub struct Modes {
     records: Vec<MbMode>,
     segment_map: Vec<u8>,
+    left: u128,
 }
 
 impl Model for Modes {
@@ -25,7 +26,7 @@ impl Model for Modes {
 
     ghost Value = { FrameModes };
 
-    ghost view = { λ m. record { records = m.records.items; segment_map = m.segment_map.items } };
+    ghost view = { λ m. record { records = m.records.items; segment_map = m.segment_map.items; left = m.left } };
 }
 
 impl Modes {
@@ -41,6 +42,14 @@ impl Modes {
         ensures { result.items ≡ self.segment_map }
     {
         self.segment_map
+    }
+
+    /// The number of bits of the first partition that its reader has not taken in after the
+    /// records, as `Decoder::left` counts them.
+    pub fn left(&self) -> u128
+        ensures { result ≡ self.now.left }
+    {
+        self.left
     }
 
     /// The segment of each macroblock, in raster order.
@@ -70,10 +79,11 @@ pub fn read_modes(
     ensures count { IfOk result (λ modes. length modes.records ≡ columns * rows) }
     ensures segments { IfOk result (λ modes. length modes.segment_map ≡ columns * rows) }
 {
-    let records = read_records(alloc, tables, header, columns, rows, map)?;
+    let (records, left) = read_records(alloc, tables, header, columns, rows, map)?;
     let segment_map = map_after(alloc, header, columns * rows, map, &records)?;
     Ok(Modes {
         records,
         segment_map,
+        left,
     })
 }

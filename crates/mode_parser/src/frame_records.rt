@@ -91,8 +91,8 @@ fn push_mode(
     push_prediction(reader, tables, header, segment, place, records)
 }
 
-/// The records of a frame of 1 to 1,024 macroblocks each way, which follow its header; `map` is the
-/// segment map before it.
+/// The records of a frame of 1 to 1,024 macroblocks each way, which follow its header, and the
+/// number of bits that their reader has left; `map` is the segment map before it.
 pub(crate) fn read_records(
     alloc: Global,
     tables: &Tables,
@@ -100,12 +100,13 @@ pub(crate) fn read_records(
     columns: usize,
     rows: usize,
     map: Option<&[u8]>,
-) -> Result<Vec<MbMode>, NoMemory>
+) -> Result<(Vec<MbMode>, u128), NoMemory>
     requires some { 1 ≤ columns }
     requires wide { columns ≤ 1024 }
     requires high { rows ≤ 1024 }
-    ensures value { IfOk result (λ records. records.items ≡ (first_modes (columns * rows) tables.now header.now columns rows (option_copied map.entry) header.now.reader).0) }
-    ensures count { IfOk result (λ records. length records.items ≡ columns * rows) }
+    ensures value { IfOk result (λ read. read.0.items ≡ (first_modes (columns * rows) tables.now header.now columns rows (option_copied map.entry) header.now.reader).0) }
+    ensures left { IfOk result (λ read. read.1 ≡ length (first_modes (columns * rows) tables.now header.now columns rows (option_copied map.entry) header.now.reader).1.rest) }
+    ensures count { IfOk result (λ read. length read.0.items ≡ columns * rows) }
 {
     // A copy of its own keeps the reader in registers.
     let mut reader = header.reader.copied();
@@ -121,5 +122,5 @@ pub(crate) fn read_records(
         push_mode(&mut reader, tables, header, map, place, &mut records)?;
         place = next_place(place);
     }
-    Ok(records)
+    Ok((records, reader.left()))
 }
