@@ -2,8 +2,6 @@
 #![tactic(auto)]
 
 mod decoder;
-#[cfg(test)]
-mod decoder_tests;
 mod encoder;
 pub mod laws;
 pub mod round_trip;

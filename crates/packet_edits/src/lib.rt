@@ -15,6 +15,3 @@ mod store;
 pub use entry::Entry;
 pub use fault::EditFault;
 pub use store::Store;
-
-#[cfg(test)]
-mod tests;

@@ -6,8 +6,6 @@ mod dct;
 mod factor_set;
 pub mod laws;
 mod quantisation;
-#[cfg(test)]
-mod tests;
 mod walsh;
 
 pub use dct::{dct_add, dct_add_first};

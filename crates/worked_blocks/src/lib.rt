@@ -1,7 +1,9 @@
-//! Worked blocks: intra prediction and inter prediction, sample by sample.
+//! Worked blocks: inverse transforms, intra prediction and inter prediction, sample by sample.
 #![tactic(auto)]
 
 #[cfg(test)]
 mod inter;
 #[cfg(test)]
 mod intra;
+#[cfg(test)]
+mod transforms;

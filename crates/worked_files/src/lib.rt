@@ -1,7 +1,9 @@
-//! Worked files and scripts: texts that are read and written, and the pictures that scripts make.
+//! Worked files, packet lists and scripts: texts that are read and written, edits, and the pictures that scripts make.
 #![tactic(auto)]
 
 #[cfg(test)]
 mod files;
+#[cfg(test)]
+mod packets;
 #[cfg(test)]
 mod scripts;

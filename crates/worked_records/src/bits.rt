@@ -1,4 +1,4 @@
-use crate::Decoder;
+use bool_coder::Decoder;
 use std::test::Fail;
 
 /// The reader of RFC 6386, section 7.3, a bit at a time. Its d is not clamped to the range: it

@@ -1,5 +1,5 @@
-use super::*;
 use frame_header::{Quantizers, read_header};
+use transforms::{Factors, dct_add, dct_add_first, dequantise, factors, wht};
 use vp8_tables::Tables;
 
 /// 100 at index 1 is the only coefficient in its column, and the first pass leaves 100 in each row.

@@ -1,4 +1,4 @@
-use crate::{EditFault, Store};
+use packet_edits::{EditFault, Store};
 use pixel_planes::NoMemory;
 use std::alloc::Global;
 use std::io::{self, ErrorKind, Write};
