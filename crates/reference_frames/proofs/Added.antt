@@ -1,13 +1,13 @@
 -- Residuals that are added to samples.
-use Rattle.std.specs.Prelude.{slice_index_or, All, replicate}
-use Rattle.std.proofs.Common.{◌≡◌, ℕ, zero, suc, ◌+◌, ◌-◌, ◌*◌, ◌<◌, ◌≤◌, ◌⊎◌, inl, inr, List, [], ◌∷◌, ◌++◌, length, get_or, Fits, SFits, w8, w16, rules, add-zero, take, drop, ℤ, pos, ◌+ℤ◌, refl, ap, sym, ◌∙◌, arith}
+use Rattle.std.specs.Prelude.{slice_index, slice_index_or, All, replicate}
+use Rattle.std.proofs.Common.{◌≡◌, ℕ, zero, suc, ◌+◌, ◌-◌, ◌*◌, ◌/◌, ◌%◌, ◌<◌, ◌≤◌, ◌⊎◌, inl, inr, List, [], ◌∷◌, ◌++◌, length, get_or, Fits, SFits, w8, w16, rules, add-zero, take, drop, ℤ, pos, ◌+ℤ◌, refl, ap, sym, ◌∙◌, arith}
 use Rattle.std.proofs.lemmas.Bool.{cases_lt}
 use Rattle.std.proofs.lemmas.List.{same_lists, length-replicate, get_or-replicate, length-take-le, get_or-take}
 use Rattle.std.proofs.lemmas.Int.{int_wrap_fits}
 use Rattle.vp8_tables.specs.Bounds.{clamped_sample}
-use Rattle.transforms.specs.Residuals.{IsAdded}
+use Rattle.transforms.specs.Residuals.{IsAdded, firsts_residual}
 use Rattle.transforms.specs.Transforms.{inverse_dct, dct_pass, dct_column, by_sine, by_cosine, eighth}
-use Rattle.reference_frames.specs.AddedBlocks.{IsAddedAt}
+use Rattle.reference_frames.specs.AddedBlocks.{IsAddedAt, blocks_residual}
 use Rattle.reference_frames.proofs.Squares.{index_in, index_before, index_above, index_within, start_within, part_old, part_new, part_before, part_kept, whole_put}
 
 -- a list of zeros
@@ -42,26 +42,26 @@ pub held_alone : (sample : ℕ) → Fits w8 sample → clamped_sample (pos sampl
 held_alone sample fits = rw add-zero (omega arith)
 
 -- samples with a residual of 0 are as they were
-pub none_added : (coefficients : List ℤ) (stride : ℕ) (samples : List ℕ) → coefficients ≡ replicate 16 (pos 0) → ((k : ℕ) → Fits w8 (get_or samples k 0)) → IsAdded (inverse_dct coefficients) stride samples samples
+pub none_added : (coefficients : List ℤ) (stride : ℕ) (samples : List ℕ) → coefficients ≡ replicate 16 (pos 0) → ((k : ℕ) → Fits w8 (get_or samples k 0)) → IsAdded (inverse_dct coefficients) 4 stride samples samples
 none_added coefficients stride samples none fit = record {
   whole = refl;
   each = λ column row in_row in_block. rw (none, no_residual column row in_row) (sym (held_alone _ (fit (row * stride + column))));
   others = λ column row in_row out. refl;
 }
 
--- ---- a block in rows of samples
+-- ---- blocks in rows of samples
 
--- a residual added to the part that begins with a block is added to the block within the samples
-pub added_at : (residual : ℕ → ℕ → ℤ) (across column row : ℕ) (old part rest : List ℕ) → column + 4 ≤ across → (row + 4) * across ≤ length old →
-    IsAdded residual across (take (length old - (across * row + column)) (drop (across * row + column) old)) part → rest ≡ drop (length old - (across * row + column)) (drop (across * row + column) old) → IsAddedAt residual across column row old (take (across * row + column) old ++ (part ++ rest))
-added_at residual across column row old part rest wide high is following =
+-- a residual added to the part that begins with blocks is added to these within the samples
+pub added_at : (residual : ℕ → ℕ → ℤ) (across width column row : ℕ) (old part rest : List ℕ) → 4 ≤ width → column + width ≤ across → (row + 4) * across ≤ length old →
+    IsAdded residual width across (take (length old - (across * row + column)) (drop (across * row + column) old)) part → rest ≡ drop (length old - (across * row + column)) (drop (across * row + column) old) → IsAddedAt residual across width column row old (take (across * row + column) old ++ (part ++ rest))
+added_at residual across width column row old part rest some wide high is following =
     let start : ℕ = across * row + column in
-    let room : start ≤ length old = start_within across 4 column row (length old) (omega arith) wide high in
+    let room : start ≤ length old = start_within across 4 column row (length old) (omega arith) (omega (arith, some, wide)) high in
     record {
       whole = whole_put old part rest start room is.whole following;
       each = λ i j inside.
           let place : j * across + i ≡ start + ((j - row) * across + (i - column)) = index_in across i j column row inside.0 inside.2 in
-          let to_i : i < column + 4 = inside.1 in
+          let to_i : i < column + width = inside.1 in
           let to_j : j < row + 4 = inside.3 in
           let within : start + ((j - row) * across + (i - column)) < length old = omega (arith, high, place, index_within across i j (row + 4) (omega arith) to_j) in
           rw place (part_new old part rest start ((j - row) * across + (i - column)) is.whole within ∙ is.each (i - column) (j - row) (omega arith) (omega arith) ∙ ap (λ n. clamped_sample (pos n +ℤ residual (i - column) (j - row))) (part_old old start ((j - row) * across + (i - column)) within));
@@ -71,7 +71,7 @@ added_at residual across column row old part rest wide high is following =
             | inr below ↦ elim (cases_lt i column) [
               | inr right ↦
                   let place : j * across + i ≡ start + ((j - row) * across + (i - column)) = index_in across i j column row right below in
-                  let away : (4 ≤ i - column) ⊎ (4 ≤ j - row) = elim (cases_lt i (column + 4)) [
+                  let away : (width ≤ i - column) ⊎ (4 ≤ j - row) = elim (cases_lt i (column + width)) [
                     | inr beside ↦ inl (omega arith)
                     | inl near ↦ elim (cases_lt j (row + 4)) [ inl here ↦ absurd (out (right, near, below, here)) | inr lower ↦ inr (omega arith) ]
                   ] in
@@ -87,3 +87,55 @@ added_at residual across column row old part rest wide high is following =
             ]
           ];
     }
+
+-- the same residual in other words
+pub added_same : (one other : ℕ → ℕ → ℤ) (across width column row : ℕ) (old new : List ℕ) → ((i j : ℕ) → i < width → j < 4 → one i j ≡ other i j) → IsAddedAt one across width column row old new → IsAddedAt other across width column row old new
+added_same one other across width column row old new same is = record {
+  whole = is.whole;
+  each = λ i j inside.
+      let from_i : column ≤ i = inside.0 in
+      let to_i : i < column + width = inside.1 in
+      let from_j : row ≤ j = inside.2 in
+      let to_j : j < row + 4 = inside.3 in
+      is.each i j inside ∙ ap (λ (r : ℤ). clamped_sample (pos (slice_index old (j * across + i)) +ℤ r)) (same (i - column) (j - row) (omega (arith, from_i, to_i)) (omega (arith, from_j, to_j)));
+  others = is.others;
+}
+
+-- ---- blocks next to each other
+
+-- no block
+pub none_added_at : (residual : ℕ → ℕ → ℤ) (across column row : ℕ) (old : List ℕ) → IsAddedAt residual across 0 column row old old
+none_added_at residual across column row old = record {
+  whole = refl;
+  each = λ i j inside. absurd (let from : column ≤ i = inside.0 in let to : i < column + 0 = inside.1 in omega (arith, from, to));
+  others = λ i j a out. refl;
+}
+
+-- one block more
+pub one_added : (blocks : List (List ℤ)) (across k n column row : ℕ) (old samples new : List ℕ) → column + 4 * n + 4 ≤ across → IsAddedAt (blocks_residual blocks k) across (4 * n) column row old samples →
+    IsAddedAt (inverse_dct (slice_index_or blocks (k + n) [])) across 4 (column + 4 * n) row samples new → IsAddedAt (blocks_residual blocks k) across (4 * (n + 1)) column row old new
+one_added blocks across k n column row old samples new wide before is = record {
+  whole = is.whole ∙ before.whole;
+  each = λ i j inside.
+      let from_i : column ≤ i = inside.0 in
+      let to_i : i < column + 4 * (n + 1) = inside.1 in
+      let in_row : i < across = omega (arith, to_i, wide) in
+      elim (cases_lt i (column + 4 * n)) [
+        | inl earlier ↦ is.others i j in_row (λ q. let from : column + 4 * n ≤ i = q.0 in absurd (omega (arith, from, earlier))) ∙ before.each i j (from_i, earlier, inside.2, inside.3)
+        | inr from ↦
+            let block : (i - column) / 4 ≡ n = omega (arith, from, to_i) in
+            let at : i - (column + 4 * n) ≡ (i - column) % 4 = omega (arith, from, to_i) in
+            let kept : slice_index samples (j * across + i) ≡ slice_index old (j * across + i) = before.others i j in_row (λ q. let to : i < column + 4 * n = q.1 in absurd (omega (arith, from, to))) in
+            is.each i j (from, omega (arith, to_i), inside.2, inside.3) ∙ rw (kept, at, block) refl
+      ];
+  others = λ i j a out.
+      is.others i j a (λ q. let from : column + 4 * n ≤ i = q.0 in let to : i < column + 4 * n + 4 = q.1 in out (omega (arith, from), omega (arith, to), q.2, q.3))
+      ∙ before.others i j a (λ q. let to : i < column + 4 * n = q.1 in out (q.0, omega (arith, to), q.2, q.3));
+}
+
+-- blocks that each have only a first coefficient
+pub firsts_are : (blocks : List (List ℤ)) (firsts : List ℤ) (across count k column row : ℕ) (old new : List ℕ) → ((n : ℕ) → n < count → slice_index_or blocks (k + n) [] ≡ slice_index_or firsts n (pos 0) ∷ replicate 15 (pos 0)) →
+    IsAddedAt (firsts_residual firsts) across (4 * count) column row old new → IsAddedAt (blocks_residual blocks k) across (4 * count) column row old new
+unfolding firsts_residual
+firsts_are blocks firsts across count k column row old new each is =
+    added_same (firsts_residual firsts) (blocks_residual blocks k) across (4 * count) column row old new (λ i j less below. ap (λ (xs : List ℤ). inverse_dct xs (i % 4) j) (sym (each (i / 4) (omega (arith, less))))) is

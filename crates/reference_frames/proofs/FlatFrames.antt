@@ -294,7 +294,7 @@ luma_step columns rows my mx p in_row in_frame begun =
 -- ---- frames
 
 -- a macroblock's index is one of the frame's
-place_within : (columns rows my mx : ℕ) → mx < columns → my < rows → my * columns + mx < columns * rows
+pub place_within : (columns rows my mx : ℕ) → mx < columns → my < rows → my * columns + mx < columns * rows
 place_within columns rows my mx in_row in_frame = let fits = row_fits columns rows my in_frame in omega (arith, fits)
 
 -- the known samples of each of the three planes

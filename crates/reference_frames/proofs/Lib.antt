@@ -4,7 +4,7 @@ pub mod Quarters
 pub mod AboveRight
 pub mod KeptBlocks
 pub mod Added
-pub mod AddedFirst
+pub mod AddedRows
 pub mod Blocks
 pub mod Sides
 pub mod MacroblockOrder

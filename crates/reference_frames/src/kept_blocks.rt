@@ -1,7 +1,7 @@
 //! The residual of a macroblock, as it is kept between its tokens and its samples (RFC 6386,
 //! sections 13 and 14).
 
-ghost use Rattle.std.specs.Prelude.{◌≡◌, ℕ, ◌+◌, ◌*◌, ◌<◌, ◌≤◌, [], length, pos, ◌*ℤ◌, if◌then◌else◌, None, Some, slice_index_or};
+ghost use Rattle.std.specs.Prelude.{◌≡◌, ℕ, ◌+◌, ◌*◌, ◌<◌, ◌≤◌, [], ◌∷◌, length, replicate, pos, ◌*ℤ◌, if◌then◌else◌, IfSome, None, Some, slice_index_or};
 ghost use Rattle.transforms.specs.Factors.{factors_of};
 ghost use Rattle.transforms.specs.Residuals.{IsAdded};
 ghost use Rattle.transforms.specs.Transforms.{inverse_dct, reduced};
@@ -179,7 +179,7 @@ impl Blocks {
         requires block { k < 24 }
         requires wide { (4 ≤ stride) × (stride ≤ 16384) }
         requires room { 3 * stride + 4 ≤ length samples.old }
-        ensures { IsAdded (inverse_dct (slice_index_or self.now k [])) stride samples.old samples.new }
+        ensures { IsAdded (inverse_dct (slice_index_or self.now k [])) 4 stride samples.old samples.new }
     {
         let first = self.firsts[k];
         if self.tokens.ends[k] > 1 {
@@ -196,5 +196,33 @@ impl Blocks {
         } else if first != 0 {
             dct_add_first(first, samples, stride);
         }
+    }
+
+    /// The first coefficients of four blocks, starting with block `k`, if none of these has others.
+    #[inline(always)]
+    pub fn four_firsts(&self, k: usize) -> Option<[i16; 4]>
+        requires { k + 4 ≤ 24 }
+        ensures { IfSome result (λ firsts. (n : ℕ) → n < 4 → slice_index_or self.now (k + n) [] ≡ slice_index_or firsts n (pos 0) ∷ replicate 15 (pos 0)) }
+    {
+        let ends = &self.tokens.ends;
+        let last = ends[k].max(ends[k + 1]).max(ends[k + 2]).max(ends[k + 3]);
+        if last > 1 {
+            return None;
+        }
+        let firsts = &self.firsts;
+        Some([firsts[k], firsts[k + 1], firsts[k + 2], firsts[k + 3]])
+    }
+
+    /// The first coefficients of two blocks, starting with block `k`, if none of these has others.
+    #[inline(always)]
+    pub fn two_firsts(&self, k: usize) -> Option<[i16; 2]>
+        requires { k + 2 ≤ 24 }
+        ensures { IfSome result (λ firsts. (n : ℕ) → n < 2 → slice_index_or self.now (k + n) [] ≡ slice_index_or firsts n (pos 0) ∷ replicate 15 (pos 0)) }
+    {
+        let ends = &self.tokens.ends;
+        if ends[k].max(ends[k + 1]) > 1 {
+            return None;
+        }
+        Some([self.firsts[k], self.firsts[k + 1]])
     }
 }

@@ -6,11 +6,12 @@ ghost use Rattle.intra_predict.specs.Blocks.{IsBlock};
 ghost use Rattle.intra_predict.specs.WholeSample.{side_of};
 ghost use Rattle.transforms.specs.Transforms.{inverse_dct};
 ghost use Rattle.reference_frames.specs.Restored.{restored};
-ghost use Rattle.reference_frames.specs.AddedBlocks.{IsAddedAt};
+ghost use Rattle.reference_frames.specs.AddedBlocks.{IsAddedAt, blocks_residual};
 ghost use Rattle.reference_frames.specs.PlacedBlocks.{IsPlaced, from_corner, square_from};
 
 pub use crate::kept_blocks::Blocks;
 use intra_predict::BlockSize;
+use transforms::{dct_add_four_firsts, dct_add_two_firsts};
 
 /// Adds the residual of block `k` to its samples in rows of `across` samples, starting at this
 /// column and row.
@@ -20,9 +21,90 @@ fn add_at(blocks: &Blocks, k: usize, samples: &mut [u8], across: usize, column: 
     requires small { (across ≤ 16384) × (row + 4 ≤ 16384) }
     requires column { column + 4 ≤ across }
     requires room { (row + 4) * across ≤ length samples.old }
-    ensures { IsAddedAt (inverse_dct (slice_index_or blocks.now k [])) across column row samples.old samples.new }
+    ensures { IsAddedAt (inverse_dct (slice_index_or blocks.now k [])) across 4 column row samples.old samples.new }
 {
     blocks.add(k, &mut samples[across * row + column..], across);
+}
+
+/// Adds the residuals of `count` blocks next to each other, starting with block `k`, one after
+/// another.
+#[inline(always)]
+fn add_each(
+    blocks: &Blocks,
+    k: usize,
+    count: usize,
+    samples: &mut [u8],
+    across: usize,
+    column: usize,
+    row: usize,
+)
+    requires blocks { (count ≤ 4) × (k + count ≤ 24) }
+    requires small { (across ≤ 16384) × (row + 4 ≤ 16384) }
+    requires column { column + 4 * count ≤ across }
+    requires room { (row + 4) * across ≤ length samples.old }
+    ensures { IsAddedAt (blocks_residual blocks.now k) across (4 * count) column row samples.old samples.new }
+{
+    for n in 0..count {
+        add_at(blocks, k + n, samples, across, column + 4 * n, row);
+    }
+}
+
+/// Adds the residuals of four blocks next to each other, starting with block `k`: at once if each
+/// has only a first coefficient.
+#[inline(always)]
+fn add_four(blocks: &Blocks, k: usize, samples: &mut [u8], across: usize, column: usize, row: usize)
+    requires blocks { k + 4 ≤ 24 }
+    requires small { (across ≤ 16384) × (row + 4 ≤ 16384) }
+    requires column { column + 16 ≤ across }
+    requires room { (row + 4) * across ≤ length samples.old }
+    ensures { IsAddedAt (blocks_residual blocks.now k) across 16 column row samples.old samples.new }
+{
+    match blocks.four_firsts(k) {
+        Some(firsts) => {
+            dct_add_four_firsts(firsts, &mut samples[across * row + column..], across);
+        }
+        None => add_each(blocks, k, 4, samples, across, column, row),
+    }
+}
+
+/// The same for two blocks.
+#[inline(always)]
+fn add_two(blocks: &Blocks, k: usize, samples: &mut [u8], across: usize, column: usize, row: usize)
+    requires blocks { k + 2 ≤ 24 }
+    requires small { (across ≤ 16384) × (row + 4 ≤ 16384) }
+    requires column { column + 8 ≤ across }
+    requires room { (row + 4) * across ≤ length samples.old }
+    ensures { IsAddedAt (blocks_residual blocks.now k) across 8 column row samples.old samples.new }
+{
+    match blocks.two_firsts(k) {
+        Some(firsts) => {
+            dct_add_two_firsts(firsts, &mut samples[across * row + column..], across);
+        }
+        None => add_each(blocks, k, 2, samples, across, column, row),
+    }
+}
+
+/// Adds the residuals of a row of blocks of a square of this size, starting with block `k`.
+#[inline(always)]
+fn add_row(
+    blocks: &Blocks,
+    k: usize,
+    size: BlockSize,
+    samples: &mut [u8],
+    across: usize,
+    column: usize,
+    row: usize,
+)
+    requires blocks { k + side_of size / 4 ≤ 24 }
+    requires small { (across ≤ 16384) × (row + 4 ≤ 16384) }
+    requires column { column + side_of size ≤ across }
+    requires room { (row + 4) * across ≤ length samples.old }
+    ensures { IsAddedAt (blocks_residual blocks.now k) across (side_of size) column row samples.old samples.new }
+{
+    match size {
+        BlockSize::Sixteen => add_four(blocks, k, samples, across, column, row),
+        BlockSize::Eight => add_two(blocks, k, samples, across, column, row),
+    }
 }
 
 /// Adds the residual of a macroblock to one of its squares, whose blocks are numbered starting at
@@ -43,16 +125,10 @@ fn add_blocks(
     requires room { (y + side_of size) * across ≤ length samples.old }
     ensures { IsPlaced (from_corner x y (restored (side_of size) first (Some blocks.now) (square_from samples.old across x y))) across (side_of size) x y samples.old samples.new }
 {
-    let blocks_across = size.side() / 4;
-    for k in 0..blocks_across * blocks_across {
-        add_at(
-            blocks,
-            first + k,
-            samples,
-            across,
-            x + 4 * (k % blocks_across),
-            y + 4 * (k / blocks_across),
-        );
+    let count = size.side() / 4;
+    for n in 0..count {
+        let k = first + n * count;
+        add_row(blocks, k, size, samples, across, x, y + 4 * n);
     }
 }
 

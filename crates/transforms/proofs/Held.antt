@@ -38,7 +38,7 @@ sum_fits : (z : ℤ) → IsWithin 16639 z → SFits w16 z
 sum_fits (pos n) within = record { sfits = omega (arith, ints, within.0, within.1) }
 sum_fits (negsuc n) within = record { sfits = omega (arith, ints, within.0, within.1) }
 
-held_lane : (n : ℕ) (z : ℤ) → Stand w16 n z → IsWithin 16639 z → to_z w16 (held_bits n) ≡ pos (clamped_sample z)
+pub held_lane : (n : ℕ) (z : ℤ) → Stand w16 n z → IsWithin 16639 z → to_z w16 (held_bits n) ≡ pos (clamped_sample z)
 held_lane n (pos m) s within =
     let is : to_z w16 n ≡ pos m = Stand-fits w16 n (pos m) s (sum_fits _ within) in
     let same : n ≡ m = sym (of_z-to_z w16 n s.below) ∙ ap (of_z w16) is in
@@ -48,7 +48,7 @@ held_lane n (negsuc m) s within =
     let is : to_z w16 n ≡ negsuc m = Stand-fits w16 n (negsuc m) s (sum_fits _ within) in
     ap (to_z w16) (held_bits-neg n m is)
 
-held_small : (z : ℤ) → clamped_sample z < 256
+pub held_small : (z : ℤ) → clamped_sample z < 256
 held_small (pos n) = omega arith
 held_small (negsuc n) = omega arith
 

@@ -6,3 +6,4 @@ pub mod Columns
 pub mod ResidualLanes
 pub mod Held
 pub mod WalshLanes
+pub mod MovedRows

@@ -97,5 +97,5 @@ one_more residual stride n start residuals old between new wide starts before ro
     }
 
 -- all four rows
-pub all_rows : (residual : ℕ → ℕ → ℤ) (stride : ℕ) (old new : List ℕ) → RowsAdded residual stride 4 old new → IsAdded residual stride old new
+pub all_rows : (residual : ℕ → ℕ → ℤ) (stride : ℕ) (old new : List ℕ) → RowsAdded residual stride 4 old new → IsAdded residual 4 stride old new
 all_rows residual stride old new rows = record { whole = rows.whole; each = rows.each; others = rows.others }

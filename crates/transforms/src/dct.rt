@@ -84,7 +84,7 @@ fn residuals(coefficients: &[i16; 16]) -> ([i16; 4], [i16; 4], [i16; 4], [i16; 4
 /// An eighth of a number, rounded to the nearest.
 #[inline]
 #[tactic(auto, unfolding(crate::specs::Transforms::eighth))]
-fn eighth(x: i16) -> i16
+pub(crate) fn eighth(x: i16) -> i16
     ensures value { result ≡ eighth x }
     ensures within { IsWithin 4096 result }
 {
@@ -100,7 +100,7 @@ fn eighth(x: i16) -> i16
 pub fn dct_add(coefficients: &[i16; 16], samples: &mut [u8], stride: usize)
     requires stride { 4 ≤ stride }
     requires room { 3 * stride + 4 ≤ length samples.old }
-    ensures { IsAdded (inverse_dct coefficients.now) stride samples.old samples.new }
+    ensures { IsAdded (inverse_dct coefficients.now) 4 stride samples.old samples.new }
 {
     let (row0, row1, row2, row3) = residuals(coefficients);
     add_row(samples, 0, row0);
@@ -115,7 +115,7 @@ pub fn dct_add(coefficients: &[i16; 16], samples: &mut [u8], stride: usize)
 pub fn dct_add_first(first: i16, samples: &mut [u8], stride: usize)
     requires stride { 4 ≤ stride }
     requires room { 3 * stride + 4 ≤ length samples.old }
-    ensures { IsAdded (inverse_dct (first ∷ replicate 15 (pos 0))) stride samples.old samples.new }
+    ensures { IsAdded (inverse_dct (first ∷ replicate 15 (pos 0))) 4 stride samples.old samples.new }
 {
     let row = [eighth(first); 4];
     add_row(samples, 0, row);

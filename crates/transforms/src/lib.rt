@@ -4,11 +4,13 @@
 mod blocks;
 mod dct;
 mod factor_set;
+mod firsts;
 pub mod laws;
 mod quantisation;
 mod walsh;
 
 pub use dct::{dct_add, dct_add_first};
 pub use factor_set::Factors;
+pub use firsts::{dct_add_four_firsts, dct_add_two_firsts};
 pub use quantisation::{dequantise, dequantise_others, factors};
 pub use walsh::wht;

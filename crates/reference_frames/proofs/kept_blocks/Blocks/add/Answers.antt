@@ -21,14 +21,14 @@ returns-after-k-lt16 c =
     let first_is : ℤ = get_or c.self.inside.firsts c.args.k (pos 0) in
     let is : c.dequantise_others.result ≡ with_others coefficients first_is (to_z w16 c.if-k-lt16.ac-bits) = simp to_z-of_z at c.dequantise_others.ensures in
     let same = is ∙ ap (with_others coefficients first_is) ac ∙ sym (kept_others c.self.inside.tokens c.self.inside.firsts c.self.inside.factors c.args.k c.args.self.now c.requires.block c.self.view_is c.if-self-k-gt1.true) in
-    subst (λ (xs : List ℤ). IsAdded (inverse_dct xs) c.args.stride c.args.samples.now c.dct_add.new.samples) same c.dct_add.ensures
+    subst (λ (xs : List ℤ). IsAdded (inverse_dct xs) 4 c.args.stride c.args.samples.now c.dct_add.new.samples) same c.dct_add.ensures
 
 pub returns-then-first-ne0 : goal.returns-then-first-ne0
 returns-then-first-ne0 c =
     let first : SFits w16 (get_or c.self.inside.firsts c.args.k (pos 0)) = search rules in
     let added = simp to_z-of_z at c.dct_add_first.ensures in
     let same = kept_first c.self.inside.tokens c.self.inside.firsts c.self.inside.factors c.args.k c.args.self.now c.requires.block c.self.view_is c.if-self-k-gt1.false in
-    subst (λ (xs : List ℤ). IsAdded (inverse_dct xs) c.args.stride c.args.samples.now c.dct_add_first.new.samples) (sym same) added
+    subst (λ (xs : List ℤ). IsAdded (inverse_dct xs) 4 c.args.stride c.args.samples.now c.dct_add_first.new.samples) (sym same) added
 
 pub returns-else-first-ne0 : goal.returns-else-first-ne0
 returns-else-first-ne0 c =
