@@ -14,3 +14,4 @@ pub mod Sources
 pub mod LiveReads
 pub mod LiveLines
 pub mod LiveRuns
+pub mod ToldKept

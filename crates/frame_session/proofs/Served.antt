@@ -124,7 +124,7 @@ module _ (old : Now) (f f' r r' : Option (List ℕ)) where
 
 -- a frame and its reply, written with the head that is due
 module _ (old : Now) (f f' r r' : Option (List ℕ)) (n : ℕ) (picture : PictureSamples) (new : Now) (head : Option Head) where
-  pub frame_and_reply : {E : Type 0} (w : Result (Unit {0}) E) → head ≡ head_due old → IsFrameOrNoMemory (frame_of old n) (Ok picture) → IsAfterFrame old (size_given (Ok picture)) new → OnOk w (Appends f f' (opening head picture.width picture.height ++ frame_text picture)) → OnOk w (Appends r r' (served_line n)) → OnOk w (Serves old (Frame n) f f' r r' new)
+  pub frame_and_reply : {A E : Type 0} (w : Result A E) → head ≡ head_due old → IsFrameOrNoMemory (frame_of old n) (Ok picture) → IsAfterFrame old (size_given (Ok picture)) new → OnOk w (Appends f f' (opening head picture.width picture.height ++ frame_text picture)) → OnOk w (Appends r r' (served_line n)) → OnOk w (Serves old (Frame n) f f' r r' new)
   frame_and_reply (Ok _) is returned after shown said =
       serves_frame old f f' r r' n picture new returned after (subst (λ (h : Option Head). Appends f f' (opening h picture.width picture.height ++ frame_text picture)) is shown) said
   frame_and_reply (Err _) is returned after shown said = tt

@@ -7,8 +7,10 @@ ghost use Rattle.frame_session.specs.Live.{LiveEnds, LiveMeans, LiveStops, repor
 ghost use Rattle.frame_session.specs.LiveSteps.{IsShort, ReadsLine, ReadsPart, RunsText};
 
 use crate::lines::length_before;
+use crate::observer::{Observer, Unobserved};
 use crate::serving::{Flushing, RunFault, read_sources, serve_all};
 use crate::session::Session;
+use crate::settings::Settings;
 use std::alloc::Global;
 use std::io::{self, BufRead, ErrorKind, Write};
 use stream_files::IvfFault;
@@ -17,15 +19,6 @@ use vp8_tables::Tables;
 
 /// The most bytes of a line, its newline not counted.
 const LONGEST_LINE: usize = 1_073_741_824;
-
-/// The settings of a session.
-#[derive(Drop)]
-pub struct Settings {
-    /// The long tables that packets are decoded with.
-    pub tables: Tables,
-    /// The most decoded states that are cached, 1 to 4,096.
-    pub capacity: u16,
-}
 
 /// Why a live run returns no session.
 #[derive(Clone, Copy, Debug, PartialEq, Eq, Error)]
@@ -125,12 +118,13 @@ fn ends_with_newline(line: &[u8]) -> bool
 }
 
 /// Reads the next line and answers it. Returns whether a line may follow it.
-fn answer_next<I: BufRead, F: Write, R: Write>(
+fn answer_next<I: BufRead, F: Write, R: Write, O: Observer>(
     alloc: Global,
     session: &mut Session,
     input: &mut I,
     frames: &mut F,
     replies: &mut R,
+    observer: &mut O,
 ) -> Result<bool, LiveFault>
     ensures ok { IfOk result (RunsText session.old.now session.new.now (I.remaining input.old) (I.remaining input.new) (F.contents frames.old) (F.contents frames.new) (R.contents replies.old) (R.contents replies.new)) }
     ensures err { IfErr result (LiveEnds session.old.now (I.remaining input.old) (I.remaining input.new) (F.contents frames.old) (F.contents frames.new) (R.contents replies.old) (R.contents replies.new)) }
@@ -143,6 +137,7 @@ fn answer_next<I: BufRead, F: Write, R: Write>(
         frames,
         replies,
         Flushing::EachAnswer,
+        observer,
     ) {
         Ok(()) => Ok(ends_with_newline(line.as_slice())),
         Err(_) => Err(LiveFault::Write),
@@ -150,23 +145,50 @@ fn answer_next<I: BufRead, F: Write, R: Write>(
 }
 
 /// Answers the lines of a reader up to its end.
-fn serve_live<I: BufRead, F: Write, R: Write>(
+fn serve_live<I: BufRead, F: Write, R: Write, O: Observer>(
     alloc: Global,
     session: &mut Session,
     input: &mut I,
     frames: &mut F,
     replies: &mut R,
+    observer: &mut O,
 ) -> Result<(), LiveFault>
     ensures ok { OnOk result (RunsText session.old.now session.new.now (I.remaining input.old) (I.remaining input.new) (F.contents frames.old) (F.contents frames.new) (R.contents replies.old) (R.contents replies.new) false) }
     ensures err { IfErr result (LiveEnds session.old.now (I.remaining input.old) (I.remaining input.new) (F.contents frames.old) (F.contents frames.new) (R.contents replies.old) (R.contents replies.new)) }
     ensures capacity { session.new.cache.capacity ≡ session.old.cache.capacity }
 {
     'lines: for _ in 0..u64::MAX {
-        if !answer_next(alloc, session, input, frames, replies)? {
+        if !answer_next(alloc, session, input, frames, replies, observer)? {
             return Ok(());
         }
     }
     Err(LiveFault::Read)
+}
+
+/// Runs requests as `run_live` does, and tells an observer of each line after its reply was written and flushed.
+pub fn run_live_observed<I: BufRead, F: Write, R: Write, O: Observer>(
+    alloc: Global,
+    settings: Settings,
+    ivfs: &[&[u8]],
+    input: &mut I,
+    frames: &mut F,
+    replies: &mut R,
+    observer: &mut O,
+) -> Result<Session, LiveFault>
+    requires capacity { (1 ≤ settings.capacity) × (settings.capacity ≤ 4096) }
+    requires sources { (1 ≤ length ivfs.now) × (length ivfs.now ≤ 8) }
+    ensures means { IfOk result (λ session. LiveMeans settings.tables (texts_of ivfs.now) (I.remaining input.old) (I.remaining input.new) (F.contents frames.old) (F.contents frames.new) (R.contents replies.old) (R.contents replies.new) session.now) }
+    ensures capacity { IfOk result (λ session. session.cache.capacity ≡ settings.capacity) }
+    ensures stops { IfErr result (LiveStops settings.tables (texts_of ivfs.now) (I.remaining input.old) (I.remaining input.new) (F.contents frames.old) (F.contents frames.new) (R.contents replies.old) (R.contents replies.new)) }
+{
+    let Settings { tables, capacity } = settings;
+    let files = read_sources(alloc, ivfs)?;
+    let mut session = match Session::new(alloc, tables, capacity, files) {
+        Ok(session) => session,
+        Err(_) => return Err(LiveFault::NoMemory),
+    };
+    serve_live(alloc, &mut session, input, frames, replies, observer)?;
+    Ok(session)
 }
 
 /// Runs requests over IVF files, 1 to 8, as `run` does, but answers each line of `input` when its newline is read:
@@ -194,12 +216,13 @@ pub fn run_live<I: BufRead, F: Write, R: Write>(
     ensures capacity { IfOk result (λ session. session.cache.capacity ≡ settings.capacity) }
     ensures stops { IfErr result (LiveStops settings.tables (texts_of ivfs.now) (I.remaining input.old) (I.remaining input.new) (F.contents frames.old) (F.contents frames.new) (R.contents replies.old) (R.contents replies.new)) }
 {
-    let Settings { tables, capacity } = settings;
-    let files = read_sources(alloc, ivfs)?;
-    let mut session = match Session::new(alloc, tables, capacity, files) {
-        Ok(session) => session,
-        Err(_) => return Err(LiveFault::NoMemory),
-    };
-    serve_live(alloc, &mut session, input, frames, replies)?;
-    Ok(session)
+    run_live_observed(
+        alloc,
+        settings,
+        ivfs,
+        input,
+        frames,
+        replies,
+        &mut Unobserved {},
+    )
 }

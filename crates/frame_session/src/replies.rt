@@ -1,7 +1,9 @@
-ghost use Rattle.std.specs.Prelude.{◌≡◌, ◌++◌, OnOk, codes};
+// Writes replies. A function that writes a whole reply returns the refusal that it reports, if it reports one.
+ghost use Rattle.std.specs.Prelude.{◌≡◌, ◌++◌, IfOk, OnOk, codes};
 ghost use Rattle.std.specs.Fmt.{decimal};
 ghost use Rattle.std.specs.Io.KnownBytes.{Appends};
 ghost use Rattle.frame_session.specs.Replies.{cause_text, count_line, edit_line, ok_line, refusal_text, refused_line, served_line, source_text, stats_line};
+ghost use Rattle.frame_session.specs.Told.{Tells};
 
 use crate::refusal::Refusal;
 use frame_header::Cause;
@@ -9,15 +11,18 @@ use std::io::Write;
 use stream_files::WriteFault;
 
 /// Writes the reply to a frame that was served.
-pub fn write_served<W: Write>(w: &mut W, n: u64) -> Result<(), WriteFault>
-    ensures { OnOk result (Appends (W.contents w.old) (W.contents w.new) (served_line n)) }
+pub fn write_served<W: Write>(w: &mut W, n: u64) -> Result<Option<Refusal>, WriteFault>
+    ensures wrote { OnOk result (Appends (W.contents w.old) (W.contents w.new) (served_line n)) }
+    ensures told { IfOk result (Tells (W.contents w.old) (W.contents w.new)) }
 {
-    writeln!(w, "served {n}").map_err(|_| WriteFault::Write)
+    writeln!(w, "served {n}").map_err(|_| WriteFault::Write)?;
+    Ok(None)
 }
 
 /// Writes the reply to an edit, made or refused.
-pub fn write_edited<W: Write>(w: &mut W, answer: Result<u64, Refusal>) -> Result<(), WriteFault>
-    ensures { OnOk result (Appends (W.contents w.old) (W.contents w.new) (edit_line answer)) }
+pub fn write_edited<W: Write>(w: &mut W, answer: Result<u64, Refusal>) -> Result<Option<Refusal>, WriteFault>
+    ensures wrote { OnOk result (Appends (W.contents w.old) (W.contents w.new) (edit_line answer)) }
+    ensures told { IfOk result (Tells (W.contents w.old) (W.contents w.new)) }
 {
     match answer {
         Ok(count) => write_ok(w, count),
@@ -25,33 +30,41 @@ pub fn write_edited<W: Write>(w: &mut W, answer: Result<u64, Refusal>) -> Result
     }
 }
 
-fn write_ok<W: Write>(w: &mut W, count: u64) -> Result<(), WriteFault>
-    ensures { OnOk result (Appends (W.contents w.old) (W.contents w.new) (ok_line count)) }
+fn write_ok<W: Write>(w: &mut W, count: u64) -> Result<Option<Refusal>, WriteFault>
+    ensures wrote { OnOk result (Appends (W.contents w.old) (W.contents w.new) (ok_line count)) }
+    ensures told { IfOk result (Tells (W.contents w.old) (W.contents w.new)) }
 {
-    writeln!(w, "ok {count}").map_err(|_| WriteFault::Write)
+    writeln!(w, "ok {count}").map_err(|_| WriteFault::Write)?;
+    Ok(None)
 }
 
 /// Writes the number of packets and the number of frames served.
-pub fn write_count<W: Write>(w: &mut W, packets: u64, frames: u64) -> Result<(), WriteFault>
-    ensures { OnOk result (Appends (W.contents w.old) (W.contents w.new) (count_line packets frames)) }
+pub fn write_count<W: Write>(w: &mut W, packets: u64, frames: u64) -> Result<Option<Refusal>, WriteFault>
+    ensures wrote { OnOk result (Appends (W.contents w.old) (W.contents w.new) (count_line packets frames)) }
+    ensures told { IfOk result (Tells (W.contents w.old) (W.contents w.new)) }
 {
-    writeln!(w, "packets {packets} frames {frames}").map_err(|_| WriteFault::Write)
+    writeln!(w, "packets {packets} frames {frames}").map_err(|_| WriteFault::Write)?;
+    Ok(None)
 }
 
 /// Writes the number of decoding steps made.
-pub fn write_stats<W: Write>(w: &mut W, steps: u64) -> Result<(), WriteFault>
-    ensures { OnOk result (Appends (W.contents w.old) (W.contents w.new) (stats_line steps)) }
+pub fn write_stats<W: Write>(w: &mut W, steps: u64) -> Result<Option<Refusal>, WriteFault>
+    ensures wrote { OnOk result (Appends (W.contents w.old) (W.contents w.new) (stats_line steps)) }
+    ensures told { IfOk result (Tells (W.contents w.old) (W.contents w.new)) }
 {
-    writeln!(w, "decoded {steps}").map_err(|_| WriteFault::Write)
+    writeln!(w, "decoded {steps}").map_err(|_| WriteFault::Write)?;
+    Ok(None)
 }
 
 /// Writes the reply to a refused line.
-pub fn write_refused<W: Write>(w: &mut W, refusal: Refusal) -> Result<(), WriteFault>
-    ensures { OnOk result (Appends (W.contents w.old) (W.contents w.new) (refused_line refusal)) }
+pub fn write_refused<W: Write>(w: &mut W, refusal: Refusal) -> Result<Option<Refusal>, WriteFault>
+    ensures wrote { OnOk result (Appends (W.contents w.old) (W.contents w.new) (refused_line refusal)) }
+    ensures told { IfOk result (Tells (W.contents w.old) (W.contents w.new)) }
 {
     write_text(w, "refused ")?;
     write_refusal(w, refusal)?;
-    write_text(w, "\n")
+    write_text(w, "\n")?;
+    Ok(Some(refusal))
 }
 
 fn write_refusal<W: Write>(w: &mut W, refusal: Refusal) -> Result<(), WriteFault>

@@ -5,13 +5,16 @@ ghost use Rattle.frame_session.specs.declared.refusal.Refusal.{Refusal};
 ghost use Rattle.frame_session.specs.Edits.{EditAnswers};
 ghost use Rattle.frame_session.specs.Replies.{count_line, edit_line, served_line};
 ghost use Rattle.frame_session.specs.Sessions.{current_list, now_after_edit, frame_count, packet_count};
+ghost use Rattle.frame_session.specs.Told.{Tells};
 ghost use Rattle.frame_session.specs.Answers.{AreIvfs, IsSourceRefused, Leaves, Means, RunRefuses, RunStops, Runs, Serves, Stops, WritesFrameFirst, opening, requests_of, texts_of};
 
 use crate::edit::Edit;
 use crate::lines::{Line, next_line, read_line};
+use crate::observer::{Observer, Unobserved};
 use crate::refusal::Refusal;
 use crate::replies::{write_count, write_edited, write_refused, write_served, write_stats};
 use crate::session::Session;
+use crate::settings::Settings;
 use pixel_planes::Picture;
 use std::alloc::Global;
 use std::io::Write;
@@ -111,10 +114,11 @@ fn write_answer<F: Write, R: Write>(
     picture: &Picture,
     n: u64,
     flushing: Flushing,
-) -> Result<(), WriteFault>
+) -> Result<Option<Refusal>, WriteFault>
     ensures frame { OnOk result (Appends (F.contents frames.old) (F.contents frames.new) (opening head_due picture.now.width picture.now.height ++ frame_text picture.now)) }
     ensures reply { OnOk result (Appends (R.contents replies.old) (R.contents replies.new) (served_line n)) }
     ensures frame_first { Keeps (R.contents replies.old) (R.contents replies.new) ⊎ Appends (F.contents frames.old) (F.contents frames.new) (opening head_due picture.now.width picture.now.height ++ frame_text picture.now) }
+    ensures told { IfOk result (Tells (R.contents replies.old) (R.contents replies.new)) }
 {
     write_frame(frames, head_due, picture)?;
     flushing.flush(frames)?;
@@ -128,10 +132,11 @@ fn serve_frame<F: Write, R: Write>(
     frames: &mut F,
     replies: &mut R,
     flushing: Flushing,
-) -> Result<(), WriteFault>
+) -> Result<Option<Refusal>, WriteFault>
     ensures serves { OnOk result (Serves session.old.now (Line.Frame n) (F.contents frames.old) (F.contents frames.new) (R.contents replies.old) (R.contents replies.new) session.new.now) }
     ensures frame_first { WritesFrameFirst session.old.now (Line.Frame n) (F.contents frames.old) (F.contents frames.new) (R.contents replies.old) (R.contents replies.new) session.new.now }
     ensures capacity { session.new.cache.capacity ≡ session.old.cache.capacity }
+    ensures told { IfOk result (Tells (R.contents replies.old) (R.contents replies.new)) }
 {
     let head_due = session.head_due();
     match session.frame(n) {
@@ -141,8 +146,9 @@ fn serve_frame<F: Write, R: Write>(
 }
 
 /// Reports the number of packets and the number of frames served.
-fn report_count<R: Write>(session: &Session, replies: &mut R) -> Result<(), WriteFault>
-    ensures { OnOk result (Appends (R.contents replies.old) (R.contents replies.new) (count_line (packet_count session.now.now) (frame_count session.now.now))) }
+fn report_count<R: Write>(session: &Session, replies: &mut R) -> Result<Option<Refusal>, WriteFault>
+    ensures wrote { OnOk result (Appends (R.contents replies.old) (R.contents replies.new) (count_line (packet_count session.now.now) (frame_count session.now.now))) }
+    ensures told { IfOk result (Tells (R.contents replies.old) (R.contents replies.new)) }
 {
     let (packets, frames) = session.count();
     write_count(replies, packets, frames)
@@ -153,28 +159,30 @@ fn serve_edit<R: Write>(
     session: &mut Session,
     edit: Edit,
     replies: &mut R,
-) -> Result<(), WriteFault>
+) -> Result<Option<Refusal>, WriteFault>
     ensures answers { (edited : Result ℕ Refusal) × EditAnswers session.old.now.tables session.old.now.lists (current_list session.old.now) edit edited × (session.new.now ≡ now_after_edit edit session.old.now edited) × OnOk result (Appends (R.contents replies.old) (R.contents replies.new) (edit_line edited)) }
     ensures capacity { session.new.cache.capacity ≡ session.old.cache.capacity }
+    ensures told { IfOk result (Tells (R.contents replies.old) (R.contents replies.new)) }
 {
     let edited = session.edit(edit);
     write_edited(replies, edited)
 }
 
-/// Answers one line.
+/// Answers one line. Returns the refusal that the reply reports, if it reports one.
 fn serve<F: Write, R: Write>(
     session: &mut Session,
     line: Line<'_>,
     frames: &mut F,
     replies: &mut R,
     flushing: Flushing,
-) -> Result<(), WriteFault>
+) -> Result<Option<Refusal>, WriteFault>
     ensures serves { OnOk result (Serves session.old.now line.entry (F.contents frames.old) (F.contents frames.new) (R.contents replies.old) (R.contents replies.new) session.new.now) }
     ensures frame_first { WritesFrameFirst session.old.now line.entry (F.contents frames.old) (F.contents frames.new) (R.contents replies.old) (R.contents replies.new) session.new.now }
     ensures capacity { session.new.cache.capacity ≡ session.old.cache.capacity }
+    ensures told { IfOk result (Tells (R.contents replies.old) (R.contents replies.new)) }
 {
     match line {
-        Line::Silent => Ok(()),
+        Line::Silent => Ok(None),
         Line::Unknown => write_refused(replies, Refusal::Line),
         Line::Frame(n) => serve_frame(session, n, frames, replies, flushing),
         Line::Use(source) => {
@@ -207,29 +215,33 @@ fn serve<F: Write, R: Write>(
     }
 }
 
-/// Answers one line, and flushes the reply if that is due.
+/// Answers one line, and flushes the reply if that is due. Returns the refusal that the reply reports, if it reports one.
+#[tactic(auto, using(crate::proofs::ToldKept::tells_kept))]
 fn serve_line<F: Write, R: Write>(
     session: &mut Session,
     line: Line<'_>,
     frames: &mut F,
     replies: &mut R,
     flushing: Flushing,
-) -> Result<(), WriteFault>
+) -> Result<Option<Refusal>, WriteFault>
     ensures serves { OnOk result (Serves session.old.now line.entry (F.contents frames.old) (F.contents frames.new) (R.contents replies.old) (R.contents replies.new) session.new.now) }
     ensures frame_first { WritesFrameFirst session.old.now line.entry (F.contents frames.old) (F.contents frames.new) (R.contents replies.old) (R.contents replies.new) session.new.now }
     ensures capacity { session.new.cache.capacity ≡ session.old.cache.capacity }
+    ensures told { IfOk result (Tells (R.contents replies.old) (R.contents replies.new)) }
 {
-    serve(session, line, frames, replies, flushing)?;
-    flushing.flush(replies)
+    let told = serve(session, line, frames, replies, flushing)?;
+    flushing.flush(replies)?;
+    Ok(told)
 }
 
 /// Answers all lines of a text.
-pub(crate) fn serve_all<F: Write, R: Write>(
+pub(crate) fn serve_all<F: Write, R: Write, O: Observer>(
     session: &mut Session,
     requests: &[u8],
     frames: &mut F,
     replies: &mut R,
     flushing: Flushing,
+    observer: &mut O,
 ) -> Result<(), WriteFault>
     ensures runs { OnOk result (Runs session.old.now (requests_of requests.now) (F.contents frames.old) (F.contents frames.new) (R.contents replies.old) (R.contents replies.new) session.new.now) }
     ensures stops { OnErr result (Stops session.old.now (requests_of requests.now) (F.contents frames.old) (F.contents frames.new) (R.contents replies.old) (R.contents replies.new)) }
@@ -240,7 +252,8 @@ pub(crate) fn serve_all<F: Write, R: Write>(
         let Some((line, following)) = next_line(rest) else {
             return Ok(());
         };
-        serve_line(session, read_line(line), frames, replies, flushing)?;
+        let told = serve_line(session, read_line(line), frames, replies, flushing)?;
+        observer.answered(session, line, told);
         rest = following;
     }
 }
@@ -268,6 +281,44 @@ pub(crate) fn read_sources(alloc: Global, ivfs: &[&[u8]]) -> Result<Vec<Ivf>, Ru
         };
     }
     Ok(files)
+}
+
+/// Runs a request list as `run` does, and tells an observer of each line after its reply was written.
+pub fn run_observed<F: Write, R: Write, O: Observer>(
+    alloc: Global,
+    settings: Settings,
+    ivfs: &[&[u8]],
+    requests: &[u8],
+    frames: &mut F,
+    replies: &mut R,
+    observer: &mut O,
+) -> Result<Session, RunFault>
+    requires capacity { (1 ≤ settings.capacity) × (settings.capacity ≤ 4096) }
+    requires sources { (1 ≤ length ivfs.now) × (length ivfs.now ≤ 8) }
+    ensures means { IfOk result (λ session. Means settings.tables (texts_of ivfs.now) requests.now (F.contents frames.old) (F.contents frames.new) (R.contents replies.old) (R.contents replies.new) session.now) }
+    ensures capacity { IfOk result (λ session. session.cache.capacity ≡ settings.capacity) }
+    ensures refused { IfErr result (RunRefuses (texts_of ivfs.now)) }
+    ensures stops { IfErr result (RunStops settings.tables (texts_of ivfs.now) requests.now (F.contents frames.old) (F.contents frames.new) (R.contents replies.old) (R.contents replies.new)) }
+    ensures frames { IfErr result (λ fault. Leaves fault (F.contents frames.old) (F.contents frames.new)) }
+    ensures replies { IfErr result (λ fault. Leaves fault (R.contents replies.old) (R.contents replies.new)) }
+{
+    let Settings { tables, capacity } = settings;
+    let files = read_sources(alloc, ivfs)?;
+    let mut session = match Session::new(alloc, tables, capacity, files) {
+        Ok(session) => session,
+        Err(_) => return Err(RunFault::NoMemory),
+    };
+    match serve_all(
+        &mut session,
+        requests,
+        frames,
+        replies,
+        Flushing::AtEnd,
+        observer,
+    ) {
+        Ok(()) => Ok(session),
+        Err(_) => Err(RunFault::Write),
+    }
 }
 
 /// Runs a request list over IVF files, 1 to 8: one source for each, numbered from 0.
@@ -298,13 +349,14 @@ pub fn run<F: Write, R: Write>(
     ensures frames { IfErr result (λ fault. Leaves fault (F.contents frames.old) (F.contents frames.new)) }
     ensures replies { IfErr result (λ fault. Leaves fault (R.contents replies.old) (R.contents replies.new)) }
 {
-    let files = read_sources(alloc, ivfs)?;
-    let mut session = match Session::new(alloc, tables, capacity, files) {
-        Ok(session) => session,
-        Err(_) => return Err(RunFault::NoMemory),
-    };
-    match serve_all(&mut session, requests, frames, replies, Flushing::AtEnd) {
-        Ok(()) => Ok(session),
-        Err(_) => Err(RunFault::Write),
-    }
+    let settings = Settings { tables, capacity };
+    run_observed(
+        alloc,
+        settings,
+        ivfs,
+        requests,
+        frames,
+        replies,
+        &mut Unobserved {},
+    )
 }

@@ -1,4 +1,4 @@
-ghost use Rattle.std.specs.Prelude.{◌≡◌, ◌<◌, ◌≤◌, IfOk, IfSome, OnErr, OnOk, is_ok, length, map, slice_get, slice_set};
+ghost use Rattle.std.specs.Prelude.{◌≡◌, ◌<◌, ◌≤◌, IfOk, IfSome, OnErr, OnOk, is_ok, length, map, option_map, slice_get, slice_set};
 ghost use Rattle.std.specs.List.{All};
 ghost use Rattle.std.specs.Io.KnownBytes.{Appends};
 ghost use Rattle.stream_files.specs.Texts.{written_text};
@@ -57,6 +57,7 @@ impl Model for Session {
 impl Session {
     ghost use Rattle.frame_session.specs.Cached.{CacheWithout, FrameCosts, IsSession, begun, id_removed, lists_of, needs_picture, place_of, store_at, stores_after};
     ghost use Rattle.frame_session.specs.Edits.{list_at};
+    ghost use Rattle.frame_session.specs.Told.{packet_len};
     ghost use Rattle.frame_session.specs.Sessions.{IsAfterFrame, choice_answer, current_list, edit_answer, now_after_choice, now_after_edit, now_after_script, fits, frame_count, frame_of, head_due, packet_count, picture_from, script_answer, shown_counts, size_given};
 
     /// A session over the packets of 1 to 8 files, at most 1,048,576 each: one source for each file, numbered
@@ -291,6 +292,17 @@ impl Session {
         (packets, self.script.length(&self.shown_counts()))
     }
 
+    /// The number of bytes of the packet at index `place` of a source, if there is one.
+    pub fn packet_len(&self, source: usize, place: usize) -> Option<usize>
+        ensures { result ≡ packet_len self.now.now source place }
+    {
+        if source < self.stores.len() {
+            packet_len(&self.stores[source], place)
+        } else {
+            None
+        }
+    }
+
     /// The number of decoding steps made, whatever their result; at most 18,446,744,073,709,551,615.
     pub fn decoded(&self) -> u64
         ensures value { result ≡ self.now.now.decoded }
@@ -393,6 +405,17 @@ fn shown_counts(stores: &[Store]) -> ArrayVec<u64, 8>
         counts.push(shown_count(store));
     }
     counts
+}
+
+/// The number of bytes of the packet at an index, if there is one.
+fn packet_len(store: &Store, place: usize) -> Option<usize>
+    ensures { result ≡ option_map length (slice_get (stream_of store.now.list) place) }
+{
+    if place < store.len() {
+        Some(store.packet(place).len())
+    } else {
+        None
+    }
 }
 
 /// The number of shown packets of a source.

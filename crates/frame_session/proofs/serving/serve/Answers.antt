@@ -21,7 +21,7 @@ returns-in-Unknown-clause-serves g c =
     let f = g.F.Write.contents c.args.frames.now in
     let r = g.R.Write.contents c.args.replies.now in
     let r' = g.R.Write.contents c.write_refused.new.w in
-    rw c.in-Unknown.is (on_ok_weaker c.write_refused.result (λ said. serves_unknown c.args.session.now.now f f r r' said) c.write_refused.ensures)
+    rw c.in-Unknown.is (on_ok_weaker c.write_refused.result (λ said. serves_unknown c.args.session.now.now f f r r' said) c.write_refused.ensures.wrote)
 
 pub returns-in-Unknown-clause-frame_first : goal.returns-in-Unknown-clause-frame_first
 returns-in-Unknown-clause-frame_first g c =
@@ -33,7 +33,7 @@ returns-in-Use-clause-serves g c =
     let f = g.F.Write.contents c.args.frames.now in
     let r = g.R.Write.contents c.args.replies.now in
     let r' = g.R.Write.contents c.write_edited.new.w in
-    rw c.in-Use.is (on_ok_weaker c.write_edited.result (λ said. serves_chosen c.args.session.now.now f f r r' c.in-Use.source c.choose-chosen.result c.choose-chosen.new.self.now c.choose-chosen.ensures.returned (ap (λ (v : SessionValue). v.now) {y = record c.args.session.now { now = now_after_choice c.in-Use.source c.args.session.now.now }} c.choose-chosen.ensures.after) said) c.write_edited.ensures)
+    rw c.in-Use.is (on_ok_weaker c.write_edited.result (λ said. serves_chosen c.args.session.now.now f f r r' c.in-Use.source c.choose-chosen.result c.choose-chosen.new.self.now c.choose-chosen.ensures.returned (ap (λ (v : SessionValue). v.now) {y = record c.args.session.now { now = now_after_choice c.in-Use.source c.args.session.now.now }} c.choose-chosen.ensures.after) said) c.write_edited.ensures.wrote)
 
 pub returns-in-Use-clause-frame_first : goal.returns-in-Use-clause-frame_first
 returns-in-Use-clause-frame_first g c =
@@ -45,7 +45,7 @@ returns-in-Insert-clause-serves g c =
     let f = g.F.Write.contents c.args.frames.now in
     let r = g.R.Write.contents c.args.replies.now in
     let r' = g.R.Write.contents c.write_edited-in-Insert.new.w in
-    rw c.in-Insert.is (on_ok_weaker c.write_edited-in-Insert.result (λ said. serves_inserted c.args.session.now.now f f r r' c.in-Insert.at c.in-Insert.stamp c.in-Insert.bytes c.insert_written-edited.result c.insert_written-edited.new.self.now c.insert_written-edited.ensures.returned c.insert_written-edited.ensures.after said) c.write_edited-in-Insert.ensures)
+    rw c.in-Insert.is (on_ok_weaker c.write_edited-in-Insert.result (λ said. serves_inserted c.args.session.now.now f f r r' c.in-Insert.at c.in-Insert.stamp c.in-Insert.bytes c.insert_written-edited.result c.insert_written-edited.new.self.now c.insert_written-edited.ensures.returned c.insert_written-edited.ensures.after said) c.write_edited-in-Insert.ensures.wrote)
 
 pub returns-in-Insert-clause-frame_first : goal.returns-in-Insert-clause-frame_first
 returns-in-Insert-clause-frame_first g c =
@@ -57,7 +57,7 @@ returns-in-Replace-clause-serves g c =
     let f = g.F.Write.contents c.args.frames.now in
     let r = g.R.Write.contents c.args.replies.now in
     let r' = g.R.Write.contents c.write_edited-in-Replace.new.w in
-    rw c.in-Replace.is (on_ok_weaker c.write_edited-in-Replace.result (λ said. serves_replaced c.args.session.now.now f f r r' c.in-Replace.at c.in-Replace.bytes c.replace_written-edited.result c.replace_written-edited.new.self.now c.replace_written-edited.ensures.returned c.replace_written-edited.ensures.after said) c.write_edited-in-Replace.ensures)
+    rw c.in-Replace.is (on_ok_weaker c.write_edited-in-Replace.result (λ said. serves_replaced c.args.session.now.now f f r r' c.in-Replace.at c.in-Replace.bytes c.replace_written-edited.result c.replace_written-edited.new.self.now c.replace_written-edited.ensures.returned c.replace_written-edited.ensures.after said) c.write_edited-in-Replace.ensures.wrote)
 
 pub returns-in-Replace-clause-frame_first : goal.returns-in-Replace-clause-frame_first
 returns-in-Replace-clause-frame_first g c =
@@ -129,7 +129,7 @@ returns-in-Script-clause-serves g c =
     let f = g.F.Write.contents c.args.frames.now in
     let r = g.R.Write.contents c.args.replies.now in
     let r' = g.R.Write.contents c.write_edited-in-Script.new.w in
-    rw c.in-Script.is (on_ok_weaker c.write_edited-in-Script.result (λ said. serves_script c.args.session.now.now f f r r' c.in-Script.text c.set_script-set.result c.set_script-set.new.self.now (rw c.as_slice.ensures at c.set_script-set.ensures.returned) (ap (λ (v : SessionValue). v.now) (rw c.as_slice.ensures at c.set_script-set.ensures.after)) said) c.write_edited-in-Script.ensures)
+    rw c.in-Script.is (on_ok_weaker c.write_edited-in-Script.result (λ said. serves_script c.args.session.now.now f f r r' c.in-Script.text c.set_script-set.result c.set_script-set.new.self.now (rw c.as_slice.ensures at c.set_script-set.ensures.returned) (ap (λ (v : SessionValue). v.now) (rw c.as_slice.ensures at c.set_script-set.ensures.after)) said) c.write_edited-in-Script.ensures.wrote)
 
 pub returns-in-Script-clause-frame_first : goal.returns-in-Script-clause-frame_first
 returns-in-Script-clause-frame_first g c =
@@ -141,7 +141,7 @@ returns-in-Count-clause-serves g c =
     let f = g.F.Write.contents c.args.frames.now in
     let r = g.R.Write.contents c.args.replies.now in
     let r' = g.R.Write.contents c.report_count.new.replies in
-    rw c.in-Count.is (on_ok_weaker c.report_count.result (λ said. serves_count c.args.session.now.now f f r r' said) c.report_count.ensures)
+    rw c.in-Count.is (on_ok_weaker c.report_count.result (λ said. serves_count c.args.session.now.now f f r r' said) c.report_count.ensures.wrote)
 
 pub returns-in-Count-clause-frame_first : goal.returns-in-Count-clause-frame_first
 returns-in-Count-clause-frame_first g c =
@@ -153,7 +153,7 @@ returns-in-Stats-clause-serves g c =
     let f = g.F.Write.contents c.args.frames.now in
     let r = g.R.Write.contents c.args.replies.now in
     let r' = g.R.Write.contents c.write_stats.new.w in
-    rw c.in-Stats.is (on_ok_weaker c.write_stats.result (λ said. serves_stats c.args.session.now.now f f r r' said) (rw c.decoded.ensures.value at c.write_stats.ensures))
+    rw c.in-Stats.is (on_ok_weaker c.write_stats.result (λ said. serves_stats c.args.session.now.now f f r r' said) (rw c.decoded.ensures.value at c.write_stats.ensures.wrote))
 
 pub returns-in-Stats-clause-frame_first : goal.returns-in-Stats-clause-frame_first
 returns-in-Stats-clause-frame_first g c =

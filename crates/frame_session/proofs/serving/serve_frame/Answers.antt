@@ -14,7 +14,7 @@ returns-in-Err-clause-serves g c =
     let r' = g.R.Write.contents c.write_refused.new.w in
     let served : Appends r r' (refused_line c.in-Err.refusal) → Serves c.args.session.now.now (Frame c.args.n) f f r r' c.frame.new.self.now =
     serves_refused c.args.session.now.now f f r r' c.args.n c.in-Err.refusal c.frame.new.self.now c.in-Err.ensures.returned c.in-Err.ensures.after in
-    on_ok_weaker c.write_refused.result served c.write_refused.ensures
+    on_ok_weaker c.write_refused.result served c.write_refused.ensures.wrote
 
 pub returns-in-Err-clause-frame_first : goal.returns-in-Err-clause-frame_first
 returns-in-Err-clause-frame_first g c =

@@ -2,7 +2,7 @@ use Rattle.std.proofs.Common.{◌≡◌, length, ◌∙◌, arith}
 use Rattle.std.proofs.lemmas.List.{length-map}
 use Rattle.frame_session.specs.Answers.{texts_of}
 use Rattle.frame_session.proofs.Sources.{are_as_many, are_few}
-use Rattle.frame_session.proofs.serving.run.Goals as goal
+use Rattle.frame_session.proofs.serving.run_observed.Goals as goal
 
 pub new-requires-clause-sources : goal.new-requires-clause-sources
 new-requires-clause-sources g c =

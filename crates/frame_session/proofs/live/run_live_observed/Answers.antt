@@ -7,7 +7,7 @@ use Rattle.frame_session.specs.Sessions.{start}
 use Rattle.frame_session.specs.declared.live.LiveFault.TheVariants as faults
 use Rattle.frame_session.proofs.LiveRuns.{ends_first, read_all}
 use Rattle.frame_session.proofs.Sources.{are_as_many, are_few}
-use Rattle.frame_session.proofs.live.run_live.Goals as goal
+use Rattle.frame_session.proofs.live.run_live_observed.Goals as goal
 
 pub new-requires-clause-sources : goal.new-requires-clause-sources
 new-requires-clause-sources g c =

@@ -1,0 +1,11 @@
+-- What an observer is told, after a flush.
+use Rattle.std.proofs.Common.{ℕ, List, Option, Some, None}
+use Rattle.std.specs.Io.KnownBytes.{Keeps}
+use Rattle.std.proofs.KnownBytes.{Appends-kept}
+use Rattle.frame_session.specs.declared.refusal.Refusal.{Refusal}
+use Rattle.frame_session.specs.Replies.{refused_line}
+use Rattle.frame_session.specs.Told.{Tells}
+
+pub tells_kept : (r m r' : Option (List ℕ)) (told : Option Refusal) → Tells r m told → Keeps m r' → Tells r r' told
+tells_kept r m r' None said kept = tt
+tells_kept r m r' (Some refusal) said kept = Appends-kept r m r' (refused_line refusal) said kept

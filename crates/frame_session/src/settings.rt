@@ -1,0 +1,10 @@
+use vp8_tables::Tables;
+
+/// The settings of a session.
+#[derive(Drop)]
+pub struct Settings {
+    /// The long tables that packets are decoded with.
+    pub tables: Tables,
+    /// The most decoded states that are cached, 1 to 4,096.
+    pub capacity: u16,
+}
