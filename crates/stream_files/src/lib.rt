@@ -15,4 +15,3 @@ pub use ivf_writing::{ivf_packet, ivf_start};
 pub use packets::{Bytes, MAX_PACKETS, Packet, Packets};
 pub use reading::{ReadFault, read_all};
 pub use y4m::{WriteFault, y4m_frame, y4m_header};
-
