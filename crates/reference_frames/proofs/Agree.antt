@@ -1,7 +1,7 @@
 -- Planes that agree on the macroblocks that are predicted already: what the others hold does not matter.
-use Rattle.std.specs.Prelude.{slice_index, map, min, nat_lt, if◌then◌else◌, slice_get, slice_index_or, Option, Some, None}
+use Rattle.std.specs.Prelude.{slice_index, map, min, nat_lt, if◌then◌else◌, slice_index_or, Some, None}
 use Rattle.std.specs.List.{range_with_len}
-use Rattle.std.proofs.Common.{◌≡◌, ℕ, zero, suc, ◌+◌, ◌-◌, ◌*◌, ◌/◌, ◌%◌, ◌==◌, ◌<◌, ◌≤◌, ◌⊎◌, inl, inr, List, length, refl, ap, sym, ◌∙◌, arith}
+use Rattle.std.proofs.Common.{◌≡◌, ℕ, zero, suc, ◌+◌, ◌-◌, ◌*◌, ◌/◌, ◌%◌, ◌==◌, ◌<◌, ◌≤◌, inl, inr, List, length, refl, ap, sym, ◌∙◌, arith}
 use Rattle.std.proofs.Math.Nat.{mod-lt, mul-le-mul_left}
 use Rattle.std.proofs.lemmas.Bool.{cases_lt, cases_eq, ne_eqb, eq-eqb, lt-ltb, le-ltb, cond-true, cond-false}
 use Rattle.std.proofs.lemmas.Grind.{same_number_lists}
@@ -14,7 +14,7 @@ use Rattle.intra_predict.specs.SubSample.{sub_sample}
 use Rattle.intra_predict.specs.WholeSample.{whole_sample}
 use Rattle.pixel_planes.specs.Samples.{Samples, sample_at}
 use Rattle.reference_frames.specs.Restored.{Residual, restored}
-use Rattle.reference_frames.specs.Unfiltered.{above, left, corner, above_row, left_column, above_side, left_side, above_eight, sub_column, sub_row, right_row, sub_block_sample, whole_block_sample, with_block, predicted_sub_block, predicted_sub_blocks, predicted_whole}
+use Rattle.reference_frames.specs.Unfiltered.{above, left, corner, above_row, left_column, above_side, left_side, above_eight, sub_column, sub_row, right_row, sub_block_sample, whole_block_sample, with_block, predicted_sub_blocks, predicted_whole}
 use Rattle.reference_frames.proofs.Flat.{IsPlane, IsPlane-with_block_rows, in_or_out, rows_in, rows_out, above_edge, left_edge}
 
 -- in the first n columns and m rows two planes have the same samples

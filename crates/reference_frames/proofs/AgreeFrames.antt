@@ -1,6 +1,6 @@
 -- The unfiltered planes of a frame with references do not depend on what the planes held before.
 use Rattle.std.specs.Prelude.{Option, None, Some, slice_get}
-use Rattle.std.proofs.Common.{◌≡◌, ℕ, zero, suc, ◌+◌, ◌*◌, ◌/◌, ◌%◌, ◌<◌, ◌≤◌, List, length, get_or, replicate, refl, ap, sym, ◌∙◌, add-zero, zero-mul, true, arith}
+use Rattle.std.proofs.Common.{◌≡◌, ℕ, zero, suc, ◌+◌, ◌*◌, ◌<◌, ◌≤◌, List, length, get_or, replicate, refl, ap, ◌∙◌, add-zero, zero-mul, true, arith}
 use Rattle.std.proofs.lemmas.List.{length-replicate}
 use Rattle.std.proofs.lemmas.Option.{slice_get-get_or}
 use Rattle.intra_predict.specs.declared.modes.SubMode.TheVariants.{Dc}
