@@ -1,7 +1,7 @@
 -- The shown samples of the three planes of a picture under construction.
-use Rattle.std.specs.Prelude.{ℕ}
-use Rattle.pixel_planes.specs.Samples.{Samples}
-use Rattle.pixel_planes.specs.Pictures.{PictureSamples}
+use Rattle.std.specs.Prelude.{ℕ, ◌*◌}
+use Rattle.pixel_planes.specs.Samples.{Samples, IsWhole, uniform}
+use Rattle.pixel_planes.specs.Pictures.{PictureSamples, HasBlocks}
 use Rattle.pixel_planes.specs.declared.pictures.Planes.{Planes}
 
 -- the shown samples of each component
@@ -17,3 +17,17 @@ shown_of planes = record { luma = planes.luma.shown; cb = planes.cb.shown; cr = 
 -- the picture of these samples at this shown size
 abbrev pub picture_of : ℕ → ℕ → PlaneSamples → PictureSamples
 picture_of width height samples = record { width = width; height = height; luma = samples.luma; cb = samples.cb; cr = samples.cr }
+
+-- the planes are whole, and of the size of a picture of this many macroblocks each way
+pub record AreWhole (columns rows : ℕ) (planes : PlaneSamples) : Type 0 where
+  pub luma : HasBlocks planes.luma 16 columns rows × IsWhole planes.luma
+  pub cb : HasBlocks planes.cb 8 columns rows × IsWhole planes.cb
+  pub cr : HasBlocks planes.cr 8 columns rows × IsWhole planes.cr
+
+-- the planes of that size whose samples are all 0
+abbrev pub zero_planes : ℕ → ℕ → PlaneSamples
+zero_planes columns rows = record {
+  luma = uniform (16 * columns) (16 * rows) 0;
+  cb = uniform (8 * columns) (8 * rows) 0;
+  cr = uniform (8 * columns) (8 * rows) 0;
+}

@@ -262,6 +262,16 @@ impl Plane {
         self.is_current = true;
     }
 
+    /// Gives up the samples: any are shown from now on, and the border is out of date. The sides and
+    /// the border's width stay, and no memory is taken or moved.
+    pub(crate) fn give_up_samples(&mut self)
+        ensures { (self.new.shown.width ≡ self.old.shown.width) × (self.new.shown.height ≡ self.old.shown.height) }
+    {
+        self.first = 0;
+        self.stride = self.width;
+        self.is_current = false;
+    }
+
     /// Marks the border as out of date and moves the shown rows one directly after the other, to be
     /// written.
     fn open(&mut self)

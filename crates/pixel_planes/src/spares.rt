@@ -1,9 +1,9 @@
 //! The planes of a dropped picture, whose memory is used again.
 
 ghost use Rattle.std.specs.Prelude.{◌≡◌, ◌*◌, ◌<◌, ◌≤◌, ◌↔◌, IfOk, IfSome, IsTrue};
-ghost use Rattle.pixel_planes.specs.Samples.{uniform};
+ghost use Rattle.pixel_planes.specs.Samples.{IsWhole, uniform};
 ghost use Rattle.pixel_planes.specs.Pictures.{HasBlocks};
-ghost use Rattle.pixel_planes.specs.PlaneSamples.{shown_of};
+ghost use Rattle.pixel_planes.specs.PlaneSamples.{AreWhole, shown_of, zero_planes};
 
 use crate::NoMemory;
 use crate::pictures::{Picture, Planes};
@@ -39,8 +39,8 @@ impl Spare {
         }
     }
 
-    /// Makes the planes of a picture of `columns` by `rows` macroblocks, 1 to 1,024 each way. All
-    /// their samples are 0.
+    /// Makes the planes of a picture of `columns` by `rows` macroblocks, 1 to 1,024 each way. What
+    /// their samples are is not known: they are to be written before they are read.
     ///
     /// They are the spare planes if these have that size, which takes no memory. Spare planes of
     /// another size are dropped first. `NoMemory` if the block of a plane is refused.
@@ -52,20 +52,49 @@ impl Spare {
     ) -> Result<Planes, NoMemory>
         requires wide { (0 < columns) × (columns ≤ 1024) }
         requires high { (0 < rows) × (rows ≤ 1024) }
-        ensures { IfOk result (λ planes. shown_of planes ≡ record { luma = uniform (16 * columns) (16 * rows) 0; cb = uniform (8 * columns) (8 * rows) 0; cr = uniform (8 * columns) (8 * rows) 0 }) }
+        ensures { IfOk result (λ planes. AreWhole columns rows (shown_of planes)) }
+    {
+        match with_size(self.planes.take(), columns, rows) {
+            Some(mut planes) => {
+                give_up_samples(&mut planes);
+                Ok(planes)
+            }
+            None => fresh(alloc, columns, rows),
+        }
+    }
+
+    /// The same with all their samples 0.
+    pub fn make_zero_planes(
+        &mut self,
+        alloc: Global,
+        columns: usize,
+        rows: usize,
+    ) -> Result<Planes, NoMemory>
+        requires wide { (0 < columns) × (columns ≤ 1024) }
+        requires high { (0 < rows) × (rows ≤ 1024) }
+        ensures { IfOk result (λ planes. shown_of planes ≡ zero_planes columns rows) }
     {
         match with_size(self.planes.take(), columns, rows) {
             Some(mut planes) => {
                 clear(&mut planes);
                 Ok(planes)
             }
-            None => Ok(Planes {
-                luma: Plane::make(alloc, 16 * columns, 16 * rows, 0)?,
-                cb: Plane::make(alloc, 8 * columns, 8 * rows, 0)?,
-                cr: Plane::make(alloc, 8 * columns, 8 * rows, 0)?,
-            }),
+            None => fresh(alloc, columns, rows),
         }
     }
+}
+
+/// Makes planes of their own memory, whose samples are all 0.
+fn fresh(alloc: Global, columns: usize, rows: usize) -> Result<Planes, NoMemory>
+    requires wide { (0 < columns) × (columns ≤ 1024) }
+    requires high { (0 < rows) × (rows ≤ 1024) }
+    ensures { IfOk result (λ planes. shown_of planes ≡ zero_planes columns rows) }
+{
+    Ok(Planes {
+        luma: Plane::make(alloc, 16 * columns, 16 * rows, 0)?,
+        cb: Plane::make(alloc, 8 * columns, 8 * rows, 0)?,
+        cr: Plane::make(alloc, 8 * columns, 8 * rows, 0)?,
+    })
 }
 
 /// Whether a plane has this many squares of these sides each way.
@@ -100,4 +129,18 @@ fn clear(planes: &mut Planes)
     planes.luma.clear(0);
     planes.cb.clear(0);
     planes.cr.clear(0);
+}
+
+/// Gives up the samples of the planes.
+fn give_up_samples(planes: &mut Planes)
+    ensures luma { (planes.new.luma.shown.width ≡ planes.old.luma.shown.width) × (planes.new.luma.shown.height ≡ planes.old.luma.shown.height) × IsWhole planes.new.luma.shown }
+    ensures cb { (planes.new.cb.shown.width ≡ planes.old.cb.shown.width) × (planes.new.cb.shown.height ≡ planes.old.cb.shown.height) × IsWhole planes.new.cb.shown }
+    ensures cr { (planes.new.cr.shown.width ≡ planes.old.cr.shown.width) × (planes.new.cr.shown.height ≡ planes.old.cr.shown.height) × IsWhole planes.new.cr.shown }
+{
+    planes.luma.give_up_samples();
+    planes.luma.holds_whole();
+    planes.cb.give_up_samples();
+    planes.cb.holds_whole();
+    planes.cr.give_up_samples();
+    planes.cr.holds_whole();
 }

@@ -253,7 +253,7 @@ fn pictures_of_two_shown_sizes_are_not_the_same(rt: HostRuntime) -> Result<(), F
 fn makes_zeros(spare: &mut Spare, alloc: Global, side: usize) -> Result<bool, NoMemory>
     requires { (0 < side) × (side ≤ 1024) }
 {
-    let planes = spare.make_planes(alloc, side, side)?;
+    let planes = spare.make_zero_planes(alloc, side, side)?;
     let zeros = Planes {
         luma: Plane::make(alloc, 16 * side, 16 * side, 0)?,
         cb: Plane::make(alloc, 8 * side, 8 * side, 0)?,

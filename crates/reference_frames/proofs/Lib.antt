@@ -14,3 +14,5 @@ pub mod Behind
 pub mod Tagged
 pub mod PutRows
 pub mod PlacedInPlanes
+pub mod Agree
+pub mod AgreeFrames

@@ -1,9 +1,9 @@
 //! The picture of a frame: its macroblocks one after another, and then the loop filter.
 
-ghost use Rattle.std.specs.Prelude.{◌≡◌, ◌*◌, ◌+◌, ◌<◌, ◌≤◌, All, IfOk, length};
+ghost use Rattle.std.specs.Prelude.{◌≡◌, ◌*◌, ◌+◌, ◌<◌, ◌≤◌, All, IfOk, None, length};
 ghost use Rattle.std.specs.Option.{option_copied};
 ghost use Rattle.pixel_planes.specs.Pictures.{macroblocks as macroblocks_of};
-ghost use Rattle.pixel_planes.specs.PlaneSamples.{shown_of};
+ghost use Rattle.pixel_planes.specs.PlaneSamples.{AreWhole, shown_of};
 ghost use Rattle.reference_frames.specs.FrameTokens.{flags_of, residual_at};
 ghost use Rattle.reference_frames.specs.FrameTokenValue.{state_of};
 ghost use Rattle.reference_frames.specs.Steps.{decoded_picture};
@@ -65,7 +65,8 @@ pub(crate) fn macroblocks(side: u16) -> usize
     usize::from(side).div_ceil(16)
 }
 
-/// The planes of a frame before its first macroblock is predicted, and its shown size.
+/// The planes of a frame before its first macroblock is predicted, and its shown size. The planes of
+/// a frame with references may hold anything: each sample is written before it is read.
 pub(crate) struct Blank {
     pub planes: Planes,
     pub width: u16,
@@ -88,7 +89,8 @@ pub(crate) fn decoded_picture(
 ) -> Result<Picture, NoMemory>
     requires wide { (0 < blank.width) × (blank.width ≤ 16383) }
     requires high { (0 < blank.height) × (blank.height ≤ 16383) }
-    requires empty { shown_of blank.planes ≡ empty_planes (macroblocks_of blank.width) (macroblocks_of blank.height) }
+    requires shape { AreWhole (macroblocks_of blank.width) (macroblocks_of blank.height) (shown_of blank.planes) }
+    requires empty { option_copied references ≡ None → shown_of blank.planes ≡ empty_planes (macroblocks_of blank.width) (macroblocks_of blank.height) }
     requires each { length modes.now.records ≡ macroblocks_of blank.width * macroblocks_of blank.height }
     requires some { 0 < length header.now.partitions.items }
     requires inside { All (λ place. place.start + place.length ≤ length packet.now) header.now.partitions.items }

@@ -1,7 +1,9 @@
-ghost use Rattle.std.specs.Prelude.{◌≡◌, false, ◌+◌, ◌<◌, ◌≤◌, ◌*◌, length, All, IfOk, IsTrue, IsSome};
+ghost use Rattle.std.specs.Prelude.{◌≡◌, false, ◌+◌, ◌<◌, ◌≤◌, ◌*◌, length, All, IfOk, IsTrue, IsSome, None};
 ghost use Rattle.std.specs.Option.{option_copied, option_map, ForSome};
 ghost use Rattle.reference_frames.specs.Steps.{StepAnswers, coded_step, decoded, height_of, references_before, references_after_frame, repeated, step_of, width_of};
 ghost use Rattle.reference_frames.specs.States.{HasMap, HaveOneSize};
+ghost use Rattle.reference_frames.specs.Unfiltered.{empty_planes};
+ghost use Rattle.pixel_planes.specs.PlaneSamples.{AreWhole, shown_of};
 
 use crate::frames::{Blank, decoded_picture, macroblocks};
 use crate::references::References;
@@ -9,7 +11,7 @@ use crate::states::State;
 use crate::step_fault::StepFault;
 use frame_header::{Cause, Header, read_header};
 use mode_parser::read_modes;
-use pixel_planes::{NoMemory, Picture, Spare};
+use pixel_planes::{NoMemory, Picture, Planes, Spare};
 use std::alloc::Global;
 use vp8_tables::Tables;
 
@@ -68,6 +70,25 @@ fn references_after_frame(
     }
 }
 
+/// The planes for the picture of a frame: without references all their samples are 0.
+fn planes_for(
+    alloc: Global,
+    spare: &mut Spare,
+    references: Option<&References>,
+    columns: usize,
+    rows: usize,
+) -> Result<Planes, NoMemory>
+    requires wide { (0 < columns) × (columns ≤ 1024) }
+    requires high { (0 < rows) × (rows ≤ 1024) }
+    ensures shape { IfOk result (λ planes. AreWhole columns rows (shown_of planes)) }
+    ensures empty { IfOk result (λ planes. option_copied references.entry ≡ None → shown_of planes ≡ empty_planes columns rows) }
+{
+    match references {
+        Some(_) => spare.make_planes(alloc, columns, rows),
+        None => spare.make_zero_planes(alloc, columns, rows),
+    }
+}
+
 /// Decodes a frame after its header: the state after it, and its picture.
 fn decode(
     alloc: Global,
@@ -90,7 +111,7 @@ fn decode(
     let columns = macroblocks(width);
     let rows = macroblocks(height);
     let modes = read_modes(alloc, tables, header, columns, rows, map)?;
-    let planes = spare.make_planes(alloc, columns, rows)?;
+    let planes = planes_for(alloc, spare, references, columns, rows)?;
     let blank = Blank {
         planes,
         width,

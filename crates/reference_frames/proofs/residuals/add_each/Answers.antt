@@ -1,6 +1,6 @@
-use Rattle.std.proofs.Common.{◌≡◌, ◌*◌, arith}
+use Rattle.std.proofs.Common.{◌≡◌, arith}
 use Rattle.reference_frames.proofs.Added.{none_added_at, one_added}
-use Rattle.reference_frames.specs.AddedBlocks.{IsAddedAt, blocks_residual}
+use Rattle.reference_frames.specs.AddedBlocks.{blocks_residual}
 use Rattle.reference_frames.proofs.residuals.add_each.Goals as goal
 
 pub loop-n-init : goal.loop-n-init

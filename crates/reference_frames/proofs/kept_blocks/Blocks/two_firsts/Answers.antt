@@ -1,5 +1,5 @@
 use Rattle.std.specs.Prelude.{slice_index_or}
-use Rattle.std.proofs.Common.{◌≡◌, ℕ, ◌+◌, ◌<◌, ◌≤◌, List, [], ◌∷◌, replicate, ℤ, pos, get_or, add-zero, w16, SFits, to_z, of_z, to_z-of_z, ap, sym, ◌∙◌, rules, arith}
+use Rattle.std.proofs.Common.{◌≡◌, ◌+◌, ◌≤◌, [], ◌∷◌, replicate, ℤ, pos, get_or, add-zero, w16, SFits, to_z, of_z, to_z-of_z, ap, sym, ◌∙◌, rules, arith}
 use Rattle.transforms.proofs.MovedRows.{below_two}
 use Rattle.reference_frames.proofs.KeptBlocks.{kept_first}
 use Rattle.reference_frames.proofs.kept_blocks.Blocks.two_firsts.Goals as goal
