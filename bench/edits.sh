@@ -4,15 +4,16 @@ set -eu
 here=$(cd "$(dirname "$0")" && pwd)
 program=$here/../crates/vp8serve/out/vp8serve
 count=${1:-100000}
+edits=${2:-20000}
 room=$(mktemp -d)
 trap 'rm -rf "$room"' EXIT
 
 "$here/../serve.sh" < /dev/null
 rustc -O --edition 2021 -o "$room/plain" "$here/edits.rs" 2> "$room/rustc.log" || { cat "$room/rustc.log"; exit 1; }
 
-python3 - "$room" "$count" <<'END'
+python3 - "$room" "$count" "$edits" <<'END'
 import random, struct, sys
-room, count = sys.argv[1], int(sys.argv[2])
+room, count, edits = sys.argv[1], int(sys.argv[2]), int(sys.argv[3])
 random.seed(6386)
 with open(f"{room}/in.ivf", "wb") as file:
     file.write(struct.pack("<4sHH4sHHIIII", b"DKIF", 0, 32, b"VP80", 16, 16, 30, 1, count, 0))
@@ -20,7 +21,7 @@ with open(f"{room}/in.ivf", "wb") as file:
         file.write(struct.pack("<IQ", 3, stamp) + bytes([0x11, 0, 0]))
 standing = count
 with open(f"{room}/edits", "w") as file, open(f"{room}/replies", "w") as replies:
-    for _ in range(count):
+    for _ in range(edits):
         kind = random.choice(["insert", "replace", "delete", "move"])
         at = random.randrange(standing + (kind == "insert"))
         hex = random.randbytes(random.randrange(8)).hex() or "-"
@@ -41,9 +42,9 @@ END
 "$program" "$room/in.ivf" "$room/edits" > "$room/told"
 cmp "$room/told" "$room/replies"
 
-python3 - "$count" "$program" "$room" <<'END'
+python3 - "$count" "$edits" "$program" "$room" <<'END'
 import subprocess, sys, time
-count, program, room = int(sys.argv[1]), sys.argv[2], sys.argv[3]
+count, edits, program, room = int(sys.argv[1]), int(sys.argv[2]), sys.argv[3], sys.argv[4]
 def seconds(requests):
     start = time.perf_counter()
     subprocess.run([program, f"{room}/in.ivf", requests], check=True, stdout=subprocess.DEVNULL)
@@ -53,7 +54,7 @@ def plain():
     return float(subprocess.run(words, check=True, capture_output=True).stdout)
 edited = min(seconds(f"{room}/edits") for _ in range(3)) - min(seconds(f"{room}/nothing") for _ in range(3))
 beside = min(plain() for _ in range(3))
-print(f"vp8serve, {count} edits of {count} packets: {count / edited:.0f} edits a second")
-print(f"plain vector, the same edits:      {count / beside:.0f} edits a second")
+print(f"vp8serve, {edits} edits of {count} packets: {edited / edits * 1e6:.2f} us an edit, lines and replies included")
+print(f"plain vector, the same edits: {beside / edits * 1e6:.2f} us an edit")
 print(f"ratio of the times: {edited / beside:.2f}")
 END

@@ -1,8 +1,9 @@
 #!/usr/bin/env python3
 """Compares the program's replies to random lists of requests with those of a plain model of them, written anew here.
 
-    compare/edits.py [LISTS]
+    compare/edits.py [LISTS [LONG_LISTS]]
 
+LONG_LISTS are lists of 60 edits of streams of 1,000 to 5,000 packets, whose packets are saved and compared too.
 README.md says more.
 """
 import pathlib
@@ -137,15 +138,81 @@ def compare(room, seed):
     return wanted
 
 
+def long_line(count):
+    """An edit of a long stream, at its ends, at the ends of runs of 1,024 packets and anywhere."""
+    near = lambda: max(0, random.choice([0, 1023, 1024, 1025, 2047, 2048, 3072, 4096, count - 1, count]) + random.randrange(-1, 2))
+    place = lambda: near() if random.random() < 0.4 else random.randrange(count + 1)
+    hex = random.choice(PACKETS).hex() or "-"
+    return random.choice(
+        [f"insert {place()} {random.randrange(2**32)} {hex}", f"delete {place()}"] * 2
+        + [f"replace {place()} {hex}", f"move {place()} {place()}", f"move {place()} {place()}", "count"]
+    )
+
+
+def saved_packets(path):
+    """The time stamps and the bytes of the packets of a saved file."""
+    data, at, packets = pathlib.Path(path).read_bytes(), 32, []
+    while at < len(data):
+        size, stamp = struct.unpack("<IQ", data[at : at + 12])
+        packets.append((stamp, data[at + 12 : at + 12 + size]))
+        at += 12 + size
+    return packets
+
+
+class LongModel(Model):
+    """The same, with the time stamps of the packets."""
+
+    def __init__(self, packets):
+        super().__init__(packets)
+        self.stamps = list(range(len(packets)))
+
+    def answer(self, line):
+        reply = super().answer(line)
+        words = line.split()
+        if reply.startswith("ok"):
+            if words[0] == "insert":
+                self.stamps.insert(int(words[1]), int(words[2]))
+            elif words[0] == "delete":
+                del self.stamps[int(words[1])]
+            elif words[0] == "move":
+                self.stamps.insert(int(words[2]), self.stamps.pop(int(words[1])))
+        return reply
+
+
+def compare_long(room, seed):
+    random.seed(f"long {seed}")
+    packets = [random.choice(PACKETS) for _ in range(random.randrange(1000, 5001))]
+    lines = [long_line(len(packets)) for _ in range(60)]
+    lines += [f"frame {random.randrange(len(packets))}" for _ in range(3)]
+    with open(f"{room}/in.ivf", "wb") as file:
+        file.write(struct.pack("<4sHH4sHHIIII", b"DKIF", 0, 32, b"VP80", 16, 16, 30, 1, len(packets), 0))
+        file.write(b"".join(struct.pack("<IQ", len(packet), stamp) + packet for stamp, packet in enumerate(packets)))
+    pathlib.Path(f"{room}/requests").write_text("\n".join(lines))
+    words = [PROGRAM, "--save", f"{room}/saved.ivf", f"{room}/in.ivf", f"{room}/requests"]
+    ran = subprocess.run(words, check=True, capture_output=True, text=True)
+    model = LongModel(packets)
+    wanted = [model.answer(line) for line in lines]
+    told = ran.stdout.splitlines()[: len(lines)]
+    if told != wanted:
+        row = next((i for i, pair in enumerate(zip(told, wanted)) if pair[0] != pair[1]), min(len(told), len(wanted)))
+        sys.exit(f"long list {seed}, line {row}: {lines[row : row + 1]}: told {told[row : row + 1]}, wanted {wanted[row : row + 1]}")
+    if saved_packets(f"{room}/saved.ivf") != list(zip(model.stamps, model.packets)):
+        sys.exit(f"long list {seed}: other packets were saved")
+
+
 def main():
     lists = int(sys.argv[1]) if len(sys.argv) > 1 else 500
+    long_lists = int(sys.argv[2]) if len(sys.argv) > 2 else 200
     kinds = {}
     with tempfile.TemporaryDirectory() as room:
         for seed in range(lists):
             for reply in compare(room, seed):
                 kind = " ".join(word for word in reply.split() if not word.isdigit())
                 kinds[kind] = kinds.get(kind, 0) + 1
+        for seed in range(long_lists):
+            compare_long(room, seed)
     print(f"{lists} lists of 60 requests each: all replies are the model's")
+    print(f"{long_lists} lists of 60 edits of 1,000 to 5,000 packets each: all replies and saved packets are the model's")
     for kind, count in sorted(kinds.items()):
         print(f"{count:7} {kind}")
 

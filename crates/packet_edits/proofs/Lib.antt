@@ -1,5 +1,5 @@
-pub mod Turns
-pub mod Risen
+pub mod Counts
+pub mod Runs
 pub mod Mapped
 pub mod Shown
 pub mod Ids

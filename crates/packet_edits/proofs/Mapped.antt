@@ -2,7 +2,7 @@
 use Rattle.std.proofs.Common.{◌≡◌, ℕ, zero, suc, ◌+◌, ◌<◌, ◌≤◌, List, [], ◌∷◌, length, map, get_or, slice_get, slice_set, Some, refl, sym, ap, ◌∙◌, arith}
 use Rattle.std.specs.List.{insert, remove}
 use Rattle.std.proofs.lemmas.List.Edits.{length-insert}
-use Rattle.packet_edits.specs.Edits.{moved}
+use Rattle.chunked_list.specs.Moves.{moved}
 
 pub map_insert : {A B : Type 0} (f : A → B) (xs : List A) (at : ℕ) (x : A) → at ≤ length xs → map f (insert xs at x) ≡ insert (map f xs) at (f x)
 map_insert f xs zero x within = refl

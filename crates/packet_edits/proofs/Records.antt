@@ -1,5 +1,5 @@
 -- The records of packets in sequence.
-use Rattle.std.proofs.Common.{◌≡◌, ℕ, ◌+◌, ◌<◌, List, [], ◌∷◌, ◌++◌, Option, map, length, take, get_or, append-nil, sym, ap, ◌∙◌, subst}
+use Rattle.std.proofs.Common.{◌≡◌, ℕ, zero, suc, ◌+◌, ◌<◌, List, [], ◌∷◌, ◌++◌, Option, Some, map, length, take, get_or, slice_get, append-nil, sym, ap, ◌∙◌, subst}
 use Rattle.std.proofs.lemmas.List.{map_more, length-map}
 use Rattle.std.proofs.lemmas.Grind.{flat_map-append}
 use Rattle.std.specs.Io.KnownBytes.{Appends}
@@ -10,6 +10,12 @@ use Rattle.stream_files.specs.Texts.{header_text, record_text, records_text, wri
 use Rattle.packet_edits.specs.declared.entry.Entry.{Entry}
 use Rattle.packet_edits.specs.Edits.{Listing}
 use Rattle.packet_edits.specs.Saved.{packet_of, packets_of}
+
+-- an element that is read
+pub element_is : (es : List Entry) (i : ℕ) (e : Entry) → slice_get es i ≡ Some e → e ≡ get_or es i e
+element_is [] i e here = cc
+element_is (x ∷ es) zero e here = let is : x ≡ e = cc in sym is
+element_is (x ∷ es) (suc i) e here = element_is es i e here
 
 records_more : (es : List Entry) (i : ℕ) (d : Entry) → i < length es → records_text (map packet_of (take (i + 1) es)) ≡ records_text (map packet_of (take i es)) ++ record_text (packet_of (get_or es i d))
 records_more es i d within =

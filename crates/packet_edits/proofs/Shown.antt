@@ -2,9 +2,8 @@
 use Rattle.std.proofs.Common.{◌≡◌, ℕ, suc, zero, ◌+◌, ◌<◌, List, [], ◌∷◌, Bool, true, false, cond, Option, Some, None, IfSome, map, length, slice_get, refl, sym, ap, ◌∙◌, arith, add-zero, zero-add}
 use Rattle.frame_header.specs.Tags.{is_shown}
 use Rattle.packet_edits.specs.declared.entry.Entry.{Entry}
-use Rattle.packet_edits.specs.FrameCounts.{indexes_from}
+use Rattle.packet_edits.specs.FlagCounts.{indexes_from}
 use Rattle.packet_edits.specs.Shown.{shown_from, shown_indexes}
-use Rattle.packet_edits.specs.Stores.{flags_of}
 
 -- an index in the shown list of packets whose first has the index `start`, and its packet
 pub record IsListed (start place : ℕ) (xs : List (List ℕ)) : Type 0 where
@@ -73,7 +72,7 @@ pub shown_ascend : (packets : List (List ℕ)) (n m first later : ℕ) → slice
 shown_ascend packets n m first later e f less = ascends_from 0 packets n m first later e f less
 
 -- the indexes that flags give are those of the shown packets
-pub places_of_flags : (start : ℕ) (es : List Entry) → shown_from start (map (λ e. e.bytes) es) ≡ indexes_from start (flags_of es)
+pub places_of_flags : (start : ℕ) (es : List Entry) → shown_from start (map (λ e. e.bytes) es) ≡ indexes_from start (map (λ e. is_shown e.bytes) es)
 places_of_flags start [] = refl
 places_of_flags start (e ∷ es) = rw (places_of_flags (start + 1) es) refl
 

@@ -2,6 +2,7 @@
 use Rattle.std.specs.Prelude.{ℕ, ◌+◌, ◌-◌, ◌^◌, ◌==◌, ◌&&◌, nat_lt, nat_le, if◌then◌else◌, List, [], ◌∷◌, ◌++◌, length, slice_get, slice_set, Option, Some, None}
 use Rattle.std.specs.List.{insert, remove}
 use Rattle.std.specs.Option.{option_map_or}
+pub use Rattle.chunked_list.specs.Moves.{moved, with_place}
 use Rattle.stream_files.specs.declared.packets.Packet.{Packet}
 use Rattle.packet_edits.specs.declared.entry.Entry.{Entry}
 use Rattle.packet_edits.specs.declared.fault.EditFault.{EditFault}
@@ -48,10 +49,6 @@ inserted at stamp bytes list = record {
 abbrev pub copied : ℕ → Listing → ℕ → Listing → Listing
 copied at source from list = option_map_or (λ entry. inserted at entry.stamp entry.bytes list) (slice_get source.entries from) list
 
--- a change made with the element at an index; the list is unchanged if there is none
-abbrev pub with_place : {A : Type 0} → ℕ → (A → List A) → List A → List A
-with_place place change xs = option_map_or change (slice_get xs place) xs
-
 -- the bytes of the packet at an index replaced, with the next id; its stamp stays
 abbrev pub replaced : ℕ → List ℕ → Listing → Listing
 replaced at bytes list = record {
@@ -62,10 +59,6 @@ replaced at bytes list = record {
 -- the packet at an index removed
 abbrev pub deleted : ℕ → Listing → Listing
 deleted at list = record list { entries = remove list.entries at }
-
--- the element at `from` removed and inserted at index `to` of the shortened list
-abbrev pub moved : {A : Type 0} → ℕ → ℕ → List A → List A
-moved from to xs = with_place from (λ x. insert (remove xs from) to x) xs
 
 -- the packet at `from` removed and inserted at index `to` of the shortened list
 abbrev pub with_move : ℕ → ℕ → Listing → Listing

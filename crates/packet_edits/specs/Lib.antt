@@ -1,9 +1,10 @@
 pub mod Faults
 pub mod Edits
 pub mod Shown
-pub mod FrameCounts
+pub mod FlagCounts
 pub mod Laws
 pub mod Marks
+pub mod Indexes
 pub mod Stores
 pub mod Sizes
 pub mod Saved

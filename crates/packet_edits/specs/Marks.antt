@@ -1,8 +1,9 @@
 -- Marks: a packet is marked when its cached outcome may no longer follow from the packet before it.
 use Rattle.std.specs.Prelude.{ℕ, ◌+◌, Bool, true, false, List, ◌++◌, map, slice_set}
 use Rattle.std.specs.List.{insert, remove}
+use Rattle.chunked_list.specs.Moves.{moved}
 use Rattle.stream_files.specs.declared.packets.Packet.{Packet}
-use Rattle.packet_edits.specs.Edits.{Listing, moved}
+use Rattle.packet_edits.specs.Edits.{Listing}
 
 -- the value of a store: its packet list, and for each packet whether it is marked
 pub record StoreValue : Type 0 where

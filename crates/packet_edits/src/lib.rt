@@ -1,15 +1,14 @@
 //! The current packets of a stream: edits, marks, shown packets and saving them as a file.
 #![tactic(auto)]
 
-mod counts;
 mod entry;
 mod fault;
-mod frame_index;
-mod key_sizes;
+mod flag_index;
 pub mod laws;
 mod marks;
-mod moves;
+mod packet_index;
 mod saving;
+mod starts;
 mod store;
 
 pub use entry::Entry;

@@ -1,6 +1,5 @@
-ghost use Rattle.std.specs.Prelude.{◌≡◌, ◌+◌, ◌^◌, ◌++◌, ◌<◌, ◌≤◌, [], IfOk, IfSome, OnOk, Some, is_ok, if◌then◌else◌, length, map, option_map, slice_get};
+ghost use Rattle.std.specs.Prelude.{◌≡◌, ◌+◌, ◌^◌, ◌++◌, ◌<◌, ◌≤◌, [], IfOk, IfSome, OnOk, Some, is_ok, if◌then◌else◌, length, option_map, slice_get};
 ghost use Rattle.std.specs.Io.KnownBytes.{Appends};
-ghost use Rattle.frame_header.specs.Tags.{is_shown};
 ghost use Rattle.packet_edits.specs.Edits.{numbered};
 ghost use Rattle.packet_edits.specs.Faults.{Answers, unless_refused};
 ghost use Rattle.packet_edits.specs.Marks.{marks_pushed};
@@ -8,12 +7,11 @@ ghost use Rattle.stream_files.specs.Texts.{written_text};
 
 use crate::entry::Entry;
 use crate::fault::EditFault;
-use crate::frame_index::FrameIndex;
-use crate::key_sizes::{before, last_key_size};
 use crate::marks::{mark, move_marked};
-use crate::moves::move_within;
+use crate::packet_index::PacketIndex;
 use crate::saving::write_records;
-use frame_header::is_shown;
+use chunked_list::ChunkedList;
+use frame_header::key_size;
 use pixel_planes::NoMemory;
 use std::alloc::Global;
 use std::io::Write;
@@ -29,9 +27,9 @@ const SPENT_ID: u64 = u64::MAX;
 /// `copy_from` and `copy_within` allocate.
 #[derive(Drop)]
 pub struct Store {
-    entries: Vec<Entry>,
-    marks: Vec<bool>,
-    shown: FrameIndex,
+    entries: ChunkedList<Entry>,
+    marks: ChunkedList<bool>,
+    index: PacketIndex,
     next_id: u64,
 }
 
@@ -41,9 +39,9 @@ impl Model for Store {
 
     ghost Value = { StoreValue };
 
-    ghost view = { λ s. record { list = record { entries = s.entries.items; next_id = s.next_id }; marks = s.marks.items } };
+    ghost view = { λ s. record { list = record { entries = s.entries; next_id = s.next_id }; marks = s.marks } };
 
-    ghost invariant = { λ s. IsWhole s.entries.items s.next_id s.marks.items s.shown };
+    ghost invariant = { λ s. IsWhole s.entries s.next_id s.marks s.index };
 }
 
 impl Store {
@@ -59,9 +57,9 @@ impl Store {
         ensures { result ≡ record { list = starting first_id; marks = [] } }
     {
         Store {
-            entries: Vec::new(alloc),
-            marks: Vec::new(alloc),
-            shown: FrameIndex::new(alloc),
+            entries: ChunkedList::new(alloc),
+            marks: ChunkedList::new(alloc),
+            index: PacketIndex::new(alloc),
             next_id: first_id,
         }
     }
@@ -78,15 +76,15 @@ impl Store {
         self.may_push(&packets)?;
         let len = self.entries.len();
         let next_id = self.next_id + packets.len() as u64;
-        let Ok(()) = push_flags(&mut self.shown, &packets) else {
+        let Ok(()) = self.index.push_all(&packets) else {
             return Err(EditFault::NoMemory);
         };
         let Ok(()) = push_marks(&mut self.marks, &packets) else {
-            self.shown.truncate(len);
+            self.index.truncate(len);
             return Err(EditFault::NoMemory);
         };
         let Ok(()) = push_entries(&mut self.entries, self.next_id, packets) else {
-            self.shown.truncate(len);
+            self.index.truncate(len);
             self.marks.truncate(len);
             return Err(EditFault::NoMemory);
         };
@@ -109,7 +107,7 @@ impl Store {
         let Ok(()) = self.marks.insert(place, false) else {
             return Err(EditFault::NoMemory);
         };
-        let Ok(()) = self.shown.insert(place, is_shown(bytes.as_slice())) else {
+        let Ok(()) = self.index.insert(place, bytes.as_slice()) else {
             self.marks.remove(place);
             return Err(EditFault::NoMemory);
         };
@@ -119,7 +117,7 @@ impl Store {
             bytes,
         };
         let Ok(()) = self.entries.insert(place, entry) else {
-            self.shown.remove(place);
+            self.index.remove(place);
             self.marks.remove(place);
             return Err(EditFault::NoMemory);
         };
@@ -178,11 +176,14 @@ impl Store {
     {
         self.may_replace(at)?;
         let place = at as usize;
-        self.shown.set(place, is_shown(bytes.as_slice()));
-        let entry = &mut self.entries[place];
-        entry.id = self.next_id;
-        entry.bytes = bytes;
-        self.marks[place] = false;
+        self.index.set(place, bytes.as_slice());
+        let entry = Entry {
+            id: self.next_id,
+            stamp: self.entries.get(place).stamp,
+            bytes,
+        };
+        self.entries.set(place, entry);
+        self.marks.set(place, false);
         mark(&mut self.marks, place + 1);
         self.next_id += 1;
         Ok(())
@@ -198,7 +199,7 @@ impl Store {
         if at >= self.entries.len() as u64 {
             return Err(EditFault::Place);
         }
-        self.shown.remove(at as usize);
+        self.index.remove(at as usize);
         self.entries.remove(at as usize);
         self.marks.remove(at as usize);
         mark(&mut self.marks, at as usize);
@@ -220,8 +221,8 @@ impl Store {
         if to >= len {
             return Err(EditFault::Place);
         }
-        self.shown.move_to(from as usize, to as usize);
-        move_within(&mut self.entries, from as usize, to as usize);
+        self.index.move_to(from as usize, to as usize);
+        self.entries.move_to(from as usize, to as usize);
         move_marked(&mut self.marks, from as usize, to as usize);
         Ok(())
     }
@@ -270,7 +271,7 @@ impl Store {
         requires { i < length self.now.list.entries }
         ensures { IfOk result (λ copy. option_map packet_of (slice_get self.now.list.entries i) ≡ Some copy) }
     {
-        let entry = &self.entries[i];
+        let entry = self.entries.get(i);
         Ok(Packet {
             stamp: entry.stamp,
             bytes: Bytes::from_slice(alloc, entry.bytes.as_slice())?,
@@ -324,7 +325,7 @@ impl Store {
         requires { i < length self.now.list.entries }
         ensures { slice_get (stream_of self.now.list) i ≡ Some result.now }
     {
-        self.entries[i].bytes.as_slice()
+        self.entries.get(i).bytes.as_slice()
     }
 
     /// The time stamp of the packet at index `i`, which exists, in units of `scale / rate` seconds.
@@ -332,7 +333,7 @@ impl Store {
         requires { i < length self.now.list.entries }
         ensures { option_map (λ entry. entry.stamp) (slice_get self.now.list.entries i) ≡ Some result }
     {
-        self.entries[i].stamp
+        self.entries.get(i).stamp
     }
 
     /// The id of the packet at index `i`, which exists.
@@ -340,7 +341,7 @@ impl Store {
         requires { i < length self.now.list.entries }
         ensures { option_map (λ entry. entry.id) (slice_get self.now.list.entries i) ≡ Some result }
     {
-        self.entries[i].id
+        self.entries.get(i).id
     }
 
     /// Whether the packet at index `i`, which exists, is marked: its cached outcome may no longer
@@ -349,7 +350,7 @@ impl Store {
         requires { i < length self.now.list.entries }
         ensures { slice_get self.now.marks i ≡ Some result }
     {
-        self.marks[i]
+        *self.marks.get(i)
     }
 
     /// Marks the packet at index `i`, which exists.
@@ -357,7 +358,7 @@ impl Store {
         requires { i < length self.old.list.entries }
         ensures { self.new ≡ record self.old { marks = marked_at i self.old.marks } }
     {
-        self.marks[i] = true;
+        self.marks.set(i, true);
     }
 
     /// Removes the mark of the packet at index `i`, which exists.
@@ -365,7 +366,7 @@ impl Store {
         requires { i < length self.old.list.entries }
         ensures { self.new ≡ record self.old { marks = unmarked_at i self.old.marks } }
     {
-        self.marks[i] = false;
+        self.marks.set(i, false);
     }
 
     /// The index of shown packet `n`, counted from 0, or `None` if fewer are shown. A packet is
@@ -375,14 +376,14 @@ impl Store {
         ensures place { result ≡ slice_get (shown_indexes (stream_of self.now.list)) n }
         ensures within { IfSome result (λ place. place < length self.now.list.entries) }
     {
-        self.shown.place(n)
+        self.index.shown.place(n)
     }
 
     /// The number of shown packets.
     pub fn frames(&self) -> usize
         ensures { result ≡ length (shown_indexes (stream_of self.now.list)) }
     {
-        self.shown.frames()
+        self.index.shown.count()
     }
 
     /// The width and height, in luma samples, in the last packet with a key tag before index `at`.
@@ -392,7 +393,9 @@ impl Store {
     pub fn size_at(&self, at: u64) -> Option<(u16, u16)>
         ensures { result ≡ size_at at self.now.list }
     {
-        last_key_size(before(&self.entries, at))
+        let end = at.min(self.entries.len() as u64) as usize;
+        let place = self.index.last_key(end)?;
+        key_size(self.entries.get(place).bytes.as_slice())
     }
 
     /// Writes the packets as an IVF file with this head: version 0, a header of 32 bytes with the
@@ -407,28 +410,9 @@ impl Store {
     }
 }
 
-/// Appends to an index which of these packets are shown. If memory is refused, nothing changes.
-fn push_flags(index: &mut FrameIndex, packets: &Packets) -> Result<(), NoMemory>
-    requires { length index.old + length packets.now ≤ 1048576 }
-    ensures { index.new ≡ (if is_ok result then index.old ++ map (λ packet. is_shown packet.bytes) packets.now else index.old) }
-{
-    let len = index.len();
-    for packet in packets.as_slice() {
-        let end = index.len();
-        if index
-            .insert(end, is_shown(packet.bytes.as_slice()))
-            .is_err()
-        {
-            index.truncate(len);
-            return Err(NoMemory);
-        }
-    }
-    Ok(())
-}
-
 /// Appends to a list of marks that these packets have none. If memory is refused, nothing changes.
-fn push_marks(marks: &mut Vec<bool>, packets: &Packets) -> Result<(), NoMemory>
-    ensures { marks.new.items ≡ (if is_ok result then marks_pushed packets.now marks.old.items else marks.old.items) }
+fn push_marks(marks: &mut ChunkedList<bool>, packets: &Packets) -> Result<(), NoMemory>
+    ensures { marks.new ≡ (if is_ok result then marks_pushed packets.now marks.old else marks.old) }
 {
     let len = marks.len();
     for _packet in packets.as_slice() {
@@ -442,9 +426,9 @@ fn push_marks(marks: &mut Vec<bool>, packets: &Packets) -> Result<(), NoMemory>
 
 /// Appends these packets to a list, with ids starting at `first_id`. If memory is refused, nothing
 /// changes.
-fn push_entries(entries: &mut Vec<Entry>, first_id: u64, packets: Packets) -> Result<(), NoMemory>
+fn push_entries(entries: &mut ChunkedList<Entry>, first_id: u64, packets: Packets) -> Result<(), NoMemory>
     requires { first_id + length packets < 2 ^ 64 }
-    ensures { entries.new.items ≡ (if is_ok result then entries.old.items ++ numbered first_id packets else entries.old.items) }
+    ensures { entries.new ≡ (if is_ok result then entries.old ++ numbered first_id packets else entries.old) }
 {
     let len = entries.len();
     let mut id = first_id;

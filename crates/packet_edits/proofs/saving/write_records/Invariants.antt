@@ -4,5 +4,5 @@ use Rattle.stream_files.specs.Texts.{records_text}
 use Rattle.packet_edits.specs.Saved.{packet_of}
 use Rattle.packet_edits.proofs.saving.write_records.Given as goal
 
-abbrev pub invariant-loop-entry : goal.invariant-loop-entry
-invariant-loop-entry g l = Appends (g.W.Write.contents l.fn.w) (g.W.Write.contents l.w) (records_text (map packet_of (take l.entry-index l.entries)))
+abbrev pub invariant-loop-i : goal.invariant-loop-i
+invariant-loop-i g l = Appends (g.W.Write.contents l.fn.w) (g.W.Write.contents l.w) (records_text (map packet_of (take l.i l.entries)))

@@ -5,8 +5,8 @@ use Rattle.packet_edits.proofs.store.push_entries.Given as goal
 
 abbrev pub invariant-loop-packet : goal.invariant-loop-packet
 invariant-loop-packet l = record {
-  same : l.entries.items ++ numbered l.id (into_iter_items l.packet-iterator) ≡ l.fn.entries.items ++ numbered l.fn.first_id l.fn.packets;
+  same : l.entries ++ numbered l.id (into_iter_items l.packet-iterator) ≡ l.fn.entries ++ numbered l.fn.first_id l.fn.packets;
   counted : l.id + length (into_iter_items l.packet-iterator) ≡ l.fn.first_id + length l.fn.packets;
   length_is : into_iter_len l.packet-iterator ≡ length (into_iter_items l.packet-iterator);
-  before : take l.len l.entries.items ≡ l.fn.entries.items;
+  before : take l.len l.entries ≡ l.fn.entries;
 }

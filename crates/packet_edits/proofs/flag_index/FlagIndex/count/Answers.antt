@@ -1,0 +1,7 @@
+use Rattle.std.proofs.Common.{◌≡◌, ℕ, zero, suc, ◌+◌, ◌-◌, ◌*◌, ◌/◌, ◌%◌, ◌<◌, ◌≤◌, Bool, List, length, drop, get_or, leb, slice_get, Some, refl, sym, ap, ◌∙◌, subst, arith, rules}
+use Rattle.packet_edits.specs.FlagCounts.{flagged_before}
+use Rattle.packet_edits.proofs.Counts.{count_told}
+use Rattle.packet_edits.proofs.flag_index.FlagIndex.count.Goals as goal
+
+pub returns : goal.returns
+returns c = c.count_before.ensures ∙ ap (λ n. flagged_before n c.args.self.now) c.len.ensures ∙ count_told 0 c.args.self.now
