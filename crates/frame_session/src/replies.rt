@@ -20,7 +20,10 @@ pub fn write_served<W: Write>(w: &mut W, n: u64) -> Result<Option<Refusal>, Writ
 }
 
 /// Writes the reply to an edit, made or refused.
-pub fn write_edited<W: Write>(w: &mut W, answer: Result<u64, Refusal>) -> Result<Option<Refusal>, WriteFault>
+pub fn write_edited<W: Write>(
+    w: &mut W,
+    answer: Result<u64, Refusal>,
+) -> Result<Option<Refusal>, WriteFault>
     ensures wrote { OnOk result (Appends (W.contents w.old) (W.contents w.new) (edit_line answer)) }
     ensures told { IfOk result (Tells (W.contents w.old) (W.contents w.new)) }
 {
@@ -39,7 +42,11 @@ fn write_ok<W: Write>(w: &mut W, count: u64) -> Result<Option<Refusal>, WriteFau
 }
 
 /// Writes the number of packets and the number of frames served.
-pub fn write_count<W: Write>(w: &mut W, packets: u64, frames: u64) -> Result<Option<Refusal>, WriteFault>
+pub fn write_count<W: Write>(
+    w: &mut W,
+    packets: u64,
+    frames: u64,
+) -> Result<Option<Refusal>, WriteFault>
     ensures wrote { OnOk result (Appends (W.contents w.old) (W.contents w.new) (count_line packets frames)) }
     ensures told { IfOk result (Tells (W.contents w.old) (W.contents w.new)) }
 {
