@@ -1,0 +1,38 @@
+-- Why a file is not read as a stream, and the record that the end of a file cuts off.
+use Rattle.std.specs.Prelude.{◌≡◌, ◌+◌, ℕ, Bool, nat_le, if◌then◌else◌, List, ◌∷◌, [], length, take, drop, Option, Some, None, codes}
+use Rattle.std.specs.Str.{bytes_eq}
+use Rattle.byteorder.specs.Endian.{little_number}
+use Rattle.stream_files.specs.Ivf.{HasRecord, Records, body, header_length}
+use Rattle.stream_files.specs.declared.ivf.IvfFault.{IvfFault}
+use Rattle.stream_files.specs.declared.ivf.IvfFault.TheVariants as faults
+use Rattle.stream_files.specs.declared.packets.Packet.{Packet}
+use Rattle.explanations.specs.declared.files.CutRecord.{CutRecord}
+use Rattle.explanations.specs.declared.files.StreamReason.{StreamReason}
+use Rattle.explanations.specs.declared.files.StreamReason.TheVariants.{Short, WebM, NoIvf, Codec, HeaderLength, TooMany, NoMemory}
+
+-- EBML's magic number, with which WebM and Matroska files begin
+abbrev pub is_webm : List ℕ → Bool
+is_webm bytes = bytes_eq (take 4 bytes) (0x1A ∷ 0x45 ∷ 0xDF ∷ 0xA3 ∷ [])
+
+-- the length that a header gives itself; 0 if the bytes have no room for it
+abbrev pub given_length : List ℕ → ℕ
+given_length bytes = if nat_le 8 (length bytes) then header_length bytes else 0
+
+-- the reason of an error in a file's bytes: the name of another codec is the four bytes at byte 8
+abbrev pub stream_reason : List ℕ → IvfFault → StreamReason
+stream_reason bytes faults.Header = if is_webm bytes then WebM else Short
+stream_reason bytes faults.Magic = if is_webm bytes then WebM else NoIvf
+stream_reason bytes faults.FourCc = Codec
+stream_reason bytes faults.HeaderLength = HeaderLength (given_length bytes)
+stream_reason bytes faults.TooMany = TooMany
+stream_reason bytes faults.NoMemory = NoMemory
+
+-- after its whole records a file has bytes, which begin with no whole record
+pub record IsCutRecord (bytes : List ℕ) (cut : CutRecord) : Type 0 where
+  pub packets : List Packet
+  pub rest : List ℕ
+  pub records : Records (body bytes) packets rest
+  pub over : ¬ HasRecord rest
+  pub number : length packets ≡ cut.number
+  pub begins : cut.begins + length rest ≡ length bytes
+  pub size : cut.size ≡ (if nat_le 4 (length rest) then Some (little_number 4 rest) else None)

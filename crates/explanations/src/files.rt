@@ -1,0 +1,129 @@
+// Why a file is not read as a stream, and the record that the end of a file cuts off.
+ghost use Rattle.std.specs.Prelude.{◌≡◌, ◌≤◌, List, IfNone, IfSome, if◌then◌else◌, length, nat_le};
+ghost use Rattle.byteorder.specs.Endian.{little_number};
+ghost use Rattle.stream_files.specs.Ivf.{HasRecord, Records, after_first, header_length};
+ghost use Rattle.stream_files.specs.declared.packets.Packet.{Packet};
+ghost use Rattle.explanations.specs.Files.{IsCutRecord, given_length, is_webm, stream_reason};
+
+use byteorder::{ByteOrder, LittleEndian};
+use stream_files::IvfFault;
+
+/// Why the bytes of a file are not read as a stream.
+#[derive(Clone, Copy, Debug, PartialEq, Eq)]
+pub enum StreamReason {
+    /// Fewer bytes than the header of an IVF file.
+    Short,
+    /// A WebM or Matroska file.
+    WebM,
+    /// It does not begin as an IVF file.
+    NoIvf,
+    /// An IVF file of another codec.
+    Codec,
+    /// The header gives itself this length, which is under 32 or past the end of the file.
+    HeaderLength(u16),
+    /// More packets than are allowed.
+    TooMany,
+    /// Out of memory for the packets.
+    NoMemory,
+}
+
+/// A record that the end of a file cuts off.
+#[derive(Clone, Copy, Debug, PartialEq, Eq)]
+pub struct CutRecord {
+    /// The number of whole records before it.
+    pub number: u64,
+    /// The index of its first byte in the file.
+    pub begins: usize,
+    /// The number of bytes that it claims for its packet, if the bytes that say so are there.
+    pub size: Option<u32>,
+}
+
+fn is_webm(bytes: &[u8]) -> bool
+    ensures { result ≡ is_webm bytes.now }
+{
+    bytes.starts_with(&[0x1A, 0x45, 0xDF, 0xA3])
+}
+
+/// The reason of an error in the bytes of a file.
+pub fn stream_reason(bytes: &[u8], fault: IvfFault) -> StreamReason
+    ensures { result ≡ stream_reason bytes.now fault }
+{
+    match fault {
+        IvfFault::Header if is_webm(bytes) => StreamReason::WebM,
+        IvfFault::Header => StreamReason::Short,
+        IvfFault::Magic if is_webm(bytes) => StreamReason::WebM,
+        IvfFault::Magic => StreamReason::NoIvf,
+        IvfFault::FourCc => StreamReason::Codec,
+        IvfFault::HeaderLength => StreamReason::HeaderLength(header_length(bytes)),
+        IvfFault::TooMany => StreamReason::TooMany,
+        IvfFault::NoMemory => StreamReason::NoMemory,
+    }
+}
+
+/// The bytes after the whole record at the front, or `None` if there is none.
+fn after_record(text: &[u8]) -> Option<&[u8]>
+    ensures none { IfNone result (¬ HasRecord text.now) }
+    ensures whole { IfSome result (λ following. HasRecord text.now) }
+    ensures following { IfSome result (λ following. following.now ≡ after_first text.now) }
+{
+    if text.len() < 12 {
+        return None;
+    }
+    let size = LittleEndian::read_u32(text) as usize;
+    text[12..].get(size..)
+}
+
+/// The number of whole records at the front of a text, and the bytes after them.
+fn whole_records(text: &[u8]) -> (u64, &[u8])
+    ensures records { (packets : List Packet) × Records text.now packets result.1.now × (length packets ≡ result.0) }
+    ensures over { ¬ HasRecord result.1.now }
+    ensures within { length result.1.now ≤ length text.now }
+{
+    let mut rest = text;
+    let mut count = 0;
+    while let Some(following) = after_record(rest) {
+        count += 1;
+        rest = following;
+    }
+    (count, rest)
+}
+
+/// The length that the header of a file gives itself; 0 if it has no room for it.
+fn header_length(bytes: &[u8]) -> u16
+    ensures value { 8 ≤ length bytes.now → result ≡ header_length bytes.now }
+    ensures given { result ≡ given_length bytes.now }
+{
+    if bytes.len() < 8 {
+        return 0;
+    }
+    LittleEndian::read_u16(&bytes[6..])
+}
+
+/// The record that the end of a file of the codec VP8 cuts off, if one is cut off.
+pub fn cut_record(bytes: &[u8]) -> Option<CutRecord>
+    ensures { IfSome result (IsCutRecord bytes.now) }
+{
+    if bytes.len() < 32 {
+        return None;
+    }
+    let text = bytes.get(usize::from(header_length(bytes))..)?;
+    let (number, rest) = whole_records(text);
+    if rest.is_empty() {
+        return None;
+    }
+    Some(CutRecord {
+        number,
+        begins: bytes.len() - rest.len(),
+        size: claimed_size(rest),
+    })
+}
+
+/// The number of bytes that the record at the front claims for its packet.
+fn claimed_size(text: &[u8]) -> Option<u32>
+    ensures { result ≡ (if nat_le 4 (length text.now) then Some (little_number 4 text.now) else None) }
+{
+    if text.len() < 4 {
+        return None;
+    }
+    Some(LittleEndian::read_u32(text))
+}
