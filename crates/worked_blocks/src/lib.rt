@@ -6,4 +6,4 @@ mod inter;
 #[cfg(test)]
 mod intra;
 #[cfg(test)]
-mod transforms;
+mod residuals;
