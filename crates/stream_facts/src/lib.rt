@@ -1,0 +1,11 @@
+//! The facts of a stream's packets, read from their headers only, and the lines that list them.
+#![tactic(auto)]
+
+mod facts;
+mod lines;
+mod listing;
+#[cfg(test)]
+mod tests;
+
+pub use facts::{Facts, HeaderFacts, Position};
+pub use listing::write_listing;

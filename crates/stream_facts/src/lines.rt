@@ -1,0 +1,186 @@
+//! The line of a packet's facts.
+
+ghost use Rattle.std.specs.Prelude.{◌≡◌, OnOk};
+ghost use Rattle.std.specs.Io.KnownBytes.{Appends};
+ghost use Rattle.stream_facts.specs.Lines.{cause_text, copy_column, field_columns, first_column, frame_column, header_columns, kind_column, line_of, place_columns, reference_columns, show_column, size_column, size_columns, tag_columns, update_column, version_column};
+
+use crate::facts::{Facts, HeaderFacts};
+use frame_header::{Cause, Reference, ReferenceUpdates, Tag};
+use std::io::Write;
+use stream_files::WriteFault;
+
+pub(crate) fn write_text<W: Write>(w: &mut W, text: &str) -> Result<(), WriteFault>
+    ensures { OnOk result (Appends (W.contents w.old) (W.contents w.new) text.now) }
+{
+    w.write_all(text.as_bytes()).map_err(|_| WriteFault::Write)
+}
+
+/// The column of a fact that a packet does not have.
+const NONE: &str = "-\t";
+
+fn write_frame<W: Write>(w: &mut W, frame: Option<usize>) -> Result<(), WriteFault>
+    ensures { OnOk result (Appends (W.contents w.old) (W.contents w.new) (frame_column frame)) }
+{
+    match frame {
+        Some(frame) => write!(w, "{frame}\t").map_err(|_| WriteFault::Write),
+        None => write_text(w, NONE),
+    }
+}
+
+fn write_place<W: Write>(w: &mut W, facts: &Facts) -> Result<(), WriteFault>
+    ensures { OnOk result (Appends (W.contents w.old) (W.contents w.new) (place_columns facts.now)) }
+{
+    let packet = facts.packet;
+    write!(w, "{packet}\t").map_err(|_| WriteFault::Write)?;
+    write_frame(w, facts.frame)?;
+    let stamp = facts.stamp;
+    let bytes = facts.bytes;
+    write!(w, "{stamp}\t{bytes}\t").map_err(|_| WriteFault::Write)
+}
+
+/// The columns of a tag: its kind, and after the column of `shown` its version.
+fn kind_of(tag: Option<Tag>) -> &'static str
+    ensures { result.now ≡ kind_column tag }
+{
+    match tag {
+        None => NONE,
+        Some(tag) if tag.key => "key\t",
+        Some(_) => "inter\t",
+    }
+}
+
+fn show_of(frame: Option<usize>) -> &'static str
+    ensures { result.now ≡ show_column frame }
+{
+    match frame {
+        None => "hidden\t",
+        Some(_) => "shown\t",
+    }
+}
+
+fn write_version<W: Write>(w: &mut W, tag: Option<Tag>) -> Result<(), WriteFault>
+    ensures { OnOk result (Appends (W.contents w.old) (W.contents w.new) (version_column tag)) }
+{
+    match tag {
+        Some(tag) => {
+            let version = tag.version;
+            write!(w, "{version}\t").map_err(|_| WriteFault::Write)
+        }
+        None => write_text(w, NONE),
+    }
+}
+
+fn write_tag<W: Write>(w: &mut W, facts: &Facts) -> Result<(), WriteFault>
+    ensures { OnOk result (Appends (W.contents w.old) (W.contents w.new) (tag_columns facts.now)) }
+{
+    write_text(w, kind_of(facts.tag))?;
+    write_text(w, show_of(facts.frame))?;
+    write_version(w, facts.tag)
+}
+
+fn write_key_size<W: Write>(w: &mut W, size: Option<(u16, u16)>) -> Result<(), WriteFault>
+    ensures { OnOk result (Appends (W.contents w.old) (W.contents w.new) (size_column size)) }
+{
+    match size {
+        Some((width, height)) => { write!(w, "{width}x{height}\t").map_err(|_| WriteFault::Write) }
+        None => write_text(w, NONE),
+    }
+}
+
+fn write_first<W: Write>(w: &mut W, tag: Option<Tag>) -> Result<(), WriteFault>
+    ensures { OnOk result (Appends (W.contents w.old) (W.contents w.new) (first_column tag)) }
+{
+    match tag {
+        Some(tag) => {
+            let first = tag.first_partition;
+            write!(w, "{first}\t").map_err(|_| WriteFault::Write)
+        }
+        None => write_text(w, NONE),
+    }
+}
+
+fn write_sizes<W: Write>(w: &mut W, facts: &Facts) -> Result<(), WriteFault>
+    ensures { OnOk result (Appends (W.contents w.old) (W.contents w.new) (size_columns facts.now)) }
+{
+    write_key_size(w, facts.size)?;
+    write_first(w, facts.tag)
+}
+
+fn copy_of(copy: Option<Reference>) -> &'static str
+    ensures { result.now ≡ copy_column copy }
+{
+    match copy {
+        None => NONE,
+        Some(Reference::Last) => "last\t",
+        Some(Reference::Golden) => "golden\t",
+        Some(Reference::Altref) => "altref\t",
+    }
+}
+
+fn update_of(refreshed: bool, copy: Option<Reference>) -> &'static str
+    ensures { result.now ≡ update_column refreshed copy }
+{
+    if refreshed { "new\t" } else { copy_of(copy) }
+}
+
+fn write_references<W: Write>(w: &mut W, updates: ReferenceUpdates) -> Result<(), WriteFault>
+    ensures { OnOk result (Appends (W.contents w.old) (W.contents w.new) (reference_columns updates)) }
+{
+    write_text(w, update_of(updates.refreshes_last, None))?;
+    write_text(w, update_of(updates.refreshes_golden, updates.golden_copy))?;
+    write_text(w, update_of(updates.refreshes_altref, updates.altref_copy))
+}
+
+fn write_fields<W: Write>(w: &mut W, fields: HeaderFacts) -> Result<(), WriteFault>
+    ensures { OnOk result (Appends (W.contents w.old) (W.contents w.new) (field_columns fields)) }
+{
+    let HeaderFacts {
+        partitions,
+        quantizer,
+        level,
+        references,
+    } = fields;
+    write!(w, "{partitions}\t{quantizer}\t{level}\t").map_err(|_| WriteFault::Write)?;
+    write_references(w, references)
+}
+
+fn write_cause<W: Write>(w: &mut W, cause: Cause) -> Result<(), WriteFault>
+    ensures { OnOk result (Appends (W.contents w.old) (W.contents w.new) (cause_text cause)) }
+{
+    match cause {
+        Cause::TokenPartition(k) => {
+            write!(w, "TokenPartition {k}").map_err(|_| WriteFault::Write)
+        }
+        _ => write_text(w, cause.word()),
+    }
+}
+
+fn write_header<W: Write>(
+    w: &mut W,
+    header: Result<Option<HeaderFacts>, Cause>,
+) -> Result<(), WriteFault>
+    ensures { OnOk result (Appends (W.contents w.old) (W.contents w.new) (header_columns header)) }
+{
+    match header {
+        Ok(Some(fields)) => {
+            write_fields(w, fields)?;
+            write_text(w, "-\n")
+        }
+        Ok(None) => write_text(w, "-\t-\t-\t-\t-\t-\t-\n"),
+        Err(cause) => {
+            write_text(w, "-\t-\t-\t-\t-\t-\t")?;
+            write_cause(w, cause)?;
+            write_text(w, "\n")
+        }
+    }
+}
+
+/// Writes the line of a packet's facts.
+pub(crate) fn write_line<W: Write>(w: &mut W, facts: Facts) -> Result<(), WriteFault>
+    ensures { OnOk result (Appends (W.contents w.old) (W.contents w.new) (line_of facts)) }
+{
+    write_place(w, &facts)?;
+    write_tag(w, &facts)?;
+    write_sizes(w, &facts)?;
+    write_header(w, facts.header)
+}

@@ -1,0 +1,86 @@
+// The arguments of the command line.
+use crate::fault::Fault;
+use clap::{Arg, ArgMatches, Command};
+use std::alloc::{AllocError, Global};
+use std::convert::AsStr;
+use std::env::{self, Env};
+use std::io::ErrorKind;
+
+/// The program's version.
+const VERSION: &str = "0.1.0";
+
+/// The purpose of the program.
+const ABOUT: &str = "\
+Lists the packets of a VP8 stream (IVF): a line with the names of the columns,
+and a line a packet, with tabs between columns. Only headers are read.
+
+  vp8list in.ivf | column -t
+  vp8list in.ivf | awk '$5 == \"key\" { print $1, $8 }'
+
+  packet      index of the packet, from 0
+  frame       index of the frame that it is shown as, `-` if it is hidden
+  stamp       time stamp
+  bytes       length
+  kind        `key` or `inter`, `-` with fewer than 3 bytes
+  show        `shown` or `hidden`
+  version     0 to 7
+  size        width x height of a key packet
+  first       length of the first partition, as the tag gives it
+  partitions  number of token partitions
+  quantizer   quantizer index, 0 to 127
+  level       loop filter level, 0 to 63
+  last, golden, altref
+              `new` if the frame becomes that reference; `last`, `golden` or
+              `altref` if it becomes a copy of that one; `-` if it stays
+  cause       why the header is refused, else `-`
+
+Exit status: 0, or 2 for a mistake on the command line or a file that is not IVF.";
+
+/// The values of the arguments.
+#[derive(Clone, Copy)]
+pub struct Arguments<'a> {
+    /// The IVF file.
+    pub stream: &'a str,
+    /// The file of the long tables, if given.
+    pub tables: Option<&'a str>,
+}
+
+/// The program's arguments, its name first.
+///
+/// `CommandLine` if one of them is not UTF-8.
+pub fn given<R: Env + AllocGlobal>(rt: &R) -> Result<Vec<String>, Fault<'static>> {
+    let words = match env::args(rt) {
+        Ok(words) => words,
+        Err(error) if error.kind() == ErrorKind::OutOfMemory => return Err(Fault::NoMemory),
+        Err(_) => return Err(Fault::CommandLine),
+    };
+    words.collect(rt.alloc()).map_err(|_| Fault::NoMemory)
+}
+
+/// The program's arguments.
+fn command<'a>(alloc: Global) -> Result<Command<'a>, AllocError> {
+    let stream = Arg::new(alloc, "IN").required(true).help("IVF file");
+    let tables = Arg::new(alloc, "tables")
+        .long("tables")
+        .value_name("FILE")
+        .help("3012 bytes to use instead of RFC 6386's long tables");
+    Command::new(alloc, "vp8list")
+        .version(VERSION)
+        .about(ABOUT)
+        .arg(stream)?
+        .arg(tables)
+}
+
+/// The values in a command line that was parsed.
+fn values_of<'a>(matches: &ArgMatches<'a>) -> Arguments<'a> {
+    Arguments {
+        stream: matches.get_str("IN").unwrap_or(""),
+        tables: matches.get_str("tables"),
+    }
+}
+
+/// Parses the command line, whose first argument is the program's name.
+pub fn parse<'a, S: AsStr>(alloc: Global, words: &'a [S]) -> Result<Arguments<'a>, clap::Error> {
+    let matches = command(alloc)?.try_get_matches_from(words)?;
+    Ok(values_of(&matches))
+}

@@ -1,0 +1,31 @@
+//! Lists the packets of a VP8 stream: an IVF file in, a line a packet out.
+#![tactic(auto)]
+
+mod arguments;
+mod fault;
+mod program;
+mod reading;
+
+use fault::Fault;
+use std::io::{BufWriter, Write};
+use std::process::ExitCode;
+
+/// Runs the program on its arguments.
+fn start<E: Write>(rt: &HostRuntime, errors: &mut E) -> Result<u8, Fault<'static>> {
+    let words = arguments::given(rt)?;
+    let mut output = BufWriter::with_capacity(
+        rt.alloc(),
+        program::BYTES_AT_ONCE,
+        rt.stdout(),
+    ).map_err(|_| Fault::NoMemory)?;
+    Ok(program::answer(rt, words.as_slice(), &mut output, errors))
+}
+
+fn main(rt: HostRuntime) -> ExitCode {
+    let mut errors = rt.stderr();
+    let status = match start(&rt, &mut errors) {
+        Ok(status) => status,
+        Err(fault) => program::tell(fault, &mut errors),
+    };
+    ExitCode::from(status)
+}

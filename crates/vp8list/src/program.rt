@@ -1,0 +1,105 @@
+// The program over two writers.
+ghost use Rattle.std.specs.Prelude.{◌≡◌, ◌≢◌, ◌≤◌, IfErr, OnOk, Err, length};
+ghost use Rattle.std.specs.Io.KnownBytes.{Appends};
+ghost use Rattle.clap.specs.Values.{kind_of};
+ghost use Rattle.stream_files.specs.Ivf.{IvfRefuses};
+ghost use Rattle.vp8list.specs.Lists.{IsListed, IsListFault};
+
+use crate::arguments;
+use crate::fault::Fault;
+use crate::reading::{read_file, read_tables};
+use clap::error::ErrorKind;
+use std::alloc::Global;
+use std::convert::AsStr;
+use std::io::Write;
+use std::rt::Files;
+use stream_facts::write_listing;
+use stream_files::ivf_read;
+use vp8_tables::Tables;
+
+/// The number of bytes of the list that are buffered.
+pub const BYTES_AT_ONCE: usize = 65_536;
+
+/// The exit status of every error; 1 is for what a check finds.
+const TROUBLE: u8 = 2;
+
+/// Shows an error to the user, and returns its exit status. If `errors` refuses the text, only the
+/// status reports it.
+pub fn tell<E: Write>(fault: Fault<'_>, errors: &mut E) -> u8
+    ensures { result ≡ 2 }
+{
+    let _ = writeln!(errors, "vp8list: {fault}");
+    TROUBLE
+}
+
+/// Answers arguments that could not be parsed: help or the version, if that was asked for.
+fn help_or_fault<O: Write>(error: clap::Error, output: &mut O) -> Result<(), Fault<'static>>
+    ensures memory { kind_of error ≡ ErrorKind.OutOfMemory → result ≡ Err Fault.NoMemory }
+    ensures mistake { kind_of error ≢ ErrorKind.DisplayHelp → kind_of error ≢ ErrorKind.DisplayVersion → kind_of error ≢ ErrorKind.OutOfMemory → result ≡ Err Fault.CommandLine }
+{
+    match error.kind() {
+        ErrorKind::DisplayHelp | ErrorKind::DisplayVersion => {
+            write!(output, "{error}").map_err(|_| Fault::CannotWrite)?;
+            output.flush().map_err(|_| Fault::CannotWrite)
+        }
+        ErrorKind::OutOfMemory => Err(Fault::NoMemory),
+        _ => Err(Fault::CommandLine),
+    }
+}
+
+/// Writes the list of the packets of an IVF file, and flushes the writer.
+pub fn list_to<O: Write>(
+    alloc: Global,
+    tables: &Tables,
+    bytes: &[u8],
+    output: &mut O,
+) -> Result<(), Fault<'static>>
+    ensures listed { OnOk result (IsListed tables.now bytes.now (O.contents output.old) (O.contents output.new)) }
+    ensures fault { IfErr result (IsListFault bytes.now (O.contents output.old) (O.contents output.new)) }
+{
+    let file = match ivf_read(alloc, bytes) {
+        Ok(file) => file,
+        Err(fault) => return Err(Fault::Input(fault)),
+    };
+    let Ok(()) = write_listing(output, tables, file.packets.as_slice()) else {
+        return Err(Fault::CannotWrite);
+    };
+    let Ok(()) = output.flush() else {
+        return Err(Fault::CannotWrite);
+    };
+    Ok(())
+}
+
+/// Does what a command line asks for.
+fn answer_line<'a, R: Files + AllocGlobal, S: AsStr, O: Write>(
+    rt: &R,
+    words: &'a [S],
+    output: &mut O,
+) -> Result<(), Fault<'a>> {
+    let given = match arguments::parse(rt.alloc(), words) {
+        Ok(given) => given,
+        Err(error) => return help_or_fault(error, output),
+    };
+    let tables = read_tables(rt, given.tables)?;
+    let bytes = read_file(rt, given.stream)?;
+    list_to(rt.alloc(), &tables, bytes.as_slice(), output)
+}
+
+/// Runs the program on a command line, whose first argument is the program's name, and returns its
+/// exit status: 0 if the list was written, also for help and the version, and 2 for every error.
+///
+/// The file is read whole, up to 1,073,741,824 bytes, before the first line is written. The list,
+/// help and the version go to `output`; the text of an error goes to `errors`.
+pub fn answer<R: Files + AllocGlobal, S: AsStr, O: Write, E: Write>(
+    rt: &R,
+    words: &[S],
+    output: &mut O,
+    errors: &mut E,
+) -> u8
+    ensures { result ≤ 2 }
+{
+    match answer_line(rt, words, output) {
+        Ok(()) => 0,
+        Err(fault) => tell(fault, errors),
+    }
+}
