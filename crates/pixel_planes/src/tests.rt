@@ -287,7 +287,7 @@ fn planes_of_a_shared_picture_are_no_spare_ones(rt: HostRuntime) -> Result<(), F
     let mut spare = Spare::new();
     let picture = one_macroblock(alloc, 7, 8, 9)?;
     spare.put(picture.again()?);
-    let mut planes = spare.make_planes(alloc, 1, 1)?;
+    let mut planes = spare.make_zero_planes(alloc, 1, 1)?;
     planes.luma.row_mut(0).fill(1);
     assert!(rt; same(&picture, &one_macroblock(alloc, 7, 8, 9)?));
     Ok(())
