@@ -34,7 +34,7 @@ stored_at at a r chunks are within quotient rest =
 within_one : (a r last : ℕ) (sizes : List ℕ) → a ≤ last → r < 1024 → (a < last → get_or sizes a 0 ≡ 1024) → (a ≡ last → r ≤ get_or sizes last 0) → r ≤ get_or sizes a 0
 within_one a r last sizes order below full end =
     elim (cases_lt a last) [
-      inl less ↦ (let all : get_or sizes a 0 ≡ 1024 = full less in omega (arith, all, below))
+      | inl less ↦ (let all : get_or sizes a 0 ≡ 1024 = full less in omega (arith, all, below))
       | inr more ↦ (let same : a ≡ last = omega (arith, order, more) in subst (λ (k : ℕ). r ≤ get_or sizes k 0) (sym same) (end same))
     ]
 
@@ -65,7 +65,7 @@ place_for at a r last chunks are end below within quotient rest =
 last_of : (most last n k : ℕ) (sizes : List ℕ) → AreFull most sizes → last + 1 ≡ length sizes → n ≤ most → k < length sizes → get_or (slice_set sizes last n) k 0 ≤ most
 last_of most last n k sizes are end fits within =
     elim (cases_eq k last) [
-      inl same ↦ (let here : get_or (slice_set sizes last n) k 0 ≡ n = ap (λ (i : ℕ). get_or (slice_set sizes last n) i 0) same ∙ get_or-set_same sizes last n 0 (omega (arith, end)) in omega (arith, here, fits))
+      | inl same ↦ (let here : get_or (slice_set sizes last n) k 0 ≡ n = ap (λ (i : ℕ). get_or (slice_set sizes last n) i 0) same ∙ get_or-set_same sizes last n 0 (omega (arith, end)) in omega (arith, here, fits))
       | inr other ↦ (let there : get_or (slice_set sizes last n) k 0 ≡ get_or sizes k 0 = get_or-set_other sizes last k n 0 other in let few : get_or sizes k 0 ≤ most = are.last k within in omega (arith, there, few))
     ]
 
@@ -82,10 +82,10 @@ full_set most last n sizes are end fits =
 pub within_set : (last b r : ℕ) (sizes : List ℕ) → last < length sizes → r < get_or sizes b 0 → r ≤ get_or (slice_set sizes last (get_or sizes last 0 - 1)) b 0
 within_set last b r sizes within less =
     elim (cases_eq b last) [
-      inl same ↦ (
-        let here : get_or (slice_set sizes last (get_or sizes last 0 - 1)) b 0 ≡ get_or sizes last 0 - 1 = ap (λ (i : ℕ). get_or (slice_set sizes last (get_or sizes last 0 - 1)) i 0) same ∙ get_or-set_same sizes last (get_or sizes last 0 - 1) 0 within in
-        let size : get_or sizes b 0 ≡ get_or sizes last 0 = ap (λ (i : ℕ). get_or sizes i 0) same in
-        omega (arith, here, size, less))
+      | inl same ↦ (
+          let here : get_or (slice_set sizes last (get_or sizes last 0 - 1)) b 0 ≡ get_or sizes last 0 - 1 = ap (λ (i : ℕ). get_or (slice_set sizes last (get_or sizes last 0 - 1)) i 0) same ∙ get_or-set_same sizes last (get_or sizes last 0 - 1) 0 within in
+          let size : get_or sizes b 0 ≡ get_or sizes last 0 = ap (λ (i : ℕ). get_or sizes i 0) same in
+          omega (arith, here, size, less))
       | inr other ↦ (let there : get_or (slice_set sizes last (get_or sizes last 0 - 1)) b 0 ≡ get_or sizes b 0 = get_or-set_other sizes last b (get_or sizes last 0 - 1) 0 other in omega (arith, there, less))
     ]
 

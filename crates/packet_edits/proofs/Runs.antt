@@ -32,7 +32,7 @@ counts_set counts new flags at was flag are here long before after =
       each = λ k within.
           let in_ : k < length counts = omega (arith, within, long) in
           elim (cases_lt k (at / 1024)) [
-            inl less ↦ before k less ∙ are.each k in_ ∙ sym (set_before ((k + 1) * 1024) at flags flag (omega (arith, less)))
+            | inl less ↦ before k less ∙ are.each k in_ ∙ sym (set_before ((k + 1) * 1024) at flags flag (omega (arith, less)))
             | inr more ↦ after k more in_ ∙ ap (λ n. count_with n flag - count_with 0 was) (are.each k in_) ∙ sym (set_after ((k + 1) * 1024) at flags was flag (omega (arith, more)) here)
           ];
       few = omega (arith, same, are.few);
@@ -51,15 +51,15 @@ counts_up counts new flags from to flag are here up in_ long before within after
       each = λ k less.
           let old : k < length counts = omega (arith, less, long) in
           elim (cases_lt k (from / 1024)) [
-            inl low ↦ before k low ∙ are.each k old ∙ sym (move_before ((k + 1) * 1024) from to flags flag here out in_ (omega (arith, low)) (omega (arith, low, up)))
+            | inl low ↦ before k low ∙ are.each k old ∙ sym (move_before ((k + 1) * 1024) from to flags flag here out in_ (omega (arith, low)) (omega (arith, low, up)))
             | inr high ↦ (
-              elim (cases_lt k (to / 1024)) [
-                inl low ↦ (
-                  let last = stands (moved from to flags) ((k + 1) * 1024 - 1) (omega (arith, same, low, in_)) in
-                  within k last.element high low last.here ∙ ap (λ n. count_with n last.element - count_with 0 flag) (are.each k old)
-                  ∙ sym (move_up ((k + 1) * 1024) from to flags flag last.element here out in_ (omega (arith, high)) (omega (arith, low)) last.here))
-                | inr above ↦ after k above ∙ are.each k old ∙ sym (move_after ((k + 1) * 1024) from to flags flag here out in_ (omega (arith, above, up)) (omega (arith, above)))
-              ])
+                elim (cases_lt k (to / 1024)) [
+                  | inl low ↦ (
+                      let last = stands (moved from to flags) ((k + 1) * 1024 - 1) (omega (arith, same, low, in_)) in
+                      within k last.element high low last.here ∙ ap (λ n. count_with n last.element - count_with 0 flag) (are.each k old)
+                      ∙ sym (move_up ((k + 1) * 1024) from to flags flag last.element here out in_ (omega (arith, high)) (omega (arith, low)) last.here))
+                  | inr above ↦ after k above ∙ are.each k old ∙ sym (move_after ((k + 1) * 1024) from to flags flag here out in_ (omega (arith, above, up)) (omega (arith, above)))
+                ])
           ];
       few = omega (arith, same, are.few);
     }
@@ -77,15 +77,15 @@ counts_down counts new flags from to flag are here down out long before within a
       each = λ k less.
           let old : k < length counts = omega (arith, less, long) in
           elim (cases_lt k (to / 1024)) [
-            inl low ↦ before k low ∙ are.each k old ∙ sym (move_before ((k + 1) * 1024) from to flags flag here out in_ (omega (arith, low, down)) (omega (arith, low)))
+            | inl low ↦ before k low ∙ are.each k old ∙ sym (move_before ((k + 1) * 1024) from to flags flag here out in_ (omega (arith, low, down)) (omega (arith, low)))
             | inr high ↦ (
-              elim (cases_lt k (from / 1024)) [
-                inl low ↦ (
-                  let next = stands (moved from to flags) ((k + 1) * 1024) (omega (arith, same, low, out)) in
-                  within k next.element high low next.here ∙ ap (λ n. count_with n flag - count_with 0 next.element) (are.each k old)
-                  ∙ sym (move_down ((k + 1) * 1024) from to flags flag next.element here out in_ (omega (arith, high)) (omega (arith, low)) next.here))
-                | inr above ↦ after k above ∙ are.each k old ∙ sym (move_after ((k + 1) * 1024) from to flags flag here out in_ (omega (arith, above)) (omega (arith, above, down)))
-              ])
+                elim (cases_lt k (from / 1024)) [
+                  | inl low ↦ (
+                      let next = stands (moved from to flags) ((k + 1) * 1024) (omega (arith, same, low, out)) in
+                      within k next.element high low next.here ∙ ap (λ n. count_with n flag - count_with 0 next.element) (are.each k old)
+                      ∙ sym (move_down ((k + 1) * 1024) from to flags flag next.element here out in_ (omega (arith, high)) (omega (arith, low)) next.here))
+                  | inr above ↦ after k above ∙ are.each k old ∙ sym (move_after ((k + 1) * 1024) from to flags flag here out in_ (omega (arith, above)) (omega (arith, above, down)))
+                ])
           ];
       few = omega (arith, same, are.few);
     }
@@ -115,13 +115,13 @@ counts_filled counts new flags flag count are few whole is put =
       many = omega (arith, long, whole, are.many, more);
       each = λ k within.
           elim (cases_lt k (length counts)) [
-            inl less ↦ ap (λ ns. get_or ns k 0) put ∙ get_or_append_left counts (count ∷ []) 0 k less ∙ are.each k less ∙ sym (flagged_append ((k + 1) * 1024) flags (flag ∷ []) (omega (arith, less, are.many)))
+            | inl less ↦ ap (λ ns. get_or ns k 0) put ∙ get_or_append_left counts (count ∷ []) 0 k less ∙ are.each k less ∙ sym (flagged_append ((k + 1) * 1024) flags (flag ∷ []) (omega (arith, less, are.many)))
             | inr end ↦ (
-              let at_end : k ≡ length counts = omega (arith, end, within, more) in
-              let index : (k + 1) * 1024 ≡ suc (length flags) = omega (arith, at_end, whole, are.many) in
-              ap (λ ns. get_or ns k 0) put ∙ get_or_at counts count [] 0 k (sym at_end) ∙ is
-              ∙ ap (λ n. count_with n flag) (sym (flagged_append (length flags) flags (flag ∷ []) (omega arith)))
-              ∙ sym (ap (λ n. flagged_before n (flags ++ flag ∷ [])) index ∙ flagged_more (length flags) (flags ++ flag ∷ []) flag (last_of flags flag)))
+                let at_end : k ≡ length counts = omega (arith, end, within, more) in
+                let index : (k + 1) * 1024 ≡ suc (length flags) = omega (arith, at_end, whole, are.many) in
+                ap (λ ns. get_or ns k 0) put ∙ get_or_at counts count [] 0 k (sym at_end) ∙ is
+                ∙ ap (λ n. count_with n flag) (sym (flagged_append (length flags) flags (flag ∷ []) (omega arith)))
+                ∙ sym (ap (λ n. flagged_before n (flags ++ flag ∷ [])) index ∙ flagged_more (length flags) (flags ++ flag ∷ []) flag (last_of flags flag)))
           ];
       few = omega (arith, long, few);
     }

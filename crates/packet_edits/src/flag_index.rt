@@ -92,9 +92,21 @@ impl FlagIndex {
         let flag = *self.flags.get(from);
         self.flags.move_to(from, to);
         if from < to {
-            moved_up(&mut self.counts, &self.flags, from / CHUNK, to / CHUNK, flag);
+            moved_up(
+                &mut self.counts,
+                &self.flags,
+                from / CHUNK,
+                to / CHUNK,
+                flag,
+            );
         } else {
-            moved_down(&mut self.counts, &self.flags, to / CHUNK, from / CHUNK, flag);
+            moved_down(
+                &mut self.counts,
+                &self.flags,
+                to / CHUNK,
+                from / CHUNK,
+                flag,
+            );
         }
     }
 

@@ -9,7 +9,10 @@ use std::io::Write;
 use stream_files::{WriteFault, ivf_packet};
 
 /// Writes the records of packets in sequence.
-pub(crate) fn write_records<W: Write>(w: &mut W, entries: &ChunkedList<Entry>) -> Result<(), WriteFault>
+pub(crate) fn write_records<W: Write>(
+    w: &mut W,
+    entries: &ChunkedList<Entry>,
+) -> Result<(), WriteFault>
     ensures { OnOk result (Appends (W.contents w.old) (W.contents w.new) (records_text (map packet_of entries.now))) }
 {
     for i in 0..entries.len() {

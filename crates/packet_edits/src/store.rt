@@ -426,7 +426,11 @@ fn push_marks(marks: &mut ChunkedList<bool>, packets: &Packets) -> Result<(), No
 
 /// Appends these packets to a list, with ids starting at `first_id`. If memory is refused, nothing
 /// changes.
-fn push_entries(entries: &mut ChunkedList<Entry>, first_id: u64, packets: Packets) -> Result<(), NoMemory>
+fn push_entries(
+    entries: &mut ChunkedList<Entry>,
+    first_id: u64,
+    packets: Packets,
+) -> Result<(), NoMemory>
     requires { first_id + length packets < 2 ^ 64 }
     ensures { entries.new ≡ (if is_ok result then entries.old ++ numbered first_id packets else entries.old) }
 {
