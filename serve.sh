@@ -90,4 +90,10 @@ x86-64-v2 | x86-64-v3) ;;
     ;;
 esac
 is_built || build
-exec "$out/vp8serve" "$@"
+status=0
+"$out/vp8serve" "$@" || status=$?
+case "$status $* " in
+'0 '* | *' --explain '*) ;;
+*) say "the program ended with status $status; with --explain it says why, and what to do" ;;
+esac
+exit "$status"

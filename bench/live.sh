@@ -1,0 +1,100 @@
+#!/bin/sh
+# Times a session that is held open over pipes (--live): a cached frame from the newline of its request to its reply, next to the
+# same frame in a list of requests; 100,000 edits whose replies are waited for; and the memory of 1,000,000 piped requests.
+set -eu
+here=$(cd "$(dirname "$0")" && pwd)
+program=$here/../crates/vp8serve/out/vp8serve
+for tool in ffmpeg python3; do
+    command -v "$tool" > /dev/null || { echo "$tool is not here" >&2; exit 1; }
+done
+room=$(mktemp -d)
+trap 'rm -rf "$room"' EXIT
+"$here/../serve.sh" < /dev/null > /dev/null
+ffmpeg -v error -f lavfi -i testsrc=size=640x360:rate=30 -frames:v 30 -c:v libvpx -b:v 1M "$room/clip.ivf"
+
+python3 - "$program" "$room/clip.ivf" "$room" <<'END'
+import os, random, statistics, subprocess, sys, time
+program, clip, room = sys.argv[1:]
+FRAMES, TURNS, EDITS, PIPED = 30, 3000, 100_000, 1_000_000
+
+
+class Live:
+    """A session: one line is written, and one reply read."""
+
+    def __init__(self, out):
+        self.child = subprocess.Popen([program, clip, "-", out, "--cache", "64", "--live"], stdin=subprocess.PIPE, stdout=subprocess.PIPE)
+
+    def ask(self, line):
+        os.write(self.child.stdin.fileno(), line)
+        reply = b""
+        while not reply.endswith(b"\n"):
+            piece = os.read(self.child.stdout.fileno(), 4096)
+            assert piece, "the program ended"
+            reply += piece
+        return reply
+
+    def close(self):
+        self.child.stdin.close()
+        assert self.child.wait() == 0
+
+
+def timed_list(lines, out):
+    with open(f"{room}/list", "wb") as file:
+        file.writelines(lines)
+    start = time.perf_counter()
+    replies = subprocess.run([program, clip, f"{room}/list", out, "--cache", "64"], check=True, capture_output=True).stdout
+    assert b"refused" not in replies, replies
+    return time.perf_counter() - start
+
+
+# Every frame is decoded once, and then comes from the cache.
+first = [b"frame %d\n" % n for n in range(FRAMES)]
+choose = random.Random(6386)
+asked = [b"frame %d\n" % choose.randrange(FRAMES) for _ in range(TURNS)]
+for out, name in (("-", "frames dropped"), (f"{room}/out.y4m", "frames written to a file")):
+    in_list = min(timed_list(first + asked, out) - timed_list(first, out) for _ in range(5)) / TURNS
+    session = Live(out)
+    for line in first:
+        session.ask(line)
+    taken = []
+    for line in asked:
+        start = time.perf_counter()
+        reply = session.ask(line)
+        taken.append(time.perf_counter() - start)
+        assert reply == b"served" + line[5:], reply
+    session.close()
+    median, most = statistics.median(taken), sorted(taken)[TURNS * 99 // 100]
+    print(f"cached frame, {name}: {1000 * in_list:.3f} ms in a list; {1000 * median:.3f} ms live (99 of 100: {1000 * most:.3f}); {1000 * (median - in_list):.3f} ms above")
+
+# Edits one at a time, each after the reply to the last one.
+session = Live("-")
+count = FRAMES
+start = time.perf_counter()
+for _ in range(EDITS):
+    if choose.random() < 0.5:
+        reply, count = session.ask(b"insert %d 0 1100\n" % choose.randrange(count + 1)), count + 1
+    elif count:
+        reply, count = session.ask(b"delete %d\n" % choose.randrange(count)), count - 1
+    assert reply == b"ok %d\n" % count, (reply, count)
+seconds = time.perf_counter() - start
+session.close()
+print(f"{EDITS} edits, each after the last reply: {seconds:.2f} s, {1e6 * seconds / EDITS:.1f} us each, Python's part included")
+
+
+def memory(count):
+    """The greatest resident memory in MB of a session that this many requests are piped into."""
+    with open(f"{room}/piped", "wb") as file:
+        file.writelines(b"move %d 0\n" % (n % FRAMES) for n in range(count))
+    with open(f"{room}/piped", "rb") as file, open(os.devnull, "wb") as nowhere:
+        cat = subprocess.Popen(["cat"], stdin=file, stdout=subprocess.PIPE)
+        child = subprocess.Popen([program, clip, "-", "-", "--live"], stdin=cat.stdout, stdout=nowhere)
+        cat.stdout.close()
+        _, status, usage = os.wait4(child.pid, 0)
+        child.returncode = status
+        assert status == 0, status
+        cat.wait()
+    return usage.ru_maxrss / 1000
+
+
+print(f"memory: {memory(1):.2f} MB for 1 piped request, {memory(PIPED):.2f} MB for {PIPED}")
+END

@@ -1,0 +1,209 @@
+-- The results of the parts of a run.
+use Rattle.std.specs.Prelude.{◌≡◌, ◌≢◌, ◌⊎◌, Bool, false, ℕ, ◌<◌, ◌==◌, List, [], ◌∷◌, ◌++◌, length, Contains, Option, Some, IfSome, IsSome, codes, if◌then◌else◌}
+use Rattle.std.specs.List.{AllZip}
+use Rattle.std.specs.Fmt.{decimal}
+use Rattle.std.specs.Io.KnownBytes.{Keeps}
+use Rattle.vp8_tables.specs.Rfc.{rfc_entries}
+use Rattle.vp8_tables.specs.Tables.{TableEntries}
+use Rattle.stream_files.specs.Texts.{written_text}
+use Rattle.packet_edits.specs.Saved.{packets_of}
+use Rattle.frame_session.specs.Edits.{list_at}
+use Rattle.std.specs.Borrow.{Bor}
+use Rattle.stream_files.specs.declared.ivf.Ivf.{Ivf}
+use Rattle.frame_session.specs.Answers.{AreIvfs, Means, SourceRefuses}
+use Rattle.frame_session.specs.Live.{CutsOff}
+use Rattle.frame_session.specs.Sessions.{Now, start}
+use Rattle.frame_session.specs.declared.live.LiveFault.{LiveFault}
+use Rattle.frame_session.specs.declared.live.LiveFault.TheVariants as lives
+use Rattle.frame_session.specs.declared.serving.RunFault.{RunFault}
+use Rattle.frame_session.specs.declared.serving.RunFault.TheVariants as runs
+use Rattle.stream_server.specs.declared.fault.Fault.{Fault}
+use Rattle.stream_server.specs.declared.fault.Fault.TheVariants.{CommandLine, NamedTwice, CannotRead, TooLong, Tables, Input, CannotWrite, NoMemory}
+
+-- the most bytes that a file may have
+abbrev pub limit : ℕ
+limit = 1073741824
+
+-- why the bytes of a reader with this name, which has these bytes left, were not read
+abbrev pub IsReadFault : List ℕ → Option (List ℕ) → Fault → Type 0
+IsReadFault name left (CannotRead path) = path.now ≡ name
+IsReadFault name left (TooLong path) = (path.now ≡ name) × IfSome left (λ bytes. limit < length bytes)
+IsReadFault name left NoMemory = Unit {0}
+IsReadFault name left _ = ⊥
+
+-- the bytes of the files with these names, one for each: a file that is not named has the bytes `unnamed`
+abbrev pub AreNamed : (unnamed : List ℕ) → (names sources : List (List ℕ)) → Type 0
+AreNamed unnamed names sources = AllZip (λ name bytes. name ≡ codes "-" → bytes ≡ unnamed) names sources
+
+-- why one of the files with these names was not read
+abbrev pub AreUnread : List (List ℕ) → Fault → Type 0
+AreUnread names (CannotRead path) = Contains names path.now
+AreUnread names (TooLong path) = Contains names path.now
+AreUnread names NoMemory = Unit {0}
+AreUnread names _ = ⊥
+
+-- why the bytes of a text are not tables
+abbrev pub IsTableFault : List ℕ → Fault → Type 0
+IsTableFault bytes Tables = length bytes ≢ 3012
+IsTableFault bytes _ = ⊥
+
+-- why the tables were not read from the file with this name: without a name nothing is read
+abbrev pub IsTablesFault : Option (List ℕ) → Fault → Type 0
+IsTablesFault named (CannotRead path) = named ≡ Some path.now
+IsTablesFault named (TooLong path) = named ≡ Some path.now
+IsTablesFault named Tables = IsSome named
+IsTablesFault named NoMemory = Unit {0}
+IsTablesFault named _ = ⊥
+
+-- why the packets were not saved
+abbrev pub IsSaveFault : Fault → Type 0
+IsSaveFault CannotWrite = Unit {0}
+IsSaveFault NoMemory = Unit {0}
+IsSaveFault _ = ⊥
+
+-- the requests were answered over the files of these bytes with these replies; it is not known where the frames went
+abbrev pub IsReplied : (tables : TableEntries) → (sources : List (List ℕ)) → (requests : List ℕ) → (replies replies' : Option (List ℕ)) → Now → Type 0
+IsReplied tables sources requests replies replies' end =
+    (frames : Option (List ℕ)) × (frames' : Option (List ℕ)) × Means tables sources requests frames frames' replies replies' end
+
+-- the file of the packets of source 0 at the end
+abbrev pub saved_text : Now → List ℕ
+saved_text end = written_text end.head (packets_of (list_at end.lists 0))
+
+-- the report of trailing bytes: nothing if there are none
+abbrev pub spare_text : ℕ → List ℕ
+spare_text spare = if spare == 0 then [] else codes "spare " ++ decimal spare ++ 10 ∷ []
+
+-- the requests that the arguments name were answered over the sources with these names: a source that is not named has the bytes `unnamed`,
+-- requests that are not named are the rest of the input, and without a file of tables the tables are those of RFC 6386
+pub record IsServed (unnamed : List ℕ) (names : List (List ℕ)) (requests : List ℕ) (has_tables : Bool) (left replies replies' : Option (List ℕ)) : Type 0 where
+  pub tables : TableEntries
+  pub sources : List (List ℕ)
+  pub lines : List ℕ
+  pub end : Now
+  pub replied : IsReplied tables sources lines replies replies' end
+  pub named : AreNamed unnamed names sources
+  pub input : requests ≡ codes "-" → IfSome left (λ bytes. lines ≡ bytes)
+  pub rfc : has_tables ≡ false → tables ≡ rfc_entries
+
+-- why the requests were not answered over the files of these bytes: except for a writer's error, nothing was written
+abbrev pub IsRunFault : List (List ℕ) → (frames frames' replies replies' : Option (List ℕ)) → Fault → Type 0
+IsRunFault sources frames frames' replies replies' (Input source fault) = SourceRefuses sources source fault × Keeps frames frames' × Keeps replies replies'
+IsRunFault sources frames frames' replies replies' NoMemory = Keeps frames frames' × Keeps replies replies'
+IsRunFault sources frames frames' replies replies' CannotWrite = Unit {0}
+IsRunFault sources frames frames' replies replies' _ = ⊥
+
+-- why the requests were not answered over the files of these bytes, if it is not known where frames went: except
+-- for a writer's error, no reply was written
+abbrev pub IsRefused : List (List ℕ) → (replies replies' : Option (List ℕ)) → Fault → Type 0
+IsRefused sources replies replies' (Input source fault) = SourceRefuses sources source fault × Keeps replies replies'
+IsRefused sources replies replies' NoMemory = Keeps replies replies'
+IsRefused sources replies replies' CannotWrite = Unit {0}
+IsRefused sources replies replies' _ = ⊥
+
+-- a file with this name could not be read: the tables' or a source's, and then no byte of the requests was read, or the requests'
+abbrev pub IsUnread : (tables : Option (List ℕ)) → (sources : List (List ℕ)) → (requests : List ℕ) → (left left' : Option (List ℕ)) → List ℕ → Type 0
+IsUnread tables sources requests left left' name = ((tables ≡ Some name ⊎ Contains sources name) × (left' ≡ left)) ⊎ (requests ≡ name)
+
+-- why a file was not read: the tables, a source or the requests
+abbrev pub IsInputFault : (tables : Option (List ℕ)) → (sources : List (List ℕ)) → (requests : List ℕ) → (left left' : Option (List ℕ)) → Fault → Type 0
+IsInputFault tables sources requests left left' (CannotRead path) = IsUnread tables sources requests left left' path.now
+IsInputFault tables sources requests left left' (TooLong path) = IsUnread tables sources requests left left' path.now
+IsInputFault tables sources requests left left' Tables = IsSome tables × (left' ≡ left)
+IsInputFault tables sources requests left left' NoMemory = Unit {0}
+IsInputFault tables sources requests left left' _ = ⊥
+
+-- why the program exits without an answer to all requests, in the order of its parts: a reading error comes before the first reply, a reading error of
+-- the tables or a source before the first byte of the requests is read, and an error in a source's bytes before the first reply
+abbrev pub IsEnded : (unnamed : List ℕ) → (tables : Option (List ℕ)) → (names : List (List ℕ)) → (requests : List ℕ) → (left left' replies replies' : Option (List ℕ)) → Fault → Type 0
+IsEnded unnamed tables names requests left left' replies replies' CommandLine = ⊥
+IsEnded unnamed tables names requests left left' replies replies' (NamedTwice same) = ⊥
+IsEnded unnamed tables names requests left left' replies replies' (CannotRead path) = IsUnread tables names requests left left' path.now × (replies' ≡ replies)
+IsEnded unnamed tables names requests left left' replies replies' (TooLong path) = IsUnread tables names requests left left' path.now × (replies' ≡ replies)
+IsEnded unnamed tables names requests left left' replies replies' Tables = IsSome tables × (left' ≡ left) × (replies' ≡ replies)
+IsEnded unnamed tables names requests left left' replies replies' (Input source fault) =
+    (sources : List (List ℕ)) × AreNamed unnamed names sources × SourceRefuses sources source fault × Keeps replies replies'
+IsEnded unnamed tables names requests left left' replies replies' CannotWrite = Unit {0}
+IsEnded unnamed tables names requests left left' replies replies' NoMemory = Unit {0}
+
+-- a run's error as the program's
+abbrev pub reported_as : RunFault → Fault
+reported_as (runs.Ivf source fault) = Input source fault
+reported_as runs.Write = CannotWrite
+reported_as runs.NoMemory = NoMemory
+
+-- Requests that are answered as they come. `given` is what their reader gives, if it is known.
+
+-- if no file of requests is named, their reader is the input
+abbrev pub IsInput : (requests : List ℕ) → (left given : Option (List ℕ)) → Type 0
+IsInput requests left given = requests ≡ codes "-" → given ≡ left
+
+-- all lines that the reader gave were answered over the files of these bytes with these replies
+pub record IsLiveReplied (tables : TableEntries) (sources : List (List ℕ)) (given replies replies' : Option (List ℕ)) (end : Now) : Type 0 where
+  pub text : List ℕ
+  pub all : IfSome given (λ bytes. text ≡ bytes)
+  pub replied : IsReplied tables sources text replies replies' end
+
+-- the lines before one that the reader did not give whole were answered over the files of these bytes with these replies
+pub record IsInterrupted (tables : TableEntries) (sources : List (List ℕ)) (given replies replies' : Option (List ℕ)) (fault : LiveFault) : Type 0 where
+  pub files : List Ivf
+  pub are : AreIvfs sources files
+  pub given' : Option (List ℕ)
+  pub frames : Option (List ℕ)
+  pub frames' : Option (List ℕ)
+  pub cut : CutsOff (start tables files) given given' frames frames' replies replies' fault
+
+-- why not all lines were answered, if it is not known where frames went
+abbrev pub IsLiveFault : (tables : TableEntries) → (sources : List (List ℕ)) → (given replies replies' : Option (List ℕ)) → LiveFault → Type 0
+IsLiveFault tables sources given replies replies' (lives.Ivf source fault) = SourceRefuses sources source fault × Keeps replies replies'
+IsLiveFault tables sources given replies replies' lives.Read = IsInterrupted tables sources given replies replies' lives.Read
+IsLiveFault tables sources given replies replies' lives.TooLong = IsInterrupted tables sources given replies replies' lives.TooLong
+IsLiveFault tables sources given replies replies' lives.Write = Unit {0}
+IsLiveFault tables sources given replies replies' lives.NoMemory = Unit {0}
+
+-- a live run's error as the program's, with the path that the user gave for the requests
+abbrev pub reported_live : Bor (List ℕ) → LiveFault → Fault
+reported_live path (lives.Ivf source fault) = Input source fault
+reported_live path lives.Read = CannotRead path
+reported_live path lives.TooLong = TooLong path
+reported_live path lives.Write = CannotWrite
+reported_live path lives.NoMemory = NoMemory
+
+-- the requests with this name were interrupted
+abbrev pub AreInterrupted : (tables : TableEntries) → (sources : List (List ℕ)) → (requests : List ℕ) → (left replies replies' : Option (List ℕ)) → LiveFault → Type 0
+AreInterrupted tables sources requests left replies replies' fault =
+    (given : Option (List ℕ)) × IsInput requests left given × IsInterrupted tables sources given replies replies' fault
+
+-- why not all requests with this name were answered: their file could not be opened, or it ended within a line, or as for requests in a list
+abbrev pub IsLiveRefused : (tables : TableEntries) → (sources : List (List ℕ)) → (requests : List ℕ) → (left replies replies' : Option (List ℕ)) → Fault → Type 0
+IsLiveRefused tables sources requests left replies replies' (CannotRead path) =
+    (path.now ≡ requests) × ((replies' ≡ replies) ⊎ AreInterrupted tables sources requests left replies replies' lives.Read)
+IsLiveRefused tables sources requests left replies replies' (TooLong path) = (path.now ≡ requests) × AreInterrupted tables sources requests left replies replies' lives.TooLong
+IsLiveRefused tables sources requests left replies replies' (Input source fault) = SourceRefuses sources source fault × Keeps replies replies'
+IsLiveRefused tables sources requests left replies replies' CannotWrite = Unit {0}
+IsLiveRefused tables sources requests left replies replies' NoMemory = Unit {0}
+IsLiveRefused tables sources requests left replies replies' _ = ⊥
+
+-- the requests with this name were interrupted, over the sources with these names
+pub record IsCutShort (unnamed : List ℕ) (names : List (List ℕ)) (requests : List ℕ) (left replies replies' : Option (List ℕ)) (fault : LiveFault) : Type 0 where
+  pub tables : TableEntries
+  pub sources : List (List ℕ)
+  pub named : AreNamed unnamed names sources
+  pub interrupted : AreInterrupted tables sources requests left replies replies' fault
+
+-- why the program exits before it answered all requests that come one after another: as for requests in a list, but the lines before an error of
+-- reading the requests were answered
+abbrev pub IsLiveEnded : (unnamed : List ℕ) → (tables : Option (List ℕ)) → (names : List (List ℕ)) → (requests : List ℕ) → (left left' replies replies' : Option (List ℕ)) → Fault → Type 0
+IsLiveEnded unnamed tables names requests left left' replies replies' CommandLine = ⊥
+IsLiveEnded unnamed tables names requests left left' replies replies' (NamedTwice same) = ⊥
+IsLiveEnded unnamed tables names requests left left' replies replies' (CannotRead path) =
+    (IsUnread tables names requests left left' path.now × (replies' ≡ replies))
+    ⊎ ((path.now ≡ requests) × IsCutShort unnamed names requests left replies replies' lives.Read)
+IsLiveEnded unnamed tables names requests left left' replies replies' (TooLong path) =
+    (IsUnread tables names requests left left' path.now × (replies' ≡ replies))
+    ⊎ ((path.now ≡ requests) × IsCutShort unnamed names requests left replies replies' lives.TooLong)
+IsLiveEnded unnamed tables names requests left left' replies replies' Tables = IsSome tables × (left' ≡ left) × (replies' ≡ replies)
+IsLiveEnded unnamed tables names requests left left' replies replies' (Input source fault) =
+    (sources : List (List ℕ)) × AreNamed unnamed names sources × SourceRefuses sources source fault × Keeps replies replies'
+IsLiveEnded unnamed tables names requests left left' replies replies' CannotWrite = Unit {0}
+IsLiveEnded unnamed tables names requests left left' replies replies' NoMemory = Unit {0}

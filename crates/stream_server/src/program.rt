@@ -1,0 +1,338 @@
+// The program over a reader and two writers.
+ghost use Rattle.std.specs.Prelude.{◌≡◌, ◌≢◌, ◌≤◌, ◌∷◌, [], ℕ, IfOk, IfErr, IfSome, List, OnOk, Option, Err, codes, false, is_some, length, map, option_map};
+ghost use Rattle.std.specs.Io.Buffered.{writer_buffer, writer_contents};
+ghost use Rattle.std.specs.Io.KnownBytes.{Appends};
+ghost use Rattle.clap.specs.Values.{kind_of};
+ghost use Rattle.frame_session.specs.Answers.{Means, texts_of};
+ghost use Rattle.frame_session.specs.Sessions.{Now};
+ghost use Rattle.vp8_tables.specs.Rfc.{rfc_entries};
+ghost use Rattle.stream_server.specs.CommandLines.{source_names};
+ghost use Rattle.stream_server.specs.Endings.{AreNamed, IsEnded, IsInputFault, IsRefused, IsReplied, IsRunFault, IsSaveFault, IsServed, saved_text, spare_text};
+ghost use Rattle.stream_server.specs.Statuses.{exit_status, status_of};
+
+use crate::explain::{explain_fault, explain_spare, is_asked};
+use crate::fault::Fault;
+use crate::files::Argument;
+use crate::live::answer_live;
+use crate::messages::Messages;
+use crate::sources::{read_requests, read_sources, read_tables, slices_of};
+use crate::words::{self, Accepted, NO_FILE};
+use clap::error::ErrorKind;
+use frame_session::{Observer, Session, Settings, run_observed};
+use std::alloc::Global;
+use std::convert::AsStr;
+use std::fs::File;
+use std::io::{self, BufWriter, Read, Write};
+use std::rt::Files;
+use stream_files::EMPTY;
+use vp8_tables::Tables;
+
+/// The number of bytes of frames or packets that are buffered.
+pub const BYTES_AT_ONCE: usize = 65_536;
+
+/// Shows an error to the user, and returns its exit status. If `errors` refuses the
+/// text, only the status reports it.
+pub fn tell<E: Write>(fault: Fault<'_>, errors: &mut E) -> u8
+    ensures { result ≡ status_of fault.entry }
+{
+    let _ = writeln!(errors, "vp8serve: {fault}");
+    fault.status()
+}
+
+/// Answers arguments that could not be parsed: help or the version, if that was asked for.
+fn help_or_fault<O: Write>(error: clap::Error, output: &mut O) -> Result<(), Fault<'static>>
+    ensures help { kind_of error ≡ ErrorKind.DisplayHelp → IfErr result (λ fault. fault ≡ Fault.CannotWrite) }
+    ensures version { kind_of error ≡ ErrorKind.DisplayVersion → IfErr result (λ fault. fault ≡ Fault.CannotWrite) }
+    ensures memory { kind_of error ≡ ErrorKind.OutOfMemory → result ≡ Err Fault.NoMemory }
+    ensures mistake { kind_of error ≢ ErrorKind.DisplayHelp → kind_of error ≢ ErrorKind.DisplayVersion → kind_of error ≢ ErrorKind.OutOfMemory → result ≡ Err Fault.CommandLine }
+{
+    match error.kind() {
+        ErrorKind::DisplayHelp | ErrorKind::DisplayVersion => {
+            write!(output, "{error}").map_err(|_| Fault::CannotWrite)?;
+            output.flush().map_err(|_| Fault::CannotWrite)
+        }
+        ErrorKind::OutOfMemory => Err(Fault::NoMemory),
+        _ => Err(Fault::CommandLine),
+    }
+}
+
+/// Runs the requests over the files of the sources, 1 to 8, and flushes both writers. Returns the session after the last
+/// request.
+pub fn run_to<F: Write, P: Write, O: Observer>(
+    alloc: Global,
+    settings: Settings,
+    sources: &[&[u8]],
+    requests: &[u8],
+    frames: &mut F,
+    replies: &mut P,
+    observer: &mut O,
+) -> Result<Session, Fault<'static>>
+    requires capacity { (1 ≤ settings.capacity) × (settings.capacity ≤ 4096) }
+    requires sources { (1 ≤ length sources.now) × (length sources.now ≤ 8) }
+    ensures answered { IfOk result (λ session. Means settings.tables (texts_of sources.now) requests.now (F.contents frames.old) (F.contents frames.new) (P.contents replies.old) (P.contents replies.new) session.now) }
+    ensures capacity { IfOk result (λ session. session.cache.capacity ≡ settings.capacity) }
+    ensures refused { IfErr result (IsRunFault (texts_of sources.now) (F.contents frames.old) (F.contents frames.new) (P.contents replies.old) (P.contents replies.new)) }
+{
+    let session = run_observed(
+        alloc, settings, sources, requests, frames, replies, observer,
+    )?;
+    frames.flush().map_err(|_| Fault::CannotWrite)?;
+    replies.flush().map_err(|_| Fault::CannotWrite)?;
+    Ok(session)
+}
+
+/// The same, with frames that go to the file at `path`, which is created now, or nowhere.
+fn run_to_path<R: Files + AllocGlobal, P: Write, E: Write>(
+    rt: &R,
+    settings: Settings,
+    sources: &[&[u8]],
+    requests: &[u8],
+    path: &str,
+    replies: &mut P,
+    messages: &mut Messages<'_, E>,
+) -> Result<Session, Fault<'static>>
+    requires capacity { (1 ≤ settings.capacity) × (settings.capacity ≤ 4096) }
+    requires sources { (1 ≤ length sources.now) × (length sources.now ≤ 8) }
+    ensures replied { IfOk result (λ session. IsReplied settings.tables (texts_of sources.now) requests.now (P.contents replies.old) (P.contents replies.new) session.now) }
+    ensures capacity { IfOk result (λ session. session.cache.capacity ≡ settings.capacity) }
+    ensures refused { IfErr result (IsRefused (texts_of sources.now) (P.contents replies.old) (P.contents replies.new)) }
+{
+    let alloc = rt.alloc();
+    if path == NO_FILE {
+        return run_to(
+            alloc,
+            settings,
+            sources,
+            requests,
+            &mut io::sink(),
+            replies,
+            messages,
+        );
+    }
+    let file = match File::create(rt, path) {
+        Ok(file) => file,
+        Err(error) => return Err(messages.cannot_create(error)),
+    };
+    let mut frames = BufWriter::with_capacity(alloc, BYTES_AT_ONCE, file).map_err(
+        |_| Fault::NoMemory,
+    )?;
+    run_to(
+        alloc,
+        settings,
+        sources,
+        requests,
+        &mut frames,
+        replies,
+        messages,
+    )
+}
+
+/// Writes the current packets of source 0 through a buffer, and flushes it.
+pub fn save_to<W: Write + Drop>(
+    session: &Session,
+    w: &mut BufWriter<W>,
+) -> Result<(), Fault<'static>>
+    ensures saved { OnOk result (Appends (writer_contents W.contents w.old) (writer_contents W.contents w.new) (saved_text session.now.now)) }
+    ensures flushed { OnOk result (writer_buffer w.new ≡ []) }
+    ensures fault { IfErr result (λ fault. fault ≡ Fault.CannotWrite) }
+{
+    session.save(w).map_err(|_| Fault::CannotWrite)?;
+    w.flush().map_err(|_| Fault::CannotWrite)
+}
+
+/// The same to the file at `path`, which is created now, if one is given.
+pub fn save_to_path<R: Files + AllocGlobal, E: Write>(
+    rt: &R,
+    session: &Session,
+    path: Option<&str>,
+    messages: &mut Messages<'_, E>,
+) -> Result<(), Fault<'static>>
+    ensures { IfErr result IsSaveFault }
+{
+    let Some(path) = path else {
+        return Ok(());
+    };
+    messages.writes = Argument::Save;
+    let file = match File::create(rt, path) {
+        Ok(file) => file,
+        Err(error) => return Err(messages.cannot_create(error)),
+    };
+    let mut saved = BufWriter::with_capacity(rt.alloc(), BYTES_AT_ONCE, file).map_err(
+        |_| Fault::NoMemory,
+    )?;
+    save_to(session, &mut saved)
+}
+
+/// Reports the number of trailing bytes of all sources, if there are any.
+pub fn report_spare<E: Write>(session: &Session, errors: &mut E) -> io::Result<()>
+    ensures { OnOk result (Appends (E.contents errors.old) (E.contents errors.new) (spare_text session.now.now.spare)) }
+{
+    let spare = session.spare();
+    if spare == 0 {
+        return Ok(());
+    }
+    writeln!(errors, "spare {spare}")
+}
+
+/// Reports trailing bytes after a run without an error. If `errors` refuses the text, they are not reported.
+pub fn end<E: Write>(
+    session: &Session,
+    line: &Accepted<'_>,
+    sources: &[&[u8]],
+    messages: &mut Messages<'_, E>,
+) {
+    let _ = report_spare(session, messages.errors);
+    if messages.explains {
+        let _ = explain_spare(line.words, sources, messages.errors);
+    }
+}
+
+/// What is read before the first request is answered.
+#[derive(Drop)]
+struct Inputs {
+    tables: Tables,
+    /// The bytes of each source.
+    sources: Vec<Vec<u8>>,
+    requests: Vec<u8>,
+}
+
+/// Reads the files of an accepted command line: the tables, the sources in their order, the requests.
+#[tactic(auto, using(crate::proofs::Ended::tables_unread, crate::proofs::Ended::sources_unread, crate::proofs::Ended::requests_unread))]
+fn read_inputs<'a, R: Files + AllocGlobal, I: Read>(
+    rt: &R,
+    line: &Accepted<'a>,
+    input: &mut I,
+) -> Result<Inputs, Fault<'a>>
+    ensures rfc { is_some line.now.words.tables ≡ false → IfOk result (λ inputs. inputs.tables ≡ rfc_entries) }
+    ensures named { IfOk result (λ inputs. AreNamed EMPTY (source_names line.now) (map (λ bytes. bytes.items) inputs.sources.items)) }
+    ensures input { line.now.words.requests.now ≡ codes "-" → IfOk result (λ inputs. IfSome (I.remaining input.old) (λ left. inputs.requests.items ≡ left)) }
+    ensures fault { IfErr result (IsInputFault (option_map (λ path. path.now) line.now.words.tables) (source_names line.now) line.now.words.requests.now (I.remaining input.old) (I.remaining input.new)) }
+{
+    let words = line.words;
+    let tables = read_tables(rt, words.tables)?;
+    let sources = read_sources(rt, words.stream, line.more.as_slice())?;
+    let requests = read_requests(rt, words.requests, input)?;
+    Ok(Inputs {
+        tables,
+        sources,
+        requests,
+    })
+}
+
+/// Answers the requests over what was read, and saves the packets of source 0 if that is asked for.
+#[tactic(auto, using(crate::proofs::Ended::run_ended, crate::proofs::Ended::save_ended))]
+fn answer_inputs<R: Files + AllocGlobal, O: Write, E: Write>(
+    rt: &R,
+    line: &Accepted<'_>,
+    inputs: Inputs,
+    output: &mut O,
+    messages: &mut Messages<'_, E>,
+) -> Result<(), Fault<'static>>
+    requires capacity { (1 ≤ line.now.capacity) × (line.now.capacity ≤ 4096) }
+    requires paths { length line.now.more.items ≤ 7 }
+    requires named { AreNamed EMPTY (source_names line.now) (map (λ bytes. bytes.items) inputs.sources.items) }
+    ensures replied { OnOk result ((end : Now) × IsReplied inputs.tables (map (λ bytes. bytes.items) inputs.sources.items) inputs.requests.items (O.contents output.old) (O.contents output.new) end) }
+    ensures ended { IfErr result (λ fault. (left : Option (List ℕ)) → (left' : Option (List ℕ)) → IsEnded EMPTY (option_map (λ path. path.now) line.now.words.tables) (source_names line.now) line.now.words.requests.now left left' (O.contents output.old) (O.contents output.new) fault) }
+{
+    let Inputs {
+        tables,
+        sources,
+        requests,
+    } = inputs;
+    let slices = slices_of(rt.alloc(), sources.as_slice())?;
+    let settings = Settings {
+        tables,
+        capacity: line.capacity,
+    };
+    let session = run_to_path(
+        rt,
+        settings,
+        slices.as_slice(),
+        requests.as_slice(),
+        line.words.frames,
+        output,
+        messages,
+    )?;
+    save_to_path(rt, &session, line.words.saved, messages)?;
+    end(&session, line, slices.as_slice(), messages);
+    Ok(())
+}
+
+/// Does what an accepted command line asks for.
+#[tactic(auto, using(crate::proofs::Ended::unread_ended))]
+fn answer<'a, R: Files + AllocGlobal, I: Read, O: Write, E: Write>(
+    rt: &R,
+    line: &Accepted<'a>,
+    input: &mut I,
+    output: &mut O,
+    messages: &mut Messages<'_, E>,
+) -> Result<(), Fault<'a>>
+    requires capacity { (1 ≤ line.now.capacity) × (line.now.capacity ≤ 4096) }
+    requires paths { length line.now.more.items ≤ 7 }
+    ensures served { OnOk result (IsServed EMPTY (source_names line.now) line.now.words.requests.now (is_some line.now.words.tables) (I.remaining input.old) (O.contents output.old) (O.contents output.new)) }
+    ensures ended { IfErr result (IsEnded EMPTY (option_map (λ path. path.now) line.now.words.tables) (source_names line.now) line.now.words.requests.now (I.remaining input.old) (I.remaining input.new) (O.contents output.old) (O.contents output.new)) }
+{
+    let inputs = read_inputs(rt, line, input)?;
+    answer_inputs(rt, line, inputs, output, messages)
+}
+
+/// Does what a command line asks for.
+fn answer_line<'a, R: Files + AllocGlobal, S: AsStr, I: Read, O: Write, E: Write>(
+    rt: &R,
+    words: &'a [S],
+    input: &mut I,
+    output: &mut O,
+    messages: &mut Messages<'_, E>,
+) -> Result<(), Fault<'a>> {
+    match words::parse(rt.alloc(), words) {
+        Ok(words) => {
+            let line = words.accept(rt.alloc())?;
+            if line.words.is_live {
+                answer_live(rt, &line, input, output, messages)
+            } else {
+                answer(rt, &line, input, output, messages)
+            }
+        }
+        Err(error) => help_or_fault(error, output),
+    }
+}
+
+/// The exit status of the program's result; an error is shown to the user.
+fn exit_status<E: Write>(answer: Result<(), Fault<'_>>, errors: &mut E) -> u8
+    ensures { result ≡ exit_status answer.entry }
+{
+    match answer {
+        Ok(()) => 0,
+        Err(fault) => tell(fault, errors),
+    }
+}
+
+/// Runs the program on a command line, whose first argument is the program's name, and returns its exit
+/// status: 0 if every request was answered, also by a refusal, and for help and the version; 2 for a
+/// mistake on the command line; 1 for every other error.
+///
+/// All files are read whole, up to 1,073,741,824 bytes each, before the file for the frames is created: the
+/// tables, IN, the files of `--sources` in their order, the requests. The file for the packets of source 0
+/// is created after the last request. With `--live` the requests are not read before: each line is answered when its
+/// newline is read, and a line has at most 1,073,741,824 bytes. Replies, help and the version go to `output`; the text of an error, and after a
+/// run without one the number of trailing bytes of all sources together, if there are any, go to `errors`. With `--explain`
+/// each of them is followed by a line that explains it, and each refused request has a line.
+pub fn serve<R: Files + AllocGlobal, S: AsStr, I: Read, O: Write, E: Write>(
+    rt: &R,
+    words: &[S],
+    input: &mut I,
+    output: &mut O,
+    errors: &mut E,
+) -> u8
+    ensures { result ≤ 2 }
+{
+    let mut messages = Messages::new(errors, is_asked(words));
+    let answer = answer_line(rt, words, input, output, &mut messages);
+    let status = exit_status(answer, messages.errors);
+    if messages.explains {
+        if let Err(fault) = answer {
+            explain_fault(rt, words, fault, &mut messages);
+        }
+    }
+    status
+}

@@ -1,0 +1,141 @@
+// Runs the program, and compares what it leaves.
+use std::alloc::AllocError;
+use std::fs;
+use std::io::{self, ErrorKind, Read, Write};
+use std::process::Abort;
+use std::rt::Files;
+use stream_server::serve;
+
+/// A file of one 16x16 key frame whose bits are 0.
+pub const ONE: &[u8] =
+    b"DKIF\0\0\x20\0VP80\x10\0\x10\0\x1E\0\0\0\x01\0\0\0\x01\0\0\0\0\0\0\0\x0A\0\0\0\0\0\0\0\0\0\0\0\x10\0\0\x9D\x01\x2A\x10\0\x10\0";
+
+/// The same without its packet: its header, with the number 0.
+pub const NONE: &[u8] = b"DKIF\0\0\x20\0VP80\x10\0\x10\0\x1E\0\0\0\x01\0\0\0\0\0\0\0\0\0\0\0";
+
+/// A file of one 16x16 key frame whose residual depends on the token probabilities.
+pub const CODED: &[u8] =
+    b"DKIF\0\0\x20\0VP80\x10\0\x10\0\x1E\0\0\0\x01\0\0\0\x01\0\0\0\0\0\0\0\x12\0\0\0\0\0\0\0\0\0\0\0\x10\0\0\x9D\x01\x2A\x10\0\x10\0\xA7\x31\xC4\x5E\x92\x0B\xD8\x6F";
+
+/// The line that opens the frames of these files.
+pub const OPENING: &[u8] = b"YUV4MPEG2 W16 H16 F30:1 Ip C420jpeg\n";
+
+/// Appends the text of the frame of `ONE`.
+pub fn push_frame(frames: &mut Vec<u8>) -> Result<(), AllocError> {
+    frames.extend_from_slice(b"FRAME\n")?;
+    frames.extend_from_slice(&[0x80; 64])?;
+    frames.extend_from_slice(&[0x81; 192])?;
+    frames.extend_from_slice(&[0x80; 128])
+}
+
+/// Runs the program on a command line, whose words single spaces separate, and checks its replies, its messages and its exit status.
+pub fn expect<R: Abort + Files + AllocGlobal>(
+    rt: &R,
+    line: &str,
+    requests: &str,
+    replies: &str,
+    errors: &str,
+    status: u8,
+) {
+    expect_from(rt, line, &mut requests.as_bytes(), replies, errors, status);
+}
+
+/// The same with the requests of a reader.
+pub fn expect_from<R: Abort + Files + AllocGlobal, I: Read>(
+    rt: &R,
+    line: &str,
+    requests: &mut I,
+    replies: &str,
+    errors: &str,
+    status: u8,
+) {
+    let mut output = Vec::new(rt.alloc());
+    let mut told = Vec::new(rt.alloc());
+    let ended = run_line(rt, line, requests, &mut output, &mut told);
+    assert!(rt;
+        output.as_slice() == replies.as_bytes(),
+        "replies of {line}"
+    );
+    assert!(rt; told.as_slice() == errors.as_bytes(), "messages of {line}");
+    assert!(rt; ended == status, "status of {line}");
+}
+
+/// Runs the program on a command line, and returns its exit status.
+pub fn run_line<R: Abort + Files + AllocGlobal, I: Read, O: Write, E: Write>(
+    rt: &R,
+    line: &str,
+    requests: &mut I,
+    output: &mut O,
+    errors: &mut E,
+) -> u8 {
+    let words: Result<Vec<&str>, AllocError> = line.split(' ').collect(rt.alloc());
+    let words = words.expect(rt, "memory for the words");
+    serve(rt, words.as_slice(), requests, output, errors)
+}
+
+/// Checks that a command line is refused with this text, before any request is answered.
+pub fn expect_fault<R: Abort + Files + AllocGlobal>(rt: &R, line: &str, text: &str) {
+    let mut output = Vec::new(rt.alloc());
+    let mut told = Vec::new(rt.alloc());
+    let ended = run_line(
+        rt,
+        line,
+        &mut b"frame 0\n".as_slice(),
+        &mut output,
+        &mut told,
+    );
+    let status = if text.starts_with("command line") {
+        2
+    } else {
+        1
+    };
+    assert!(rt; is_told(told.as_slice(), text), "{line}: {text}");
+    assert!(rt; ended == status, "status of {line}");
+    assert!(rt; output.is_empty(), "replies of {line}");
+}
+
+/// Whether a message has this text after the program's name.
+fn is_told(told: &[u8], text: &str) -> bool {
+    match told.strip_prefix(b"vp8serve: ") {
+        Some(rest) => rest.strip_suffix(b"\n") == Some(text.as_bytes()),
+        None => false,
+    }
+}
+
+/// Makes a file.
+pub fn put<R: Abort + Files + AllocGlobal>(rt: &R, name: &str, bytes: &[u8]) {
+    assert!(rt; fs::write(rt, name, bytes).is_ok(), "{name}");
+}
+
+/// Checks the bytes of a file.
+pub fn check<R: Abort + Files + AllocGlobal>(rt: &R, name: &str, want: &[u8]) {
+    let bytes = fs::read(rt, name).expect(rt, "a file");
+    assert!(rt; bytes.as_slice() == want, "{name}");
+}
+
+/// Removes files, whose names single spaces separate.
+pub fn clear<R: Abort + Files + AllocGlobal>(rt: &R, names: &str) {
+    for name in names.split(' ') {
+        assert!(rt; fs::remove_file(rt, name).is_ok(), "{name}");
+    }
+}
+
+/// A reader and a writer that only return errors.
+#[derive(Drop)]
+pub struct Broken {}
+
+impl Read for Broken {
+    fn read(&mut self, _buf: &mut [u8]) -> io::Result<usize> {
+        Err(ErrorKind::Other.into())
+    }
+}
+
+impl Write for Broken {
+    fn write(&mut self, _buf: &[u8]) -> io::Result<usize> {
+        Err(ErrorKind::Other.into())
+    }
+
+    fn flush(&mut self) -> io::Result<()> {
+        Err(ErrorKind::Other.into())
+    }
+}

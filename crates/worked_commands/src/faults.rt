@@ -1,0 +1,166 @@
+// Errors that end the program: their texts, their statuses, and which of two is reported.
+use crate::expected::{Broken, clear, expect, expect_fault, put};
+use std::process::Abort;
+use std::rt::Files;
+use std::test::Fail;
+use stream_files::{EMPTY, IvfFault};
+use stream_server::{Argument, Fault, SameFile, tell};
+
+/// Checks the message of an error, and its status also where the message cannot be written.
+fn expect_told<R: Abort + Files + AllocGlobal>(rt: &R, fault: Fault<'_>, status: u8, text: &str) {
+    let mut errors = Vec::new(rt.alloc());
+    assert!(rt; tell(fault, &mut errors) == status, "{text}");
+    assert!(rt; errors.as_slice() == text.as_bytes(), "{text}");
+    assert!(rt; tell(fault, &mut Broken {}) == status, "{text}");
+}
+
+#[test]
+fn tells_each_fault(rt: HostRuntime) {
+    let same = SameFile {
+        written: Argument::Save,
+        other: Argument::In,
+        path: "a b",
+    };
+    let twice =
+        "vp8serve: command line: --save and IN are both a b: name another file for --save\n";
+    expect_told(&rt, Fault::CommandLine, 2, "vp8serve: command line\n");
+    expect_told(&rt, Fault::NamedTwice(same), 2, twice);
+    expect_told(
+        &rt,
+        Fault::CannotRead("a b"),
+        1,
+        "vp8serve: cannot read a b\n",
+    );
+    expect_told(&rt, Fault::TooLong("-"), 1, "vp8serve: - is too long\n");
+    expect_told(
+        &rt,
+        Fault::Tables,
+        1,
+        "vp8serve: tables are not 3012 bytes\n",
+    );
+    expect_told(&rt, Fault::CannotWrite, 1, "vp8serve: cannot write\n");
+    expect_told(&rt, Fault::NoMemory, 1, "vp8serve: no memory\n");
+    let many = Fault::Input {
+        source: 0,
+        fault: IvfFault::TooMany,
+    };
+    expect_told(&rt, many, 1, "vp8serve: input TooMany\n");
+    let header = Fault::Input {
+        source: 7,
+        fault: IvfFault::Header,
+    };
+    expect_told(&rt, header, 1, "vp8serve: source 7 Header\n");
+}
+
+/// Checks each line of a table: a command line, and the text of its error.
+fn expect_table<R: Abort + Files + AllocGlobal>(rt: &R, table: &str) {
+    for case in table.lines() {
+        let (line, text) = case.split_once(" => ").expect(rt, "a case");
+        expect_fault(rt, line, text);
+    }
+}
+
+const TWICE: &str = "\
+vp8serve a b a => command line: OUT and IN are both a: name another file for OUT
+vp8serve a b b => command line: OUT and REQUESTS are both b: name another file for OUT
+vp8serve --tables t a b t => command line: OUT and --tables are both t: name another file for OUT
+vp8serve a --save a => command line: --save and IN are both a: name another file for --save
+vp8serve a b --save b => command line: --save and REQUESTS are both b: name another file for --save
+vp8serve a b c --save c => command line: --save and OUT are both c: name another file for --save
+vp8serve --tables - --save - => command line: --save and --tables are both -: name another file for --save
+vp8serve a b c --sources -:d:c => command line: OUT and --sources are both c: name another file for OUT
+vp8serve --save d --sources d => command line: --save and --sources are both d: name another file for --save
+vp8serve a b /dev --save /dev => command line: --save and OUT are both /dev: name another file for --save
+";
+
+/// A command line that names a file to be written twice is refused before anything is read. A path under
+/// `/dev/` may be named twice, and `-` is a file only for `--tables` and `--save`.
+#[test]
+fn refuses_files_named_twice(rt: HostRuntime) {
+    expect_table(&rt, TWICE);
+}
+
+#[test]
+fn takes_devices_named_twice(rt: HostRuntime) {
+    expect(
+        &rt,
+        "vp8serve - /dev/null /dev/null --save /dev/null",
+        "count\n",
+        "",
+        "",
+        0,
+    );
+}
+
+const ORDER: &str = "\
+vp8serve a b c d => command line
+vp8serve --cache => command line
+vp8serve --cache 0 => command line
+vp8serve --cache 4097 => command line
+vp8serve --cache x --tables none => command line
+vp8serve --cache 1 --cache 2 => command line
+vp8serve --save => command line
+vp8serve --sources => command line
+vp8serve --sources a --sources b => command line
+vp8serve --sources -:-:-:-:-:-:-:- => command line
+vp8serve --sources  => command line
+vp8serve --sources none.ivf: => command line
+vp8serve --sources :none.ivf => command line
+vp8serve none.ivf --sources -::- => command line
+vp8serve --cache 0 none.ivf - none.ivf => command line
+vp8serve none.ivf none.txt a --save a --tables none => command line: --save and OUT are both a: name another file for --save
+vp8serve none.ivf --tables none.bin => cannot read none.bin
+vp8serve --tables - => cannot read -
+vp8serve none.ivf --tables order.ivf => tables are not 3012 bytes
+vp8serve none.ivf none.txt none/out => cannot read none.ivf
+vp8serve order.ivf none.txt none/out => cannot read none.txt
+vp8serve . - => cannot read .
+vp8serve none.ivf --sources none => cannot read none.ivf
+vp8serve order.ivf none.txt --sources -:none:. => cannot read none
+vp8serve - none.txt --sources order.ivf => cannot read none.txt
+vp8serve order.ivf --sources order.ivf => input Header
+vp8serve --sources order.ivf:order.ivf => source 1 Header
+vp8serve --sources -:-:-:-:-:-:order.ivf => source 7 Header
+vp8serve order.ivf - none/out => cannot write
+vp8serve order.ivf --save none/out => input Header
+";
+
+/// Of two errors the first in order is reported: the command line, the tables, IN, the files of `--sources`,
+/// the requests, the file for the frames, the run, the file for the packets.
+#[test]
+fn finds_faults_in_order(rt: HostRuntime) {
+    put(&rt, "order.ivf", b"DKIF");
+    expect_table(&rt, ORDER);
+    clear(&rt, "order.ivf");
+}
+
+/// Checks the word of a header whose byte at an index is another one.
+fn expect_word<R: Abort + Files + AllocGlobal>(rt: &R, at: usize, byte: u8, text: &str) {
+    let mut file = EMPTY;
+    if at < file.len() {
+        file[at] = byte;
+    }
+    put(rt, "faulty.ivf", &file);
+    expect_fault(rt, "vp8serve faulty.ivf - faulty.y4m", text);
+}
+
+/// Every error in the bytes of a stream that a file can have.
+#[test]
+fn tells_faults_of_the_stream(rt: HostRuntime) -> Result<(), Fail> {
+    expect_word(&rt, 0, b'd', "input Magic");
+    expect_word(&rt, 8, b'v', "input FourCc");
+    expect_word(&rt, 6, 31, "input HeaderLength");
+    expect_word(&rt, 6, 33, "input HeaderLength");
+    let mut file = Vec::from_slice(rt.alloc(), &EMPTY)?;
+    file.resize(32 + 12 * 1_048_577, 0)?;
+    put(&rt, "faulty.ivf", file.as_slice());
+    expect_fault(&rt, "vp8serve faulty.ivf - faulty.y4m", "input TooMany");
+    put(
+        &rt,
+        "faulty.ivf",
+        b"no IVF file, and longer than its header",
+    );
+    expect_fault(&rt, "vp8serve --sources -:faulty.ivf", "source 2 Magic");
+    clear(&rt, "faulty.ivf faulty.y4m");
+    Ok(())
+}

@@ -1,0 +1,18 @@
+//! Worked command lines. Each is run whole, and its replies, messages, files and exit status are compared with those that it
+//! must give.
+#![tactic(auto)]
+
+#[cfg(test)]
+mod expected;
+#[cfg(test)]
+mod explained;
+#[cfg(test)]
+mod faults;
+#[cfg(test)]
+mod help;
+#[cfg(test)]
+mod live;
+#[cfg(test)]
+mod runs;
+#[cfg(test)]
+mod writers;

@@ -1,0 +1,196 @@
+// Runs that end well, and the files that they leave.
+use crate::expected::{
+    Broken, CODED, NONE, ONE, OPENING, check, clear, expect, push_frame, put, run_line,
+};
+use frame_session::{RunFault, run};
+use std::alloc::Global;
+use std::process::Abort;
+use std::rt::Files;
+use std::test::Fail;
+use vp8_tables::Tables;
+
+#[test]
+fn serves_a_frame(rt: HostRuntime) -> Result<(), Fail> {
+    put(&rt, "frame.ivf", ONE);
+    put(&rt, "frame.txt", b"# the first\n\nframe 0\nframe 1\nplay");
+    let replies = "served 0\nrefused NoSuchFrame\nrefused Line\n";
+    expect(
+        &rt,
+        "vp8serve frame.ivf frame.txt frame.y4m",
+        "",
+        replies,
+        "",
+        0,
+    );
+    let mut want = Vec::from_slice(rt.alloc(), OPENING)?;
+    push_frame(&mut want)?;
+    check(&rt, "frame.y4m", want.as_slice());
+    clear(&rt, "frame.ivf frame.txt frame.y4m");
+    Ok(())
+}
+
+/// The file for the frames is created once all is read, and is empty if no frame was served.
+#[test]
+fn makes_the_file_for_the_frames_last(rt: HostRuntime) {
+    put(&rt, "last.y4m", b"kept");
+    expect(
+        &rt,
+        "vp8serve none.ivf - last.y4m",
+        "",
+        "",
+        "vp8serve: cannot read none.ivf\n",
+        1,
+    );
+    check(&rt, "last.y4m", b"kept");
+    expect(
+        &rt,
+        "vp8serve - - last.y4m",
+        "frame 0\n",
+        "refused NoSuchFrame\n",
+        "",
+        0,
+    );
+    check(&rt, "last.y4m", b"");
+    clear(&rt, "last.y4m");
+}
+
+#[test]
+fn tells_spare_bytes(rt: HostRuntime) {
+    put(&rt, "spare.ivf", &ONE[..51]);
+    expect(
+        &rt,
+        "vp8serve spare.ivf",
+        "frame 0\n",
+        "refused NoSuchFrame\n",
+        "spare 19\n",
+        0,
+    );
+    let both = "vp8serve spare.ivf --sources -:spare.ivf";
+    expect(
+        &rt,
+        both,
+        "count\n",
+        "packets 0 frames 0\n",
+        "spare 38\n",
+        0,
+    );
+    let mut output = Vec::new(rt.alloc());
+    let status = run_line(
+        &rt,
+        "vp8serve spare.ivf",
+        &mut b"".as_slice(),
+        &mut output,
+        &mut Broken {},
+    );
+    assert!(rt; output.is_empty() && status == 0);
+    clear(&rt, "spare.ivf");
+}
+
+#[test]
+fn needs_no_words(rt: HostRuntime) {
+    expect(&rt, "vp8serve", "frame 0\n", "refused NoSuchFrame\n", "", 0);
+}
+
+/// The packets after the last request are saved: those of a file that is not edited are its own.
+#[test]
+fn saves_the_packets(rt: HostRuntime) {
+    put(&rt, "saving.ivf", ONE);
+    let line = "vp8serve saving.ivf - - --save saved.ivf";
+    expect(&rt, line, "frame 0\n", "served 0\n", "", 0);
+    check(&rt, "saved.ivf", ONE);
+    expect(
+        &rt,
+        line,
+        "delete 0\ndelete 0\n",
+        "ok 0\nrefused Place\n",
+        "",
+        0,
+    );
+    check(&rt, "saved.ivf", NONE);
+    clear(&rt, "saving.ivf saved.ivf");
+}
+
+/// A save that fails is reported after the replies, and then trailing bytes are not reported.
+#[test]
+fn tells_a_save_that_fails(rt: HostRuntime) {
+    put(&rt, "unsaved.ivf", &ONE[..51]);
+    let line = "vp8serve unsaved.ivf --save none/saved.ivf";
+    expect(
+        &rt,
+        line,
+        "count\n",
+        "packets 0 frames 0\n",
+        "vp8serve: cannot write\n",
+        1,
+    );
+    clear(&rt, "unsaved.ivf");
+}
+
+/// The least and the greatest number of cached states: with one, frame 0 is decoded again.
+#[test]
+fn takes_numbers_of_cached_states(rt: HostRuntime) {
+    let requests = "blank 0 16 16\nhold 1\nframe 1\nframe 0\nstats\n";
+    let again = "ok 1\nok 2\nserved 1\nserved 0\ndecoded 3\n";
+    let cached = "ok 1\nok 2\nserved 1\nserved 0\ndecoded 2\n";
+    expect(&rt, "vp8serve --cache 1", requests, again, "", 0);
+    expect(&rt, "vp8serve --cache 4096", requests, cached, "", 0);
+}
+
+/// The frame of `CODED`, as written with these tables.
+fn frame_with(alloc: Global, tables: Tables) -> Result<Vec<u8>, RunFault> {
+    let mut frames = Vec::new(alloc);
+    let mut replies = Vec::new(alloc);
+    run(
+        alloc,
+        tables,
+        1,
+        &[CODED],
+        b"frame 0\n",
+        &mut frames,
+        &mut replies,
+    )?;
+    Ok(frames)
+}
+
+/// Serves the frame of `CODED` with tables whose entries are all the same, and returns it.
+fn coded_frame<R: Abort + Files + AllocGlobal>(rt: &R, entry: u8) -> Result<Vec<u8>, Fail> {
+    let frame = frame_with(rt.alloc(), Tables::read(&[entry; 3012])?)?;
+    put(rt, "entries.bin", &[entry; 3012]);
+    let line = "vp8serve coded.ivf - coded.y4m --tables entries.bin";
+    expect(rt, line, "frame 0\n", "served 0\n", "", 0);
+    check(rt, "coded.y4m", frame.as_slice());
+    Ok(frame)
+}
+
+/// Tables of a file are used: two files make two different frames.
+#[test]
+fn uses_the_tables_of_a_file(rt: HostRuntime) -> Result<(), Fail> {
+    put(&rt, "coded.ivf", CODED);
+    let low = coded_frame(&rt, 128)?;
+    let high = coded_frame(&rt, 201)?;
+    assert!(rt; low.as_slice() != high.as_slice());
+    clear(&rt, "coded.ivf entries.bin coded.y4m");
+    Ok(())
+}
+
+const OF_SOURCES: &str = "\
+script source 1\nframe 0\nuse 2\ncopy 0 0 0\nhold 1\nuse 1\nscript source 1; source 2; splice 0 2\ncount\nframe 0\nframe 2\nuse 3\ncopy 3 0 0\nscript source 3\nreplace 0 10\nscript source 1\nframe 0\n";
+
+const REPLIES_OF_SOURCES: &str = "\
+ok 1\nserved 0\nok 0\nok 1\nok 2\nok 1\nok 1\npackets 1 frames 3\nserved 0\nserved 2\nrefused Source\nrefused Source\nrefused Reference\nok 1\nok 1\nrefused source 1 packet 0 ShortPacket\n";
+
+/// Requests over three sources, of which the last has no file. Only source 0 is saved.
+#[test]
+fn serves_sources(rt: HostRuntime) -> Result<(), Fail> {
+    put(&rt, "first.ivf", ONE);
+    put(&rt, "second.ivf", CODED);
+    let line = "vp8serve first.ivf - sources.y4m --sources second.ivf:- --save sources.ivf";
+    expect(&rt, line, OF_SOURCES, REPLIES_OF_SOURCES, "", 0);
+    let mut want = frame_with(rt.alloc(), Tables::rfc())?;
+    push_frame(&mut want)?;
+    push_frame(&mut want)?;
+    check(&rt, "sources.y4m", want.as_slice());
+    check(&rt, "sources.ivf", ONE);
+    clear(&rt, "first.ivf second.ivf sources.y4m sources.ivf");
+    Ok(())
+}
