@@ -13,7 +13,7 @@ import sys
 import tempfile
 
 from clips import PROGRAM, drawn, packets_of, run
-from kept import write_stream
+from run import ivf
 
 LONGEST_SIDE = 40
 PIECES, FRAMES = 5, 4
@@ -37,7 +37,7 @@ def coded_clip(room, choose, width, height):
 
 def shown_by_vpxdec(room, packets):
     """The samples of each frame of packets of one size, which begin with a key packet."""
-    write_stream(room / "piece.ivf", packets)
+    (room / "piece.ivf").write_bytes(ivf(LONGEST_SIDE, LONGEST_SIDE, packets))
     run(["vpxdec", "--codec=vp8", "--i420", "-o", room / "piece.yuv", room / "piece.ivf"])
     samples = (room / "piece.yuv").read_bytes()
     size = len(samples) // len(packets)
@@ -55,7 +55,7 @@ def wrong_frames(room, choose, pieces, first):
     order = [n for _ in range(3) for n in choose.sample(range(len(frames)), len(frames))]
     order.insert(0, first * FRAMES)
     size = frames[order[0]][0]
-    write_stream(room / "in.ivf", packets)
+    (room / "in.ivf").write_bytes(ivf(LONGEST_SIDE, LONGEST_SIDE, packets))
     (room / "requests").write_text("".join(f"frame {n}\n" for n in order))
     command = [PROGRAM, room / "in.ivf", room / "requests", room / "out.y4m", f"--cache={choose.randrange(1, 9)}"]
     replies = subprocess.run(command, check=True, capture_output=True, text=True).stdout.splitlines()
