@@ -1,9 +1,8 @@
 -- Counts of flagged packets after a packet is appended, moved or changed, and flagged packets by number.
-use Rattle.std.proofs.Common.{◌≡◌, ℕ, zero, suc, ◌+◌, ◌-◌, ◌<◌, ◌≤◌, Bool, true, false, List, [], ◌∷◌, ◌++◌, length, take, drop, slice_get, slice_set, Option, Some, None, refl, sym, ap, ◌∙◌, arith, add-zero, zero-add}
+use Rattle.std.proofs.Common.{◌≡◌, ℕ, zero, suc, ◌+◌, ◌-◌, ◌<◌, ◌≤◌, Bool, true, false, List, [], ◌∷◌, ◌++◌, length, take, drop, slice_get, slice_set, Some, refl, sym, ap, ◌∙◌, arith, add-zero}
 use Rattle.std.specs.List.{insert, remove}
 use Rattle.chunked_list.specs.Moves.{moved}
 use Rattle.packet_edits.specs.FlagCounts.{count_with, flagged_before, indexes_from}
-use Rattle.packet_edits.specs.Indexes.{last_flagged_or}
 use Rattle.packet_edits.proofs.Mapped.{length_removed, moved_is}
 
 -- counts grow with each flagged packet
@@ -191,17 +190,3 @@ pub count_told : (place : ℕ) (flags : List Bool) → flagged_before (length fl
 count_told place [] = refl
 count_told place (true ∷ flags) = omega (arith, count_told (place + 1) flags)
 count_told place (false ∷ flags) = count_told (place + 1) flags
-
--- the last flagged packet of the first `at`
-pub last_none : (before : Option ℕ) (place at : ℕ) (flags : List Bool) → flagged_before at flags ≡ 0 → last_flagged_or before place at flags ≡ before
-last_none before place zero flags none = refl
-last_none before place (suc at) [] none = refl
-last_none before place (suc at) (true ∷ flags) none = absurd (omega (arith, none))
-last_none before place (suc at) (false ∷ flags) none = last_none before (place + 1) at flags none
-
-pub last_some : (before : Option ℕ) (place at k : ℕ) (flags : List Bool) → flagged_before at flags ≡ suc k → last_flagged_or before place at flags ≡ slice_get (indexes_from place flags) k
-last_some before place zero k flags some = absurd (omega (arith, some))
-last_some before place (suc at) k [] some = absurd (omega (arith, some))
-last_some before place (suc at) zero (true ∷ flags) some = last_none (Some place) (place + 1) at flags (omega (arith, some))
-last_some before place (suc at) (suc k) (true ∷ flags) some = last_some (Some place) (place + 1) at k flags (omega (arith, some))
-last_some before place (suc at) k (false ∷ flags) some = last_some before (place + 1) at k flags some

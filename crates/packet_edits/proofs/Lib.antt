@@ -1,4 +1,5 @@
 pub mod Counts
+pub mod Nearest
 pub mod Runs
 pub mod Mapped
 pub mod Shown

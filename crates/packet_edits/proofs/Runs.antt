@@ -1,11 +1,13 @@
 -- The counts of an index after each of its changes.
-use Rattle.std.proofs.Common.{◌≡◌, ℕ, zero, suc, ◌+◌, ◌-◌, ◌*◌, ◌/◌, ◌%◌, ◌<◌, ◌≤◌, All, Bool, List, [], ◌∷◌, ◌++◌, length, min, take, drop, get_or, slice_get, slice_set, Some, inl, inr, refl, sym, ap, ◌∙◌, subst, arith, zero-add, length-append}
+use Rattle.std.proofs.Common.{◌≡◌, ℕ, zero, suc, ◌+◌, ◌-◌, ◌*◌, ◌/◌, ◌%◌, ◌<◌, ◌≤◌, All, Bool, List, [], ◌∷◌, ◌++◌, length, min, max, take, drop, get_or, slice_get, slice_set, Some, inl, inr, refl, sym, ap, ◌∙◌, arith, zero-add, length-append}
 use Rattle.std.specs.List.{insert, remove}
 use Rattle.std.proofs.lemmas.Bool.{cases_lt}
 use Rattle.std.proofs.lemmas.List.{get_or-take, get_or_append_left, get_or_at, get_or_default, length-set, length-take}
 use Rattle.chunked_list.specs.Moves.{moved}
-use Rattle.packet_edits.specs.FlagCounts.{AreCounts, count_with, flagged_before, indexes_from}
+use Rattle.packet_edits.specs.FlagCounts.{AreCounts, count_with, flag_at, flagged_before, indexes_from}
+use Rattle.packet_edits.specs.Nearest.{HoldsNowhere}
 use Rattle.packet_edits.proofs.Counts.{flagged_append, flagged_few, flagged_more, flagged_rise, flagged_take, indexes_after, move_after, move_before, move_down, move_up, set_after, set_before}
+use Rattle.packet_edits.proofs.Nearest.{none_between}
 use Rattle.packet_edits.proofs.Mapped.{length_moved, length_removed, moved_is, stands}
 
 -- no count is too large to rise
@@ -166,6 +168,11 @@ counted_runs counts flags (suc runs) are within =
     let one : (runs + 1) * 1024 ≡ suc runs * 1024 = omega arith in
     are.each runs (omega (arith, within)) ∙ ap (λ n. flagged_before n flags) one
 
+pub count_of : (counts : List ℕ) (flags now : List Bool) (runs count : ℕ) → AreCounts counts flags → flags ≡ now → runs * 1024 ≤ length now → count ≡ get_or (0 ∷ counts) runs 0 → count ≡ flagged_before (runs * 1024) now
+count_of counts flags now runs count are same within is =
+    let long : length flags ≡ length now = ap length same in
+    is ∙ counted_runs counts flags runs are (omega (arith, within, long, are.many)) ∙ ap (flagged_before (runs * 1024)) same
+
 -- and it is at most n if each of their counts is
 pub runs_within : (counts : List ℕ) (n runs : ℕ) → ((i : ℕ) → i < runs → get_or counts i 0 ≤ n) → get_or (0 ∷ counts) runs 0 ≤ n
 runs_within counts n zero below = omega arith
@@ -185,3 +192,16 @@ counts_ascend counts flags are i j order within =
     let b : get_or counts j 0 ≡ flagged_before ((j + 1) * 1024) flags = are.each j within in
     let rise : flagged_before ((i + 1) * 1024) flags ≤ flagged_before ((j + 1) * 1024) flags = flagged_rise ((i + 1) * 1024) ((j + 1) * 1024) flags (omega (arith, order)) in
     omega (arith, a, b, rise)
+
+-- no packet is flagged between the end of the last run with a flagged packet and the end of the first runs
+pub none_after : (flags : List Bool) (runs before count end : ℕ) → runs * 1024 ≤ length flags → count ≡ flagged_before (runs * 1024) flags → ((before + 1) * 1024 ≤ length flags → count - 1 < flagged_before ((before + 1) * 1024) flags) → end ≡ min ((before + 1) * 1024) (runs * 1024)
+    → HoldsNowhere (flag_at flags) end (runs * 1024)
+none_after flags runs before count end within is after at p from to =
+    let low : (before + 1) * 1024 ≤ p = omega (arith, at, from, to) in
+    let more : count - 1 < flagged_before ((before + 1) * 1024) flags = after (omega (arith, low, to, within)) in
+    none_between ((before + 1) * 1024) (runs * 1024) flags (omega (arith, is, more)) p low to
+
+-- and between the end of the first runs and the next run with a flagged packet
+pub none_up_to : (flags : List Bool) (run before count start : ℕ) → count ≡ flagged_before (run * 1024) flags → flagged_before (before * 1024) flags ≤ count → start ≡ max (before * 1024) (run * 1024) → HoldsNowhere (flag_at flags) (run * 1024) start
+none_up_to flags run before count start is few at p from to =
+    none_between (run * 1024) (before * 1024) flags (omega (arith, is, few)) p from (omega (arith, at, from, to))

@@ -77,7 +77,7 @@ places_of_flags start [] = refl
 places_of_flags start (e ∷ es) = rw (places_of_flags (start + 1) es) refl
 
 -- and each of them is the index of a packet
-packet_within : (es : List Entry) (index : ℕ) (packet : List ℕ) → slice_get (map (λ e. e.bytes) es) index ≡ Some packet → index < length es
+pub packet_within : (es : List Entry) (index : ℕ) (packet : List ℕ) → slice_get (map (λ e. e.bytes) es) index ≡ Some packet → index < length es
 packet_within [] index packet here = cc
 packet_within (e ∷ es) zero packet here = omega arith
 packet_within (e ∷ es) (suc index) packet here = let rest = packet_within es index packet here in omega (arith, rest)

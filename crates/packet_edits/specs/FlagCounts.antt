@@ -1,5 +1,10 @@
 -- Counts of flagged packets, by which a store finds frames and key packets.
-use Rattle.std.specs.Prelude.{◌≡◌, ℕ, zero, suc, ◌+◌, ◌*◌, ◌/◌, ◌<◌, ◌≤◌, Bool, List, [], ◌∷◌, length, if◌then◌else◌, slice_index}
+use Rattle.std.specs.Prelude.{◌≡◌, ℕ, zero, suc, ◌+◌, ◌*◌, ◌/◌, ◌<◌, ◌≤◌, Bool, false, List, [], ◌∷◌, length, if◌then◌else◌, slice_get, slice_index}
+use Rattle.std.specs.Option.{option_map_or}
+
+-- whether the packet at an index is flagged
+abbrev pub flag_at : List Bool → ℕ → Bool
+flag_at flags place = option_map_or (λ flag. flag) (slice_get flags place) false
 
 -- one more if the packet is flagged
 abbrev pub count_with : ℕ → Bool → ℕ

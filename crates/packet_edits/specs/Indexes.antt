@@ -1,5 +1,5 @@
 -- The index of a store's packets: which are shown, and which have a key tag.
-use Rattle.std.specs.Prelude.{ℕ, zero, suc, ◌+◌, Bool, List, [], ◌∷◌, ◌++◌, Option, Some, None, if◌then◌else◌, map, slice_set, take}
+use Rattle.std.specs.Prelude.{ℕ, Bool, List, [], ◌∷◌, ◌++◌, map, slice_set, take}
 use Rattle.std.specs.List.{insert, remove}
 use Rattle.frame_header.specs.Tags.{has_key_tag, is_shown}
 use Rattle.stream_files.specs.declared.packets.Packet.{Packet}
@@ -31,12 +31,3 @@ pushed_to packet index = both (λ flags. flags ++ is_shown packet ∷ []) (λ fl
 
 abbrev pub appended_to : List Packet → PacketIndex → PacketIndex
 appended_to packets index = both (λ flags. flags ++ map (λ packet. is_shown packet.bytes) packets) (λ flags. flags ++ map (λ packet. has_key_tag packet.bytes) packets) index
-
--- the index of the last flagged packet of the first `at`; `before` if none of them is flagged; the first one has the index `place`
-abbrev pub last_flagged_or : Option ℕ → ℕ → ℕ → List Bool → Option ℕ
-last_flagged_or before place zero flags = before
-last_flagged_or before place (suc at) [] = before
-last_flagged_or before place (suc at) (flag ∷ flags) = last_flagged_or (if flag then Some place else before) (place + 1) at flags
-
-abbrev pub last_flagged : ℕ → List Bool → Option ℕ
-last_flagged at flags = last_flagged_or None 0 at flags

@@ -2,6 +2,7 @@ pub mod Faults
 pub mod Edits
 pub mod Shown
 pub mod FlagCounts
+pub mod Nearest
 pub mod Laws
 pub mod Marks
 pub mod Indexes

@@ -1,4 +1,4 @@
--- What a store has besides its packets: an index of the shown ones and of key packets, marks and the next id.
+-- What a store has besides its packets: indexes of the shown ones, of key packets and of marks, and the next id.
 use Rattle.std.specs.Prelude.{◌≡◌, ℕ, ◌≤◌, Bool, List, map, length}
 use Rattle.frame_header.specs.Tags.{has_key_tag, is_shown}
 use Rattle.packet_edits.specs.declared.entry.Entry.{Entry}

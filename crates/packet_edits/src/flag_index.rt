@@ -1,7 +1,8 @@
-ghost use Rattle.std.specs.Prelude.{◌≡◌, ◌+◌, ◌<◌, ◌≤◌, ◌++◌, ◌∷◌, [], Some, drop, is_ok, if◌then◌else◌, length, slice_get, slice_set, take};
+ghost use Rattle.std.specs.Prelude.{◌≡◌, ◌+◌, ◌*◌, ◌%◌, ◌<◌, ◌≤◌, ◌++◌, ◌∷◌, [], Some, drop, is_ok, if◌then◌else◌, length, slice_get, slice_set, take};
 ghost use Rattle.std.specs.List.{insert, remove};
 ghost use Rattle.chunked_list.specs.Moves.{moved};
-ghost use Rattle.packet_edits.specs.FlagCounts.{flagged_before, indexes_from};
+ghost use Rattle.packet_edits.specs.FlagCounts.{flag_at, flagged_before, indexes_from};
+ghost use Rattle.packet_edits.specs.Nearest.{HoldsNowhere, IsFirst, IsLast};
 
 use crate::starts::{count_of_runs, count_on, moved_down, moved_up, recount, with_flag};
 use chunked_list::{CHUNK, ChunkedList};
@@ -9,8 +10,8 @@ use pixel_planes::NoMemory;
 use std::alloc::Global;
 use std::marker::Model;
 
-/// Which packets have a flag, as the shown ones. A flagged packet is found without reading the
-/// packets. Contracts see one flag per packet.
+/// Which packets have a flag, as the shown or the marked ones. A flagged packet is found without
+/// reading the packets. Contracts see one flag per packet.
 #[derive(Drop)]
 pub struct FlagIndex {
     flags: ChunkedList<bool>,
@@ -47,6 +48,14 @@ impl FlagIndex {
         self.flags.len()
     }
 
+    /// The flag of the packet at index `at`.
+    pub fn get(&self, at: usize) -> bool
+        requires { at < length self.now }
+        ensures { slice_get self.now at ≡ Some result }
+    {
+        *self.flags.get(at)
+    }
+
     /// How many of the first `at` packets are flagged.
     pub fn count_before(&self, at: usize) -> u32
         requires { at ≤ length self.now }
@@ -72,12 +81,27 @@ impl FlagIndex {
         requires { length self.old < 1048576 }
         ensures { self.new ≡ (if is_ok result then self.old ++ flag ∷ [] else self.old) }
     {
+        if (self.flags.len() + 1) % CHUNK == 0 {
+            return self.push_last(flag);
+        }
+        match self.flags.push(flag) {
+            Ok(()) => Ok(()),
+            Err(_) => Err(NoMemory),
+        }
+    }
+
+    /// Appends the last packet of a run. If memory is refused, nothing changes.
+    fn push_last(&mut self, flag: bool) -> Result<(), NoMemory>
+        requires few { length self.old < 1048576 }
+        requires last { (length self.old + 1) % 1024 ≡ 0 }
+        ensures { self.new ≡ (if is_ok result then self.old ++ flag ∷ [] else self.old) }
+    {
         let len = self.flags.len();
         let count = with_flag(self.count_before(len), flag);
         let Ok(()) = self.flags.push(flag) else {
             return Err(NoMemory);
         };
-        if (len + 1) % CHUNK == 0 && self.counts.push(count).is_err() {
+        if self.counts.push(count).is_err() {
             self.flags.truncate(len);
             return Err(NoMemory);
         }
@@ -144,9 +168,76 @@ impl FlagIndex {
     pub fn place(&self, n: u64) -> Option<usize>
         ensures { result ≡ slice_get (indexes_from 0 self.now) n }
     {
-        let whole = self.counts.partition_point(|count| u64::from(*count) <= n);
+        let whole = self.runs_within(n);
         let before = count_of_runs(&self.counts, whole);
         nth_flagged(&self.flags, whole * CHUNK, n - u64::from(before))
+    }
+
+    /// How many whole runs there are up to whose end at most `n` packets are flagged.
+    fn runs_within(&self, n: u64) -> usize
+        ensures whole { result * 1024 ≤ length self.now }
+        ensures up_to { flagged_before (result * 1024) self.now ≤ n }
+        ensures after { (result + 1) * 1024 ≤ length self.now → n < flagged_before ((result + 1) * 1024) self.now }
+    {
+        self.counts.partition_point(|count| u64::from(*count) <= n)
+    }
+
+    /// The last flagged packet before index `at`, or `None`. It looks at the flags of two runs.
+    pub fn last_before(&self, at: usize) -> Option<usize>
+        requires { at ≤ length self.now }
+        ensures { IsLast (flag_at self.now) 0 at result }
+    {
+        let runs = at / CHUNK;
+        match last_flagged(&self.flags, runs * CHUNK, at) {
+            Some(place) => Some(place),
+            None => last_flagged(&self.flags, 0, self.end_of_flagged(runs)),
+        }
+    }
+
+    /// The end of the last of the first `runs` runs that has a flagged packet, or 0.
+    fn end_of_flagged(&self, runs: usize) -> usize
+        requires { runs * 1024 ≤ length self.now }
+        ensures within { result ≤ runs * 1024 }
+        ensures none { HoldsNowhere (flag_at self.now) result (runs * 1024) }
+    {
+        let count = count_of_runs(&self.counts, runs);
+        if count == 0 {
+            return 0;
+        }
+        let before = self.runs_within(u64::from(count - 1));
+        ((before + 1) * CHUNK).min(runs * CHUNK)
+    }
+
+    /// The first flagged packet from index `from` up to `end`, or `None`. It looks at the flags of
+    /// two runs.
+    pub fn first_in(&self, from: usize, end: usize) -> Option<usize>
+        requires { (from ≤ end) × (end ≤ length self.now) }
+        ensures { IsFirst (flag_at self.now) from end result }
+    {
+        let rest = CHUNK - from % CHUNK;
+        if end - from <= rest {
+            return first_flagged(&self.flags, from, end);
+        }
+        let next = from + rest;
+        match first_flagged(&self.flags, from, next) {
+            Some(place) => Some(place),
+            None => {
+                let start = self.start_of_flagged(next / CHUNK);
+                first_flagged(&self.flags, start.min(end), end)
+            }
+        }
+    }
+
+    /// The start of the first run from run `run` on that has a flagged packet, or of the packets
+    /// after the last whole run.
+    fn start_of_flagged(&self, run: usize) -> usize
+        requires { run * 1024 ≤ length self.now }
+        ensures from { run * 1024 ≤ result }
+        ensures none { HoldsNowhere (flag_at self.now) (run * 1024) result }
+    {
+        let count = count_of_runs(&self.counts, run);
+        let before = self.runs_within(u64::from(count));
+        (before * CHUNK).max(run * CHUNK)
     }
 
     /// The number of flagged packets.
@@ -169,6 +260,34 @@ fn nth_flagged(flags: &ChunkedList<bool>, from: usize, n: u64) -> Option<usize>
                 return Some(at);
             }
             left -= 1;
+        }
+    }
+    None
+}
+
+/// The last flagged packet from index `from` up to `end`.
+fn last_flagged(flags: &ChunkedList<bool>, from: usize, end: usize) -> Option<usize>
+    requires { (from ≤ end) × (end ≤ length flags.now) }
+    ensures { IsLast (flag_at flags.now) from end result }
+{
+    let mut at = end;
+    while at > from {
+        at -= 1;
+        if *flags.get(at) {
+            return Some(at);
+        }
+    }
+    None
+}
+
+/// The first flagged packet from index `from` up to `end`.
+fn first_flagged(flags: &ChunkedList<bool>, from: usize, end: usize) -> Option<usize>
+    requires { (from ≤ end) × (end ≤ length flags.now) }
+    ensures { IsFirst (flag_at flags.now) from end result }
+{
+    for at in from..end {
+        if *flags.get(at) {
+            return Some(at);
         }
     }
     None

@@ -1,5 +1,4 @@
-ghost use Rattle.std.specs.Prelude.{◌≡◌, ◌+◌, ◌<◌, ◌≤◌, [], is_ok, if◌then◌else◌, length, slice_get};
-ghost use Rattle.packet_edits.specs.FlagCounts.{flagged_before, indexes_from};
+ghost use Rattle.std.specs.Prelude.{◌≡◌, ◌+◌, ◌<◌, ◌≤◌, [], is_ok, if◌then◌else◌, length};
 
 use crate::flag_index::FlagIndex;
 use frame_header::{has_key_tag, is_shown};
@@ -15,7 +14,7 @@ pub struct PacketIndex {
 }
 
 impl PacketIndex {
-    ghost use Rattle.packet_edits.specs.Indexes.{appended_to, inserted_to, kept_of, last_flagged, moved_in, pushed_to, removed_from, set_in};
+    ghost use Rattle.packet_edits.specs.Indexes.{appended_to, inserted_to, kept_of, moved_in, pushed_to, removed_from, set_in};
 
     /// The index of no packets.
     pub fn new(alloc: Global) -> PacketIndex
@@ -106,17 +105,5 @@ impl PacketIndex {
             return Err(NoMemory);
         }
         Ok(())
-    }
-
-    /// The index of the last packet with a key tag before index `at`.
-    pub fn last_key(&self, at: usize) -> Option<usize>
-        requires { at ≤ length self.now.keys }
-        ensures { result ≡ last_flagged at self.now.keys }
-    {
-        let count = self.keys.count_before(at);
-        if count == 0 {
-            return None;
-        }
-        self.keys.place(u64::from(count - 1))
     }
 }

@@ -7,6 +7,7 @@ ghost use Rattle.stream_files.specs.Texts.{written_text};
 
 use crate::entry::Entry;
 use crate::fault::EditFault;
+use crate::flag_index::FlagIndex;
 use crate::marks::{mark, move_marked};
 use crate::packet_index::PacketIndex;
 use crate::saving::write_records;
@@ -28,7 +29,7 @@ const SPENT_ID: u64 = u64::MAX;
 #[derive(Drop)]
 pub struct Store {
     entries: ChunkedList<Entry>,
-    marks: ChunkedList<bool>,
+    marks: FlagIndex,
     index: PacketIndex,
     next_id: u64,
 }
@@ -50,7 +51,9 @@ impl Store {
     ghost use Rattle.packet_edits.specs.Marks.{marked_at, marks_deleted, marks_inserted, marks_moved, marks_replaced, unmarked_at};
     ghost use Rattle.packet_edits.specs.Saved.{packet_of, packets_of};
     ghost use Rattle.packet_edits.specs.Shown.{shown_indexes, stream_of};
-    ghost use Rattle.packet_edits.specs.Sizes.{size_at};
+    ghost use Rattle.packet_edits.specs.Nearest.{IsFirst, IsLast};
+    ghost use Rattle.packet_edits.specs.FlagCounts.{flag_at};
+    ghost use Rattle.packet_edits.specs.Sizes.{key_tag_at, size_at};
 
     /// An empty store whose first packet gets the id `first_id`. It allocates nothing.
     pub fn starting(alloc: Global, first_id: u64) -> Store
@@ -58,7 +61,7 @@ impl Store {
     {
         Store {
             entries: ChunkedList::new(alloc),
-            marks: ChunkedList::new(alloc),
+            marks: FlagIndex::new(alloc),
             index: PacketIndex::new(alloc),
             next_id: first_id,
         }
@@ -350,7 +353,7 @@ impl Store {
         requires { i < length self.now.list.entries }
         ensures { slice_get self.now.marks i ≡ Some result }
     {
-        *self.marks.get(i)
+        self.marks.get(i)
     }
 
     /// Marks the packet at index `i`, which exists.
@@ -367,6 +370,33 @@ impl Store {
         ensures { self.new ≡ record self.old { marks = unmarked_at i self.old.marks } }
     {
         self.marks.set(i, false);
+    }
+
+    /// The index of the first marked packet from index `from` up to `end`, which is at most the
+    /// number of packets; `None` if there is none. No packet is read.
+    pub fn next_mark(&self, from: usize, end: usize) -> Option<usize>
+        requires { (from ≤ end) × (end ≤ length self.now.list.entries) }
+        ensures { IsFirst (flag_at self.now.marks) from end result }
+    {
+        self.marks.first_in(from, end)
+    }
+
+    /// The index of the first packet with a key tag from index `from` up to `end`, which is at most
+    /// the number of packets; `None` if there is none. No packet is read.
+    pub fn next_key(&self, from: usize, end: usize) -> Option<usize>
+        requires { (from ≤ end) × (end ≤ length self.now.list.entries) }
+        ensures { IsFirst (key_tag_at (stream_of self.now.list)) from end result }
+    {
+        self.index.keys.first_in(from, end)
+    }
+
+    /// The index of the last packet with a key tag before index `at`, which is at most the number
+    /// of packets; `None` if there is none. No packet is read.
+    pub fn last_key(&self, at: usize) -> Option<usize>
+        requires { at ≤ length self.now.list.entries }
+        ensures { IsLast (key_tag_at (stream_of self.now.list)) 0 at result }
+    {
+        self.index.keys.last_before(at)
     }
 
     /// The index of shown packet `n`, counted from 0, or `None` if fewer are shown. A packet is
@@ -394,7 +424,7 @@ impl Store {
         ensures { result ≡ size_at at self.now.list }
     {
         let end = at.min(self.entries.len() as u64) as usize;
-        let place = self.index.last_key(end)?;
+        let place = self.last_key(end)?;
         key_size(self.entries.get(place).bytes.as_slice())
     }
 
@@ -411,7 +441,8 @@ impl Store {
 }
 
 /// Appends to a list of marks that these packets have none. If memory is refused, nothing changes.
-fn push_marks(marks: &mut ChunkedList<bool>, packets: &Packets) -> Result<(), NoMemory>
+fn push_marks(marks: &mut FlagIndex, packets: &Packets) -> Result<(), NoMemory>
+    requires { length marks.old + length packets.now ≤ 1048576 }
     ensures { marks.new ≡ (if is_ok result then marks_pushed packets.now marks.old else marks.old) }
 {
     let len = marks.len();

@@ -1,4 +1,4 @@
-use Rattle.std.proofs.Common.{◌≡◌, ℕ, zero, suc, ◌+◌, ◌-◌, ◌*◌, ◌/◌, ◌%◌, ◌<◌, ◌≤◌, Bool, List, length, drop, get_or, leb, slice_get, Some, true, false, refl, sym, ap, ◌∙◌, subst, arith, rules}
+use Rattle.std.proofs.Common.{◌≡◌, ℕ, suc, ◌+◌, ◌-◌, Bool, drop, slice_get, Some, true, false, sym, ap, ◌∙◌, arith}
 use Rattle.packet_edits.specs.FlagCounts.{indexes_from}
 use Rattle.packet_edits.proofs.Counts.{one_found, one_passed, one_skipped}
 use Rattle.packet_edits.proofs.flag_index.nth_flagged.Goals.{then-get+else-left-eq0, else-get}

@@ -1,4 +1,4 @@
-use Rattle.std.proofs.Common.{◌≡◌, ◌≤◌, length, drop, slice_get}
+use Rattle.std.proofs.Common.{◌≡◌, drop, slice_get}
 use Rattle.packet_edits.specs.FlagCounts.{indexes_from}
 use Rattle.packet_edits.proofs.flag_index.nth_flagged.Given as goal
 

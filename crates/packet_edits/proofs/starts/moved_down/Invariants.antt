@@ -1,4 +1,4 @@
-use Rattle.std.proofs.Common.{◌≡◌, ℕ, ◌+◌, ◌*◌, ◌-◌, ◌<◌, ◌≤◌, Bool, Some, get_or, length, slice_get}
+use Rattle.std.proofs.Common.{◌≡◌, ℕ, ◌+◌, ◌*◌, ◌-◌, ◌<◌, ◌≤◌, Bool, Some, get_or, slice_get}
 use Rattle.packet_edits.specs.FlagCounts.{count_with}
 use Rattle.packet_edits.proofs.starts.moved_down.Given as goal
 

@@ -1,4 +1,4 @@
-use Rattle.std.proofs.Common.{◌≡◌, ℕ, zero, suc, ◌+◌, ◌-◌, ◌*◌, ◌/◌, ◌%◌, ◌<◌, ◌≤◌, Bool, List, length, drop, get_or, leb, slice_get, Some, refl, sym, ap, ◌∙◌, subst, arith, rules}
+use Rattle.std.proofs.Common.{ap, ◌∙◌}
 use Rattle.packet_edits.specs.FlagCounts.{flagged_before}
 use Rattle.packet_edits.proofs.Counts.{count_told}
 use Rattle.packet_edits.proofs.flag_index.FlagIndex.count.Goals as goal

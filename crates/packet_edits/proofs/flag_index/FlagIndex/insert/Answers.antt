@@ -1,5 +1,4 @@
-use Rattle.std.proofs.Common.{◌≡◌, ℕ, zero, suc, ◌+◌, ◌-◌, ◌*◌, ◌/◌, ◌%◌, ◌<◌, ◌≤◌, Bool, List, length, drop, get_or, leb, slice_get, Some, refl, sym, ap, ◌∙◌, subst, arith, rules}
-use Rattle.std.specs.List.{insert}
+use Rattle.std.proofs.Common.{ℕ, ap, ◌∙◌, rules}
 use Rattle.packet_edits.proofs.Runs.{pushed_moved}
 use Rattle.chunked_list.specs.Moves.{moved}
 use Rattle.packet_edits.proofs.flag_index.FlagIndex.insert.Goals as goal

@@ -1,6 +1,5 @@
-use Rattle.std.proofs.Common.{◌≡◌, ℕ, zero, suc, ◌+◌, ◌-◌, ◌*◌, ◌/◌, ◌%◌, ◌<◌, ◌≤◌, Bool, List, length, drop, get_or, leb, slice_get, Some, refl, sym, ap, ◌∙◌, subst, arith, rules}
-use Rattle.chunked_list.specs.Moves.{moved}
-use Rattle.packet_edits.specs.FlagCounts.{AreCounts, count_with}
+use Rattle.std.proofs.Common.{◌≡◌, ◌+◌, ◌-◌, ◌*◌, Bool, List, length, slice_get, sym, ap, ◌∙◌, subst, arith, rules}
+use Rattle.packet_edits.specs.FlagCounts.{AreCounts}
 use Rattle.packet_edits.proofs.Runs.{counts_down, counts_small, counts_up}
 use Rattle.packet_edits.proofs.flag_index.FlagIndex.move_to.Goals as goal
 

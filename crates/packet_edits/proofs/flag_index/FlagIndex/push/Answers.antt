@@ -1,26 +1,16 @@
-use Rattle.std.proofs.Common.{◌≡◌, ℕ, zero, suc, ◌+◌, ◌-◌, ◌*◌, ◌/◌, ◌%◌, ◌<◌, ◌≤◌, Bool, List, length, [], ◌∷◌, ◌++◌, get_or, leb, slice_get, Some, refl, sym, ap, ◌∙◌, subst, arith, rules}
-use Rattle.packet_edits.specs.FlagCounts.{AreCounts, count_with, flagged_before}
-use Rattle.packet_edits.proofs.Runs.{count_small, counts_filled, counts_pushed}
+use Rattle.std.proofs.Common.{◌≡◌, ◌+◌, ◌%◌, ◌<◌, ℕ, Bool, List, length, sym, ap, ◌∙◌, subst, arith}
+use Rattle.packet_edits.specs.FlagCounts.{AreCounts}
+use Rattle.packet_edits.proofs.Runs.{counts_pushed}
+use Rattle.packet_edits.proofs.flag_index.FlagIndex.push.Goals.{in-Ok, in-Err}
 use Rattle.packet_edits.proofs.flag_index.FlagIndex.push.Goals as goal
 
-pub with_flag-count-requires : goal.with_flag-count-requires
-with_flag-count-requires c = count_small c.self.inside.counts.items c.self.inside.flags c.len-len.result c.count_before.result c.self.invariant (omega (arith, c.len-len.ensures)) (c.count_before.ensures ∙ ap (λ (flags : List Bool). flagged_before c.len-len.result flags) (sym c.self.view_is))
-
-pub invariant_of-self-else-is_err : goal.invariant_of-self-else-is_err
-invariant_of-self-else-is_err c =
+pub invariant_of-self : goal.invariant_of-self
+invariant_of-self c =
     let flags = c.self.inside.flags in
     let same : length flags ≡ length c.args.self.now = ap length c.self.view_is in
     let few : length flags < 1048576 = omega (arith, same, c.requires) in
-    let whole : (length flags + 1) % 1024 ≡ 0 = ap (λ (n : ℕ). (n + 1) % 1024) (sym c.len-len.ensures) ∙ c.if-len-eq0.true in
-    let put : c.push-then-len-eq0.new.self.items ≡ c.self.inside.counts.items ++ c.with_flag-count.result ∷ [] = search rules in
-    let counted : c.count_before.result ≡ flagged_before (length flags) flags = c.count_before.ensures ∙ ap (λ (n : ℕ). flagged_before n c.args.self.now) c.len-len.ensures ∙ ap (λ (fs : List Bool). flagged_before (length flags) fs) (sym c.self.view_is) in
-    subst (λ (fs : List Bool). AreCounts c.push-then-len-eq0.new.self.items fs) (sym c.in-Ok.ensures)
-    (counts_filled c.self.inside.counts.items c.push-then-len-eq0.new.self.items flags c.args.flag c.with_flag-count.result c.self.invariant few whole (c.with_flag-count.ensures ∙ ap (λ (n : ℕ). count_with n c.args.flag) counted) put)
-
-pub invariant_of-self-else-len-eq0 : goal.invariant_of-self-else-len-eq0
-invariant_of-self-else-len-eq0 c =
-    let flags = c.self.inside.flags in
-    let same : length flags ≡ length c.args.self.now = ap length c.self.view_is in
-    let few : length flags < 1048576 = omega (arith, same, c.requires) in
-    subst (λ (fs : List Bool). AreCounts c.self.inside.counts.items fs) (sym c.in-Ok.ensures)
-    (counts_pushed c.self.inside.counts.items flags c.args.flag c.self.invariant few (λ whole. c.if-len-eq0.false (ap (λ (n : ℕ). (n + 1) % 1024) c.len-len.ensures ∙ whole)))
+    elim c.match-push.branch [
+      | in-Ok w ↦ subst (λ (fs : List Bool). AreCounts c.self.inside.counts.items fs) (sym w.in-Ok.ensures)
+          (counts_pushed c.self.inside.counts.items flags c.args.flag c.self.invariant few (λ whole. c.if-len-eq0.false (ap (λ (n : ℕ). (n + 1) % 1024) c.len.ensures ∙ whole)))
+      | in-Err w ↦ subst (λ (fs : List Bool). AreCounts c.self.inside.counts.items fs) (sym w.in-Err.ensures) c.self.invariant
+    ]

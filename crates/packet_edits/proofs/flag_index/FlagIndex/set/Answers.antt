@@ -1,4 +1,4 @@
-use Rattle.std.proofs.Common.{◌≡◌, ℕ, zero, suc, ◌+◌, ◌-◌, ◌*◌, ◌/◌, ◌%◌, ◌<◌, ◌≤◌, Bool, List, length, drop, get_or, leb, slice_get, Some, refl, sym, ap, ◌∙◌, subst, arith, rules}
+use Rattle.std.proofs.Common.{◌≡◌, Bool, List, length, sym, subst, arith, rules}
 use Rattle.packet_edits.specs.FlagCounts.{AreCounts}
 use Rattle.packet_edits.proofs.Runs.{counts_set, counts_small}
 use Rattle.packet_edits.proofs.flag_index.FlagIndex.set.Goals as goal

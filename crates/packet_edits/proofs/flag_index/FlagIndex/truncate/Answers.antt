@@ -1,4 +1,4 @@
-use Rattle.std.proofs.Common.{◌≡◌, ℕ, zero, suc, ◌+◌, ◌-◌, ◌*◌, ◌/◌, ◌%◌, ◌<◌, ◌≤◌, Bool, List, length, take, get_or, leb, slice_get, Some, refl, sym, ap, ◌∙◌, subst, arith, rules}
+use Rattle.std.proofs.Common.{ℕ, Bool, List, take, sym, subst}
 use Rattle.packet_edits.specs.FlagCounts.{AreCounts}
 use Rattle.packet_edits.proofs.Runs.{counts_taken}
 use Rattle.packet_edits.proofs.flag_index.FlagIndex.truncate.Goals as goal

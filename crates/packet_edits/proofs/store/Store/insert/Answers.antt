@@ -1,9 +1,8 @@
 use Rattle.std.proofs.Common.{◌≡◌, ◌+◌, ◌<◌, ◌≤◌, ◌∙◌, Bool, List, false, ap, length, arith, rules}
-use Rattle.std.specs.List.{insert, remove}
-use Rattle.packet_edits.specs.declared.packet_index.PacketIndex.{PacketIndex}
+use Rattle.std.specs.List.{remove}
 use Rattle.packet_edits.specs.Indexes.{inserted_to, removed_from}
 use Rattle.packet_edits.specs.Marks.{marked_at}
-use Rattle.packet_edits.proofs.Indexed.{as_many, index_back}
+use Rattle.packet_edits.proofs.Indexed.{index_back}
 use Rattle.packet_edits.proofs.Mapped.{remove_inserted}
 use Rattle.packet_edits.proofs.Whole.{whole_insert, whole_same}
 use Rattle.packet_edits.proofs.store.Store.insert.Goals as goal
@@ -14,7 +13,7 @@ returns-in_default-insert-clause-marks c =
     let marks = c.self.inside.marks in
     let within : c.args.at ≤ length es = search (rules, arith) in
     let same : length marks ≡ length es = c.self.invariant.marked in
-    rw (← c.self.view_is) (c.remove.ensures.items ∙ ap (λ (bs : List Bool). remove bs c.args.at) c.in-Ok.ensures ∙ remove_inserted marks c.args.at false (omega (arith, within, same)))
+    rw (← c.self.view_is) (c.remove.ensures ∙ ap (λ (bs : List Bool). remove bs c.args.at) c.in-Ok.ensures ∙ remove_inserted marks c.args.at false (omega (arith, within, same)))
 
 pub invariant_of-self-in_default-insert-2 : goal.invariant_of-self-in_default-insert-2
 invariant_of-self-in_default-insert-2 c =
@@ -24,7 +23,7 @@ invariant_of-self-in_default-insert-2 c =
     let within : c.args.at ≤ length es = search (rules, arith) in
     let same : length marks ≡ length es = c.self.invariant.marked in
     whole_same es c.insert-3.new.self c.self.inside.next_id marks c.remove-in_default-insert-2-2.new.self index c.remove-in_default-insert-2.new.self c.self.invariant c.in_default-insert-2.ensures
-    (c.remove-in_default-insert-2-2.ensures.items ∙ ap (λ (bs : List Bool). remove bs c.args.at) c.in-Ok.ensures ∙ remove_inserted marks c.args.at false (omega (arith, within, same)))
+    (c.remove-in_default-insert-2-2.ensures ∙ ap (λ (bs : List Bool). remove bs c.args.at) c.in-Ok.ensures ∙ remove_inserted marks c.args.at false (omega (arith, within, same)))
     (c.remove-in_default-insert-2.ensures ∙ ap (removed_from c.args.at) c.in-Ok-insert.ensures ∙ index_back es index c.args.at c.as_slice.result.now c.self.invariant.indexed within)
 
 pub returns-in_default-insert-2-clause-marks : goal.returns-in_default-insert-2-clause-marks
@@ -33,7 +32,7 @@ returns-in_default-insert-2-clause-marks c =
     let marks = c.self.inside.marks in
     let within : c.args.at ≤ length es = search (rules, arith) in
     let same : length marks ≡ length es = c.self.invariant.marked in
-    rw (← c.self.view_is) (c.remove-in_default-insert-2-2.ensures.items ∙ ap (λ (bs : List Bool). remove bs c.args.at) c.in-Ok.ensures ∙ remove_inserted marks c.args.at false (omega (arith, within, same)))
+    rw (← c.self.view_is) (c.remove-in_default-insert-2-2.ensures ∙ ap (λ (bs : List Bool). remove bs c.args.at) c.in-Ok.ensures ∙ remove_inserted marks c.args.at false (omega (arith, within, same)))
 
 pub invariant_of-self-2 : goal.invariant_of-self-2
 invariant_of-self-2 c =

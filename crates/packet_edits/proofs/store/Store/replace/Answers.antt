@@ -1,9 +1,6 @@
-use Rattle.std.proofs.Common.{◌≡◌, ◌+◌, ◌<◌, ◌∙◌, ℕ, List, refl, ap, length, slice_set, arith, rules}
-use Rattle.packet_edits.specs.declared.entry.Entry.{Entry}
-use Rattle.packet_edits.specs.Edits.{Listing}
+use Rattle.std.proofs.Common.{◌+◌, ◌∙◌, ap}
 use Rattle.packet_edits.specs.Indexes.{set_in}
 use Rattle.packet_edits.specs.Marks.{marked_at}
-use Rattle.packet_edits.proofs.Indexed.{replaced_is}
 use Rattle.packet_edits.proofs.Whole.{whole_set}
 use Rattle.packet_edits.proofs.store.Store.replace.Goals as goal
 

@@ -1,6 +1,5 @@
 use Rattle.std.proofs.Common.{◌≡◌, ap}
 use Rattle.std.proofs.lemmas.Result.{on_ok_weaker}
-use Rattle.packet_edits.specs.declared.entry.Entry.{Entry}
 use Rattle.packet_edits.specs.Marks.{StoreValue}
 use Rattle.packet_edits.proofs.Records.{whole_written}
 use Rattle.packet_edits.proofs.store.Store.save.Goals as goal

@@ -1,0 +1,12 @@
+use Rattle.std.proofs.Common.{ap, map, ◌∙◌}
+use Rattle.packet_edits.specs.FlagCounts.{flag_at}
+use Rattle.packet_edits.specs.Sizes.{key_tag_at}
+use Rattle.packet_edits.specs.declared.packet_index.PacketIndex.{PacketIndex}
+use Rattle.packet_edits.proofs.Keys.{key_flag}
+use Rattle.packet_edits.proofs.Nearest.{last_as}
+use Rattle.packet_edits.proofs.store.Store.last_key.Goals as goal
+
+pub returns : goal.returns
+returns c =
+    let es = c.self.inside.entries in
+    rw (← c.self.view_is) (last_as (flag_at c.self.inside.index.keys) (key_tag_at (map (λ e. e.bytes) es)) 0 c.args.at (λ p less. ap (λ (i : PacketIndex). flag_at i.keys p) c.self.invariant.indexed ∙ key_flag es p) c.last_before.result c.last_before.ensures)
