@@ -19,7 +19,7 @@ use Rattle.state_cache.proofs.Rooms.{one_missing, unkept_further, unkept_step}
 use Rattle.state_cache.proofs.Runs.{same_or_not}
 use Rattle.state_cache.proofs.Settled.{SettlesSame, first_unsettled}
 use Rattle.state_cache.proofs.Steps.{both_true, passed_at, seens_passed}
-use Rattle.state_cache.proofs.Search.{trust}
+use Rattle.state_cache.proofs.Trust.{trust}
 use Rattle.state_cache.proofs.Unsettled.{step_fewer, step_keeps}
 
 -- the entry of a packet of the list with marks

@@ -11,7 +11,7 @@ use Rattle.state_cache.specs.Views.{Before, CoherentFrom, Fits, Follows, IsCoher
 use Rattle.state_cache.proofs.Known.{coherent_parts}
 use Rattle.state_cache.proofs.Marked.{known_more, split_here, take_next}
 use Rattle.state_cache.proofs.Runs.{cut_is, no_cut, same_or_not}
-use Rattle.state_cache.proofs.Search.{mark_here}
+use Rattle.state_cache.proofs.Trust.{mark_here}
 use Rattle.state_cache.proofs.Steps.{key_here}
 use Rattle.state_cache.proofs.Truth.{present}
 

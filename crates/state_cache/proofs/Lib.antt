@@ -4,10 +4,11 @@ pub mod Marked
 pub mod Decoded
 pub mod Steps
 pub mod Truth
+pub mod Trust
 pub mod Search
 pub mod Entries
 pub mod Shows
-pub mod Turns
+pub mod Found
 pub mod Reached
 pub mod Breaks
 pub mod Edited
@@ -19,7 +20,6 @@ pub mod Onward
 pub mod Unsettled
 pub mod Rooms
 pub mod Turned
-pub mod Behind
 pub mod Advanced
 pub mod Walked
 pub mod KeptView

@@ -13,7 +13,7 @@ use Rattle.state_cache.specs.Walks.{IsAfterCached, ConvergesWithSame}
 use Rattle.state_cache.proofs.Marked.{IsOwn}
 use Rattle.state_cache.proofs.Passed.{bytes_passed, cut_joined, kept_before_at, kept_is, key_passed, length_passed_at, mark_behind, outcome_passed, step_leaves}
 use Rattle.state_cache.proofs.Runs.{mark_ends, not_true, one_run_trusted, usable_along}
-use Rattle.state_cache.proofs.Search.{mark_here, trust, usable_both}
+use Rattle.state_cache.proofs.Trust.{mark_here, trust, usable_both}
 use Rattle.state_cache.proofs.Settled.{SettlesSame, joined_same, passed_same, plain_same}
 use Rattle.state_cache.proofs.Steps.{both_true, passed_at, usable_trusted}
 use Rattle.state_cache.proofs.Truth.{bytes_of, kept_true, present}

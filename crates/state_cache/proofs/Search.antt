@@ -1,162 +1,158 @@
--- Searching backward from an index finds the greatest usable one.
-use Rattle.std.proofs.Common.{◌≡◌, ℕ, ◌+◌, ◌<◌, ◌≤◌, Bool, true, false, not, ◌&&◌, List, Option, Some, None, take, slice_get, refl, sym, ap, subst, ◌∙◌, arith, nat_eq}
-use Rattle.std.proofs.lemmas.Bool.{eqb-true}
-use Rattle.std.specs.Cmp.{nat_eq_equiv}
-use Rattle.frame_header.specs.Tags.{has_key_tag}
-use Rattle.state_cache.specs.Reaching.{IsNext, at_key, at_start, following}
-use Rattle.state_cache.specs.Searches.{looked, mark_at, next_of}
-use Rattle.state_cache.specs.Views.{MarkedPacket, View, is_usable, cached_at, key_at, trusted_after}
-use Rattle.state_cache.proofs.Steps.{key_here, trusted_here}
+-- The searches of a walk: the first index to step, and the last cached index of a run.
+use Rattle.std.proofs.Common.{◌≡◌, ℕ, zero, suc, ◌+◌, ◌-◌, ◌<◌, ◌≤◌, Bool, true, false, ◌||◌, List, Option, Some, None, IfSome, inl, inr, length, refl, sym, ap, subst, ◌∙◌, arith}
+use Rattle.std.specs.Option.{unwrap_or}
+use Rattle.std.proofs.lemmas.Bool.{cases_lt}
+use Rattle.packet_edits.specs.Nearest.{HoldsNowhere, IsFirst, IsLast}
+use Rattle.state_cache.specs.Costs.{IsOneRun, cut_at}
+use Rattle.state_cache.specs.Reaching.{Begins, IsNext, at_key, at_start, following}
+use Rattle.state_cache.specs.Searches.{mark_at, next_of}
+use Rattle.state_cache.specs.Views.{MarkedPacket, View, is_usable, cached_at, key_at}
+use Rattle.state_cache.specs.Walks.{IsAfterCached}
+use Rattle.state_cache.proofs.Runs.{cut_is, mark_ends}
+use Rattle.state_cache.proofs.Steps.{key_here}
+use Rattle.state_cache.proofs.Trust.{mark_here, not_usable_kept, not_usable_trust, trust, trust_key, trust_on_unmarked, usable_both}
+use Rattle.state_cache.proofs.Truth.{present}
 
--- whether the packets before an index end in a trusted run
-abbrev pub trust : List MarkedPacket → ℕ → Bool
-trust xs n = trusted_after true (take n xs)
+-- the first index of a range at which something holds, or its end
+pub record IsEnd (holds : ℕ → Bool) (from end place : ℕ) : Type 0 where
+  pub starts : from ≤ place
+  pub within : place ≤ end
+  pub earlier : HoldsNowhere holds from place
+  pub here : place < end → holds place ≡ true
 
--- the result of a search from index i once the indexes starting at `at` were looked at
-abbrev pub Finds : List MarkedPacket → View → ℕ → ℕ → Option ℕ → Type 0
-Finds xs kept i n None = (p : ℕ) → n ≤ p → p ≤ i → is_usable xs kept p ≡ false
-Finds xs kept i n (Some u) = (n ≤ u) × (u ≤ i) × (cached_at xs kept u ≡ true) × (trust xs n ≡ true → trust xs (u + 1) ≡ true) × ((p : ℕ) → u < p → p ≤ i → is_usable xs kept p ≡ false)
+pub end_of : (holds : ℕ → Bool) (from end : ℕ) (r : Option ℕ) → from ≤ end → IsFirst holds from end r → IsEnd holds from end (unwrap_or r end)
+end_of holds from end None order is = record { starts = order; within = omega arith; earlier = is; here = λ less. absurd (omega (arith, less)) }
+end_of holds from end (Some p) order is =
+    let less : p < end = is.within in
+    record { starts = is.starts; within = omega (arith, less); earlier = is.earlier; here = λ within. is.here }
 
-pub record Looking (xs : List MarkedPacket) (kept : View) (i n : ℕ) (found : Option ℕ) : Type 0 where
-  pub within : n ≤ i + 1
-  pub no_key : (p : ℕ) → n ≤ p → p ≤ i → key_at xs p ≡ false
-  pub falls : trust xs n ≡ false → (p : ℕ) → n ≤ p → p ≤ i → trust xs (p + 1) ≡ false
-  pub finds : Finds xs kept i n found
+-- the index after the last one at which something holds is at most the end
+pub next_within : (holds : ℕ → Bool) (from end : ℕ) (r : Option ℕ) → IsLast holds from end r → next_of r 0 ≤ end
+next_within holds from end None is = omega arith
+next_within holds from end (Some p) is = let less : p < end = is.within in omega (arith, less)
 
-pub looking_first : (xs : List MarkedPacket) (kept : View) (i : ℕ) → Looking xs kept i (i + 1) None
-looking_first xs kept i = record {
-  within = omega arith;
-  no_key = λ p h k. absurd (omega (arith, h, k));
-  falls = λ e p h k. absurd (omega (arith, h, k));
-  finds = λ p h k. absurd (omega (arith, h, k));
-}
+pub found_small : (holds : ℕ → Bool) (from end most : ℕ) (r : Option ℕ) → IsLast holds from end r → end ≤ most → IfSome r (λ found. found < most)
+found_small holds from end most None is order = tt
+found_small holds from end most (Some p) is order = let less : p < end = is.within in omega (arith, less, order)
 
--- at an index or after it
-at_or_case : (A : ℕ → Type 0) (j i p : ℕ) (b : Bool) → nat_eq j p ≡ b → A j → ((q : ℕ) → j + 1 ≤ q → q ≤ i → A q) → j ≤ p → p ≤ i → A p
-at_or_case A j i p true e a f h k = subst A (eqb-true j p e) a
-at_or_case A j i p false e a f h k =
-    let other : j ≡ p → ⊥ = λ same. let is : nat_eq j p ≡ true = ap (nat_eq j) (sym same) ∙ nat_eq_equiv.refl j in cc in
-    f p (omega (arith, h, other)) k
+module _ (xs : List MarkedPacket) where
+  trusted_to : (n a : ℕ) → a + n ≤ length xs → trust xs a ≡ true → HoldsNowhere (mark_at xs) a (a + n) → trust xs (a + n) ≡ true
+  trusted_to zero a within t none = let same : a + 0 ≡ a = omega arith in rw same t
+  trusted_to (suc n) a within t none =
+      let p = present xs (a + n) (omega (arith, within)) in
+      let on : a + suc n ≡ a + n + 1 = omega arith in
+      let before : trust xs (a + n) ≡ true = trusted_to n a (omega (arith, within)) t (λ q from to. none q from (omega (arith, to))) in
+      rw on (trust_on_unmarked xs (a + n) p.0 p.1 (sym (mark_here xs (a + n) p.0 p.1) ∙ none (a + n) (omega arith) (omega arith)) before)
 
-at_or_behind : (A : ℕ → Type 0) (j i : ℕ) → A j → ((q : ℕ) → j + 1 ≤ q → q ≤ i → A q) → (p : ℕ) → j ≤ p → p ≤ i → A p
-at_or_behind A j i a f p h k = at_or_case A j i p (nat_eq j p) refl a f h k
+  -- packets without a mark after a trusted index are trusted
+  pub trusted_up_to : (a b : ℕ) → a ≤ b → b ≤ length xs → trust xs a ≡ true → HoldsNowhere (mark_at xs) a b → trust xs b ≡ true
+  trusted_up_to a b order within t none =
+      let is : b ≡ a + (b - a) = omega (arith, order) in
+      subst (λ (k : ℕ). trust xs k ≡ true) (sym is) (trusted_to (b - a) a (omega (arith, is, within)) t (λ q from to. none q from (omega (arith, to, is))))
 
-not_usable_kept : (xs : List MarkedPacket) (kept : View) (p : ℕ) → cached_at xs kept p ≡ false → is_usable xs kept p ≡ false
-not_usable_kept xs kept p h = rw h refl
+  -- where a search begins: at the last key tag, or at index 0. Marks starting at `first` end it
+  pub record Starts (kept : View) (place from first : ℕ) : Type 0 where
+    pub low : from ≤ first
+    pub near : first ≤ from + 1
+    pub within : from ≤ place
+    pub trusted : trust xs first ≡ true
+    pub no_key : HoldsNowhere (key_at xs) first (place + 1)
+    pub begins : Begins xs kept from
 
-and_false : (a : Bool) → (a && false) ≡ false
-and_false true = refl
-and_false false = refl
-
-pub not_usable_trust : (xs : List MarkedPacket) (kept : View) (p : ℕ) → trust xs (p + 1) ≡ false → is_usable xs kept p ≡ false
-not_usable_trust xs kept p h = ap (λ (b : Bool). cached_at xs kept p && b) h ∙ and_false (cached_at xs kept p)
-
-pub usable_both : (xs : List MarkedPacket) (kept : View) (p : ℕ) → cached_at xs kept p ≡ true → trust xs (p + 1) ≡ true → is_usable xs kept p ≡ true
-usable_both xs kept p h k = rw (h, k) refl
-
-arrive : (xs : List MarkedPacket) (kept : View) (i u : ℕ) → u ≤ i → is_usable xs kept u ≡ true → i < u + 1 → is_usable xs kept i ≡ true
-arrive xs kept i u low usable up = let same : u ≡ i = omega (arith, low, up) in subst (λ (n : ℕ). is_usable xs kept n ≡ true) same usable
-
--- a packet with no key tag, and its mark
-pub trust_marked : (xs : List MarkedPacket) (j : ℕ) (p : MarkedPacket) → slice_get xs j ≡ Some p → has_key_tag p.bytes ≡ false → p.marked ≡ true → trust xs (j + 1) ≡ false
-trust_marked xs j p h k m = trusted_here xs j p h ∙ rw (k, m) refl
-
-pub trust_plain : (xs : List MarkedPacket) (j : ℕ) (p : MarkedPacket) → slice_get xs j ≡ Some p → has_key_tag p.bytes ≡ false → p.marked ≡ false → trust xs (j + 1) ≡ trust xs j
-trust_plain xs j p h k m = trusted_here xs j p h ∙ rw (k, m) refl
-
-pub trust_false : (xs : List MarkedPacket) (j : ℕ) (p : MarkedPacket) → slice_get xs j ≡ Some p → has_key_tag p.bytes ≡ false → trust xs j ≡ false → trust xs (j + 1) ≡ false
-trust_false xs j p h k t = trusted_here xs j p h ∙ rw (k, t) (and_false (not p.marked))
-
-trust_key : (xs : List MarkedPacket) (j : ℕ) (p : MarkedPacket) → slice_get xs j ≡ Some p → has_key_tag p.bytes ≡ true → trust xs (j + 1) ≡ true
-trust_key xs j p h k = trusted_here xs j p h ∙ rw k refl
-
-module _ (xs : List MarkedPacket) (kept : View) (i j : ℕ) (p : MarkedPacket) (h : slice_get xs j ≡ Some p) (up : j ≤ i) where
-  finds_plain : (found : Option ℕ) (m o : Bool) → has_key_tag p.bytes ≡ false → p.marked ≡ m → cached_at xs kept j ≡ o → Looking xs kept i (j + 1) found → Finds xs kept i j (looked false m o j found)
-  finds_plain None true o k em eo l = at_or_behind (λ q. is_usable xs kept q ≡ false) j i (not_usable_trust xs kept j (trust_marked xs j p h k em)) l.finds
-  finds_plain (Some u) true o k em eo l = at_or_behind (λ q. is_usable xs kept q ≡ false) j i (not_usable_trust xs kept j (trust_marked xs j p h k em))
-      (λ q a b. not_usable_trust xs kept q (l.falls (trust_marked xs j p h k em) q a b))
-  finds_plain None false true k em eo l = (omega arith, up, eo, λ t. trust_plain xs j p h k em ∙ t, λ q a b. l.finds q (omega (arith, a)) b)
-  finds_plain None false false k em eo l = at_or_behind (λ q. is_usable xs kept q ≡ false) j i (not_usable_kept xs kept j eo) l.finds
-  finds_plain (Some u) false o k em eo l =
-      let low : j + 1 ≤ u = l.finds.0 in
-      (omega (arith, low), l.finds.1, l.finds.2, λ t. l.finds.3 (trust_plain xs j p h k em ∙ t), l.finds.4)
-
-  -- one more packet with no key tag
-  pub looking_more : (found : Option ℕ) → has_key_tag p.bytes ≡ false → Looking xs kept i (j + 1) found → Looking xs kept i j (looked false p.marked (cached_at xs kept j) j found)
-  looking_more found k l = record {
-    within = omega (arith, up);
-    no_key = at_or_behind (λ q. key_at xs q ≡ false) j i (key_here xs j p h ∙ k) l.no_key;
-    falls = λ t. at_or_behind (λ q. trust xs (q + 1) ≡ false) j i (trust_false xs j p h k t) (l.falls (trust_false xs j p h k t));
-    finds = finds_plain found p.marked (cached_at xs kept j) k refl refl l;
-  }
-
-  behind_found : (u : ℕ) → has_key_tag p.bytes ≡ true → Looking xs kept i (j + 1) (Some u) → IsNext xs kept i (u + 1)
-  behind_found u k l =
-      let low : j + 1 ≤ u = l.finds.0 in
-      let high : u ≤ i = l.finds.1 in
+  pub starts_at : (kept : View) (place : ℕ) (key : Option ℕ) → place < length xs → IsLast (key_at xs) 0 (place + 1) key → Starts kept place (unwrap_or key 0) (next_of key 0)
+  starts_at kept place None within is = record { low = omega arith; near = omega arith; within = omega arith; trusted = refl; no_key = is; begins = at_start refl }
+  starts_at kept place (Some k) within is =
+      let less : k < place + 1 = is.within in
+      let p = present xs k (omega (arith, less, within)) in
       record {
-        within = omega (arith, high);
-        begins = following u refl (usable_both xs kept u l.finds.2 (l.finds.3 (trust_key xs j p h k)));
-        arrived = arrive xs kept i u high (usable_both xs kept u l.finds.2 (l.finds.3 (trust_key xs j p h k)));
-        no_key = λ q a b. l.no_key q (omega (arith, a, low)) b;
-        greatest = λ q a b. l.finds.4 q (omega (arith, a)) b;
+        low = omega arith;
+        near = omega arith;
+        within = omega (arith, less);
+        trusted = trust_key xs k p.0 p.1 (sym (key_here xs k p.0 p.1) ∙ is.here);
+        no_key = λ q from to. is.later q (omega (arith, from)) to;
+        begins = at_key is.here;
       }
 
-  behind_key : has_key_tag p.bytes ≡ true → cached_at xs kept j ≡ true → Looking xs kept i (j + 1) None → IsNext xs kept i (j + 1)
-  behind_key k eo l = record {
-    within = omega (arith, up);
-    begins = following j refl (usable_both xs kept j eo (trust_key xs j p h k));
-    arrived = arrive xs kept i j up (usable_both xs kept j eo (trust_key xs j p h k));
-    no_key = λ q a b. l.no_key q (omega (arith, a)) b;
-    greatest = l.finds;
-  }
+  module _ (kept : View) (place from first end : ℕ) (in_ : place < length xs) (s : Starts kept place from first) (marks : IsEnd (mark_at xs) first (place + 1) end) where
+    -- an index before the next mark is usable if it is cached
+    usable_here : (u : ℕ) → from ≤ u → u < end → cached_at xs kept u ≡ true → is_usable xs kept u ≡ true
+    usable_here u low less k =
+        usable_both xs kept u k
+        (trusted_up_to first (u + 1) (omega (arith, s.near, low)) (omega (arith, marks.within, less, in_)) s.trusted (λ q a b. marks.earlier q a (omega (arith, b, less))))
 
-  at_it : has_key_tag p.bytes ≡ true → cached_at xs kept j ≡ false → Looking xs kept i (j + 1) None → IsNext xs kept i j
-  at_it k eo l = record {
-    within = omega (arith, up);
-    begins = at_key (key_here xs j p h ∙ k);
-    arrived = λ a. absurd (omega (arith, a, up));
-    no_key = λ q a b. l.no_key q (omega (arith, a)) b;
-    greatest = at_or_behind (λ q. is_usable xs kept q ≡ false) j i (not_usable_kept xs kept j eo) l.finds;
-  }
+    -- and none after the mark is
+    not_after : (p : ℕ) → end ≤ p → p ≤ place → is_usable xs kept p ≡ false
+    not_after p low high =
+        not_usable_trust xs kept p
+        (mark_ends xs end p low (omega (arith, high, in_)) (marks.here (omega (arith, low, high)))
+        (λ q a b. s.no_key q (omega (arith, marks.starts, a)) (omega (arith, b, high))))
 
-  key_case : (found : Option ℕ) (m o : Bool) → has_key_tag p.bytes ≡ true → cached_at xs kept j ≡ o → Looking xs kept i (j + 1) found → IsNext xs kept i (next_of (looked true m o j found) j)
-  key_case (Some u) true o k eo l = behind_found u k l
-  key_case (Some u) false o k eo l = behind_found u k l
-  key_case None true true k eo l = behind_key k eo l
-  key_case None false true k eo l = behind_key k eo l
-  key_case None true false k eo l = at_it k eo l
-  key_case None false false k eo l = at_it k eo l
+    not_usable : (n : ℕ) → HoldsNowhere (cached_at xs kept) n end → (p : ℕ) → n ≤ p → p ≤ place → is_usable xs kept p ≡ false
+    not_usable n none p low high =
+        elim (cases_lt p end) [
+          | inl less ↦ not_usable_kept xs kept p (none p low less)
+          | inr more ↦ not_after p more high
+        ]
 
-  -- a key tag ends the search
-  pub looking_key : (found : Option ℕ) → has_key_tag p.bytes ≡ true → Looking xs kept i (j + 1) found → IsNext xs kept i (next_of (looked true p.marked (cached_at xs kept j) j found) j)
-  looking_key found k l = key_case found p.marked (cached_at xs kept j) k refl l
+    pub next_is : (found : Option ℕ) → IsLast (cached_at xs kept) from end found → IsNext xs kept place (next_of found from)
+    next_is None is =
+        let within : from ≤ place = s.within in
+        record {
+          within = omega (arith, within);
+          begins = s.begins;
+          arrived = λ more. absurd (omega (arith, more, within));
+          no_key = λ p low high. s.no_key p (omega (arith, low, s.near)) (omega (arith, high));
+          greatest = not_usable from is;
+        }
+    next_is (Some u) is =
+        let usable : is_usable xs kept u ≡ true = usable_here u is.starts is.within is.here in
+        let up : u ≤ place = omega (arith, is.within, marks.within) in
+        record {
+          within = omega (arith, up);
+          begins = following u refl usable;
+          arrived = λ more. let same : u ≡ place = omega (arith, more, up) in subst (λ (n : ℕ). is_usable xs kept n ≡ true) same usable;
+          no_key = λ p low high. s.no_key p (omega (arith, low, s.near, is.starts)) (omega (arith, high));
+          greatest = not_usable (u + 1) (λ p low less. is.later p (omega (arith, low)) less);
+        }
 
-pub mark_here : (xs : List MarkedPacket) (j : ℕ) (p : MarkedPacket) → slice_get xs j ≡ Some p → mark_at xs j ≡ p.marked
-mark_here xs j p h = rw h refl
+  -- a run after `first`: it ends at the next key tag or mark, up to `place`
+  module _ (kept : View) (first place run end : ℕ) (low : first ≤ place) (keys : IsEnd (key_at xs) (first + 1) (place + 1) run) (marks : IsEnd (mark_at xs) (first + 1) run end) where
+    one_run : (p : ℕ) → first < p → p < end → cut_at xs p ≡ false
+    one_run p a b =
+        cut_is xs p (omega (arith, a)) ∙ ap (λ (k : Bool). k || mark_at xs p) (keys.earlier p (omega (arith, a)) (omega (arith, b, marks.within))) ∙ marks.earlier p (omega (arith, a)) b
 
--- one more index, by what is found there
-pub look_more : (xs : List MarkedPacket) (kept : View) (i j : ℕ) (p : MarkedPacket) (found : Option ℕ) → slice_get xs j ≡ Some p → j ≤ i → key_at xs j ≡ false → Looking xs kept i (j + 1) found → Looking xs kept i j (looked (key_at xs j) (mark_at xs j) (cached_at xs kept j) j found)
-look_more xs kept i j p found h up k l =
-    rw (k, mark_here xs j p h) (looking_more xs kept i j p h up found (sym (key_here xs j p h) ∙ k) l)
+    key_cuts : run < place + 1 → cut_at xs run ≡ true
+    key_cuts less = cut_is xs run (omega (arith, keys.starts)) ∙ ap (λ (k : Bool). k || mark_at xs run) (keys.here less)
 
-pub look_key : (xs : List MarkedPacket) (kept : View) (i j : ℕ) (p : MarkedPacket) (found : Option ℕ) → slice_get xs j ≡ Some p → j ≤ i → key_at xs j ≡ true → Looking xs kept i (j + 1) found → IsNext xs kept i (next_of (looked (key_at xs j) (mark_at xs j) (cached_at xs kept j) j found) j)
-look_key xs kept i j p found h up k l =
-    rw (k, mark_here xs j p h) (looking_key xs kept i j p h up found (sym (key_here xs j p h) ∙ k) l)
+    mark_cuts : (k : Bool) → key_at xs end ≡ k → end < run → cut_at xs end ≡ true
+    mark_cuts true key less = cut_is xs end (omega (arith, marks.starts)) ∙ ap (λ (k : Bool). k || mark_at xs end) key
+    mark_cuts false key less = cut_is xs end (omega (arith, marks.starts)) ∙ ap (λ (k : Bool). k || mark_at xs end) key ∙ marks.here less
 
--- and so does index 0
-pub looking_end : (xs : List MarkedPacket) (kept : View) (i : ℕ) (found : Option ℕ) → Looking xs kept i 0 found → IsNext xs kept i (next_of found 0)
-looking_end xs kept i None l = record {
-  within = omega arith;
-  begins = at_start refl;
-  arrived = λ a. absurd (omega (arith, a));
-  no_key = λ p a b. l.no_key p (omega arith) b;
-  greatest = l.finds;
-}
-looking_end xs kept i (Some u) l = record {
-  within = let up : u ≤ i = l.finds.1 in omega (arith, up);
-  begins = following u refl (usable_both xs kept u l.finds.2 (l.finds.3 refl));
-  arrived = arrive xs kept i u l.finds.1 (usable_both xs kept u l.finds.2 (l.finds.3 refl));
-  no_key = λ p a b. l.no_key p (omega arith) b;
-  greatest = λ p a b. l.finds.4 p (omega (arith, a)) b;
-}
+    ends_here : end < place + 1 → cut_at xs end ≡ true
+    ends_here less =
+        elim (cases_lt end run) [
+          | inl before ↦ mark_cuts (key_at xs end) refl before
+          | inr more ↦ let same : run ≡ end = omega (arith, more, marks.within) in subst (λ (n : ℕ). cut_at xs n ≡ true) same (key_cuts (omega (arith, same, less)))
+        ]
+
+    not_cached : (last : ℕ) → first ≤ last → ((p : ℕ) → last < p → p < end → cached_at xs kept p ≡ false) → (p : ℕ) → last < p → p ≤ place → IsOneRun xs first p → cached_at xs kept p ≡ false
+    not_cached last from none p more high same_run =
+        elim (cases_lt p end) [
+          | inl less ↦ none p more less
+          | inr over ↦ (
+              let cut : cut_at xs end ≡ true = ends_here (omega (arith, over, high)) in
+              let plain : cut_at xs end ≡ false = same_run end (omega (arith, marks.starts)) over in
+              cc)
+        ]
+
+    pub after_is : (found : Option ℕ) → cached_at xs kept first ≡ true → IsLast (cached_at xs kept) first end found → IsAfterCached xs kept first place (unwrap_or found first + 1)
+    after_is None is_cached is = let none : cached_at xs kept first ≡ false = is first (omega arith) (omega (arith, marks.starts)) in cc
+    after_is (Some u) is_cached is = record {
+      last = u;
+      next_is = refl;
+      from = is.starts;
+      within = omega (arith, is.within, marks.within, keys.within);
+      one_run = λ p a b. one_run p a (omega (arith, b, is.within));
+      is_cached = is.here;
+      greatest = not_cached u is.starts is.later;
+    }

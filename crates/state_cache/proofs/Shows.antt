@@ -1,6 +1,8 @@
 -- The results of a store's calls for the packet at an index.
 use Rattle.std.proofs.Common.{◌≡◌, ℕ, zero, suc, ◌-◌, ◌<◌, Bool, true, false, cond, None, List, [], ◌∷◌, Option, Some, option_map, option_and_then, is_some, length, map, slice_get, refl, sym, ap, ◌∙◌, arith}
 use Rattle.frame_header.specs.Tags.{has_key_tag}
+use Rattle.packet_edits.specs.FlagCounts.{flag_at}
+use Rattle.packet_edits.specs.Sizes.{key_tag_at}
 use Rattle.packet_edits.specs.declared.entry.Entry.{Entry}
 use Rattle.state_cache.specs.declared.outcomes.Kept.{Kept}
 use Rattle.state_cache.specs.Evictions.{outcome_before, outcome_from}
@@ -78,3 +80,18 @@ state_case false xs kept (suc i) = refl
 -- the state of that outcome is the one from which the packet is stepped
 pub state_told : (xs : List MarkedPacket) (kept : View) (i : ℕ) → option_map (λ (k : Kept). k.state) (outcome_from xs kept i) ≡ state_from xs kept i
 state_told xs kept i = state_case (key_at xs i) xs kept i
+
+-- a store's flags agree with its packets
+pub key_agrees : (es : List Entry) (ms : List Bool) (p : ℕ) → key_tag_at (map (λ (e : Entry). e.bytes) es) p ≡ key_at (marked_packets_of es ms) p
+key_agrees [] ms p = refl
+key_agrees (e ∷ es) [] zero = refl
+key_agrees (e ∷ es) (m ∷ ms) zero = refl
+key_agrees (e ∷ es) [] (suc p) = key_agrees es [] p
+key_agrees (e ∷ es) (m ∷ ms) (suc p) = key_agrees es ms p
+
+pub mark_agrees : (es : List Entry) (ms : List Bool) (p : ℕ) → length ms ≡ length es → flag_at ms p ≡ mark_at (marked_packets_of es ms) p
+mark_agrees [] [] p same = refl
+mark_agrees [] (m ∷ ms) p same = absurd (omega (arith, same))
+mark_agrees (e ∷ es) [] p same = absurd (omega (arith, same))
+mark_agrees (e ∷ es) (m ∷ ms) zero same = refl
+mark_agrees (e ∷ es) (m ∷ ms) (suc p) same = mark_agrees es ms p (omega (arith, same))

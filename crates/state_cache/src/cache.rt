@@ -2,13 +2,14 @@ ghost use Rattle.std.specs.Prelude.{◌≡◌, ◌+◌, ◌-◌, ◌^◌, ◌<�
 ghost use Rattle.std.specs.Map.{lookup};
 ghost use Rattle.lru.specs.LruCache.{IsValid, lru_cache};
 ghost use Rattle.frame_header.specs.declared.cause.Cause.{Cause};
+ghost use Rattle.packet_edits.specs.Nearest.{IsLast};
 ghost use Rattle.pixel_planes.specs.Pictures.{PictureSamples};
 ghost use Rattle.reference_frames.specs.Steps.{StepAnswers};
 ghost use Rattle.reference_frames.specs.States.{StateValue};
-ghost use Rattle.state_cache.specs.Costs.{Costs, cut_at, most_steps};
+ghost use Rattle.state_cache.specs.Costs.{Costs, most_steps};
 ghost use Rattle.state_cache.specs.Evictions.{Evicts, IsVictim, outcome_from, steps_from, without};
 ghost use Rattle.state_cache.specs.Reaching.{Begins, AnswersAt, IsNext, CachedAnswers, Converged, OthersDrop, OthersStay, Reaches, IterationAnswers, Reports, passed_marks, view_of};
-ghost use Rattle.state_cache.specs.Searches.{looked, mark_at, next_of};
+ghost use Rattle.state_cache.specs.Searches.{mark_at, next_of};
 ghost use Rattle.state_cache.specs.Walks.{Advances, IsAfterCached, IsPut, IsIteration, IsWalk, IsWalkStep, ConvergesWithSame, entries_with};
 ghost use Rattle.state_cache.specs.Views.{Drops, IsCoherent, is_usable, cached_at, cached_in, key_at, marked_packets, same_key, with_cached};
 
@@ -225,28 +226,11 @@ impl Cache {
         ensures { IsAfterCached (marked_packets store.now) (view_of source self.now) first place result }
     {
         store.holds_few();
-        let mut last = first;
-        let mut at = first + 1;
-        while at <= place {
-            if begins_run(store, at) {
-                return last + 1;
-            }
-            last = self.later_cached(source, store, last, at);
-            at += 1;
-        }
-        last + 1
-    }
-
-    /// `place` if an outcome of its packet is cached, else `last`.
-    fn later_cached(&self, source: usize, store: &Store, last: usize, place: usize) -> usize
-        requires { place < length store.now.list.entries }
-        ensures { result ≡ cond (cached_at (marked_packets store.now) (view_of source self.now) place) place last }
-    {
-        if self.holds(source, store, place) {
-            place
-        } else {
-            last
-        }
+        let key = store.next_key(first + 1, place + 1);
+        let run = key.unwrap_or(place + 1);
+        let mark = store.next_mark(first + 1, run);
+        let last = self.last_cached(source, store, first, mark.unwrap_or(run));
+        last.unwrap_or(first) + 1
     }
 
     /// Steps the packet at `place`, and counts the step.
@@ -331,54 +315,35 @@ impl Cache {
         self.kept.contains(&PacketKey { source, id })
     }
 
-    /// The greatest cached index with no mark after it, once one more index is looked at. A mark on
-    /// a packet with a key tag has no effect.
-    fn look(
-        &self,
-        source: usize,
-        store: &Store,
-        place: usize,
-        is_key: bool,
-        found: Option<usize>,
-    ) -> Option<usize>
-        requires { place < length store.now.list.entries }
-        ensures { result ≡ looked is_key (mark_at (marked_packets store.now) place) (cached_at (marked_packets store.now) (view_of source self.now) place) place found }
+    /// The last index from `from` up to `end` at which an outcome is cached, or `None`.
+    fn last_cached(&self, source: usize, store: &Store, from: usize, end: usize) -> Option<usize>
+        requires { (from ≤ end) × (end ≤ length store.now.list.entries) }
+        ensures { IsLast (cached_at (marked_packets store.now) (view_of source self.now)) from end result }
     {
-        if !is_key {
-            if is_marked(store, place) {
-                return None;
+        let mut at = end;
+        while at > from {
+            at -= 1;
+            if self.holds(source, store, at) {
+                return Some(at);
             }
         }
-        match found {
-            Some(place) => Some(place),
-            None => {
-                if self.holds(source, store, place) {
-                    Some(place)
-                } else {
-                    None
-                }
-            }
-        }
+        None
     }
 
-    /// The first index to step on the way to `place`. It looks back from `place` to the last key
-    /// tag.
+    /// The first index to step on the way to `place`. A usable index is a cached one from the last
+    /// key tag on, or from index 0 if there is none, and before the next mark; a mark on the packet
+    /// with the key tag has no effect.
     fn next_step(&self, source: usize, store: &Store, place: usize) -> usize
         requires { place < length store.now.list.entries }
         ensures { IsNext (marked_packets store.now) (view_of source self.now) place result }
     {
         store.holds_few();
-        let mut found = None;
-        let mut at = place + 1;
-        while at > 0 {
-            at -= 1;
-            let is_key = has_key(store, at);
-            found = self.look(source, store, at, is_key, found);
-            if is_key {
-                return next_after(found, at);
-            }
-        }
-        next_after(found, at)
+        let key = store.last_key(place + 1);
+        let first = next_after(key, 0);
+        let mark = store.next_mark(first, place + 1);
+        let from = key.unwrap_or(0);
+        let found = self.last_cached(source, store, from, mark.unwrap_or(place + 1));
+        next_after(found, from)
     }
 }
 
@@ -542,18 +507,6 @@ fn is_cut(store: &Store, place: usize) -> bool
     is_marked(store, place) && !is_key
 }
 
-/// Whether a run begins at `place`, which is not 0: its packet is marked or has a key tag.
-fn begins_run(store: &Store, place: usize) -> bool
-    requires place { place < length store.now.list.entries }
-    requires first { 0 < place }
-    ensures { result ≡ cut_at (marked_packets store.now) place }
-{
-    if has_key(store, place) {
-        return true;
-    }
-    is_marked(store, place)
-}
-
 /// Passes the mark of a packet that was stepped: removes it if the states converge, else moves it
 /// to the next packet. Returns whether the runs on both sides of the packet are now one.
 fn pass_mark(store: &mut Store, place: usize, is_cut: bool, has_converged: bool) -> bool
@@ -575,7 +528,7 @@ fn pass_mark(store: &mut Store, place: usize, is_cut: bool, has_converged: bool)
     false
 }
 
-/// The index after the one that a search found, or the index at which it ended.
+/// The index after the one that a search found, or `place` if it found none.
 fn next_after(found: Option<usize>, place: usize) -> usize
     requires { IfSome found (λ found. found < 2 ^ 63) }
     ensures { result ≡ next_of found place }

@@ -1,19 +1,8 @@
-use Rattle.std.proofs.Common.{ℕ, sym, subst, arith, rules}
-use Rattle.state_cache.specs.Reaching.{IsNext, view_of}
-use Rattle.state_cache.specs.Views.{marked_packets}
-use Rattle.state_cache.proofs.Turns.{turn_end, turn_key, turn_more}
+use Rattle.state_cache.specs.Reaching.{view_of}
+use Rattle.state_cache.proofs.Found.{next_found}
 use Rattle.state_cache.proofs.cache.Cache.next_step.Goals as goal
-
-pub returns-then-is_key : goal.returns-then-is_key
-returns-then-is_key c =
-    subst (λ (n : ℕ). IsNext (marked_packets c.args.store.now) (view_of c.args.source c.args.self.now) c.args.place n) (sym c.next_after.ensures)
-    (turn_key c.args.store.now.list.entries c.args.store.now.marks (view_of c.args.source c.args.self.now) c.args.place c.loop-at.at c.loop-at.found c.look-found.result c.has_key-is_key.result (search (rules, arith)) c.requires c.has_key-is_key.ensures c.look-found.ensures c.loop-at.invariant c.if-is_key.true)
-
-pub loop-at-preserved : goal.loop-at-preserved
-loop-at-preserved c =
-    turn_more c.args.store.now.list.entries c.args.store.now.marks (view_of c.args.source c.args.self.now) c.args.place c.loop-at.at c.loop-at.found c.look-found.result c.has_key-is_key.result (search (rules, arith)) c.requires c.has_key-is_key.ensures c.look-found.ensures c.loop-at.invariant c.if-is_key.false
 
 pub returns : goal.returns
 returns c =
-    subst (λ (n : ℕ). IsNext (marked_packets c.args.store.now) (view_of c.args.source c.args.self.now) c.args.place n) (sym c.next_after-2.ensures)
-    (turn_end (marked_packets c.args.store.now) (view_of c.args.source c.args.self.now) c.args.place c.loop-at.at c.loop-at.found (search (rules, arith)) c.loop-at.invariant)
+    next_found c.args.store.now.list.entries c.args.store.now.marks (view_of c.args.source c.args.self.now) c.holds_few.ensures.marks c.args.place c.next_after-first.result c.unwrap_or-from.result c.unwrap_or.result c.next_after.result
+    c.last_key-key.result c.next_mark-mark.result c.last_cached-found.result c.requires c.last_key-key.ensures c.next_after-first.ensures c.next_mark-mark.ensures c.unwrap_or-from.ensures c.unwrap_or.ensures c.last_cached-found.ensures c.next_after.ensures
