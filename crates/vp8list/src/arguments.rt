@@ -1,6 +1,6 @@
 // The arguments of the command line.
 use crate::fault::Fault;
-use clap::{Arg, ArgMatches, Command};
+use clap::{Arg, ArgAction, ArgMatches, Command};
 use std::alloc::{AllocError, Global};
 use std::convert::AsStr;
 use std::env::{self, Env};
@@ -13,6 +13,7 @@ const VERSION: &str = "0.1.0";
 const ABOUT: &str = "\
 Lists the packets of a VP8 stream (IVF): a line with the names of the columns,
 and a line a packet, with tabs between columns. Only headers are read.
+With --hash it decodes the stream and lists the MD5 of each frame.
 
   vp8list in.ivf | column -t
   vp8list in.ivf | awk '$5 == \"key\" { print $1, $8 }'
@@ -34,6 +35,14 @@ and a line a packet, with tabs between columns. Only headers are read.
               `altref` if it becomes a copy of that one; `-` if it stays
   cause       why the header is refused, else `-`
 
+--hash prints what ffmpeg prints for the same stream:
+
+  vp8list in.ivf --hash > ours
+  ffmpeg -nostdin -v error -copyts -i in.ivf -fps_mode passthrough \\
+      -autoscale 0 -bitexact -f framemd5 - | diff - ours
+
+A frame that is hidden or does not decode has no line.
+
 Exit status: 0, or 2 for a mistake on the command line or a file that is not IVF.";
 
 /// The values of the arguments.
@@ -43,6 +52,8 @@ pub struct Arguments<'a> {
     pub stream: &'a str,
     /// The file of the long tables, if given.
     pub tables: Option<&'a str>,
+    /// Whether the MD5 of each frame is asked for.
+    pub is_hash: bool,
 }
 
 /// The program's arguments, its name first.
@@ -64,11 +75,16 @@ fn command<'a>(alloc: Global) -> Result<Command<'a>, AllocError> {
         .long("tables")
         .value_name("FILE")
         .help("3012 bytes to use instead of RFC 6386's long tables");
+    let hash = Arg::new(alloc, "hash")
+        .long("hash")
+        .action(ArgAction::SetTrue)
+        .help("The MD5 of each frame, as ffmpeg's framemd5");
     Command::new(alloc, "vp8list")
         .version(VERSION)
         .about(ABOUT)
         .arg(stream)?
-        .arg(tables)
+        .arg(tables)?
+        .arg(hash)
 }
 
 /// The values in a command line that was parsed.
@@ -76,6 +92,7 @@ fn values_of<'a>(matches: &ArgMatches<'a>) -> Arguments<'a> {
     Arguments {
         stream: matches.get_str("IN").unwrap_or(""),
         tables: matches.get_str("tables"),
+        is_hash: matches.get_flag("hash"),
     }
 }
 

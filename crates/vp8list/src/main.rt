@@ -3,6 +3,7 @@
 
 mod arguments;
 mod fault;
+mod hashing;
 mod program;
 mod reading;
 

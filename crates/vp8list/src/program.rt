@@ -7,6 +7,7 @@ ghost use Rattle.vp8list.specs.Lists.{IsListed, IsListFault};
 
 use crate::arguments;
 use crate::fault::Fault;
+use crate::hashing::hash_to;
 use crate::reading::{read_file, read_tables};
 use clap::error::ErrorKind;
 use std::alloc::Global;
@@ -82,7 +83,11 @@ fn answer_line<'a, R: Files + AllocGlobal, S: AsStr, O: Write>(
     };
     let tables = read_tables(rt, given.tables)?;
     let bytes = read_file(rt, given.stream)?;
-    list_to(rt.alloc(), &tables, bytes.as_slice(), output)
+    if given.is_hash {
+        hash_to(rt.alloc(), &tables, bytes.as_slice(), output)
+    } else {
+        list_to(rt.alloc(), &tables, bytes.as_slice(), output)
+    }
 }
 
 /// Runs the program on a command line, whose first argument is the program's name, and returns its

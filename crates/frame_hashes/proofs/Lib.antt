@@ -1,0 +1,4 @@
+mod Aligned
+mod Heads
+mod Lengths
+mod Texts
