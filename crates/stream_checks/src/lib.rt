@@ -1,0 +1,10 @@
+//! The findings of a stream: what is wrong with an IVF file and its packets, and the lines that
+//! report it.
+#![tactic(auto)]
+
+mod file;
+mod finding;
+mod lines;
+mod packets;
+
+pub use finding::Finding;
