@@ -6,7 +6,8 @@ use Rattle.frame_header.specs.declared.cause.Cause.{Cause}
 use Rattle.frame_header.specs.Tags.{has_key_tag, is_shown, key_size_of}
 use Rattle.vp8_tables.specs.Tables.{TableEntries}
 use Rattle.state_cache.specs.declared.outcomes.Broken.{Broken}
-use Rattle.state_cache.specs.Decoding.{Outcome, outcomes}
+use Rattle.state_cache.specs.Decoding.{Outcome, left_by, outcomes}
+use Rattle.stream_checks.specs.Breaks.{break_in}
 use Rattle.stream_checks.specs.declared.finding.Finding.{Finding}
 use Rattle.stream_checks.specs.declared.finding.Finding.TheVariants.{Refused, StampRepeats, StampGoesBack, StampSkips, SizeChanges, NeverShown}
 use Rattle.stream_checks.specs.declared.packets.Position.{Position}
@@ -20,11 +21,6 @@ listed (Some finding) = finding ∷ []
 -- the packets after a refused one that are lost with it: those before the next key tag
 abbrev pub lost_after : List Packet → ℕ
 lost_after rest = prefix_len (λ packet. not (has_key_tag packet.bytes)) rest
-
--- the cause, if decoding breaks at this packet
-abbrev pub break_at : ℕ → Outcome → Option Cause
-break_at place (Ok decoded) = None
-break_at place (Err broken) = if broken.place == place then Some broken.cause else None
 
 -- a packet is refused
 abbrev pub refusal : ℕ → Option Cause → List Packet → Option Finding
@@ -120,7 +116,7 @@ abbrev pub findings_from : ℕ → Position → List Packet → List Outcome →
 findings_from least position [] outcomes = []
 findings_from least position (packet ∷ packets) [] = []
 findings_from least position (packet ∷ packets) (outcome ∷ outcomes) =
-    listed_of (found_at least position packet packets (break_at position.packets outcome)) ++ findings_from least (position_after position packet) packets outcomes
+    listed_of (found_at least position packet packets (break_in position.packets (left_by outcome))) ++ findings_from least (position_after position packet) packets outcomes
 
 -- the bytes of packets
 abbrev pub bytes_of : List Packet → List (List ℕ)

@@ -2,9 +2,13 @@
 //! report it.
 #![tactic(auto)]
 
+mod checker;
+mod decoder;
+mod fault;
 mod file;
 mod finding;
 mod lines;
 mod packets;
 
+pub use fault::CheckFault;
 pub use finding::Finding;
