@@ -27,18 +27,21 @@ abbrev pub refusal : ℕ → Option Cause → List Packet → Option Finding
 refusal place None rest = None
 refusal place (Some cause) rest = Some (Refused place cause (lost_after rest))
 
--- the time stamp of a shown packet against the one of the shown packet before it. It skips if it is two of the stream's
--- least steps above it, or more
-abbrev pub stamp_change : ℕ → ℕ → ℕ → ℕ → Option Finding
-stamp_change least place before stamp =
-    if stamp == before then Some (StampRepeats place stamp)
-    else if nat_lt stamp before then Some (StampGoesBack place stamp before)
-    else if nat_le least ((stamp - before) / 2) then Some (StampSkips place stamp before)
+-- the time stamp of a shown packet, with a shown packet before it: it repeats or goes back from that packet's. It skips if it
+-- is two of the stream's least steps, or more, above the time stamp of the packet before it, shown or hidden
+abbrev pub stamp_change : ℕ → Position → ℕ → ℕ → Option Finding
+stamp_change least position before stamp =
+    if stamp == before then Some (StampRepeats position.packets stamp)
+    else if nat_lt stamp before then Some (StampGoesBack position.packets stamp before)
+    else if nat_le least ((stamp - position.last) / 2) then Some (StampSkips position.packets stamp position.last)
     else None
 
-abbrev pub stamp_finding : ℕ → ℕ → Option ℕ → Packet → Option Finding
-stamp_finding least place None packet = None
-stamp_finding least place (Some before) packet = if is_shown packet.bytes then stamp_change least place before packet.stamp else None
+abbrev pub stamp_from : ℕ → Position → Option ℕ → Packet → Option Finding
+stamp_from least position None packet = None
+stamp_from least position (Some before) packet = if is_shown packet.bytes then stamp_change least position before packet.stamp else None
+
+abbrev pub stamp_finding : ℕ → Position → Packet → Option Finding
+stamp_finding least position packet = stamp_from least position position.stamp packet
 
 -- the size of a key packet against the size of the last key packet with a size
 abbrev pub size_change : ℕ → Option (ℕ × ℕ) → Option (ℕ × ℕ) → Option Finding
@@ -65,7 +68,7 @@ hidden_finding place packet rest = hidden_of place (unshown_at packet rest)
 
 -- before the first packet
 abbrev pub first_position : Position
-first_position = record { packets = 0; stamp = None; size = None }
+first_position = record { packets = 0; last = 0; stamp = None; size = None }
 
 abbrev pub newer : {A : Type 0} → Option A → Option A → Option A
 newer None before = before
@@ -78,6 +81,7 @@ stamp_after before packet = if is_shown packet.bytes then Some packet.stamp else
 abbrev pub position_after : Position → Packet → Position
 position_after position packet = record {
   packets = position.packets + 1;
+  last = packet.stamp;
   stamp = stamp_after position.stamp packet;
   size = newer (key_size_of packet.bytes) position.size;
 }
@@ -103,7 +107,7 @@ least_step packets = least_from 0 None packets
 abbrev pub found_at : ℕ → Position → Packet → List Packet → Option Cause → Found
 found_at least position packet rest cause = record {
   refused = refusal position.packets cause rest;
-  stamp = stamp_finding least position.packets position.stamp packet;
+  stamp = stamp_finding least position packet;
   size = size_change position.packets position.size (key_size_of packet.bytes);
   hidden = hidden_finding position.packets packet rest;
 }

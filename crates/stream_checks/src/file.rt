@@ -39,13 +39,12 @@ fn claimed_size(rest: &[u8]) -> Option<u32>
 
 /// The record that the trailing bytes of a file begin.
 pub(crate) fn cut_finding(bytes: &[u8], packets: usize, spare: u64) -> Option<Finding>
-    requires { spare ≤ length bytes.now }
     ensures { result ≡ cut_finding bytes.now packets spare }
 {
     if spare == 0 {
         return None;
     }
-    let begins = bytes.len() - spare as usize;
+    let begins = bytes.len().saturating_sub(spare as usize);
     Some(Finding::CutRecord {
         number: packets,
         begins,

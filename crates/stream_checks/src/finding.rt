@@ -21,7 +21,7 @@ pub enum Finding {
         stamp: u64,
         before: u64,
     },
-    /// The time stamps of two shown packets in sequence leave room for a frame.
+    /// The time stamps of a shown packet and of the packet before it leave room for a frame.
     StampSkips {
         packet: usize,
         stamp: u64,

@@ -3,6 +3,7 @@
 #![tactic(auto)]
 
 mod checker;
+mod checking;
 mod decoder;
 mod fault;
 mod file;
@@ -10,5 +11,6 @@ mod finding;
 mod lines;
 mod packets;
 
+pub use checking::check;
 pub use fault::CheckFault;
 pub use finding::Finding;

@@ -9,11 +9,12 @@ use crate::finding::Finding;
 use frame_header::{Cause, has_key_tag, is_shown, key_size};
 use stream_files::Packet;
 
-/// What is known of the packets before an index: their number, the time stamp of the last shown one,
-/// and the size of the last key packet with a size.
+/// What is known of the packets before an index: their number, the time stamps of the last one and of
+/// the last shown one, and the size of the last key packet with a size.
 #[derive(Clone, Copy)]
 pub(crate) struct Position {
     pub packets: usize,
+    pub last: u64,
     pub stamp: Option<u64>,
     pub size: Option<(u16, u16)>,
 }
@@ -44,43 +45,6 @@ fn refusal(place: usize, cause: Option<Cause>, rest: &[Packet]) -> Option<Findin
             cause,
             lost: lost_after(rest),
         }),
-    }
-}
-
-fn stamp_change(least: u64, packet: usize, before: u64, stamp: u64) -> Option<Finding>
-    ensures { result ≡ stamp_change least packet before stamp }
-{
-    if stamp == before {
-        Some(Finding::StampRepeats { packet, stamp })
-    } else if stamp < before {
-        Some(Finding::StampGoesBack {
-            packet,
-            stamp,
-            before,
-        })
-    } else if least <= (stamp - before) / 2 {
-        Some(Finding::StampSkips {
-            packet,
-            stamp,
-            before,
-        })
-    } else {
-        None
-    }
-}
-
-fn stamp_finding(least: u64, place: usize, before: Option<u64>, packet: &Packet) -> Option<Finding>
-    ensures { result ≡ stamp_finding least place before packet.now }
-{
-    match before {
-        None => None,
-        Some(before) => {
-            if is_shown(packet.bytes.as_slice()) {
-                stamp_change(least, place, before, packet.stamp)
-            } else {
-                None
-            }
-        }
     }
 }
 
@@ -179,8 +143,49 @@ impl Position {
     {
         Position {
             packets: 0,
+            last: 0,
             stamp: None,
             size: None,
+        }
+    }
+
+    /// Compares the time stamp of a shown packet with that of the shown packet before it.
+    fn stamp_change(self, least: u64, before: u64, stamp: u64) -> Option<Finding>
+        ensures { result ≡ stamp_change least self before stamp }
+    {
+        let packet = self.packets;
+        let last = self.last;
+        if stamp == before {
+            Some(Finding::StampRepeats { packet, stamp })
+        } else if stamp < before {
+            Some(Finding::StampGoesBack {
+                packet,
+                stamp,
+                before,
+            })
+        } else if least <= stamp.saturating_sub(last) / 2 {
+            Some(Finding::StampSkips {
+                packet,
+                stamp,
+                before: last,
+            })
+        } else {
+            None
+        }
+    }
+
+    fn stamp_finding(self, least: u64, packet: &Packet) -> Option<Finding>
+        ensures { result ≡ stamp_finding least self packet.now }
+    {
+        match self.stamp {
+            None => None,
+            Some(before) => {
+                if is_shown(packet.bytes.as_slice()) {
+                    self.stamp_change(least, before, packet.stamp)
+                } else {
+                    None
+                }
+            }
         }
     }
 
@@ -191,6 +196,7 @@ impl Position {
     {
         Position {
             packets: self.packets + 1,
+            last: packet.stamp,
             stamp: stamp_after(self.stamp, packet),
             size: newer(key_size(packet.bytes.as_slice()), self.size),
         }
@@ -210,7 +216,7 @@ impl Position {
     {
         Found {
             refused: refusal(self.packets, cause, rest),
-            stamp: stamp_finding(least, self.packets, self.stamp, packet),
+            stamp: self.stamp_finding(least, packet),
             size: size_change(self.packets, self.size, key_size(packet.bytes.as_slice())),
             hidden: hidden_finding(self.packets, unshown),
         }

@@ -1,6 +1,6 @@
 // The arguments of the command line.
 use crate::fault::Fault;
-use clap::{Arg, ArgMatches, Command};
+use clap::{Arg, ArgAction, ArgMatches, Command};
 use std::alloc::{AllocError, Global};
 use std::convert::AsStr;
 use std::env::{self, Env};
@@ -34,7 +34,29 @@ and a line a packet, with tabs between columns. Only headers are read.
               `altref` if it becomes a copy of that one; `-` if it stays
   cause       why the header is refused, else `-`
 
-Exit status: 0, or 2 for a mistake on the command line or a file that is not IVF.";
+With --check every packet is decoded, and there is a line for each finding instead:
+
+  header: 100 frames, 99 packets
+              the header counts another number of packets
+  packet 60: refused ShortPacket, 12 packets lost
+              why a packet is not decoded, and the packets before the next key
+              packet, which are lost with it
+  packet 31: time stamp 30 repeats
+  packet 31: time stamp 28 goes back from 30
+              against the shown packet before it
+  packet 31: time stamp 35 skips from 33
+              against the packet before it: two or more of the least steps in
+              the stream between shown packets
+  packet 48: size 320x180 changes to 640x360
+              against the key packet before it
+  packet 7: hidden, never shown
+              no shown packet comes before the next key packet, or the end
+  record 100 at byte 51234: claims 12 + 900 bytes, 324 are there
+              the file ends within a record; 12 bytes are the record's head
+  100 packets, 99 frames, 3 findings
+
+Exit status: 0, 1 if --check finds something, or 2 for a mistake on the command line, a file that
+is not IVF and any other error.";
 
 /// The values of the arguments.
 #[derive(Clone, Copy)]
@@ -43,6 +65,8 @@ pub struct Arguments<'a> {
     pub stream: &'a str,
     /// The file of the long tables, if given.
     pub tables: Option<&'a str>,
+    /// Whether the findings are written instead of the list.
+    pub checks: bool,
 }
 
 /// The program's arguments, its name first.
@@ -64,11 +88,16 @@ fn command<'a>(alloc: Global) -> Result<Command<'a>, AllocError> {
         .long("tables")
         .value_name("FILE")
         .help("3012 bytes to use instead of RFC 6386's long tables");
+    let check = Arg::new(alloc, "check")
+        .long("check")
+        .action(ArgAction::SetTrue)
+        .help("Report what is wrong with the stream instead");
     Command::new(alloc, "vp8list")
         .version(VERSION)
         .about(ABOUT)
         .arg(stream)?
-        .arg(tables)
+        .arg(tables)?
+        .arg(check)
 }
 
 /// The values in a command line that was parsed.
@@ -76,6 +105,7 @@ fn values_of<'a>(matches: &ArgMatches<'a>) -> Arguments<'a> {
     Arguments {
         stream: matches.get_str("IN").unwrap_or(""),
         tables: matches.get_str("tables"),
+        checks: matches.get_flag("check"),
     }
 }
 
