@@ -8,4 +8,5 @@ mod listing;
 mod tests;
 
 pub use facts::{Facts, HeaderFacts, Position};
+pub use lines::{write_cause, write_text};
 pub use listing::write_listing;

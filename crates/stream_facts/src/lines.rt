@@ -9,7 +9,8 @@ use frame_header::{Cause, Reference, ReferenceUpdates, Tag};
 use std::io::Write;
 use stream_files::WriteFault;
 
-pub(crate) fn write_text<W: Write>(w: &mut W, text: &str) -> Result<(), WriteFault>
+/// Writes a text.
+pub fn write_text<W: Write>(w: &mut W, text: &str) -> Result<(), WriteFault>
     ensures { OnOk result (Appends (W.contents w.old) (W.contents w.new) text.now) }
 {
     w.write_all(text.as_bytes()).map_err(|_| WriteFault::Write)
@@ -144,7 +145,8 @@ fn write_fields<W: Write>(w: &mut W, fields: HeaderFacts) -> Result<(), WriteFau
     write_references(w, references)
 }
 
-fn write_cause<W: Write>(w: &mut W, cause: Cause) -> Result<(), WriteFault>
+/// Writes the name of a cause; that of `TokenPartition` is followed by its number.
+pub fn write_cause<W: Write>(w: &mut W, cause: Cause) -> Result<(), WriteFault>
     ensures { OnOk result (Appends (W.contents w.old) (W.contents w.new) (cause_text cause)) }
 {
     match cause {

@@ -41,9 +41,32 @@ With --hash it decodes the stream and lists the MD5 of each frame.
   ffmpeg -nostdin -v error -copyts -i in.ivf -fps_mode passthrough \\
       -autoscale 0 -bitexact -f framemd5 - | diff - ours
 
-A frame that is hidden or does not decode has no line.
+A frame that is hidden or does not decode has no line. --hash and --check
+exclude each other.
 
-Exit status: 0, or 2 for a mistake on the command line or a file that is not IVF.";
+With --check every packet is decoded, and there is a line for each finding instead:
+
+  header: 100 frames, 99 packets
+              the header counts another number of packets
+  packet 60: refused ShortPacket, 12 packets lost
+              why a packet is not decoded, and the packets before the next key
+              packet, which are lost with it
+  packet 31: time stamp 30 repeats
+  packet 31: time stamp 28 goes back from 30
+              against the shown packet before it
+  packet 31: time stamp 35 skips from 33
+              against the packet before it: two or more of the least steps in
+              the stream between shown packets
+  packet 48: size 320x180 changes to 640x360
+              against the key packet before it
+  packet 7: hidden, never shown
+              no shown packet comes before the next key packet, or the end
+  record 100 at byte 51234: claims 12 + 900 bytes, 324 are there
+              the file ends within a record; 12 bytes are the record's head
+  100 packets, 99 frames, 3 findings
+
+Exit status: 0, 1 if --check finds something, or 2 for a mistake on the command line, a file that
+is not IVF and any other error.";
 
 /// The values of the arguments.
 #[derive(Clone, Copy)]
@@ -54,6 +77,8 @@ pub struct Arguments<'a> {
     pub tables: Option<&'a str>,
     /// Whether the MD5 of each frame is asked for.
     pub is_hash: bool,
+    /// Whether the findings are written instead of the list.
+    pub checks: bool,
 }
 
 /// The program's arguments, its name first.
@@ -79,12 +104,17 @@ fn command<'a>(alloc: Global) -> Result<Command<'a>, AllocError> {
         .long("hash")
         .action(ArgAction::SetTrue)
         .help("The MD5 of each frame, as ffmpeg's framemd5");
+    let check = Arg::new(alloc, "check")
+        .long("check")
+        .action(ArgAction::SetTrue)
+        .help("Report what is wrong with the stream instead");
     Command::new(alloc, "vp8list")
         .version(VERSION)
         .about(ABOUT)
         .arg(stream)?
         .arg(tables)?
-        .arg(hash)
+        .arg(hash)?
+        .arg(check)
 }
 
 /// The values in a command line that was parsed.
@@ -93,6 +123,7 @@ fn values_of<'a>(matches: &ArgMatches<'a>) -> Arguments<'a> {
         stream: matches.get_str("IN").unwrap_or(""),
         tables: matches.get_str("tables"),
         is_hash: matches.get_flag("hash"),
+        checks: matches.get_flag("check"),
     }
 }
 

@@ -2,6 +2,7 @@
 #![tactic(auto)]
 
 mod arguments;
+mod checking;
 mod fault;
 mod hashing;
 mod program;

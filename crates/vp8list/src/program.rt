@@ -1,11 +1,12 @@
 // The program over two writers.
-ghost use Rattle.std.specs.Prelude.{◌≡◌, ◌≢◌, ◌≤◌, IfErr, OnOk, Err, length};
+ghost use Rattle.std.specs.Prelude.{◌≡◌, ◌≢◌, ◌≤◌, IfErr, IfOk, OnOk, Err, length};
 ghost use Rattle.std.specs.Io.KnownBytes.{Appends};
 ghost use Rattle.clap.specs.Values.{kind_of};
 ghost use Rattle.stream_files.specs.Ivf.{IvfRefuses};
 ghost use Rattle.vp8list.specs.Lists.{IsListed, IsListFault};
 
 use crate::arguments;
+use crate::checking::check_to;
 use crate::fault::Fault;
 use crate::hashing::hash_to;
 use crate::reading::{read_file, read_tables};
@@ -21,7 +22,7 @@ use vp8_tables::Tables;
 /// The number of bytes of the list that are buffered.
 pub const BYTES_AT_ONCE: usize = 65_536;
 
-/// The exit status of every error; 1 is for what a check finds.
+/// The exit status of every error.
 const TROUBLE: u8 = 2;
 
 /// Shows an error to the user, and returns its exit status. If `errors` refuses the text, only the
@@ -71,30 +72,43 @@ pub fn list_to<O: Write>(
     Ok(())
 }
 
-/// Does what a command line asks for.
+/// Does what a command line asks for, and returns the exit status.
 fn answer_line<'a, R: Files + AllocGlobal, S: AsStr, O: Write>(
     rt: &R,
     words: &'a [S],
     output: &mut O,
-) -> Result<(), Fault<'a>> {
+) -> Result<u8, Fault<'a>>
+    ensures { IfOk result (λ status. status ≤ 1) }
+{
     let given = match arguments::parse(rt.alloc(), words) {
         Ok(given) => given,
-        Err(error) => return help_or_fault(error, output),
+        Err(error) => {
+            help_or_fault(error, output)?;
+            return Ok(0);
+        }
     };
+    if given.checks && given.is_hash {
+        return Err(Fault::CommandLine);
+    }
     let tables = read_tables(rt, given.tables)?;
     let bytes = read_file(rt, given.stream)?;
-    if given.is_hash {
-        hash_to(rt.alloc(), &tables, bytes.as_slice(), output)
-    } else {
-        list_to(rt.alloc(), &tables, bytes.as_slice(), output)
+    if given.checks {
+        return check_to(rt.alloc(), &tables, bytes.as_slice(), output);
     }
+    if given.is_hash {
+        hash_to(rt.alloc(), &tables, bytes.as_slice(), output)?;
+    } else {
+        list_to(rt.alloc(), &tables, bytes.as_slice(), output)?;
+    }
+    Ok(0)
 }
 
 /// Runs the program on a command line, whose first argument is the program's name, and returns its
-/// exit status: 0 if the list was written, also for help and the version, and 2 for every error.
+/// exit status: 0 if the list was written or a check found nothing, also for help and the version, 1
+/// if a check found something, and 2 for every error.
 ///
 /// The file is read whole, up to 1,073,741,824 bytes, before the first line is written. The list,
-/// help and the version go to `output`; the text of an error goes to `errors`.
+/// findings, help and the version go to `output`; the text of an error goes to `errors`.
 pub fn answer<R: Files + AllocGlobal, S: AsStr, O: Write, E: Write>(
     rt: &R,
     words: &[S],
@@ -104,7 +118,7 @@ pub fn answer<R: Files + AllocGlobal, S: AsStr, O: Write, E: Write>(
     ensures { result ≤ 2 }
 {
     match answer_line(rt, words, output) {
-        Ok(()) => 0,
+        Ok(status) => status,
         Err(fault) => tell(fault, errors),
     }
 }

@@ -1,0 +1,62 @@
+//! Checks the streams that standard input names, and prints for each its name and its findings.
+#![tactic(auto)]
+
+use std::fs::File;
+use std::io::{self, Write};
+use std::process::ExitCode;
+use std::str::Utf8Error;
+use stream_checks::{CheckFault, check};
+use stream_files::{IvfFault, ReadFault, ivf_read, read_all};
+use thiserror::Error;
+use vp8_tables::Tables;
+
+/// The most bytes that a stream, or the list of their names, may have.
+const LIMIT: usize = 1_048_576;
+
+/// Why the streams are not checked.
+#[derive(Debug, Drop, Error)]
+enum Fault {
+    #[error("input or output")]
+    Io(#[from] io::Error),
+    #[error("reading")]
+    Read(#[from] ReadFault),
+    #[error("names")]
+    Names(#[from] Utf8Error),
+    #[error("not IVF")]
+    Ivf(#[from] IvfFault),
+    #[error("check")]
+    Check(#[from] CheckFault),
+}
+
+/// Checks the stream of this name.
+fn report<O: Write>(rt: &HostRuntime, name: &str, output: &mut O) -> Result<(), Fault> {
+    let mut file = File::open(rt, name)?;
+    let bytes = read_all(rt.alloc(), &mut file, LIMIT)?;
+    let file = ivf_read(rt.alloc(), bytes.as_slice())?;
+    writeln!(output, "{name}")?;
+    let found = check(output, rt.alloc(), &Tables::rfc(), bytes.as_slice(), &file)?;
+    writeln!(output, "returned {found}")?;
+    Ok(())
+}
+
+/// Checks the stream that each line names.
+fn report_all<O: Write>(rt: &HostRuntime, output: &mut O) -> Result<(), Fault> {
+    let mut input = rt.stdin();
+    let names = read_all(rt.alloc(), &mut input, LIMIT)?;
+    for line in str::from_utf8(names.as_slice())?.lines() {
+        report(rt, line, output)?;
+    }
+    output.flush()?;
+    Ok(())
+}
+
+fn main(rt: HostRuntime) -> ExitCode {
+    let mut output = rt.stdout();
+    match report_all(&rt, &mut output) {
+        Ok(()) => ExitCode::SUCCESS,
+        Err(fault) => {
+            let _ = writeln!(rt.stderr(), "checked_streams: {fault:?}");
+            ExitCode::FAILURE
+        }
+    }
+}

@@ -1,0 +1,39 @@
+use Rattle.std.proofs.Common.{◌≡◌, ◌+◌, ℕ, List, ◌∷◌, ◌++◌, length, ap, sym, ◌∙◌, arith, append_assoc, length-append}
+use Rattle.std.proofs.KnownBytes.{Appends-trans}
+use Rattle.std.proofs.lemmas.Grind.{flat_map-append}
+use Rattle.stream_files.specs.declared.packets.Packet.{Packet}
+use Rattle.stream_checks.specs.declared.checker.Checker.{Checker}
+use Rattle.stream_checks.specs.declared.finding.Finding.{Finding}
+use Rattle.stream_checks.specs.declared.packets.Position.{Position}
+use Rattle.stream_checks.specs.Packets.{listed_of}
+use Rattle.stream_checks.specs.Lines.{line_of}
+use Rattle.stream_checks.specs.Checks.{findings_after, found_next}
+use Rattle.stream_checks.proofs.Steps.{one_more}
+use Rattle.stream_checks.proofs.checking.write_packets.Goals as goal
+
+pub loop-packet-preserved : goal.loop-packet-preserved
+loop-packet-preserved g c =
+    let tables = c.args.tables.now in
+    let before : Checker = c.loop-packet.checker in
+    let after : Checker = c.next.new.self in
+    let packet = c.in-Some.packet.now in
+    let following = c.in-Some.following.now in
+    let found : List Finding = listed_of (found_next tables before packet following) in
+    let met = c.loop-packet.invariant in
+    let at : c.loop-packet.rest.now ≡ packet ∷ following = c.in-Some.ensures.cases.0 in
+    let shorter : length following + 1 ≡ length c.loop-packet.rest.now = c.in-Some.ensures.cases.1 in
+    let made = c.in-Ok.ensures in
+    let counted : c.in-Ok.more ≡ length found = made.counted in
+    let next : after.position.packets ≡ before.position.packets + 1 = ap (λ (p : Position). p.packets) made.position in
+    record {
+      done = met.done ++ found;
+      whole = append_assoc met.done found (findings_after tables after following)
+          ∙ ap (λ (more : List Finding). met.done ++ more) (sym (one_more tables before after packet following made.least made.position made.decoder))
+          ∙ ap (λ (packets : List Packet). met.done ++ findings_after tables before packets) (sym at)
+          ∙ met.whole;
+      said = rw (flat_map-append line_of met.done found) (Appends-trans _ _ _ _ _ met.said made.written);
+      counted = omega (arith, length-append met.done found, met.counted, counted);
+      few = omega (arith, met.few, made.few, next);
+      packets = omega (arith, met.packets, shorter, next);
+      answers = made.answers;
+    }

@@ -1,0 +1,5 @@
+pub mod Breaks
+pub mod Packets
+pub mod Files
+pub mod Lines
+pub mod Checks

@@ -1,0 +1,16 @@
+//! The findings of a stream: what is wrong with an IVF file and its packets, and the lines that
+//! report it.
+#![tactic(auto)]
+
+mod checker;
+mod checking;
+mod decoder;
+mod fault;
+mod file;
+mod finding;
+mod lines;
+mod packets;
+
+pub use checking::check;
+pub use fault::CheckFault;
+pub use finding::Finding;
