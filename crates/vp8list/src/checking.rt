@@ -14,11 +14,7 @@ fn status_of(found: u64) -> u8
     ensures value { result ≡ status_of found }
     ensures few { result ≤ 1 }
 {
-    if found == 0 {
-        0
-    } else {
-        1
-    }
+    if found == 0 { 0 } else { 1 }
 }
 
 /// Writes the findings of an IVF file, flushes the writer, and returns the exit status: 0 without
