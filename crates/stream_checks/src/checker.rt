@@ -78,7 +78,9 @@ impl Checker {
         };
         let cause = self.decoder.break_at(place);
         self.unshown = unshown(self.unshown, packet, rest);
-        let found = self.position.found(self.least, packet, rest, cause, self.unshown);
+        let found = self
+            .position
+            .found(self.least, packet, rest, cause, self.unshown);
         self.position = self.position.after(packet);
         match write_all(w, found) {
             Ok(count) => Ok(count),

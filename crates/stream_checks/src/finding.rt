@@ -6,7 +6,10 @@ use frame_header::Cause;
 #[derive(Clone, Copy, Debug)]
 pub enum Finding {
     /// The header of the file gives a number of frames that is not the number of packets.
-    FrameCount { claimed: u32, packets: usize },
+    FrameCount {
+        claimed: u32,
+        packets: usize,
+    },
     /// A packet is refused, and this many packets after it are lost with it.
     Refused {
         packet: usize,
@@ -14,7 +17,10 @@ pub enum Finding {
         lost: usize,
     },
     /// A shown packet has the time stamp of the shown packet before it.
-    StampRepeats { packet: usize, stamp: u64 },
+    StampRepeats {
+        packet: usize,
+        stamp: u64,
+    },
     /// A shown packet has a lower time stamp than the shown packet before it.
     StampGoesBack {
         packet: usize,
@@ -34,7 +40,9 @@ pub enum Finding {
         size: (u16, u16),
     },
     /// A hidden packet with no shown packet between it and the next key packet, or the end.
-    NeverShown { packet: usize },
+    NeverShown {
+        packet: usize,
+    },
     /// The end of the file cuts off a record: the number of whole records, the index of its first
     /// byte in the file, the bytes that it claims for its packet, if these four bytes are there,
     /// and the number of its bytes that are there, its head of 12 bytes included.

@@ -49,15 +49,14 @@ fn write_repeats<W: Write>(w: &mut W, packet: usize, stamp: u64) -> Result<(), W
     write!(w, "packet {packet}: time stamp {stamp} repeats\n").map_err(|_| WriteFault::Write)
 }
 
-fn write_back<W: Write>(
-    w: &mut W,
-    packet: usize,
-    stamp: u64,
-    before: u64,
-) -> Result<(), WriteFault>
+fn write_back<W: Write>(w: &mut W, packet: usize, stamp: u64, before: u64) -> Result<(), WriteFault>
     ensures { OnOk result (Appends (W.contents w.old) (W.contents w.new) (back_line packet stamp before)) }
 {
-    write!(w, "packet {packet}: time stamp {stamp} goes back from {before}\n").map_err(|_| WriteFault::Write)
+    write!(
+        w,
+        "packet {packet}: time stamp {stamp} goes back from {before}\n"
+    )
+    .map_err(|_| WriteFault::Write)
 }
 
 fn write_skips<W: Write>(
@@ -68,7 +67,11 @@ fn write_skips<W: Write>(
 ) -> Result<(), WriteFault>
     ensures { OnOk result (Appends (W.contents w.old) (W.contents w.new) (skips_line packet stamp before)) }
 {
-    write!(w, "packet {packet}: time stamp {stamp} skips from {before}\n").map_err(|_| WriteFault::Write)
+    write!(
+        w,
+        "packet {packet}: time stamp {stamp} skips from {before}\n"
+    )
+    .map_err(|_| WriteFault::Write)
 }
 
 fn write_size_start<W: Write>(w: &mut W, packet: usize) -> Result<(), WriteFault>
@@ -154,13 +157,34 @@ fn write_line<W: Write>(w: &mut W, finding: Finding) -> Result<(), WriteFault>
 {
     match finding {
         Finding::FrameCount { claimed, packets } => write_count(w, claimed, packets),
-        Finding::Refused { packet, cause, lost } => write_refused(w, packet, cause, lost),
+        Finding::Refused {
+            packet,
+            cause,
+            lost,
+        } => write_refused(w, packet, cause, lost),
         Finding::StampRepeats { packet, stamp } => write_repeats(w, packet, stamp),
-        Finding::StampGoesBack { packet, stamp, before } => write_back(w, packet, stamp, before),
-        Finding::StampSkips { packet, stamp, before } => write_skips(w, packet, stamp, before),
-        Finding::SizeChanges { packet, before, size } => write_sizes(w, packet, before, size),
+        Finding::StampGoesBack {
+            packet,
+            stamp,
+            before,
+        } => write_back(w, packet, stamp, before),
+        Finding::StampSkips {
+            packet,
+            stamp,
+            before,
+        } => write_skips(w, packet, stamp, before),
+        Finding::SizeChanges {
+            packet,
+            before,
+            size,
+        } => write_sizes(w, packet, before, size),
         Finding::NeverShown { packet } => write_hidden(w, packet),
-        Finding::CutRecord { number, begins, claimed, left } => write_cut(w, number, begins, claimed, left),
+        Finding::CutRecord {
+            number,
+            begins,
+            claimed,
+            left,
+        } => write_cut(w, number, begins, claimed, left),
     }
 }
 
@@ -188,5 +212,7 @@ pub(crate) fn write_summary<W: Write>(
 ) -> Result<(), WriteFault>
     ensures { OnOk result (Appends (W.contents w.old) (W.contents w.new) (summary_line packets frames found)) }
 {
-    write!(w, "{packets} packets, {frames} frames, {found} findings\n").map_err(|_| WriteFault::Write)
+    write!(w, "{packets} packets, {frames} frames, {found} findings\n").map_err(
+        |_| WriteFault::Write,
+    )
 }

@@ -32,7 +32,9 @@ pub(crate) struct Found {
 fn lost_after(rest: &[Packet]) -> usize
     ensures { result ≡ lost_after rest.now }
 {
-    rest.iter().take_while(|packet| !has_key_tag(packet.bytes.as_slice())).count()
+    rest.iter()
+        .take_while(|packet| !has_key_tag(packet.bytes.as_slice()))
+        .count()
 }
 
 fn refusal(place: usize, cause: Option<Cause>, rest: &[Packet]) -> Option<Finding>
@@ -268,5 +270,8 @@ pub(crate) fn least_step(packets: &[Packet]) -> u64
 pub(crate) fn frames_of(packets: &[Packet]) -> usize
     ensures { result ≡ frames_of packets.now }
 {
-    packets.iter().filter(|packet| is_shown(packet.bytes.as_slice())).count()
+    packets
+        .iter()
+        .filter(|packet| is_shown(packet.bytes.as_slice()))
+        .count()
 }

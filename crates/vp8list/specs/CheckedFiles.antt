@@ -9,12 +9,16 @@ use Rattle.stream_checks.specs.Checks.{IsBegun, check_text}
 use Rattle.vp8list.specs.declared.fault.Fault.{Fault}
 use Rattle.vp8list.specs.declared.fault.Fault.TheVariants.{CommandLine, CannotRead, TooLong, Tables, Input, CannotWrite, NoMemory}
 
+-- the exit status of a check with this many findings
+abbrev pub status_of : ℕ → ℕ
+status_of found = if found == 0 then 0 else 1
+
 -- the bytes are an IVF file, the output gained the text of its findings, and the status is 1 if there are any
 pub record IsChecked (tables : TableEntries) (bytes : List ℕ) (status : ℕ) (output output' : Option (List ℕ)) : Type 0 where
   pub file : Ivf
   pub read : IsIvf bytes file
   pub written : Appends output output' (check_text tables bytes file)
-  pub status : status ≡ (if length (findings tables bytes file) == 0 then 0 else 1)
+  pub counted : status ≡ status_of (length (findings tables bytes file))
 
 -- the output gained the lines of the first findings of an IVF file
 pub record IsCheckBegun (tables : TableEntries) (bytes : List ℕ) (output output' : Option (List ℕ)) : Type 0 where

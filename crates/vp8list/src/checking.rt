@@ -1,6 +1,6 @@
 // The findings of an IVF file.
 ghost use Rattle.std.specs.Prelude.{◌≡◌, ◌≤◌, IfErr, IfOk};
-ghost use Rattle.vp8list.specs.CheckedFiles.{IsChecked, IsCheckedFault};
+ghost use Rattle.vp8list.specs.CheckedFiles.{IsChecked, IsCheckedFault, status_of};
 
 use crate::fault::Fault;
 use std::alloc::Global;
@@ -9,8 +9,16 @@ use stream_checks::{CheckFault, check};
 use stream_files::ivf_read;
 use vp8_tables::Tables;
 
+/// The exit status of a check with this many findings.
+fn status_of(found: u64) -> u8
+    ensures value { result ≡ status_of found }
+    ensures few { result ≤ 1 }
+{
+    if found == 0 { 0 } else { 1 }
+}
+
 /// Writes the findings of an IVF file, flushes the writer, and returns the exit status: 0 without
-/// findings, 1 with some.
+/// findings, 1 with some. If memory runs out, the lines before are written and not flushed.
 pub fn check_to<O: Write>(
     alloc: Global,
     tables: &Tables,
@@ -28,15 +36,10 @@ pub fn check_to<O: Write>(
     let found = match check(output, alloc, tables, bytes, &file) {
         Ok(found) => found,
         Err(CheckFault::Write) => return Err(Fault::CannotWrite),
-        Err(CheckFault::NoMemory) => {
-            return match output.flush() {
-                Ok(()) => Err(Fault::NoMemory),
-                Err(_) => Err(Fault::CannotWrite),
-            };
-        }
+        Err(CheckFault::NoMemory) => return Err(Fault::NoMemory),
     };
     let Ok(()) = output.flush() else {
         return Err(Fault::CannotWrite);
     };
-    Ok(u8::from(found > 0))
+    Ok(status_of(found))
 }

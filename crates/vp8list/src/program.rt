@@ -119,6 +119,10 @@ pub fn answer<R: Files + AllocGlobal, S: AsStr, O: Write, E: Write>(
 {
     match answer_line(rt, words, output) {
         Ok(status) => status,
-        Err(fault) => tell(fault, errors),
+        Err(fault) => {
+            // Findings that were written before memory ran out.
+            let _ = output.flush();
+            tell(fault, errors)
+        }
     }
 }

@@ -1,0 +1,161 @@
+#!/usr/bin/env python3
+"""Compares the findings of `vp8list --check` with those that are found here from headers, and with vpxdec's errors.
+
+Run manually, not in the gate: checked.py FILE.. compares the findings of these IVF files; checked.py --damage N [SEED] those of N
+streams made from the example and the real streams with packets cut, dropped, doubled, moved and with bytes changed, and counts the
+packets that vpxdec does not decode next to those that are refused. It needs the built program (see README.md) and, for --damage,
+vpxdec (Debian's vpx-tools).
+"""
+
+import collections
+import pathlib
+import random
+import re
+import struct
+import subprocess
+import sys
+import tempfile
+
+from damaged import damage, has_key_tag, is_shown
+from listed import HERE, PROGRAM, facts, records, size_of
+
+
+def run_before_key(packets):
+    """The packets before the first one with a key tag."""
+    keys = [place for place, packet in enumerate(packets) if has_key_tag(packet)]
+    return packets[: keys[0]] if keys else packets
+
+
+def refusals(packets):
+    """The cause against each packet that breaks the stream, by its index."""
+    found, has_key, broken = {}, False, False
+    for place, packet in enumerate(packets):
+        if has_key_tag(packet):
+            has_key, broken = False, False
+        if broken:
+            continue
+        fields, has_key = facts(packet, has_key)
+        if isinstance(fields, str) and fields != "-":
+            found[place], broken = fields, True
+    return found
+
+
+def stamp_lines(rows):
+    """The findings about time stamps, by index."""
+    shown = [stamp for stamp, packet in rows if is_shown(packet)]
+    steps = [after - before for before, after in zip(shown, shown[1:]) if after > before]
+    before, last, found = None, None, {}
+    for place, (stamp, packet) in enumerate(rows):
+        if is_shown(packet) and before is not None:
+            if stamp == before:
+                found[place] = f"time stamp {stamp} repeats"
+            elif stamp < before:
+                found[place] = f"time stamp {stamp} goes back from {before}"
+            elif stamp - last >= 2 * min(steps):
+                found[place] = f"time stamp {stamp} skips from {last}"
+        before, last = stamp if is_shown(packet) else before, stamp
+    return found
+
+
+def size_lines(packets):
+    """The findings about sizes, by index."""
+    before, found = None, {}
+    for place, packet in enumerate(packets):
+        if not has_key_tag(packet) or len(packet) < 10 or packet[3:6] != b"\x9d\x01\x2a" or 0 in size_of(packet):
+            continue
+        size = "{}x{}".format(*size_of(packet))
+        if before not in (None, size):
+            found[place] = f"size {before} changes to {size}"
+        before = size
+    return found
+
+
+def lines(text):
+    """The lines that a check writes for a file's bytes."""
+    rows = list(records(text))
+    packets = [packet for _, packet in rows]
+    claimed, = struct.unpack_from("<I", text, 24)
+    if claimed != len(rows):
+        yield f"header: {claimed} frames, {len(rows)} packets"
+    refused, stamps, sizes = refusals(packets), stamp_lines(rows), size_lines(packets)
+    for place, packet in enumerate(packets):
+        rest = run_before_key(packets[place + 1 :])
+        if place in refused:
+            yield f"packet {place}: refused {refused[place]}, {len(rest)} packets lost"
+        for found in stamps, sizes:
+            if place in found:
+                yield f"packet {place}: {found[place]}"
+        if not is_shown(packet) and not any(map(is_shown, rest)):
+            yield f"packet {place}: hidden, never shown"
+    begins = struct.unpack_from("<H", text, 6)[0] + sum(12 + len(packet) for packet in packets)
+    left = len(text) - begins
+    if left >= 4:
+        yield f"record {len(rows)} at byte {begins}: claims 12 + {struct.unpack_from('<I', text, begins)[0]} bytes, {left} are there"
+    elif left:
+        yield f"record {len(rows)} at byte {begins}: {left} bytes are there"
+
+
+def differs(path):
+    """Whether the findings of a file differ; the first line that does is printed."""
+    ran = subprocess.run([PROGRAM, path, "--check"], capture_output=True, text=True, check=False)
+    text = path.read_bytes()
+    packets, theirs = [packet for _, packet in records(text)], list(lines(text))
+    status = 1 if theirs else 0
+    theirs.append(f"{len(packets)} packets, {sum(map(is_shown, packets))} frames, {len(theirs)} findings")
+    ours = ran.stdout.splitlines()
+    if ran.returncode == status and ours == theirs:
+        return False
+    pair = next((pair for pair in zip(ours, theirs) if pair[0] != pair[1]), (len(ours), len(theirs)))
+    print(f"{path}: status {ran.returncode}", *pair, sep="\n")
+    return True
+
+
+def failures(path):
+    """The indexes of the packets that vpxdec does not decode, and how many frames it calls corrupt."""
+    words = ["vpxdec", "--codec=vp8", "--keep-going", "--i420", "-o", "/dev/null", str(path)]
+    said = subprocess.run(words, capture_output=True, text=True, errors="replace", check=False).stderr
+    corrupt = re.search(r"(\d+) frames corrupted", said)
+    return {int(n) - 1 for n in re.findall(r"Failed to decode frame (\d+)", said)}, int(corrupt.group(1)) if corrupt else 0
+
+
+def damaged_streams(count, seed):
+    """Compares the findings of damaged streams; how many differ, and packets by who refuses them."""
+    choose = random.Random(seed)
+    clips = [HERE.parent / "examples/mandelbrot.ivf", *sorted((HERE.parent / "crates/real_streams/data").glob("*.ivf"))]
+    wrong, totals = 0, collections.Counter()
+    with tempfile.TemporaryDirectory() as room:
+        path = pathlib.Path(room) / "damaged.ivf"
+        for _ in range(count):
+            text = choose.choice(clips).read_bytes()
+            packets = damage([packet for _, packet in records(text)], choose)
+            body = b"".join(struct.pack("<IQ", len(packet), stamp) + packet for stamp, packet in enumerate(packets))
+            path.write_bytes(text[:32] + body[: len(body) - choose.choice([0, 0, 0, 1, 20])])
+            wrong += differs(path)
+            packets = [packet for _, packet in records(path.read_bytes())]
+            refused, (failed, corrupt) = refusals(packets), failures(path)
+            lost = {n for place in refused for n in range(place, place + 1 + len(run_before_key(packets[place + 1 :])))}
+            totals["packets"] += len(packets)
+            totals["refused or lost here"] += len(lost)
+            totals["not decoded by vpxdec"] += len(failed)
+            totals["both"] += len(lost & failed)
+            totals["refused here"] += len(refused)
+            totals["refused here, decoded by vpxdec"] += len(set(refused) - failed)
+            totals["not decoded by vpxdec, neither refused nor lost here"] += len(failed - lost)
+            totals["frames that vpxdec calls corrupt"] += corrupt
+    for name, number in totals.items():
+        print(f"{number} {name}")
+    return wrong
+
+
+def main():
+    words = sys.argv[1:]
+    if words[:1] == ["--damage"]:
+        wrong, count = damaged_streams(int(words[1]), int(words[2]) if words[2:] else 1), int(words[1])
+    else:
+        wrong, count = sum(differs(pathlib.Path(word)) for word in words), len(words)
+    print(f"{count} checks, {wrong} differ")
+    sys.exit(wrong > 0)
+
+
+if __name__ == "__main__":
+    main()
