@@ -2,6 +2,7 @@ use packet_edits::{EditFault, Store};
 use pixel_planes::NoMemory;
 use std::alloc::Global;
 use std::io::{self, ErrorKind, Write};
+use std::process::Abort;
 use std::test::Fail;
 use stream_files::{Bytes, Head, Packet, Packets, WriteFault};
 
@@ -36,8 +37,43 @@ fn empty_packets(alloc: Global, count: usize) -> Result<Packets, NoMemory> {
     Ok(Packets::new(packets))
 }
 
+/// A packet of a store: its id, its time stamp and its bytes.
+type Row = (u64, u64, &'static [u8]);
+
+/// An edit of a store.
+#[derive(Clone, Copy, Debug)]
+enum Edit {
+    /// This number of packets of no bytes at the end.
+    Push(usize),
+    /// At an index, a packet with a time stamp and bytes.
+    Insert(u64, u64, &'static [u8]),
+    /// At an index, other bytes.
+    Replace(u64, &'static [u8]),
+    Delete(u64),
+    /// From an index to an index.
+    Move(u64, u64),
+    /// At an index, a packet of another store.
+    Copy(u64, u64),
+    /// At an index, a packet of the same store.
+    CopyWithin(u64, u64),
+    /// Removes the mark of packet 2, if there is one.
+    Clear,
+    /// Marks the last packet, if there is one.
+    MarkLast,
+}
+
+/// An edit with its answer. After it the store has exactly these packets, of which exactly the ones
+/// at these indexes are shown and marked.
+struct Step {
+    edit: Edit,
+    answer: Result<(), EditFault>,
+    rows: &'static [Row],
+    shown: &'static [usize],
+    marked: &'static [usize],
+}
+
 /// Whether a store has exactly these packets, each with its id, its stamp and its bytes.
-fn holds(store: &Store, rows: &[(u64, u64, &[u8])]) -> bool {
+fn holds(store: &Store, rows: &[Row]) -> bool {
     store.len() == rows.len()
         && rows.iter().enumerate().all(|(i, (id, stamp, bytes))| {
             store.id(i) == *id && store.stamp(i) == *stamp && store.packet(i) == *bytes
@@ -74,299 +110,487 @@ fn shows(store: &Store, places: &[usize]) -> bool {
         && store.shown(LAST).is_none()
 }
 
+/// Makes an edit. Copies of other packets are those of `other`.
+fn make(alloc: Global, store: &mut Store, other: &Store, edit: Edit) -> Result<(), EditFault> {
+    match edit {
+        Edit::Push(count) => push_empty(alloc, store, count),
+        Edit::Insert(at, stamp, bytes) => store.insert(at, stamp, bytes_of(alloc, bytes)?),
+        Edit::Replace(at, bytes) => store.replace(at, bytes_of(alloc, bytes)?),
+        Edit::Delete(at) => store.delete(at),
+        Edit::Move(from, to) => store.move_to(from, to),
+        Edit::Copy(at, from) => store.copy_from(alloc, at, other, from),
+        Edit::CopyWithin(at, from) => store.copy_within(alloc, at, from),
+        Edit::Clear => {
+            clear_second(store);
+            Ok(())
+        }
+        Edit::MarkLast => {
+            mark_last(store);
+            Ok(())
+        }
+    }
+}
+
+/// Appends packets of no bytes.
+fn push_empty(alloc: Global, store: &mut Store, count: usize) -> Result<(), EditFault> {
+    let packets = empty_packets(alloc, count).map_err(|_| EditFault::NoMemory)?;
+    store.push_all(packets)
+}
+
+fn bytes_of(alloc: Global, bytes: &[u8]) -> Result<Bytes, EditFault> {
+    Bytes::from_slice(alloc, bytes).map_err(|_| EditFault::NoMemory)
+}
+
+/// A store with these packets, whose first has the id `first_id`.
+fn stored(alloc: Global, first_id: u64, rows: &[(u64, &[u8])]) -> Result<Store, EditFault> {
+    let mut store = Store::starting(alloc, first_id);
+    let packets = packets_of(alloc, rows).map_err(|_| EditFault::NoMemory)?;
+    store.push_all(packets)?;
+    Ok(store)
+}
+
+/// A store with 1,048,576 packets of no bytes, the first with the id `first_id`.
+fn full_store(alloc: Global, first_id: u64) -> Result<Store, EditFault> {
+    let mut store = Store::starting(alloc, first_id);
+    push_empty(alloc, &mut store, 1_048_576)?;
+    Ok(store)
+}
+
+/// Makes edits in sequence, and checks the answer of each and what it leaves.
+fn expect_steps<R: Abort>(rt: &R, alloc: Global, store: &mut Store, other: &Store, steps: &[Step]) {
+    for step in steps {
+        let edit = step.edit;
+        let answer = make(alloc, store, other, edit);
+        assert!(rt; answer == step.answer, "{edit:?}");
+        assert!(rt; holds(store, step.rows), "packets after {edit:?}");
+        assert!(rt; shows(store, step.shown), "shown after {edit:?}");
+        assert!(rt; marks(store, step.marked), "marked after {edit:?}");
+    }
+}
+
+/// Makes edits that are answered with these errors, and change nothing.
+fn expect_faults<R: Abort>(
+    rt: &R,
+    alloc: Global,
+    store: &mut Store,
+    other: &Store,
+    cases: &[(Edit, EditFault)],
+) {
+    for (edit, fault) in cases {
+        let answer = make(alloc, store, other, *edit);
+        assert!(rt; answer == Err(*fault), "{edit:?}");
+    }
+}
+
+const A: Row = (0, 10, b"a");
+
 #[test]
 fn insertions(rt: HostRuntime) -> Result<(), Fail> {
     let alloc = rt.alloc();
-    let mut store = Store::starting(alloc, 0);
-    assert!(rt; holds(&store, &[]) && shows(&store, &[]));
-    let packets = packets_of(alloc, &[(10, b"a"), (20, HIDDEN), (30, SHOWN)])?;
-    assert_eq!(rt; store.push_all(packets), Ok(()));
-    assert!(rt; holds(&store, &[(0, 10, b"a"), (1, 20, HIDDEN), (2, 30, SHOWN)]));
-    assert!(rt; shows(&store, &[0, 2]));
-    let first = (0, 10, b"a".as_slice());
-    let inserted = (3, 15, SHOWN);
-    assert_eq!(rt;
-        store.insert(1, 15, Bytes::from_slice(alloc, SHOWN)?),
-        Ok(())
-    );
-    assert!(rt; holds(&store, &[first, inserted, (1, 20, HIDDEN), (2, 30, SHOWN)]));
-    assert!(rt; shows(&store, &[0, 1, 3]));
+    let none = Store::starting(alloc, 0);
+    expect_store(&rt, &none, &[], &[]);
+    let mut store = stored(alloc, 0, INSERTED_INTO)?;
+    expect_store(&rt, &store, THREE_ROWS, &[0, 2]);
+    expect_steps(&rt, alloc, &mut store, &none, INSERTIONS);
     Ok(())
 }
 
-/// Moves in sequence, each with the packets and the shown indexes after it.
+/// Checks that a store has exactly these packets, of which exactly the ones at these indexes are
+/// shown, and no marks.
+fn expect_store<R: Abort>(rt: &R, store: &Store, rows: &[Row], shown: &[usize]) {
+    assert!(rt; holds(store, rows));
+    assert!(rt; shows(store, shown));
+    assert!(rt; marks(store, &[]));
+}
+
+const INSERTED_INTO: &[(u64, &[u8])] = &[(10, b"a"), (20, HIDDEN), (30, SHOWN)];
+
+const THREE_ROWS: &[Row] = &[A, (1, 20, HIDDEN), (2, 30, SHOWN)];
+
+const INSERTIONS: &[Step] = &[Step {
+    edit: Edit::Insert(1, 15, SHOWN),
+    answer: Ok(()),
+    rows: &[A, (3, 15, SHOWN), (1, 20, HIDDEN), (2, 30, SHOWN)],
+    shown: &[0, 1, 3],
+    marked: &[2],
+}];
+
+/// Moves in sequence.
 #[test]
 fn moves(rt: HostRuntime) -> Result<(), Fail> {
     let alloc = rt.alloc();
-    let mut store = Store::starting(alloc, 0);
-    let rows = &[
-        (10, b"a".as_slice()),
-        (15, SHOWN),
-        (20, HIDDEN),
-        (30, SHOWN),
-    ];
-    assert_eq!(rt; store.push_all(packets_of(alloc, rows)?), Ok(()));
-    let a = (0, 10, b"a".as_slice());
-    let b = (1, 15, SHOWN);
-    let c = (2, 20, HIDDEN);
-    let d = (3, 30, SHOWN);
-    let cases = [
-        (0, 2, [b, c, a, d], [0, 2, 3]),
-        (3, 0, [d, b, c, a], [0, 1, 3]),
-        (2, 1, [d, c, b, a], [0, 2, 3]),
-    ];
-    for (from, to, packets, shown) in cases {
-        assert_eq!(rt; store.move_to(from, to), Ok(()), "{from} {to}");
-        assert!(rt; holds(&store, &packets), "{from} {to}");
-        assert!(rt; shows(&store, &shown), "{from} {to}");
-    }
+    let none = Store::starting(alloc, 0);
+    let mut store = stored(alloc, 0, MOVED)?;
+    expect_steps(&rt, alloc, &mut store, &none, MOVES);
     Ok(())
 }
+
+const MOVED: &[(u64, &[u8])] = &[(10, b"a"), (15, SHOWN), (20, HIDDEN), (30, SHOWN)];
+
+const B: Row = (1, 15, SHOWN);
+
+const C: Row = (2, 20, HIDDEN);
+
+const D: Row = (3, 30, SHOWN);
+
+const MOVES: &[Step] = &[
+    Step {
+        edit: Edit::Move(0, 2),
+        answer: Ok(()),
+        rows: &[B, C, A, D],
+        shown: &[0, 2, 3],
+        marked: &[0, 2, 3],
+    },
+    Step {
+        edit: Edit::Move(3, 0),
+        answer: Ok(()),
+        rows: &[D, B, C, A],
+        shown: &[0, 1, 3],
+        marked: &[0, 1, 3],
+    },
+    Step {
+        edit: Edit::Move(2, 1),
+        answer: Ok(()),
+        rows: &[D, C, B, A],
+        shown: &[0, 2, 3],
+        marked: &[0, 1, 2, 3],
+    },
+];
 
 /// Copies from another store and within one, to both ends.
 #[test]
 fn copies(rt: HostRuntime) -> Result<(), Fail> {
     let alloc = rt.alloc();
-    let mut source = Store::starting(alloc, 0);
-    let rows = &[(10, b"a".as_slice()), (20, HIDDEN)];
-    assert_eq!(rt; source.push_all(packets_of(alloc, rows)?), Ok(()));
-    let mut store = Store::starting(alloc, 0);
-    assert_eq!(rt; store.push_all(packets_of(alloc, &[(30, SHOWN)])?), Ok(()));
-    assert_eq!(rt; store.copy_from(alloc, 0, &source, 1), Ok(()));
-    let own = (0, 30, SHOWN);
-    let hidden = (1, 20, HIDDEN);
-    assert!(rt; holds(&store, &[hidden, own]));
-    assert!(rt; shows(&store, &[1]) && marks(&store, &[1]));
-    assert_eq!(rt; store.copy_from(alloc, 2, &source, 0), Ok(()));
-    let a = (2, 10, b"a".as_slice());
-    assert!(rt; holds(&store, &[hidden, own, a]));
-    assert_eq!(rt; store.copy_within(alloc, 1, 2), Ok(()));
-    let again = (3, 10, b"a".as_slice());
-    assert!(rt; holds(&store, &[hidden, again, own, a]));
-    assert!(rt; shows(&store, &[1, 2, 3]) && marks(&store, &[2]));
-    assert_eq!(rt; store.copy_within(alloc, 4, 0), Ok(()));
-    assert!(rt; holds(&store, &[hidden, again, own, a, (4, 20, HIDDEN)]));
-    assert!(rt; shows(&store, &[1, 2, 3]) && marks(&store, &[2]));
+    let source = stored(alloc, 0, &[(10, b"a"), (20, HIDDEN)])?;
+    let mut store = stored(alloc, 0, &[(30, SHOWN)])?;
+    expect_steps(&rt, alloc, &mut store, &source, COPIES);
     // Ids 0 and 1 are the source's too.
-    assert!(rt; holds(&source, &[(0, 10, b"a"), (1, 20, HIDDEN)]));
-    assert!(rt; marks(&source, &[]));
+    assert!(rt; holds(&source, &[A, (1, 20, HIDDEN)]) && marks(&source, &[]));
     Ok(())
 }
+
+const OWN: Row = (0, 30, SHOWN);
+
+const FIRST_COPY: Row = (1, 20, HIDDEN);
+
+const SECOND_COPY: Row = (2, 10, b"a");
+
+const THIRD_COPY: Row = (3, 10, b"a");
+
+const COPIES: &[Step] = &[
+    Step {
+        edit: Edit::Copy(0, 1),
+        answer: Ok(()),
+        rows: &[FIRST_COPY, OWN],
+        shown: &[1],
+        marked: &[1],
+    },
+    Step {
+        edit: Edit::Copy(2, 0),
+        answer: Ok(()),
+        rows: &[FIRST_COPY, OWN, SECOND_COPY],
+        shown: &[1, 2],
+        marked: &[1],
+    },
+    Step {
+        edit: Edit::CopyWithin(1, 2),
+        answer: Ok(()),
+        rows: &[FIRST_COPY, THIRD_COPY, OWN, SECOND_COPY],
+        shown: &[1, 2, 3],
+        marked: &[2],
+    },
+    Step {
+        edit: Edit::CopyWithin(4, 0),
+        answer: Ok(()),
+        rows: &[FIRST_COPY, THIRD_COPY, OWN, SECOND_COPY, (4, 20, HIDDEN)],
+        shown: &[1, 2, 3],
+        marked: &[2],
+    },
+];
 
 /// The errors of copies, in their order.
 #[test]
 fn copies_that_are_refused(rt: HostRuntime) -> Result<(), Fail> {
     let alloc = rt.alloc();
-    let mut source = Store::starting(alloc, 0);
-    assert_eq!(rt; source.push_all(packets_of(alloc, &[(10, b"a")])?), Ok(()));
-    let mut full = Store::starting(alloc, LAST - 1_048_576);
-    assert_eq!(rt; full.push_all(empty_packets(alloc, 1_048_576)?), Ok(()));
-    for (at, from) in [(1_048_577, 0), (0, 1), (LAST, LAST)] {
-        assert_eq!(rt;
-            full.copy_from(alloc, at, &source, from),
-            Err(EditFault::Place)
-        );
-    }
-    assert_eq!(rt;
-        full.copy_within(alloc, 1_048_577, 0),
-        Err(EditFault::Place)
-    );
-    assert_eq!(rt;
-        full.copy_within(alloc, 0, 1_048_576),
-        Err(EditFault::Place)
-    );
-    assert_eq!(rt; full.copy_from(alloc, 0, &source, 0), Err(EditFault::Full));
-    assert_eq!(rt; full.copy_within(alloc, 1_048_576, 0), Err(EditFault::Full));
+    let source = stored(alloc, 0, &[(10, b"a")])?;
+    // The last packet has the greatest id that a packet may have.
+    let mut full = full_store(alloc, LAST - 1_048_576)?;
+    expect_faults(&rt, alloc, &mut full, &source, COPIES_INTO_FULL);
     assert_eq!(rt; full.delete(1), Ok(()));
-    assert_eq!(rt;
-        full.copy_from(alloc, 1_048_576, &source, 0),
-        Err(EditFault::Place)
-    );
-    assert_eq!(rt;
-        full.copy_from(alloc, 1_048_575, &source, 0),
-        Err(EditFault::Spent)
-    );
-    assert_eq!(rt; full.copy_within(alloc, 0, 0), Err(EditFault::Spent));
+    expect_faults(&rt, alloc, &mut full, &source, COPIES_WITHOUT_IDS);
     assert!(rt; full.len() == 1_048_575 && marks(&full, &[1]));
     Ok(())
 }
 
+const COPIES_INTO_FULL: &[(Edit, EditFault)] = &[
+    (Edit::Copy(1_048_577, 0), EditFault::Place),
+    (Edit::Copy(0, 1), EditFault::Place),
+    (Edit::Copy(LAST, LAST), EditFault::Place),
+    (Edit::CopyWithin(1_048_577, 0), EditFault::Place),
+    (Edit::CopyWithin(0, 1_048_576), EditFault::Place),
+    (Edit::Copy(0, 0), EditFault::Full),
+    (Edit::CopyWithin(1_048_576, 0), EditFault::Full),
+];
+
+const COPIES_WITHOUT_IDS: &[(Edit, EditFault)] = &[
+    (Edit::Copy(1_048_576, 0), EditFault::Place),
+    (Edit::Copy(1_048_575, 0), EditFault::Spent),
+    (Edit::CopyWithin(0, 0), EditFault::Spent),
+];
+
 #[test]
 fn replacements_and_deletions(rt: HostRuntime) -> Result<(), Fail> {
     let alloc = rt.alloc();
-    let mut store = Store::starting(alloc, 0);
-    let rows = &[
-        (30, SHOWN),
-        (20, HIDDEN),
-        (15, SHOWN),
-        (10, b"a".as_slice()),
-    ];
-    assert_eq!(rt; store.push_all(packets_of(alloc, rows)?), Ok(()));
-    let last = (3, 10, b"a".as_slice());
-    let hidden = (4, 15, HIDDEN);
-    assert_eq!(rt; store.replace(2, Bytes::from_slice(alloc, HIDDEN)?), Ok(()));
-    assert!(rt; holds(&store, &[(0, 30, SHOWN), (1, 20, HIDDEN), hidden, last]));
-    assert!(rt; shows(&store, &[0, 3]));
-    assert_eq!(rt; store.delete(0), Ok(()));
-    assert!(rt; holds(&store, &[(1, 20, HIDDEN), hidden, last]));
-    assert!(rt; shows(&store, &[2]));
-    assert_eq!(rt; store.replace(0, Bytes::from_slice(alloc, b"")?), Ok(()));
-    assert!(rt; holds(&store, &[(5, 20, b""), hidden, last]));
-    assert!(rt; shows(&store, &[0, 2]));
+    let none = Store::starting(alloc, 0);
+    let mut store = stored(alloc, 0, REPLACED)?;
+    expect_steps(&rt, alloc, &mut store, &none, REPLACEMENTS);
     Ok(())
 }
 
+const REPLACED: &[(u64, &[u8])] = &[(30, SHOWN), (20, HIDDEN), (15, SHOWN), (10, b"a")];
+
+const OLD: Row = (3, 10, b"a");
+
+const NEW: Row = (4, 15, HIDDEN);
+
+const REPLACEMENTS: &[Step] = &[
+    Step {
+        edit: Edit::Replace(2, HIDDEN),
+        answer: Ok(()),
+        rows: &[(0, 30, SHOWN), (1, 20, HIDDEN), NEW, OLD],
+        shown: &[0, 3],
+        marked: &[3],
+    },
+    Step {
+        edit: Edit::Delete(0),
+        answer: Ok(()),
+        rows: &[(1, 20, HIDDEN), NEW, OLD],
+        shown: &[2],
+        marked: &[0, 2],
+    },
+    Step {
+        edit: Edit::Replace(0, b""),
+        answer: Ok(()),
+        rows: &[(5, 20, b""), NEW, OLD],
+        shown: &[0, 2],
+        marked: &[1, 2],
+    },
+];
+
+/// Edits at indexes where no packet is.
 #[test]
-fn places_that_do_not_stand(rt: HostRuntime) -> Result<(), Fail> {
+fn indexes_without_packets(rt: HostRuntime) -> Result<(), Fail> {
     let alloc = rt.alloc();
-    let mut store = Store::starting(alloc, 0);
-    assert_eq!(rt;
-        store.push_all(packets_of(alloc, &[(10, b"a"), (20, b"b")])?),
-        Ok(())
-    );
-    for at in [3, LAST] {
-        let bytes = Bytes::from_slice(alloc, b"x")?;
-        assert_eq!(rt; store.insert(at, 0, bytes), Err(EditFault::Place));
-    }
-    for at in [2, LAST] {
-        let bytes = Bytes::from_slice(alloc, b"x")?;
-        assert_eq!(rt; store.replace(at, bytes), Err(EditFault::Place));
-        assert_eq!(rt; store.delete(at), Err(EditFault::Place));
-        assert_eq!(rt; store.move_to(at, 0), Err(EditFault::Place));
-        assert_eq!(rt; store.move_to(0, at), Err(EditFault::Place));
-    }
-    assert!(rt; holds(&store, &[(0, 10, b"a"), (1, 20, b"b")]));
-    assert_eq!(rt;
-        store.insert(2, 30, Bytes::from_slice(alloc, b"c")?),
-        Ok(())
-    );
-    assert!(rt; holds(&store, &[(0, 10, b"a"), (1, 20, b"b"), (2, 30, b"c")]));
+    let none = Store::starting(alloc, 0);
+    let mut store = stored(alloc, 0, TWO)?;
+    expect_faults(&rt, alloc, &mut store, &none, OUTSIDE);
+    expect_steps(&rt, alloc, &mut store, &none, AT_THE_END);
     Ok(())
 }
+
+const TWO: &[(u64, &[u8])] = &[(10, b"a"), (20, b"b")];
+
+const OUTSIDE: &[(Edit, EditFault)] = &[
+    (Edit::Insert(3, 0, b"x"), EditFault::Place),
+    (Edit::Insert(LAST, 0, b"x"), EditFault::Place),
+    (Edit::Replace(2, b"x"), EditFault::Place),
+    (Edit::Replace(LAST, b"x"), EditFault::Place),
+    (Edit::Delete(2), EditFault::Place),
+    (Edit::Delete(LAST), EditFault::Place),
+    (Edit::Move(2, 0), EditFault::Place),
+    (Edit::Move(LAST, 0), EditFault::Place),
+    (Edit::Move(0, 2), EditFault::Place),
+    (Edit::Move(0, LAST), EditFault::Place),
+];
+
+const AT_THE_END: &[Step] = &[
+    Step {
+        edit: Edit::Delete(2),
+        answer: Err(EditFault::Place),
+        rows: &[A, (1, 20, b"b")],
+        shown: &[0, 1],
+        marked: &[],
+    },
+    Step {
+        edit: Edit::Insert(2, 30, b"c"),
+        answer: Ok(()),
+        rows: &[A, (1, 20, b"b"), (2, 30, b"c")],
+        shown: &[0, 1, 2],
+        marked: &[],
+    },
+];
 
 #[test]
 fn ids_that_are_spent(rt: HostRuntime) -> Result<(), Fail> {
     let alloc = rt.alloc();
-    let mut store = Store::starting(alloc, 18_446_744_073_709_551_614);
-    assert_eq!(rt;
-        store.push_all(empty_packets(alloc, 2)?),
-        Err(EditFault::Spent)
-    );
-    assert_eq!(rt; store.insert(0, 7, Bytes::from_slice(alloc, b"x")?), Ok(()));
-    assert_eq!(rt;
-        store.insert(1, 0, Bytes::from_slice(alloc, b"y")?),
-        Err(EditFault::Spent)
-    );
-    assert_eq!(rt;
-        store.insert(2, 0, Bytes::from_slice(alloc, b"y")?),
-        Err(EditFault::Place)
-    );
-    assert_eq!(rt;
-        store.replace(0, Bytes::from_slice(alloc, b"y")?),
-        Err(EditFault::Spent)
-    );
-    assert_eq!(rt;
-        store.push_all(empty_packets(alloc, 1)?),
-        Err(EditFault::Spent)
-    );
-    assert_eq!(rt; store.push_all(empty_packets(alloc, 0)?), Ok(()));
-    assert!(rt; holds(&store, &[(LAST - 1, 7, b"x")]));
-    assert_eq!(rt; store.delete(0), Ok(()));
+    let none = Store::starting(alloc, 0);
+    let mut store = Store::starting(alloc, LAST - 1);
+    expect_steps(&rt, alloc, &mut store, &none, LAST_ID);
     let mut spent = Store::starting(alloc, LAST);
-    assert_eq!(rt;
-        spent.insert(0, 0, Bytes::from_slice(alloc, b"x")?),
-        Err(EditFault::Spent)
-    );
-    assert!(rt; holds(&spent, &[]));
+    expect_steps(&rt, alloc, &mut spent, &none, NO_ID);
     Ok(())
 }
+
+const LAST_ROW: Row = (LAST - 1, 7, b"x");
+
+const LAST_ID: &[Step] = &[
+    Step {
+        edit: Edit::Push(2),
+        answer: Err(EditFault::Spent),
+        rows: &[],
+        shown: &[],
+        marked: &[],
+    },
+    Step {
+        edit: Edit::Insert(0, 7, b"x"),
+        answer: Ok(()),
+        rows: &[LAST_ROW],
+        shown: &[0],
+        marked: &[],
+    },
+    Step {
+        edit: Edit::Insert(1, 0, b"y"),
+        answer: Err(EditFault::Spent),
+        rows: &[LAST_ROW],
+        shown: &[0],
+        marked: &[],
+    },
+    Step {
+        edit: Edit::Insert(2, 0, b"y"),
+        answer: Err(EditFault::Place),
+        rows: &[LAST_ROW],
+        shown: &[0],
+        marked: &[],
+    },
+    Step {
+        edit: Edit::Replace(0, b"y"),
+        answer: Err(EditFault::Spent),
+        rows: &[LAST_ROW],
+        shown: &[0],
+        marked: &[],
+    },
+    Step {
+        edit: Edit::Push(1),
+        answer: Err(EditFault::Spent),
+        rows: &[LAST_ROW],
+        shown: &[0],
+        marked: &[],
+    },
+    Step {
+        edit: Edit::Push(0),
+        answer: Ok(()),
+        rows: &[LAST_ROW],
+        shown: &[0],
+        marked: &[],
+    },
+    Step {
+        edit: Edit::Delete(0),
+        answer: Ok(()),
+        rows: &[],
+        shown: &[],
+        marked: &[],
+    },
+];
+
+const NO_ID: &[Step] = &[Step {
+    edit: Edit::Insert(0, 0, b"x"),
+    answer: Err(EditFault::Spent),
+    rows: &[],
+    shown: &[],
+    marked: &[],
+}];
 
 #[test]
 fn the_most_packets(rt: HostRuntime) -> Result<(), Fail> {
     let alloc = rt.alloc();
-    let mut store = Store::starting(alloc, 0);
-    assert_eq!(rt; store.push_all(empty_packets(alloc, 1_048_576)?), Ok(()));
-    assert_eq!(rt;
-        store.insert(0, 0, Bytes::from_slice(alloc, b"x")?),
-        Err(EditFault::Full)
-    );
-    assert_eq!(rt;
-        store.push_all(empty_packets(alloc, 1)?),
-        Err(EditFault::Full)
-    );
-    let outside = Bytes::from_slice(alloc, b"x")?;
-    assert_eq!(rt; store.insert(1_048_577, 0, outside), Err(EditFault::Place));
-    assert_eq!(rt; store.delete(0), Ok(()));
-    assert_eq!(rt;
-        store.insert(0, 0, Bytes::from_slice(alloc, HIDDEN)?),
-        Ok(())
-    );
-    assert_eq!(rt; store.frames(), 1_048_575);
+    let none = Store::starting(alloc, 0);
+    let mut store = full_store(alloc, 0)?;
+    expect_faults(&rt, alloc, &mut store, &none, NO_ROOM);
+    make(alloc, &mut store, &none, Edit::Delete(0))?;
+    make(alloc, &mut store, &none, Edit::Insert(0, 0, HIDDEN))?;
+    assert!(rt; store.frames() == 1_048_575 && store.shown(1_048_575).is_none());
     assert_eq!(rt; store.shown(1_048_574), Some(1_048_575));
-    assert_eq!(rt; store.shown(1_048_575), None);
     Ok(())
 }
+
+const NO_ROOM: &[(Edit, EditFault)] = &[
+    (Edit::Push(1), EditFault::Full),
+    (Edit::Insert(0, 0, b"x"), EditFault::Full),
+    (Edit::Insert(1_048_577, 0, b"x"), EditFault::Place),
+];
 
 /// The marks after each edit of four packets, and marks that are set and removed.
 #[test]
 fn marks_of_edits(rt: HostRuntime) -> Result<(), Fail> {
     let alloc = rt.alloc();
-    let mut store = Store::starting(alloc, 0);
-    let rows = &[(0, SHOWN), (0, SHOWN), (0, SHOWN), (0, SHOWN)];
-    assert_eq!(rt; store.push_all(packets_of(alloc, rows)?), Ok(()));
-    assert!(rt; marks(&store, &[]));
-    let bytes = Bytes::from_slice(alloc, HIDDEN)?;
-    assert_eq!(rt; store.insert(1, 0, bytes), Ok(()));
-    assert!(rt; marks(&store, &[2]));
-    clear_second(&mut store);
-    assert!(rt; marks(&store, &[]));
-    let bytes = Bytes::from_slice(alloc, HIDDEN)?;
-    assert_eq!(rt; store.replace(1, bytes), Ok(()));
-    assert!(rt; marks(&store, &[2]));
-    assert_eq!(rt; store.delete(2), Ok(()));
-    assert!(rt; marks(&store, &[2]));
-    clear_second(&mut store);
-    assert_eq!(rt; store.move_to(3, 0), Ok(()));
-    assert!(rt; marks(&store, &[0, 1]));
-    mark_last(&mut store);
-    assert!(rt; marks(&store, &[0, 1, 3]));
+    let mut store = stored(alloc, 0, FOUR_SHOWN)?;
+    let none = Store::starting(alloc, 0);
+    expect_marks(&rt, alloc, &mut store, &none, MARKED);
     Ok(())
 }
+
+/// Makes edits in sequence, after each of which exactly the packets at these indexes are marked.
+fn expect_marks<R: Abort>(
+    rt: &R,
+    alloc: Global,
+    store: &mut Store,
+    other: &Store,
+    cases: &[(Edit, &[usize])],
+) {
+    for (edit, marked) in cases {
+        assert!(rt; make(alloc, store, other, *edit) == Ok(()), "{edit:?}");
+        assert!(rt; marks(store, marked), "{edit:?}");
+    }
+}
+
+const FOUR_SHOWN: &[(u64, &[u8])] = &[(0, SHOWN), (0, SHOWN), (0, SHOWN), (0, SHOWN)];
+
+const MARKED: &[(Edit, &[usize])] = &[
+    (Edit::Insert(1, 0, HIDDEN), &[2]),
+    (Edit::Clear, &[]),
+    (Edit::Replace(1, HIDDEN), &[2]),
+    (Edit::Delete(2), &[2]),
+    (Edit::Clear, &[]),
+    (Edit::Move(3, 0), &[0, 1]),
+    (Edit::MarkLast, &[0, 1, 3]),
+];
 
 /// The size in the last key packet before each index.
 #[test]
 fn sizes_before_places(rt: HostRuntime) -> Result<(), Fail> {
-    let alloc = rt.alloc();
-    let mut store = Store::starting(alloc, 0);
-    let narrow: &[u8] = &[0x10, 0, 0, 0x9D, 1, 0x2A, 16, 0, 9, 0x40];
-    let wide: &[u8] = &[0x10, 0, 0, 0x9D, 1, 0x2A, 0x2C, 0x81, 9, 0, 7];
-    let short: &[u8] = &[0x10, 0, 0, 0x9D, 1, 0x2A];
-    let rows = &[
-        (0, SHOWN),
-        (0, narrow),
-        (0, HIDDEN),
-        (0, wide),
-        (0, short),
-        (0, SHOWN),
-    ];
-    assert_eq!(rt; store.push_all(packets_of(alloc, rows)?), Ok(()));
-    let wants = [
-        None,
-        None,
-        Some((16, 9)),
-        Some((16, 9)),
-        Some((300, 9)),
-        None,
-        None,
-    ];
-    for (at, want) in wants.iter().enumerate() {
-        assert_eq!(rt; store.size_at(at as u64), *want, "{at}");
-    }
-    assert_eq!(rt; store.size_at(LAST), None);
-    assert_eq!(rt; store.delete(4), Ok(()));
+    let mut store = stored(rt.alloc(), 0, SIZED)?;
+    expect_sizes(&rt, &store, SIZES);
+    store.delete(4)?;
     assert_eq!(rt; store.size_at(LAST), Some((300, 9)));
     Ok(())
 }
+
+fn expect_sizes<R: Abort>(rt: &R, store: &Store, sizes: &[(u64, Option<(u16, u16)>)]) {
+    for (at, size) in sizes {
+        assert!(rt; store.size_at(*at) == *size, "{at}");
+    }
+}
+
+/// A key packet of 16 by 9 samples, one of 300 by 9, and one that is cut off before its size.
+const SIZED: &[(u64, &[u8])] = &[
+    (0, SHOWN),
+    (0, &[0x10, 0, 0, 0x9D, 1, 0x2A, 16, 0, 9, 0x40]),
+    (0, HIDDEN),
+    (0, &[0x10, 0, 0, 0x9D, 1, 0x2A, 0x2C, 0x81, 9, 0, 7]),
+    (0, &[0x10, 0, 0, 0x9D, 1, 0x2A]),
+    (0, SHOWN),
+];
+
+const SIZES: &[(u64, Option<(u16, u16)>)] = &[
+    (0, None),
+    (1, None),
+    (2, Some((16, 9))),
+    (3, Some((16, 9))),
+    (4, Some((300, 9))),
+    (5, None),
+    (6, None),
+    (LAST, None),
+];
 
 /// A writer that returns only errors.
 #[derive(Drop)]

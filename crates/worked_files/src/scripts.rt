@@ -4,6 +4,7 @@ ghost use Rattle.pixel_planes.specs.Pictures.{shown_height};
 use pixel_planes::{Component, NoMemory, Picture, Plane, Planes, same};
 use script_nodes::{ApplyFault, CropOutside, Script, ScriptFault, Step, apply};
 use std::alloc::Global;
+use std::process::Abort;
 use std::test::Fail;
 
 /// Sixteen nodes.
@@ -38,7 +39,10 @@ fn parsed_of_two(alloc: Global, text: &[u8]) -> (&'static str, u64) {
     }
 }
 
-const TEXTS: [(&[u8], (&str, u64)); 35] = [
+/// A script's text, and the name of its error or the number of frames of its script.
+type Text = (&'static [u8], (&'static str, u64));
+
+const TEXTS: &[Text] = &[
     (b"-", ("script", 3)),
     (b"  - ", ("script", 3)),
     (SIXTEEN, ("script", 1)),
@@ -78,12 +82,16 @@ const TEXTS: [(&[u8], (&str, u64)); 35] = [
 
 #[test]
 fn reads_each_text(rt: HostRuntime) {
-    for (text, want) in TEXTS {
-        assert_eq!(rt; parsed(rt.alloc(), text), want, "at {text:?}");
+    expect_texts(&rt, TEXTS);
+}
+
+fn expect_texts<R: Abort + AllocGlobal>(rt: &R, texts: &[Text]) {
+    for (text, want) in texts {
+        assert!(rt; parsed(rt.alloc(), text) == *want, "at {text:?}");
     }
 }
 
-const TEXTS_OF_TWO: [(&[u8], (&str, u64)); 9] = [
+const TEXTS_OF_TWO: &[Text] = &[
     (b"-", ("script", 2)),
     (b"source 0", ("script", 2)),
     (b"source 1", ("script", 3)),
@@ -100,8 +108,12 @@ const TEXTS_OF_TWO: [(&[u8], (&str, u64)); 9] = [
 
 #[test]
 fn reads_each_text_over_two_sources(rt: HostRuntime) {
-    for (text, want) in TEXTS_OF_TWO {
-        assert_eq!(rt; parsed_of_two(rt.alloc(), text), want, "at {text:?}");
+    expect_texts_of_two(&rt, TEXTS_OF_TWO);
+}
+
+fn expect_texts_of_two<R: Abort + AllocGlobal>(rt: &R, texts: &[Text]) {
+    for (text, want) in texts {
+        assert!(rt; parsed_of_two(rt.alloc(), text) == *want, "at {text:?}");
     }
 }
 
@@ -123,17 +135,21 @@ fn origin_of(alloc: Global, text: &[u8], frame: u64) -> Result<Option<(usize, u6
 
 #[test]
 fn names_the_source_of_each_frame(rt: HostRuntime) -> Result<(), Fail> {
-    for (text, frame, want) in ORIGINS {
-        assert_eq!(rt;
-            origin_of(rt.alloc(), text, frame)?,
-            want,
-            "at {text:?} {frame}"
-        );
+    expect_origins(&rt, ORIGINS)
+}
+
+/// A script's text, a frame, and its source and the frame there.
+type Origin = (&'static [u8], u64, Option<(usize, u64)>);
+
+fn expect_origins<R: Abort + AllocGlobal>(rt: &R, origins: &[Origin]) -> Result<(), Fail> {
+    for (text, frame, want) in origins {
+        let origin = origin_of(rt.alloc(), text, *frame)?;
+        assert!(rt; origin == *want, "at {text:?} {frame}");
     }
     Ok(())
 }
 
-const ORIGINS: [(&[u8], u64, Option<(usize, u64)>); 14] = [
+const ORIGINS: &[Origin] = &[
     (b"source 1; splice 0 1", 0, Some((0, 0))),
     (b"source 1; splice 0 1", 1, Some((0, 1))),
     (b"source 1; splice 0 1", 2, Some((1, 0))),
@@ -176,7 +192,7 @@ fn crops_and_fades_another_source(rt: HostRuntime) -> Result<(), Fail> {
 }
 
 #[test]
-fn tells_where_frames_come_from(rt: HostRuntime) -> Result<(), Fail> {
+fn frames_come_from_their_source(rt: HostRuntime) -> Result<(), Fail> {
     let text = b"trim 0 1 2; splice 1 0".as_slice();
     for (frame, want) in [
         (0, Some(1)),
@@ -186,8 +202,13 @@ fn tells_where_frames_come_from(rt: HostRuntime) -> Result<(), Fail> {
         (5, None),
         (u64::MAX, None),
     ] {
-        assert_eq!(rt; frame_of(rt.alloc(), text, frame)?, want, "at {frame}");
+        assert!(rt; frame_of(rt.alloc(), text, frame)? == want, "at {frame}");
     }
+    Ok(())
+}
+
+#[test]
+fn traces_have_steps_and_sizes(rt: HostRuntime) -> Result<(), Fail> {
     let script = Script::parse(
         rt.alloc(),
         b"crop 0 2 4 6 8; fade 1 1 2 0 256; crop 2 0 0 2 2",
@@ -199,6 +220,11 @@ fn tells_where_frames_come_from(rt: HostRuntime) -> Result<(), Fail> {
         assert_eq!(rt; trace.size(8, 12), Ok((2, 2)));
         assert_eq!(rt; trace.size(7, 12), Err(CropOutside));
     }
+    Ok(())
+}
+
+#[test]
+fn faded_frames_have_a_weight(rt: HostRuntime) -> Result<(), Fail> {
     let faded = Script::parse(rt.alloc(), b"trim 0 1 2; fade 1 0 2 256 0", 1)?;
     for (source, frame, trace) in faded.trace(&[3], 0) {
         assert_eq!(rt; (source, frame), (0, 1));
@@ -331,6 +357,12 @@ fn crops_a_picture(rt: HostRuntime) -> Result<(), Fail> {
     );
     assert!(rt; has_row(&cut, Component::Cb, 0, &[84, 91, 98, 105]));
     assert!(rt; has_row(&cut, Component::Cr, 1, &[141, 148, 155, 162]));
+    Ok(())
+}
+
+#[test]
+fn crops_twice_and_to_odd_sizes(rt: HostRuntime) -> Result<(), Fail> {
+    let picture = numbered(rt.alloc(), 16)?;
     let twice = first_frame(rt.alloc(), b"crop 0 2 4 10 8; crop 1 2 2 3 3", &picture)?;
     assert!(rt; has_row(&twice, Component::Luma, 2, &[156, 163, 170]));
     let odd = first_frame(rt.alloc(), b"crop 0 2 4 3 3", &picture)?;
@@ -350,14 +382,27 @@ fn made(alloc: Global, text: &[u8], picture: &Picture) -> Result<&'static str, F
 #[test]
 fn refuses_crops_outside(rt: HostRuntime) -> Result<(), Fail> {
     let picture = numbered(rt.alloc(), 16)?;
-    for (text, want) in OUTSIDE {
-        assert_eq!(rt; made(rt.alloc(), text, &picture)?, want, "at {text:?}");
-    }
-    assert_eq!(rt; CropOutside.word(), "CropOutside");
+    expect_answers(&rt, &picture, OUTSIDE)?;
+    assert!(rt; CropOutside.word() == "CropOutside");
     Ok(())
 }
 
-const OUTSIDE: [(&[u8], &str); 5] = [
+/// A script's text, and the name of the error of its first frame.
+type Answer = (&'static [u8], &'static str);
+
+fn expect_answers<R: Abort + AllocGlobal>(
+    rt: &R,
+    picture: &Picture,
+    answers: &[Answer],
+) -> Result<(), Fail> {
+    for (text, want) in answers {
+        let answer = made(rt.alloc(), text, picture)?;
+        assert!(rt; answer == *want, "at {text:?}");
+    }
+    Ok(())
+}
+
+const OUTSIDE: &[Answer] = &[
     (b"crop 0 8 0 10 4", "CropOutside"),
     (b"crop 0 0 12 4 4", "CropOutside"),
     (b"crop 0 0 0 16 15", "picture"),

@@ -116,7 +116,7 @@ fn lines_that_are_no_request(rt: HostRuntime) -> Result<(), Fail> {
 }
 
 /// Lines that are not requests.
-const UNKNOWN: [&str; 39] = [
+const UNKNOWN: &[&str] = &[
     "frame",
     "frame 3 4",
     "frame -1",
@@ -160,13 +160,13 @@ const UNKNOWN: [&str; 39] = [
 
 #[test]
 fn each_unknown_line(rt: HostRuntime) -> Result<(), Fail> {
-    for line in UNKNOWN {
+    expect_unknown(&rt, UNKNOWN)
+}
+
+fn expect_unknown<R: Abort + AllocGlobal>(rt: &R, lines: &[&str]) -> Result<(), Fail> {
+    for line in lines {
         let ran = run_packets(rt.alloc(), &[KEY], line.as_bytes())?;
-        assert_eq!(rt;
-            ran.replies.as_slice(),
-            b"refused Line\n".as_slice(),
-            "{line}"
-        );
+        assert!(rt; ran.replies.as_slice() == b"refused Line\n", "{line}");
     }
     Ok(())
 }
