@@ -56,10 +56,10 @@ enum Edit {
     Copy(u64, u64),
     /// At an index, a packet of the same store.
     CopyWithin(u64, u64),
-    /// Removes the mark of packet 2, if there is one.
-    Clear,
-    /// Marks the last packet, if there is one.
-    MarkLast,
+    /// Marks a packet.
+    Mark(usize),
+    /// Removes the mark of a packet.
+    Unmark(usize),
 }
 
 /// An edit with its answer. After it the store has exactly these packets, of which exactly the ones
@@ -85,17 +85,17 @@ fn marks(store: &Store, places: &[usize]) -> bool {
     (0..store.len()).all(|i| store.marked(i) == places.contains(&i))
 }
 
-/// Removes the mark of packet 2, if there is one.
-fn clear_second(store: &mut Store) {
-    if 2 < store.len() {
-        store.clear_mark(2);
+/// Marks a packet, if there is one at the index.
+fn mark_at(store: &mut Store, place: usize) {
+    if place < store.len() {
+        store.set_mark(place);
     }
 }
 
-/// Marks the last packet, if there is one.
-fn mark_last(store: &mut Store) {
-    if 0 < store.len() {
-        store.set_mark(store.len() - 1);
+/// Removes the mark of a packet, if there is one at the index.
+fn unmark_at(store: &mut Store, place: usize) {
+    if place < store.len() {
+        store.clear_mark(place);
     }
 }
 
@@ -120,12 +120,12 @@ fn make(alloc: Global, store: &mut Store, other: &Store, edit: Edit) -> Result<(
         Edit::Move(from, to) => store.move_to(from, to),
         Edit::Copy(at, from) => store.copy_from(alloc, at, other, from),
         Edit::CopyWithin(at, from) => store.copy_within(alloc, at, from),
-        Edit::Clear => {
-            clear_second(store);
+        Edit::Mark(place) => {
+            mark_at(store, place);
             Ok(())
         }
-        Edit::MarkLast => {
-            mark_last(store);
+        Edit::Unmark(place) => {
+            unmark_at(store, place);
             Ok(())
         }
     }
@@ -547,12 +547,122 @@ const FOUR_SHOWN: &[(u64, &[u8])] = &[(0, SHOWN), (0, SHOWN), (0, SHOWN), (0, SH
 
 const MARKED: &[(Edit, &[usize])] = &[
     (Edit::Insert(1, 0, HIDDEN), &[2]),
-    (Edit::Clear, &[]),
+    (Edit::Unmark(2), &[]),
     (Edit::Replace(1, HIDDEN), &[2]),
     (Edit::Delete(2), &[2]),
-    (Edit::Clear, &[]),
+    (Edit::Unmark(2), &[]),
     (Edit::Move(3, 0), &[0, 1]),
-    (Edit::MarkLast, &[0, 1, 3]),
+    (Edit::Mark(3), &[0, 1, 3]),
+];
+
+/// The index of the first marked packet of these.
+fn next_mark_of(store: &Store, from: usize, end: usize) -> Option<usize> {
+    if from <= end && end <= store.len() {
+        store.next_mark(from, end)
+    } else {
+        None
+    }
+}
+
+/// The index of the first packet with a key tag of these.
+fn next_key_of(store: &Store, from: usize, end: usize) -> Option<usize> {
+    if from <= end && end <= store.len() {
+        store.next_key(from, end)
+    } else {
+        None
+    }
+}
+
+/// The index of the last packet with a key tag before an index.
+fn last_key_of(store: &Store, at: usize) -> Option<usize> {
+    if at <= store.len() {
+        store.last_key(at)
+    } else {
+        None
+    }
+}
+
+/// Whether exactly the packets at these indexes are marked, which are found in sequence.
+fn finds_marks(store: &Store, places: &[usize]) -> bool {
+    let mut from = 0;
+    for place in places {
+        if next_mark_of(store, from, store.len()) != Some(*place) {
+            return false;
+        }
+        if next_mark_of(store, from, *place).is_some() {
+            return false;
+        }
+        from = place.saturating_add(1);
+    }
+    next_mark_of(store, from, store.len()).is_none() && marks(store, places)
+}
+
+/// Makes edits in sequence, after each of which the packets at these indexes are found as marked.
+fn expect_found<R: Abort>(
+    rt: &R,
+    alloc: Global,
+    store: &mut Store,
+    other: &Store,
+    cases: &[(Edit, &[usize])],
+) {
+    for (edit, marked) in cases {
+        assert!(rt; make(alloc, store, other, *edit) == Ok(()), "{edit:?}");
+        assert!(rt; finds_marks(store, marked), "{edit:?}");
+    }
+}
+
+/// Marks of more than 4,096 packets, which are found in the same run of 1,024 packets, in a later one
+/// and after the last whole run. The only key packet is at index 1,024.
+#[test]
+fn marks_of_long_lists(rt: HostRuntime) -> Result<(), Fail> {
+    let alloc = rt.alloc();
+    let none = Store::starting(alloc, 0);
+    let mut store = Store::starting(alloc, 0);
+    expect_found(&rt, alloc, &mut store, &none, FOUND);
+    expect_last_keys(&rt, &store, LAST_KEYS);
+    expect_next_keys(&rt, &store, NEXT_KEYS);
+    Ok(())
+}
+
+fn expect_last_keys<R: Abort>(rt: &R, store: &Store, keys: &[(usize, Option<usize>)]) {
+    for (at, key) in keys {
+        assert!(rt; last_key_of(store, *at) == *key, "{at}");
+    }
+}
+
+fn expect_next_keys<R: Abort>(rt: &R, store: &Store, keys: &[(usize, usize, Option<usize>)]) {
+    for (from, end, key) in keys {
+        assert!(rt; next_key_of(store, *from, *end) == *key, "{from} {end}");
+    }
+}
+
+const FOUND: &[(Edit, &[usize])] = &[
+    (Edit::Push(4_097), &[]),
+    (Edit::Mark(4_096), &[4_096]),
+    (Edit::Mark(0), &[0, 4_096]),
+    (Edit::Mark(1_023), &[0, 1_023, 4_096]),
+    (Edit::Mark(1_024), &[0, 1_023, 1_024, 4_096]),
+    (Edit::Mark(3_071), &[0, 1_023, 1_024, 3_071, 4_096]),
+    (
+        Edit::Insert(1_024, 0, &[0x10, 0, 0]),
+        &[0, 1_023, 1_025, 3_072, 4_097],
+    ),
+    (Edit::Delete(0), &[0, 1_022, 1_024, 3_071, 4_096]),
+    (Edit::Move(3_071, 2), &[0, 2, 3, 1_023, 1_025, 3_072, 4_096]),
+    (Edit::Unmark(1_025), &[0, 2, 3, 1_023, 3_072, 4_096]),
+];
+
+const LAST_KEYS: &[(usize, Option<usize>)] = &[
+    (1_024, None),
+    (1_025, Some(1_024)),
+    (4_097, Some(1_024)),
+];
+
+const NEXT_KEYS: &[(usize, usize, Option<usize>)] = &[
+    (0, 4_097, Some(1_024)),
+    (1_024, 4_097, Some(1_024)),
+    (0, 1_024, None),
+    (1_025, 4_097, None),
 ];
 
 /// The size in the last key packet before each index.
