@@ -166,7 +166,10 @@ fn each_unknown_line(rt: HostRuntime) -> Result<(), Fail> {
 fn expect_unknown<R: Abort + AllocGlobal>(rt: &R, lines: &[&str]) -> Result<(), Fail> {
     for line in lines {
         let ran = run_packets(rt.alloc(), &[KEY], line.as_bytes())?;
-        assert!(rt; ran.replies.as_slice() == b"refused Line\n", "{line}");
+        assert!(rt;
+            ran.replies.as_slice() == b"refused Line\n".as_slice(),
+            "{line}"
+        );
     }
     Ok(())
 }
