@@ -217,4 +217,5 @@ def main():
         print(f"{count:7} {kind}")
 
 
-main()
+if __name__ == "__main__":
+    main()

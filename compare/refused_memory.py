@@ -2,7 +2,9 @@
 """Runs the program with each of its requests for memory refused, and compares its answers with those of ample memory.
 
     compare/refused_memory.py [LISTS] [SEED]
+    compare/refused_memory.py --long [LISTS]
 
+With --long: lists of 60 edits of 1,000 to 5,000 packets, with each request refused that comes after the stream is read.
 README.md says more.
 """
 
@@ -16,6 +18,7 @@ from dataclasses import dataclass, field
 
 from bits import ivf
 from clips import packets_of, run, settings
+from edits import PACKETS, long_line
 from run import PROGRAM
 from traced import Program, traced
 
@@ -144,6 +147,14 @@ def random_list(choose, number, clips):
     return RequestList(f"random list {number}", ivf(WIDTH, HEIGHT, packets), lines, ["--cache", str(choose.randrange(1, 9))])
 
 
+def long_list(number):
+    """Edits of a long stream, and a few frames."""
+    random.seed(f"refused {number}")
+    packets = [random.choice(PACKETS) for _ in range(random.randrange(1000, 5001))]
+    lines = [long_line(len(packets)) for _ in range(60)]
+    return RequestList(f"long list {number}", ivf(16, 16, packets), lines + frames(*(random.randrange(1000) for _ in range(3))))
+
+
 class Bench:
     """A folder in which the program is run."""
 
@@ -224,10 +235,10 @@ def refusals_of(first):
     return {"alone": lambda n: n == first, "and all after it": lambda n: n >= first}
 
 
-def try_list(bench, requests, told):
-    """Runs a list with each request for memory refused, and returns the number of differences."""
+def try_list(bench, requests, told, first=1):
+    """Runs a list with each request for memory refused, starting at number `first`, and returns the number of differences."""
     lines, faults = requests.counted(), 0
-    first, made = 1, bench.run_with_ample_memory(requests, lines).requests
+    made = bench.run_with_ample_memory(requests, lines).requests
     told["requests for memory of one run each"] += made
     while True:
         for name, refuses in refusals_of(first).items():
@@ -298,7 +309,27 @@ def try_growths(bench, told):
     return faults
 
 
+def try_long_lists(count):
+    """Runs long lists with each request refused that comes after the stream is read."""
+    told, faults = collections.Counter(), 0
+    with tempfile.TemporaryDirectory() as name:
+        room = pathlib.Path(name)
+        os.chdir(room)
+        bench = Bench(room, Program(str(PROGRAM)))
+        for requests in map(long_list, range(count)):
+            before, read = told["runs"], bench.run_list(requests, [], lambda n: False).requests
+            faults += try_list(bench, requests, told, read)
+            bench.ample.clear()
+            print(f"{requests.name}: {told['runs'] - before} runs", flush=True)
+    for kind, number in sorted(told.items()):
+        print(f"{number:9} {kind}")
+    print(f"{count} long lists: {faults} differences")
+    return 1 if faults else 0
+
+
 def main():
+    if sys.argv[1:2] == ["--long"]:
+        return try_long_lists(int(sys.argv[2]) if len(sys.argv) > 2 else 20)
     count = int(sys.argv[1]) if len(sys.argv) > 1 else 20
     choose = random.Random(int(sys.argv[2]) if len(sys.argv) > 2 else 1)
     told, faults = collections.Counter(), 0
