@@ -2,10 +2,12 @@
 #![tactic(auto)]
 
 mod facts;
+mod json;
 mod lines;
 mod listing;
 #[cfg(test)]
 mod tests;
 
 pub use facts::{Facts, HeaderFacts, Position};
+pub use json::write_objects;
 pub use listing::write_listing;

@@ -144,7 +144,7 @@ fn write_fields<W: Write>(w: &mut W, fields: HeaderFacts) -> Result<(), WriteFau
     write_references(w, references)
 }
 
-fn write_cause<W: Write>(w: &mut W, cause: Cause) -> Result<(), WriteFault>
+pub(crate) fn write_cause<W: Write>(w: &mut W, cause: Cause) -> Result<(), WriteFault>
     ensures { OnOk result (Appends (W.contents w.old) (W.contents w.new) (cause_text cause)) }
 {
     match cause {

@@ -35,6 +35,11 @@ With --hash it decodes the stream and lists the MD5 of each frame.
               `altref` if it becomes a copy of that one; `-` if it stays
   cause       why the header is refused, else `-`
 
+--json prints a line a packet, an object with a member for each column, null
+instead of `-`:
+
+  vp8list in.ivf --json | jq 'select(.kind == \"key\") | .packet'
+
 --hash prints what ffmpeg prints for the same stream:
 
   vp8list in.ivf --hash > ours
@@ -54,6 +59,8 @@ pub struct Arguments<'a> {
     pub tables: Option<&'a str>,
     /// Whether the MD5 of each frame is asked for.
     pub is_hash: bool,
+    /// Whether the facts are asked for as JSON.
+    pub is_json: bool,
 }
 
 /// The program's arguments, its name first.
@@ -79,12 +86,17 @@ fn command<'a>(alloc: Global) -> Result<Command<'a>, AllocError> {
         .long("hash")
         .action(ArgAction::SetTrue)
         .help("The MD5 of each frame, as ffmpeg's framemd5");
+    let json = Arg::new(alloc, "json")
+        .long("json")
+        .action(ArgAction::SetTrue)
+        .help("A JSON object a packet; not with --hash");
     Command::new(alloc, "vp8list")
         .version(VERSION)
         .about(ABOUT)
         .arg(stream)?
         .arg(tables)?
-        .arg(hash)
+        .arg(hash)?
+        .arg(json)
 }
 
 /// The values in a command line that was parsed.
@@ -93,6 +105,7 @@ fn values_of<'a>(matches: &ArgMatches<'a>) -> Arguments<'a> {
         stream: matches.get_str("IN").unwrap_or(""),
         tables: matches.get_str("tables"),
         is_hash: matches.get_flag("hash"),
+        is_json: matches.get_flag("json"),
     }
 }
 

@@ -4,6 +4,7 @@
 mod arguments;
 mod fault;
 mod hashing;
+mod objects;
 mod program;
 mod reading;
 

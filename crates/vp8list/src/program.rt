@@ -8,6 +8,7 @@ ghost use Rattle.vp8list.specs.Lists.{IsListed, IsListFault};
 use crate::arguments;
 use crate::fault::Fault;
 use crate::hashing::hash_to;
+use crate::objects::objects_to;
 use crate::reading::{read_file, read_tables};
 use clap::error::ErrorKind;
 use std::alloc::Global;
@@ -81,10 +82,15 @@ fn answer_line<'a, R: Files + AllocGlobal, S: AsStr, O: Write>(
         Ok(given) => given,
         Err(error) => return help_or_fault(error, output),
     };
+    if given.is_hash && given.is_json {
+        return Err(Fault::CommandLine);
+    }
     let tables = read_tables(rt, given.tables)?;
     let bytes = read_file(rt, given.stream)?;
     if given.is_hash {
         hash_to(rt.alloc(), &tables, bytes.as_slice(), output)
+    } else if given.is_json {
+        objects_to(rt.alloc(), &tables, bytes.as_slice(), output)
     } else {
         list_to(rt.alloc(), &tables, bytes.as_slice(), output)
     }
