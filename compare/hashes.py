@@ -83,7 +83,7 @@ def made(room, clips):
 
 def main():
     paths = [pathlib.Path(name) for name in sys.argv[1:]]
-    clips = paths or sorted(CLIPS.glob("*.ivf")) + sorted((HERE.parent / "examples").glob("*.ivf"))
+    clips = paths or sorted(CLIPS.glob("*.ivf")) + [HERE.parent / "examples/mandelbrot.ivf"]
     totals = {}
     with tempfile.TemporaryDirectory() as room:
         cases = [("as it is", path) for path in clips]

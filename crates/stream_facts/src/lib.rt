@@ -2,11 +2,13 @@
 #![tactic(auto)]
 
 mod facts;
+mod json;
 mod lines;
 mod listing;
 #[cfg(test)]
 mod tests;
 
 pub use facts::{Facts, HeaderFacts, Position};
+pub use json::write_objects;
 pub use lines::{write_cause, write_text};
 pub use listing::write_listing;

@@ -1,3 +1,4 @@
 pub mod Lists
 pub mod HashedFiles
 pub mod CheckedFiles
+pub mod Objects

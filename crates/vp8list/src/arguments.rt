@@ -13,7 +13,7 @@ const VERSION: &str = "0.1.0";
 const ABOUT: &str = "\
 Lists the packets of a VP8 stream (IVF): a line with the names of the columns,
 and a line a packet, with tabs between columns. Only headers are read.
-With --hash it decodes the stream and lists the MD5 of each frame.
+One of --json, --hash and --check asks for another output.
 
   vp8list in.ivf | column -t
   vp8list in.ivf | awk '$5 == \"key\" { print $1, $8 }'
@@ -35,14 +35,18 @@ With --hash it decodes the stream and lists the MD5 of each frame.
               `altref` if it becomes a copy of that one; `-` if it stays
   cause       why the header is refused, else `-`
 
+--json prints a line a packet, an object with a member for each column, null
+instead of `-`:
+
+  vp8list in.ivf --json | jq 'select(.kind == \"key\") | .packet'
+
 --hash prints what ffmpeg prints for the same stream:
 
   vp8list in.ivf --hash > ours
   ffmpeg -nostdin -v error -copyts -i in.ivf -fps_mode passthrough \\
       -autoscale 0 -bitexact -f framemd5 - | diff - ours
 
-A frame that is hidden or does not decode has no line. --hash and --check
-exclude each other.
+A frame that is hidden or does not decode has no line.
 
 With --check every packet is decoded, and there is a line for each finding instead:
 
@@ -68,6 +72,19 @@ With --check every packet is decoded, and there is a line for each finding inste
 Exit status: 0, 1 if --check finds something, or 2 for a mistake on the command line, a file that
 is not IVF and any other error.";
 
+/// What is written of a file.
+#[derive(Clone, Copy)]
+pub enum Output {
+    /// A line for each packet.
+    List,
+    /// A JSON object for each packet.
+    Objects,
+    /// The MD5 of each frame.
+    Hashes,
+    /// What is wrong with the stream.
+    Findings,
+}
+
 /// The values of the arguments.
 #[derive(Clone, Copy)]
 pub struct Arguments<'a> {
@@ -75,10 +92,8 @@ pub struct Arguments<'a> {
     pub stream: &'a str,
     /// The file of the long tables, if given.
     pub tables: Option<&'a str>,
-    /// Whether the MD5 of each frame is asked for.
-    pub is_hash: bool,
-    /// Whether the findings are written instead of the list.
-    pub checks: bool,
+    /// What is written; `None` if more than one of the options asks for something else.
+    pub output: Option<Output>,
 }
 
 /// The program's arguments, its name first.
@@ -104,6 +119,10 @@ fn command<'a>(alloc: Global) -> Result<Command<'a>, AllocError> {
         .long("hash")
         .action(ArgAction::SetTrue)
         .help("The MD5 of each frame, as ffmpeg's framemd5");
+    let json = Arg::new(alloc, "json")
+        .long("json")
+        .action(ArgAction::SetTrue)
+        .help("A JSON object a packet");
     let check = Arg::new(alloc, "check")
         .long("check")
         .action(ArgAction::SetTrue)
@@ -114,7 +133,23 @@ fn command<'a>(alloc: Global) -> Result<Command<'a>, AllocError> {
         .arg(stream)?
         .arg(tables)?
         .arg(hash)?
+        .arg(json)?
         .arg(check)
+}
+
+/// The output that the options ask for; `None` if there is more than one of them.
+fn output_of(matches: &ArgMatches<'_>) -> Option<Output> {
+    match (
+        matches.get_flag("json"),
+        matches.get_flag("hash"),
+        matches.get_flag("check"),
+    ) {
+        (false, false, false) => Some(Output::List),
+        (true, false, false) => Some(Output::Objects),
+        (false, true, false) => Some(Output::Hashes),
+        (false, false, true) => Some(Output::Findings),
+        _ => None,
+    }
 }
 
 /// The values in a command line that was parsed.
@@ -122,8 +157,7 @@ fn values_of<'a>(matches: &ArgMatches<'a>) -> Arguments<'a> {
     Arguments {
         stream: matches.get_str("IN").unwrap_or(""),
         tables: matches.get_str("tables"),
-        is_hash: matches.get_flag("hash"),
-        checks: matches.get_flag("check"),
+        output: output_of(matches),
     }
 }
 

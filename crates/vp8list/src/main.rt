@@ -5,6 +5,7 @@ mod arguments;
 mod checking;
 mod fault;
 mod hashing;
+mod objects;
 mod program;
 mod reading;
 

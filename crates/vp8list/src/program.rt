@@ -5,10 +5,11 @@ ghost use Rattle.clap.specs.Values.{kind_of};
 ghost use Rattle.stream_files.specs.Ivf.{IvfRefuses};
 ghost use Rattle.vp8list.specs.Lists.{IsListed, IsListFault};
 
-use crate::arguments;
+use crate::arguments::{self, Output};
 use crate::checking::check_to;
 use crate::fault::Fault;
 use crate::hashing::hash_to;
+use crate::objects::objects_to;
 use crate::reading::{read_file, read_tables};
 use clap::error::ErrorKind;
 use std::alloc::Global;
@@ -87,18 +88,16 @@ fn answer_line<'a, R: Files + AllocGlobal, S: AsStr, O: Write>(
             return Ok(0);
         }
     };
-    if given.checks && given.is_hash {
+    let Some(kind) = given.output else {
         return Err(Fault::CommandLine);
-    }
+    };
     let tables = read_tables(rt, given.tables)?;
     let bytes = read_file(rt, given.stream)?;
-    if given.checks {
-        return check_to(rt.alloc(), &tables, bytes.as_slice(), output);
-    }
-    if given.is_hash {
-        hash_to(rt.alloc(), &tables, bytes.as_slice(), output)?;
-    } else {
-        list_to(rt.alloc(), &tables, bytes.as_slice(), output)?;
+    match kind {
+        Output::Findings => return check_to(rt.alloc(), &tables, bytes.as_slice(), output),
+        Output::Hashes => hash_to(rt.alloc(), &tables, bytes.as_slice(), output)?,
+        Output::Objects => objects_to(rt.alloc(), &tables, bytes.as_slice(), output)?,
+        Output::List => list_to(rt.alloc(), &tables, bytes.as_slice(), output)?,
     }
     Ok(0)
 }
