@@ -3,3 +3,4 @@ pub mod Packets
 pub mod Files
 pub mod Lines
 pub mod Checks
+pub mod Laws

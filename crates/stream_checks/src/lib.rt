@@ -8,6 +8,7 @@ mod decoder;
 mod fault;
 mod file;
 mod finding;
+pub mod laws;
 mod lines;
 mod packets;
 
