@@ -49,6 +49,58 @@ fn marks(store: &Store, places: &[usize]) -> bool {
     (0..store.len()).all(|i| store.marked(i) == places.contains(&i))
 }
 
+/// Marks a packet, if there is one at the index.
+fn mark_at(store: &mut Store, place: usize) {
+    if place < store.len() {
+        store.set_mark(place);
+    }
+}
+
+/// Removes the mark of a packet, if there is one at the index.
+fn clear_at(store: &mut Store, place: usize) {
+    if place < store.len() {
+        store.clear_mark(place);
+    }
+}
+
+/// The index of the first mark or key tag, as `is_key` says, of these packets.
+fn next_of(store: &Store, is_key: bool, from: usize, end: usize) -> Option<usize> {
+    if end > store.len() {
+        return None;
+    }
+    if from > end {
+        return None;
+    }
+    if is_key {
+        store.next_key(from, end)
+    } else {
+        store.next_mark(from, end)
+    }
+}
+
+/// Whether exactly the packets at these indexes are marked, which are found in sequence.
+fn finds_marks(store: &Store, places: &[usize]) -> bool {
+    let mut from = 0;
+    for place in places {
+        if next_of(store, false, from, store.len()) != Some(*place) {
+            return false;
+        }
+        if next_of(store, false, from, *place).is_some() {
+            return false;
+        }
+        from = place.saturating_add(1);
+    }
+    next_of(store, false, from, store.len()).is_none() && marks(store, places)
+}
+
+/// The index of the last packet with a key tag before an index, if the index is one.
+fn last_key_of(store: &Store, at: usize) -> Option<usize> {
+    if at > store.len() {
+        return None;
+    }
+    store.last_key(at)
+}
+
 /// Removes the mark of packet 2, if there is one.
 fn clear_second(store: &mut Store) {
     if 2 < store.len() {
@@ -330,6 +382,41 @@ fn marks_of_edits(rt: HostRuntime) -> Result<(), Fail> {
     assert!(rt; marks(&store, &[0, 1]));
     mark_last(&mut store);
     assert!(rt; marks(&store, &[0, 1, 3]));
+    Ok(())
+}
+
+/// Marks of more than 4,096 packets, which are found in the same run of 1,024 packets, in a later one
+/// and after the last whole run.
+#[test]
+fn marks_of_long_lists(rt: HostRuntime) -> Result<(), Fail> {
+    let alloc = rt.alloc();
+    let mut store = Store::starting(alloc, 0);
+    assert_eq!(rt; store.push_all(empty_packets(alloc, 4_097)?), Ok(()));
+    assert!(rt; finds_marks(&store, &[]));
+    for place in [4_096, 0, 1_023, 1_024, 3_071] {
+        mark_at(&mut store, place);
+    }
+    assert!(rt; finds_marks(&store, &[0, 1_023, 1_024, 3_071, 4_096]));
+    let key = Bytes::from_slice(alloc, &[0x10, 0, 0])?;
+    assert_eq!(rt; store.insert(1_024, 0, key), Ok(()));
+    assert!(rt; finds_marks(&store, &[0, 1_023, 1_025, 3_072, 4_097]));
+    assert_eq!(rt; store.delete(0), Ok(()));
+    assert!(rt; finds_marks(&store, &[0, 1_022, 1_024, 3_071, 4_096]));
+    assert_eq!(rt; store.move_to(3_071, 2), Ok(()));
+    assert!(rt; finds_marks(&store, &[0, 2, 3, 1_023, 1_025, 3_072, 4_096]));
+    clear_at(&mut store, 1_025);
+    assert!(rt; finds_marks(&store, &[0, 2, 3, 1_023, 3_072, 4_096]));
+    let keys = [
+        last_key_of(&store, 1_024),
+        last_key_of(&store, 1_025),
+        last_key_of(&store, 4_097),
+        next_of(&store, true, 0, 4_097),
+        next_of(&store, true, 1_024, 4_097),
+        next_of(&store, true, 0, 1_024),
+        next_of(&store, true, 1_025, 4_097),
+    ];
+    let at = Some(1_024);
+    assert_eq!(rt; keys, [None, at, at, at, at, None, None]);
     Ok(())
 }
 
