@@ -1,4 +1,4 @@
-use Rattle.std.specs.Prelude.{ℕ, ◌+◌, ◌-◌, List, length, slice_range, nat_lt, Option, Result, Ok, Err, if◌then◌else◌}
+use Rattle.std.specs.Prelude.{◌≡◌, ℕ, ◌+◌, ◌-◌, List, length, slice_range, nat_lt, Option, Result, Ok, Err, if◌then◌else◌}
 use Rattle.arrayvec.specs.ArrayVec.{ArrayVec}
 use Rattle.vp8_tables.specs.Tables.{TableEntries}
 use Rattle.bool_coder.specs.Reader.{Reader, started}
@@ -67,8 +67,38 @@ header_after tables context packet start = do
   partitions ← token_ranges packet end read.0.0.partition_count
   Ok (header_in start read.0 partitions (trailing_fields start.tag.key tables.updates read.0.1 read.1))
 
+-- the header of a frame after its start and the end of its first partition, whose text is given: its own, or another one
+abbrev pub header_from : TableEntries → Context → List ℕ → Start → ℕ → List ℕ → Result Header Cause
+header_from tables context packet start end first = do
+  let read = fields start.tag.key context (started first)
+  partitions ← token_ranges packet end read.0.0.partition_count
+  Ok (header_in start read.0 partitions (trailing_fields start.tag.key tables.updates read.0.1 read.1))
+
 -- the header of a packet after a context or none, or the first cause against it (RFC 6386, sections 9 and 19)
 unfoldable pub header_of : TableEntries → Option Context → List ℕ → Result Header Cause
 header_of tables before packet = do
   start ← start_of before packet
   header_after tables (first_context tables (has_key_tag packet) before) packet start
+
+-- the same with another text for the first partition
+unfoldable pub header_over : TableEntries → Option Context → List ℕ → List ℕ → Result Header Cause
+header_over tables before packet first = do
+  start ← start_of before packet
+  end ← first_end start packet
+  header_from tables (first_context tables (has_key_tag packet) before) packet start end first
+
+-- the first partition of a packet, which follows its tag, or the first cause against the packet up to the end of it
+abbrev pub first_partition : Option Context → List ℕ → Result Place Cause
+first_partition before packet = do
+  start ← start_of before packet
+  end ← first_end start packet
+  Ok (record { start = start.place; length = end - start.place })
+
+-- a header is read from the packet's own first partition
+abbrev pub header_by_place : TableEntries → Option Context → List ℕ → Result Header Cause
+header_by_place tables before packet = do
+  place ← first_partition before packet
+  header_over tables before packet (slice_range packet place.start (place.start + place.length))
+
+abbrev pub HeadersAreOverTheirOwn : Type 0
+HeadersAreOverTheirOwn = (tables : TableEntries) (before : Option Context) (packet : List ℕ) → header_of tables before packet ≡ header_by_place tables before packet

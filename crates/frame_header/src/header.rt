@@ -1,6 +1,7 @@
-ghost use Rattle.std.specs.Prelude.{◌≡◌, ◌<◌, ◌≤◌, ◌+◌, false, length, IsTrue, IsSome, IfOk, All};
+ghost use Rattle.std.specs.Prelude.{◌≡◌, ◌<◌, ◌≤◌, ◌+◌, ◌*◌, false, length, IsTrue, IsSome, IfOk, All};
 ghost use Rattle.std.specs.Option.{option_copied};
-ghost use Rattle.frame_header.specs.Header.{first_end, header_of};
+ghost use Rattle.frame_header.specs.Contexts.{first_context};
+ghost use Rattle.frame_header.specs.Header.{first_end, first_partition, header_from, header_of, header_over};
 ghost use Rattle.frame_header.specs.Tags.{has_key_tag};
 
 use crate::cause::Cause;
@@ -71,27 +72,25 @@ fn first_end(start: &Start, packet: &[u8]) -> Result<usize, Cause>
     Ok(start.place + size)
 }
 
-/// The header of a packet after a context, or after none if no key frame came before. An `Err` is
-/// the first cause, in the order of `Cause`, whose condition holds.
-#[tactic(auto, unfolding(crate::specs::Header::header_of))]
-pub fn read_header<'a>(
+/// The header of a packet after its start and the end of its first partition, whose text is `first`.
+#[inline]
+fn header_from<'a>(
     tables: &Tables,
     context: Option<&Context>,
-    packet: &'a [u8],
+    packet: &[u8],
+    start: &Start,
+    end: usize,
+    first: &'a [u8],
 ) -> Result<Header<'a>, Cause>
-    ensures value { result ≡ header_of tables.now (option_copied context.entry) packet.now }
-    ensures wide { IfOk result (λ header. IsTrue header.is_key → (1 ≤ header.width) × (header.width ≤ 16383)) }
-    ensures high { IfOk result (λ header. IsTrue header.is_key → (1 ≤ header.height) × (header.height ≤ 16383)) }
+    requires { end ≤ length packet.now }
+    ensures value { result ≡ header_from tables.now (first_context tables.now start.now.tag.key (option_copied context.entry)) packet.now start.now end first.now }
+    ensures key { IfOk result (λ header. header.is_key ≡ start.now.tag.key) }
+    ensures size { IfOk result (λ header. (header.width ≡ start.now.width) × (header.height ≡ start.now.height)) }
     ensures inside { IfOk result (λ header. All (λ place. place.start + place.length ≤ length packet.now) header.partitions.items) }
     ensures some { IfOk result (λ header. 0 < length header.partitions.items) }
-    ensures key { IfOk result (λ header. header.is_key ≡ has_key_tag packet.now) }
-    ensures whole { IfOk result (λ header. IsTrue header.is_key → 10 ≤ length packet.now) }
-    ensures following { IfOk result (λ header. header.is_key ≡ false → IsSome (option_copied context.entry)) }
 {
-    let start = start_of(context, packet)?;
-    let end = first_end(&start, packet)?;
     let is_key = start.tag.key;
-    let mut reader = Decoder::new(&packet[start.place..end]);
+    let mut reader = Decoder::new(first);
     let mut context = first_context(tables, is_key, context);
     let fields = read_fields(&mut reader, is_key, &mut context);
     let partitions = token_ranges(packet, end, fields.partition_count)?;
@@ -121,4 +120,64 @@ pub fn read_header<'a>(
         context_after,
         reader,
     })
+}
+
+/// The position of a packet's first partition, which follows its tag (RFC 6386, section 9.1), after a
+/// context or none. An `Err` is the first cause against the packet up to the end of it.
+pub fn first_partition(context: Option<&Context>, packet: &[u8]) -> Result<Place, Cause>
+    ensures value { result ≡ first_partition (option_copied context.entry) packet.now }
+    ensures inside { IfOk result (λ place. place.start + place.length ≤ length packet.now) }
+{
+    let start = start_of(context, packet)?;
+    let end = first_end(&start, packet)?;
+    Ok(Place {
+        start: start.place,
+        length: end - start.place,
+    })
+}
+
+/// The header of a packet after a context, or after none if no key frame came before. An `Err` is
+/// the first cause, in the order of `Cause`, whose condition holds.
+#[tactic(auto, unfolding(crate::specs::Header::header_of))]
+pub fn read_header<'a>(
+    tables: &Tables,
+    context: Option<&Context>,
+    packet: &'a [u8],
+) -> Result<Header<'a>, Cause>
+    ensures value { result ≡ header_of tables.now (option_copied context.entry) packet.now }
+    ensures wide { IfOk result (λ header. IsTrue header.is_key → (1 ≤ header.width) × (header.width ≤ 16383)) }
+    ensures high { IfOk result (λ header. IsTrue header.is_key → (1 ≤ header.height) × (header.height ≤ 16383)) }
+    ensures inside { IfOk result (λ header. All (λ place. place.start + place.length ≤ length packet.now) header.partitions.items) }
+    ensures some { IfOk result (λ header. 0 < length header.partitions.items) }
+    ensures key { IfOk result (λ header. header.is_key ≡ has_key_tag packet.now) }
+    ensures whole { IfOk result (λ header. IsTrue header.is_key → 10 ≤ length packet.now) }
+    ensures following { IfOk result (λ header. header.is_key ≡ false → IsSome (option_copied context.entry)) }
+{
+    let start = start_of(context, packet)?;
+    let end = first_end(&start, packet)?;
+    let own = &packet[start.place..end];
+    header_from(tables, context, packet, &start, end, own)
+}
+
+/// The header of a packet whose first partition is read from another text. The first partition's own
+/// text gives the packet's header (`laws::headers_are_over_their_own`).
+#[tactic(auto, unfolding(crate::specs::Header::header_over))]
+pub fn read_header_over<'a>(
+    tables: &Tables,
+    context: Option<&Context>,
+    packet: &[u8],
+    first: &'a [u8],
+) -> Result<Header<'a>, Cause>
+    ensures value { result ≡ header_over tables.now (option_copied context.entry) packet.now first.now }
+    ensures wide { IfOk result (λ header. IsTrue header.is_key → (1 ≤ header.width) × (header.width ≤ 16383)) }
+    ensures high { IfOk result (λ header. IsTrue header.is_key → (1 ≤ header.height) × (header.height ≤ 16383)) }
+    ensures inside { IfOk result (λ header. All (λ place. place.start + place.length ≤ length packet.now) header.partitions.items) }
+    ensures some { IfOk result (λ header. 0 < length header.partitions.items) }
+    ensures key { IfOk result (λ header. header.is_key ≡ has_key_tag packet.now) }
+    ensures whole { IfOk result (λ header. IsTrue header.is_key → 10 ≤ length packet.now) }
+    ensures following { IfOk result (λ header. header.is_key ≡ false → IsSome (option_copied context.entry)) }
+{
+    let start = start_of(context, packet)?;
+    let end = first_end(&start, packet)?;
+    header_from(tables, context, packet, &start, end, first)
 }
