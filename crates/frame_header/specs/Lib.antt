@@ -13,3 +13,4 @@ pub mod Worked
 pub mod KeyFrames
 pub mod InterFrames
 pub mod WorkedInter
+pub mod Padding

@@ -1,6 +1,6 @@
 //! Laws over the definitions: examples and properties.
 
-ghost use Rattle.std.specs.Prelude.{◌≡◌, Bool, true, [], ◌∷◌, ◌++◌, None, Some, Err, IsOkAnd};
+ghost use Rattle.std.specs.Prelude.{◌≡◌, Bool, ℕ, List, true, [], ◌∷◌, ◌++◌, None, Some, Err, IsOkAnd};
 ghost use Rattle.bool_coder.specs.Chains.{IsChain, and_then};
 ghost use Rattle.bool_coder.specs.Reader.{started};
 ghost use Rattle.frame_header.specs.Fields.{fields};
@@ -8,6 +8,7 @@ ghost use Rattle.frame_header.specs.Contexts.{default_context};
 ghost use Rattle.frame_header.specs.Header.{header_of};
 ghost use Rattle.frame_header.specs.TrailingFields.{trailing_fields};
 ghost use Rattle.frame_header.specs.declared.context.Context.{Context};
+ghost use Rattle.frame_header.specs.Padding.{ShownIsKept, ZerosKeepHeaders, with_zero};
 ghost use Rattle.frame_header.specs.KeyFrames.{KeysLeaveDefaults, KeysRefreshAll, KeysTakeNoContext};
 ghost use Rattle.frame_header.specs.InterFrames.{ProbabilitiesComeBack};
 ghost use Rattle.frame_header.specs.WorkedInter.{IsInterWritten, inter_before, inter_packet};
@@ -83,4 +84,14 @@ pub fn headers_are_chains(updates: &[u8])
     ensures first { (is_key : Bool) (before : Context) → IsChain (fields is_key before) }
     ensures trailing { (is_key : Bool) (before : Context) → IsChain (trailing_fields is_key updates.now before) }
     ensures all { (is_key : Bool) (before : Context) → IsChain (and_then (fields is_key before) (λ read. trailing_fields is_key updates.now read.1)) }
+{}
+
+/// A byte 00 after an accepted packet changes nothing in its header, except that the last token
+/// partition is one byte longer: a reader of the longer partition reads the same bits (RFC 6386,
+/// section 7). A packet of 3 bytes or more also remains as it is listed: its key tag, its size and
+/// whether it is shown.
+pub fn zeros_keep_headers()
+    ensures headers { ZerosKeepHeaders }
+    ensures readers { (bytes : List ℕ) → started (with_zero bytes) ≡ started bytes }
+    ensures shown { ShownIsKept }
 {}
