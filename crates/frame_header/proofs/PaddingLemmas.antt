@@ -1,10 +1,11 @@
 -- A byte 00 after an accepted packet.
-use Rattle.std.proofs.Common.{◌≡◌, ℕ, zero, suc, ◌+◌, ◌-◌, ◌*◌, ◌<◌, ◌≤◌, ◌&&◌, Bool, true, false, List, [], ◌∷◌, ◌++◌, length, take, drop, get_or, Option, Some, None, Result, Ok, Err, IfOk, refl, sym, ap, ◌∙◌, arith, inl, inr, nat_lt, if◌then◌else◌, length-append}
+use Rattle.std.proofs.Common.{◌≡◌, ℕ, zero, suc, ◌+◌, ◌-◌, ◌*◌, ◌<◌, ◌≤◌, ◌&&◌, Bool, true, false, List, [], ◌∷◌, ◌++◌, length, map, take, drop, get_or, Option, Some, None, Result, Ok, Err, IfOk, refl, sym, ap, ◌∙◌, arith, inl, inr, nat_lt, if◌then◌else◌, length-append}
 use Rattle.std.specs.Prelude.{slice_range, nat_le}
 use Rattle.std.specs.List.{position_from}
 use Rattle.std.specs.Option.{option_map_or}
 use Rattle.std.proofs.lemmas.Bool.{lt-ltb, le-ltb, le-leb, lt-leb, ltb-false, cases_lt}
-use Rattle.std.proofs.lemmas.List.{take-append-le, drop-append-le, length-drop}
+use Rattle.std.proofs.lemmas.List.{take-append-le, take_all, drop-append-le, length-drop}
+use Rattle.arrayvec.specs.ArrayVec.{ArrayVec}
 use Rattle.vp8_tables.specs.Tables.{TableEntries}
 use Rattle.bool_coder.specs.Reader.{Reader, bit_string, level, text_start, started}
 use Rattle.bool_coder.proofs.Level.{trimmed-padded}
@@ -16,7 +17,8 @@ use Rattle.frame_header.specs.Fields.{fields}
 use Rattle.frame_header.specs.TrailingFields.{trailing_fields}
 use Rattle.frame_header.specs.Places.{sizes_at, places_of, is_past, unless_past, token_ranges}
 use Rattle.frame_header.specs.Header.{◌>>=◌, first_end, header_after, header_of, header_in}
-use Rattle.frame_header.specs.Padding.{with_zero, one_longer, with_longer_last, ShownIsKept}
+use Rattle.frame_header.specs.Padding.{with_zero, one_longer, with_longer_last, readers_of, ShownIsKept}
+use Rattle.frame_header.proofs.KeyLemmas.{IfOk-then, IfOk-following}
 use Rattle.frame_header.specs.declared.cause.Cause.{Cause}
 use Rattle.frame_header.specs.declared.cause.Cause.TheVariants.{ShortPacket, Version, StartCode, Size, FirstPartition}
 use Rattle.frame_header.specs.declared.context.Context.{Context}
@@ -202,6 +204,58 @@ header_of-zero tables before packet =
           rw key (then-kept (λ start. start) with_longer_last (start_of before packet) (start_of before (with_zero packet)) _ _ (start_of-zero before packet (tag_of packet) refl tag)
           (λ start is. header_after-zero tables (first_context tables (has_key_tag packet) before) packet start))
     ]
+
+-- the last partition has the byte
+last-zero : (start n n' : ℕ) (packet : List ℕ) → start ≤ length packet → n ≡ length packet - start → n' ≡ length packet - start + 1 → take n' (drop start (with_zero packet)) ≡ with_zero (take n (drop start packet))
+last-zero start n n' packet within is is' =
+    let rest : length (drop start packet) ≤ n = rw (length-drop start packet) (omega arith) in
+    let longer : length (drop start packet ++ 0 ∷ []) ≤ n' = rw (length-zero (drop start packet), length-drop start packet) (omega arith) in
+    ap (take n') (drop-append-le start packet (0 ∷ []) within) ∙ take_all n' (drop start packet ++ 0 ∷ []) longer ∙ ap with_zero (sym (take_all n (drop start packet) rest))
+
+-- each other one lies before it
+partition_readers-zero : (start k : ℕ) (sizes : List ℕ) (packet : List ℕ) → position_from (is_past (length packet)) k (places_of start sizes (length packet)) ≡ None
+    → readers_of (with_zero packet) (one_longer (places_of start sizes (length packet))) ≡ readers_of packet (places_of start sizes (length packet))
+partition_readers-zero start k [] packet inside =
+    elim (cases_lt (length packet) (start + (length packet - start))) [
+      | inl past ↦ absurd (let is = rw (lt-ltb (length packet) (start + (length packet - start)) past) at inside in cc)
+      | inr within ↦
+          let part : take (start + (length packet - start + 1) - start) (drop start (with_zero packet)) ≡ with_zero (take (start + (length packet - start) - start) (drop start packet)) =
+          last-zero start (start + (length packet - start) - start) (start + (length packet - start + 1) - start) packet (omega arith) (omega arith) (omega arith) in
+          ap (λ (bytes : List ℕ). started bytes ∷ []) part ∙ ap (λ (r : Reader). r ∷ []) (started-zero (take (start + (length packet - start) - start) (drop start packet)))
+    ]
+partition_readers-zero start k (size ∷ sizes) packet inside =
+    elim (cases_lt (length packet) (start + size)) [
+      | inl past ↦ absurd (let is = rw (lt-ltb (length packet) (start + size) past) at inside in cc)
+      | inr within ↦
+          let rest : position_from (is_past (length packet)) (k + 1) (places_of (start + size) sizes (length packet)) ≡ None = rw (le-ltb (length packet) (start + size) within) at inside in
+          let later = partition_readers-zero (start + size) (k + 1) sizes packet rest in
+          let place : Place = record { start = start; length = size } in
+          let here : take (start + size - start) (drop start (with_zero packet)) ≡ take (start + size - start) (drop start packet) = part-zero (start + size - start) start packet (omega arith) in
+          ap (readers_of (with_zero packet)) (one_longer-more place (start + size) sizes (length packet))
+          ∙ ap (λ (bytes : List ℕ). started bytes ∷ readers_of (with_zero packet) (one_longer (places_of (start + size) sizes (length packet)))) here
+          ∙ ap (λ (readers : List Reader). started (take (start + size - start) (drop start packet)) ∷ readers) later
+    ]
+
+readers_ranged : (packet : List ℕ) (first : ℕ) (sizes : List ℕ) (found : Option ℕ) → position_from (is_past (length packet)) 0 (places_of first sizes (length packet)) ≡ found
+    → IfOk (unless_past found (places_of first sizes (length packet))) (λ partitions. readers_of (with_zero packet) (one_longer partitions.items) ≡ readers_of packet partitions.items)
+readers_ranged packet first sizes (Some k) is = tt
+readers_ranged packet first sizes None is = partition_readers-zero first 0 sizes packet is
+
+token_ranges-readers : (packet : List ℕ) (at count : ℕ) → IfOk (token_ranges packet at count) (λ partitions. readers_of (with_zero packet) (one_longer partitions.items) ≡ readers_of packet partitions.items)
+unfolding token_ranges
+token_ranges-readers packet at count =
+    let first : ℕ = at + 3 * (count - 1) in
+    elim (cases_lt (length packet) first) [
+      | inl short ↦ rw (lt-ltb (length packet) first short) tt
+      | inr room ↦ rw (le-ltb (length packet) first room) (readers_ranged packet first (sizes_at (count - 1) at packet) _ refl)
+    ]
+
+pub readers_of-zero : (tables : TableEntries) (before : Option Context) (packet : List ℕ) → IfOk (header_of tables before packet) (λ header. readers_of (with_zero packet) (one_longer header.partitions.items) ≡ readers_of packet header.partitions.items)
+unfolding header_of
+readers_of-zero tables before packet =
+    let P : Header → Type 0 = λ header. readers_of (with_zero packet) (one_longer header.partitions.items) ≡ readers_of packet header.partitions.items in
+    let Q : ArrayVec Place → Type 0 = λ partitions. readers_of (with_zero packet) (one_longer partitions.items) ≡ readers_of packet partitions.items in
+    IfOk-then P (start_of before packet) _ (λ start. IfOk-then P (first_end start packet) _ (λ end. IfOk-following Q P (token_ranges packet end _) _ (token_ranges-readers packet end _) (λ partitions kept. kept)))
 
 pub shown_is_kept : ShownIsKept
 shown_is_kept packet enough =

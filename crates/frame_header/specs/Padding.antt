@@ -1,6 +1,7 @@
 -- A byte 00 after a packet. Zeros follow the end of a partition anyway (RFC 6386, section 7).
-use Rattle.std.specs.Prelude.{◌≡◌, ℕ, ◌+◌, ◌≤◌, List, [], ◌∷◌, ◌++◌, length, Option, Ok, IfOk}
+use Rattle.std.specs.Prelude.{◌≡◌, ℕ, ◌+◌, ◌≤◌, List, [], ◌∷◌, ◌++◌, length, map, slice_range, Option, Ok, IfOk}
 use Rattle.vp8_tables.specs.Tables.{TableEntries}
+use Rattle.bool_coder.specs.Reader.{Reader, started}
 use Rattle.frame_header.specs.Header.{header_of}
 use Rattle.frame_header.specs.Tags.{has_key_tag, is_shown, key_size_of}
 use Rattle.frame_header.specs.declared.context.Context.{Context}
@@ -24,6 +25,14 @@ with_longer_last header = record header { partitions = record { items = one_long
 -- the header of each accepted packet stays, with a byte 00 after the packet, except that the last token partition has that byte too
 abbrev pub ZerosKeepHeaders : Type 0
 ZerosKeepHeaders = (tables : TableEntries) (before : Option Context) (packet : List ℕ) → IfOk (header_of tables before packet) (λ header. header_of tables before (with_zero packet) ≡ Ok (with_longer_last header))
+
+-- the readers of token partitions
+abbrev pub readers_of : List ℕ → List Place → List Reader
+readers_of packet partitions = map (λ place. started (slice_range packet place.start (place.start + place.length))) partitions
+
+-- and its token partitions are read as before
+abbrev pub ZerosKeepReaders : Type 0
+ZerosKeepReaders = (tables : TableEntries) (before : Option Context) (packet : List ℕ) → IfOk (header_of tables before packet) (λ header. readers_of (with_zero packet) (one_longer header.partitions.items) ≡ readers_of packet header.partitions.items)
 
 -- a packet of three bytes or more has the same key tag with a byte 00 after it, and is shown as before; a packet of ten bytes or more has the same size
 abbrev pub ShownIsKept : Type 0

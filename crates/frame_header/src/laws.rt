@@ -8,7 +8,7 @@ ghost use Rattle.frame_header.specs.Contexts.{default_context};
 ghost use Rattle.frame_header.specs.Header.{header_of};
 ghost use Rattle.frame_header.specs.TrailingFields.{trailing_fields};
 ghost use Rattle.frame_header.specs.declared.context.Context.{Context};
-ghost use Rattle.frame_header.specs.Padding.{ShownIsKept, ZerosKeepHeaders, with_zero};
+ghost use Rattle.frame_header.specs.Padding.{ShownIsKept, ZerosKeepHeaders, ZerosKeepReaders, with_zero};
 ghost use Rattle.frame_header.specs.KeyFrames.{KeysLeaveDefaults, KeysRefreshAll, KeysTakeNoContext};
 ghost use Rattle.frame_header.specs.InterFrames.{ProbabilitiesComeBack};
 ghost use Rattle.frame_header.specs.WorkedInter.{IsInterWritten, inter_before, inter_packet};
@@ -92,6 +92,7 @@ pub fn headers_are_chains(updates: &[u8])
 /// whether it is shown.
 pub fn zeros_keep_headers()
     ensures headers { ZerosKeepHeaders }
-    ensures readers { (bytes : List ℕ) → started (with_zero bytes) ≡ started bytes }
+    ensures reader { (bytes : List ℕ) → started (with_zero bytes) ≡ started bytes }
+    ensures readers { ZerosKeepReaders }
     ensures shown { ShownIsKept }
 {}
