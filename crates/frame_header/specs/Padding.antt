@@ -1,9 +1,17 @@
 -- A byte 00 after a packet. Zeros follow the end of a partition anyway (RFC 6386, section 7).
-use Rattle.std.specs.Prelude.{◌≡◌, ℕ, ◌+◌, ◌≤◌, List, [], ◌∷◌, ◌++◌, length, map, slice_range, Option, Ok, IfOk}
+use Rattle.std.specs.Prelude.{◌≡◌, ℕ, ◌+◌, ◌-◌, ◌≤◌, ◌==◌, Bool, false, List, [], ◌∷◌, ◌++◌, length, map, replicate, slice_get, slice_range, Option, Some, Result, Ok, IfOk, if◌then◌else◌}
+use Rattle.std.specs.Option.{option_map_or}
+use Rattle.std.specs.Result.{result_ok}
+use Rattle.arrayvec.specs.ArrayVec.{ArrayVec}
 use Rattle.vp8_tables.specs.Tables.{TableEntries}
 use Rattle.bool_coder.specs.Reader.{Reader, started}
-use Rattle.frame_header.specs.Header.{header_of}
+use Rattle.frame_header.specs.Contexts.{no_numbers}
+use Rattle.frame_header.specs.Fields.{fields}
+use Rattle.frame_header.specs.Header.{◌>>=◌, first_end, header_of}
+use Rattle.frame_header.specs.Places.{token_ranges}
+use Rattle.frame_header.specs.Start.{start_of}
 use Rattle.frame_header.specs.Tags.{has_key_tag, is_shown, key_size_of}
+use Rattle.frame_header.specs.declared.cause.Cause.{Cause}
 use Rattle.frame_header.specs.declared.context.Context.{Context}
 use Rattle.frame_header.specs.declared.header.Header.{Header}
 use Rattle.frame_header.specs.declared.places.Place.{Place}
@@ -11,6 +19,34 @@ use Rattle.frame_header.specs.declared.places.Place.{Place}
 -- bytes, and a byte 00 after them
 abbrev pub with_zero : List ℕ → List ℕ
 with_zero bytes = bytes ++ 0 ∷ []
+
+-- a context whose numbers are all 0
+abbrev pub zero_context : Context
+zero_context = record {
+  probabilities = record { coefficients = replicate 1056 0; vectors = replicate 19 0 ∷ replicate 19 0 ∷ []; y_modes = replicate 4 0; uv_modes = replicate 3 0 };
+  segments = record { is_absolute = false; quantizers = no_numbers; levels = no_numbers };
+  deltas = record { reference = no_numbers; mode = no_numbers };
+  sign_biases = record { golden = false; altref = false };
+}
+
+-- the token partitions of a packet after a key frame, or the first cause against it; they are the same after every context
+abbrev pub partitions_of : List ℕ → Result (ArrayVec Place) Cause
+partitions_of packet = do
+  start ← start_of (Some zero_context) packet
+  end ← first_end start packet
+  token_ranges packet end (fields start.tag.key zero_context (started (slice_range packet start.place end))).0.0.partition_count
+
+-- the last of these partitions has no byte
+abbrev pub is_last_empty : List Place → Bool
+is_last_empty places = option_map_or (λ place. place.length == 0) (slice_get places (length places - 1)) false
+
+-- a packet that is accepted after a key frame and whose last token partition has no byte
+unfoldable pub ends_empty : List ℕ → Bool
+ends_empty packet = option_map_or (λ partitions. is_last_empty partitions.items) (result_ok (partitions_of packet)) false
+
+-- a packet, and a byte 00 after it if its last token partition has no byte
+abbrev pub padded : List ℕ → List ℕ
+padded packet = if ends_empty packet then with_zero packet else packet
 
 -- partitions, of which the last is one byte longer
 abbrev pub one_longer : List Place → List Place
