@@ -4,3 +4,4 @@ pub mod UpdateLemmas
 pub mod InterLemmas
 mod ChainLemmas
 pub mod PaddingLemmas
+pub mod PartitionLemmas

@@ -261,7 +261,10 @@ pub shown_is_kept : ShownIsKept
 shown_is_kept packet enough =
     let tag : tag_of (with_zero packet) ≡ tag_of packet = tag_of-zero packet enough in
     let key : has_key_tag (with_zero packet) ≡ has_key_tag packet = ap (λ (t : Option Tag). option_map_or (λ (u : Tag). u.key) t false) tag in
-    let shown : is_shown (with_zero packet) ≡ is_shown packet = ap (λ (t : Option Tag). option_map_or (λ (u : Tag). u.shown) t true) tag in
-    (key, shown, λ long.
-    let longer : 10 ≤ length packet + 1 = omega arith in
-    rw (key, length-zero packet, le-leb 10 (length packet) long, le-leb 10 (length packet + 1) longer, has_start_code-zero packet, width_of-zero packet, height_of-zero packet) refl)
+    let shown : is_shown (with_zero packet) ≡ is_shown packet = ap (λ (t : Option Tag). option_map_or (λ (u : Tag). u.shown) t true) tag in (
+      key,
+      shown,
+      λ long.
+          let longer : 10 ≤ length packet + 1 = omega arith in
+          rw (key, length-zero packet, le-leb 10 (length packet) long, le-leb 10 (length packet + 1) longer, has_start_code-zero packet, width_of-zero packet, height_of-zero packet) refl,
+    )

@@ -1,5 +1,5 @@
 -- A byte 00 after a packet. Zeros follow the end of a partition anyway (RFC 6386, section 7).
-use Rattle.std.specs.Prelude.{◌≡◌, ℕ, ◌+◌, ◌-◌, ◌≤◌, ◌==◌, Bool, false, List, [], ◌∷◌, ◌++◌, length, map, replicate, slice_get, slice_range, Option, Some, Result, Ok, IfOk, if◌then◌else◌}
+use Rattle.std.specs.Prelude.{◌≡◌, ℕ, ◌+◌, ◌-◌, ◌≤◌, ◌==◌, Bool, false, List, [], ◌∷◌, ◌++◌, length, map, replicate, slice_get, slice_range, Option, Some, Result, Ok, Err, IfOk, if◌then◌else◌}
 use Rattle.std.specs.Option.{option_map_or}
 use Rattle.std.specs.Result.{result_ok}
 use Rattle.arrayvec.specs.ArrayVec.{ArrayVec}
@@ -57,6 +57,24 @@ one_longer (place ∷ next ∷ rest) = place ∷ one_longer (next ∷ rest)
 -- a header whose last token partition is one byte longer
 abbrev pub with_longer_last : Header → Header
 with_longer_last header = record header { partitions = record { items = one_longer header.partitions.items } }
+
+-- the header of a padded packet: its own, but with a last partition that is one byte longer
+abbrev pub header_padded : List ℕ → Result Header Cause → Result Header Cause
+header_padded packet (Ok header) = Ok (if ends_empty packet then with_longer_last header else header)
+header_padded packet (Err cause) = Err cause
+
+-- padding changes nothing in the header of any packet, after any context or none, but the length of the last partition, and leaves each cause
+abbrev pub PaddingKeepsHeaders : Type 0
+PaddingKeepsHeaders = (tables : TableEntries) (before : Option Context) (packet : List ℕ) → header_of tables before (padded packet) ≡ header_padded packet (header_of tables before packet)
+
+-- the partitions of a header
+abbrev pub partitions_in : Result Header Cause → Result (ArrayVec Place) Cause
+partitions_in (Ok header) = Ok header.partitions
+partitions_in (Err cause) = Err cause
+
+-- the token partitions of a packet, or the first cause against it, are the same for all tables and after every context
+abbrev pub PartitionsNeedNoContext : Type 0
+PartitionsNeedNoContext = (tables : TableEntries) (before : Context) (packet : List ℕ) → partitions_in (header_of tables (Some before) packet) ≡ partitions_of packet
 
 -- the header of each accepted packet stays, with a byte 00 after the packet, except that the last token partition has that byte too
 abbrev pub ZerosKeepHeaders : Type 0

@@ -8,7 +8,7 @@ ghost use Rattle.frame_header.specs.Contexts.{default_context};
 ghost use Rattle.frame_header.specs.Header.{header_of};
 ghost use Rattle.frame_header.specs.TrailingFields.{trailing_fields};
 ghost use Rattle.frame_header.specs.declared.context.Context.{Context};
-ghost use Rattle.frame_header.specs.Padding.{ShownIsKept, ZerosKeepHeaders, ZerosKeepReaders, with_zero};
+ghost use Rattle.frame_header.specs.Padding.{PaddingKeepsHeaders, PartitionsNeedNoContext, ShownIsKept, ZerosKeepHeaders, ZerosKeepReaders, with_zero};
 ghost use Rattle.frame_header.specs.KeyFrames.{KeysLeaveDefaults, KeysRefreshAll, KeysTakeNoContext};
 ghost use Rattle.frame_header.specs.InterFrames.{ProbabilitiesComeBack};
 ghost use Rattle.frame_header.specs.WorkedInter.{IsInterWritten, inter_before, inter_packet};
@@ -95,4 +95,11 @@ pub fn zeros_keep_headers()
     ensures reader { (bytes : List ℕ) → started (with_zero bytes) ≡ started bytes }
     ensures readers { ZerosKeepReaders }
     ensures shown { ShownIsKept }
+{}
+
+/// Padding a packet changes nothing in its header but the length of the last partition, whatever came
+/// before: which partitions a packet has depends neither on the tables nor on a context.
+pub fn padding_keeps_headers()
+    ensures headers { PaddingKeepsHeaders }
+    ensures partitions { PartitionsNeedNoContext }
 {}
