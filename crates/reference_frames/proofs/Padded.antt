@@ -8,14 +8,15 @@ use Rattle.std.proofs.lemmas.Bool.{lt-leb, cases_lt}
 use Rattle.vp8_tables.specs.Tables.{TableEntries}
 use Rattle.bool_coder.specs.Reading.{Reading}
 use Rattle.frame_header.specs.Header.{header_of}
-use Rattle.frame_header.specs.Padding.{with_zero, with_longer_last, one_longer, readers_of}
+use Rattle.frame_header.specs.Padding.{ends_empty, header_padded, one_longer, padded, readers_of, with_longer_last, with_zero}
 use Rattle.frame_header.specs.Tags.{has_key_tag, tag_of}
 use Rattle.frame_header.specs.declared.cause.Cause.{Cause}
 use Rattle.frame_header.specs.declared.context.Context.{Context}
 use Rattle.frame_header.specs.declared.header.Header.{Header}
 use Rattle.frame_header.specs.declared.places.Place.{Place}
 use Rattle.frame_header.specs.declared.tag_fields.Tag.{Tag}
-use Rattle.frame_header.proofs.PaddingLemmas.{length-zero, tag_of-zero}
+use Rattle.frame_header.proofs.PaddingLemmas.{header_of-zero, length-zero, readers_of-zero, tag_of-zero}
+use Rattle.frame_header.proofs.PartitionLemmas.{ends_has_tag, padding_keeps_headers}
 use Rattle.mode_parser.specs.FrameModes.{FrameModes, first_modes, mode_at, modes_of}
 use Rattle.mode_parser.specs.InterRecords.{inter_mode, referenced_mode}
 use Rattle.mode_parser.specs.Segments.{map_after, segment_at}
@@ -107,7 +108,7 @@ accepted_has_tag tables before packet header is =
       | inr enough ↦ enough
     ]
 
-pub stepped : (tables : TableEntries) (state : Option State) (packet : List ℕ) (result : Result Header Cause) → header_of tables (option_map (λ s. s.context) state) packet ≡ result
+stepped : (tables : TableEntries) (state : Option State) (packet : List ℕ) (result : Result Header Cause) → header_of tables (option_map (λ s. s.context) state) packet ≡ result
     → IfOk result (λ header. header_of tables (option_map (λ s. s.context) state) (with_zero packet) ≡ Ok (with_longer_last header))
     → IfOk result (λ header. readers_of (with_zero packet) (one_longer header.partitions.items) ≡ readers_of packet header.partitions.items)
     → IsOk result → step_of tables state (with_zero packet) ≡ step_of tables state packet
@@ -119,3 +120,32 @@ stepped tables state packet (Ok header) is longer read accepted =
     let more : (length (with_zero packet) == 0) ≡ false = has_bytes (with_zero packet) (omega (arith, length-zero packet)) in
     let key : has_key_tag (with_zero packet) ≡ has_key_tag packet = ap (λ (t : Option Tag). option_map_or (λ (u : Tag). u.key) t false) (tag_of-zero packet enough) in
     rw (some, more, is, longer, key) (ap (λ (d : State × PictureSamples). Ok d) (decoded-zero tables packet (with_zero packet) header (state_before packet state) read))
+
+pub zeros_keep_steps : (tables : TableEntries) (state : Option State) (packet : List ℕ) → IsOk (header_of tables (option_map (λ s. s.context) state) packet) → step_of tables state (with_zero packet) ≡ step_of tables state packet
+zeros_keep_steps tables state packet accepted =
+    let before : Option Context = option_map (λ (s : State). s.context) state in
+    stepped tables state packet _ refl (header_of-zero tables before packet) (readers_of-zero tables before packet) accepted
+
+-- a padded packet is refused for the same cause
+refused_step : (tables : TableEntries) (state : Option State) (packet : List ℕ) (cause : Cause) → 3 ≤ length packet → header_of tables (option_map (λ s. s.context) state) packet ≡ Err cause
+    → header_of tables (option_map (λ s. s.context) state) (with_zero packet) ≡ Err cause → step_of tables state (with_zero packet) ≡ step_of tables state packet
+unfolding step_of
+refused_step tables state packet cause enough is longer =
+    let some : (length packet == 0) ≡ false = has_bytes packet (omega arith) in
+    let more : (length (with_zero packet) == 0) ≡ false = has_bytes (with_zero packet) (omega (arith, length-zero packet)) in
+    rw (some, more, is, longer) refl
+
+padded_by : (tables : TableEntries) (state : Option State) (packet : List ℕ) (result : Result Header Cause) → ends_empty packet ≡ true → header_of tables (option_map (λ s. s.context) state) packet ≡ result
+    → header_of tables (option_map (λ s. s.context) state) (with_zero packet) ≡ header_padded packet result → step_of tables state (with_zero packet) ≡ step_of tables state packet
+padded_by tables state packet (Ok header) ends is longer = zeros_keep_steps tables state packet (rw is refl)
+padded_by tables state packet (Err cause) ends is longer = refused_step tables state packet cause (ends_has_tag packet ends) is longer
+
+padded_step : (tables : TableEntries) (state : Option State) (packet : List ℕ) (ends : Bool) → ends_empty packet ≡ ends → step_of tables state (padded packet) ≡ step_of tables state packet
+padded_step tables state packet false is = ap (λ (b : Bool). step_of tables state (if b then with_zero packet else packet)) is
+padded_step tables state packet true is =
+    let before : Option Context = option_map (λ (s : State). s.context) state in
+    let longer : header_of tables before (with_zero packet) ≡ header_padded packet (header_of tables before packet) = sym (ap (λ (b : Bool). header_of tables before (if b then with_zero packet else packet)) is) ∙ padding_keeps_headers tables before packet in
+    ap (λ (b : Bool). step_of tables state (if b then with_zero packet else packet)) is ∙ padded_by tables state packet _ is refl longer
+
+pub padding_keeps_steps : (tables : TableEntries) (state : Option State) (packet : List ℕ) → step_of tables state (padded packet) ≡ step_of tables state packet
+padding_keeps_steps tables state packet = padded_step tables state packet _ refl

@@ -9,7 +9,7 @@ ghost use Rattle.reference_frames.specs.References.{references_after};
 ghost use Rattle.reference_frames.specs.declared.references.References.{References};
 ghost use Rattle.reference_frames.specs.AboveRightLaws.{ReadsRowAbove, ReadsNextBlock, RepeatsFirstRow, ReadsNextMacroblock, RepeatsLastColumn};
 ghost use Rattle.reference_frames.specs.InterPrediction.{block_vector};
-ghost use Rattle.reference_frames.specs.StepLaws.{KeysStepFromNone, ZerosKeepSteps};
+ghost use Rattle.reference_frames.specs.StepLaws.{KeysStepFromNone, PaddingKeepsSteps, ZerosKeepSteps};
 ghost use Rattle.reference_frames.specs.TokenLaws.{FirstRowsReadOneEach, RowsReadInTurn, KeepsOtherReaders, Y2GoesFirst, Y2KeepsOthers, NoY2KeepsAll};
 ghost use Rattle.reference_frames.specs.Worked.{mixed_vectors};
 ghost use Rattle.reference_frames.specs.UnfilteredLaws.{AreFlat, WritesOneBlock};
@@ -22,11 +22,14 @@ pub fn keys_step_from_none()
 }
 
 /// A byte 00 after a packet whose header is accepted changes nothing in its step: zeros follow the end of
-/// its last token partition anyway (RFC 6386, section 7).
+/// its last token partition anyway (RFC 6386, section 7). So padding a packet, as a save with padding does,
+/// changes nothing in its step, accepted or refused.
 pub fn zeros_keep_steps()
-    ensures { ZerosKeepSteps }
+    ensures zeros { ZerosKeepSteps }
+    ensures padding { PaddingKeepsSteps }
 {
     frame_header::laws::zeros_keep_headers();
+    frame_header::laws::padding_keeps_headers();
 }
 
 /// References are copied before any is refreshed, and altref before golden (RFC 6386, section 9.7).
