@@ -61,7 +61,7 @@ IfOk-unless P false cause x holds = holds
 IfOk-first : {A : Type 0} (P : A → Type 0) (b : Bool) (x y : Result A Cause) → b ≡ true → IfOk x P → IfOk (if b then x else y) P
 IfOk-first P b x y is holds = rw is holds
 
-IfOk-following : {A B : Type 0} (Q : A → Type 0) (P : B → Type 0) (first : Result A Cause) (next : A → Result B Cause) → IfOk first Q → ((x : A) → Q x → IfOk (next x) P) → IfOk (first >>= next) P
+pub IfOk-following : {A B : Type 0} (Q : A → Type 0) (P : B → Type 0) (first : Result A Cause) (next : A → Result B Cause) → IfOk first Q → ((x : A) → Q x → IfOk (next x) P) → IfOk (first >>= next) P
 IfOk-following Q P (Ok x) next holds each = each x holds
 IfOk-following Q P (Err cause) next holds each = tt
 

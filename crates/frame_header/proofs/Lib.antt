@@ -4,3 +4,6 @@ pub mod UpdateLemmas
 pub mod InterLemmas
 mod ChainLemmas
 mod OverLemmas
+pub mod PaddingLemmas
+pub mod PartitionLemmas
+mod OutlineLemmas

@@ -13,3 +13,5 @@ pub mod Worked
 pub mod KeyFrames
 pub mod InterFrames
 pub mod WorkedInter
+pub mod Padding
+pub mod Outlines

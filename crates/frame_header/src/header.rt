@@ -59,7 +59,7 @@ pub struct Header<'a> {
 }
 
 /// The position after the first partition; `FirstPartition` if the packet ends before it.
-fn first_end(start: &Start, packet: &[u8]) -> Result<usize, Cause>
+pub(crate) fn first_end(start: &Start, packet: &[u8]) -> Result<usize, Cause>
     requires { start.now.place ≤ length packet.now }
     ensures value { result ≡ first_end start.now packet.now }
     ensures following { IfOk result (λ end. start.now.place ≤ end) }

@@ -1,13 +1,15 @@
 //! Laws over the definitions: examples and properties.
 
-ghost use Rattle.std.specs.Prelude.{◌≡◌, Bool, true, [], ◌∷◌, ◌++◌, None, Some, Err, IsOkAnd};
+ghost use Rattle.std.specs.Prelude.{◌≡◌, Bool, ℕ, List, true, [], ◌∷◌, ◌++◌, None, Some, Err, IsOkAnd};
 ghost use Rattle.bool_coder.specs.Chains.{IsChain, and_then};
 ghost use Rattle.bool_coder.specs.Reader.{started};
 ghost use Rattle.frame_header.specs.Fields.{fields};
 ghost use Rattle.frame_header.specs.Contexts.{default_context};
 ghost use Rattle.frame_header.specs.Header.{HeadersAreOverTheirOwn, header_of};
+ghost use Rattle.frame_header.specs.Outlines.{OutlinesAreHeaders};
 ghost use Rattle.frame_header.specs.TrailingFields.{trailing_fields};
 ghost use Rattle.frame_header.specs.declared.context.Context.{Context};
+ghost use Rattle.frame_header.specs.Padding.{PaddingKeepsHeaders, PartitionsNeedNoContext, ShownIsKept, ZerosKeepHeaders, ZerosKeepReaders, with_zero};
 ghost use Rattle.frame_header.specs.KeyFrames.{KeysLeaveDefaults, KeysRefreshAll, KeysTakeNoContext};
 ghost use Rattle.frame_header.specs.InterFrames.{ProbabilitiesComeBack};
 ghost use Rattle.frame_header.specs.WorkedInter.{IsInterWritten, inter_before, inter_packet};
@@ -88,4 +90,27 @@ pub fn headers_are_chains(updates: &[u8])
 /// The header of a packet is read over its own first partition.
 pub fn headers_are_over_their_own()
     ensures { HeadersAreOverTheirOwn }
+{}
+
+/// A byte 00 after an accepted packet changes nothing in its header, except that the last token
+/// partition is one byte longer: a reader of the longer partition reads the same bits (RFC 6386,
+/// section 7). A packet of 3 bytes or more also remains as it is listed: its key tag, its size and
+/// whether it is shown.
+pub fn zeros_keep_headers()
+    ensures headers { ZerosKeepHeaders }
+    ensures reader { (bytes : List ℕ) → started (with_zero bytes) ≡ started bytes }
+    ensures readers { ZerosKeepReaders }
+    ensures shown { ShownIsKept }
+{}
+
+/// Padding a packet changes nothing in its header but the length of the last partition, whatever came
+/// before: which partitions a packet has depends neither on the tables nor on a context.
+pub fn padding_keeps_headers()
+    ensures headers { PaddingKeepsHeaders }
+    ensures partitions { PartitionsNeedNoContext }
+{}
+
+/// The outline of a packet is that of its header, for all tables and after every context or none.
+pub fn outlines_are_headers()
+    ensures { OutlinesAreHeaders }
 {}

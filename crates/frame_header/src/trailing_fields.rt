@@ -41,7 +41,7 @@ pub(crate) struct TrailingFields {
 }
 
 #[tactic(auto, unfolding(crate::specs::TrailingFields::quantizers))]
-fn read_quantizers(reader: &mut Decoder) -> Quantizers
+pub(crate) fn read_quantizers(reader: &mut Decoder) -> Quantizers
     ensures { quantizers reader.old ≡ (result, reader.new) }
 {
     let y_ac_index = reader.literal(7) as u8;

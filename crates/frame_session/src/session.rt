@@ -2,7 +2,7 @@ ghost use Rattle.std.specs.Prelude.{◌≡◌, ◌<◌, ◌≤◌, IfOk, IfSome,
 ghost use Rattle.std.specs.List.{All};
 ghost use Rattle.std.specs.Io.KnownBytes.{Appends};
 ghost use Rattle.stream_files.specs.Texts.{written_text};
-ghost use Rattle.packet_edits.specs.Saved.{packets_of};
+ghost use Rattle.packet_edits.specs.Saved.{packets_of, padded_packets_of};
 ghost use Rattle.packet_edits.specs.Shown.{shown_indexes, stream_of};
 ghost use Rattle.state_cache.specs.Decoding.{outcomes};
 ghost use Rattle.state_cache.specs.Costs.{Costs};
@@ -329,6 +329,17 @@ impl Session {
         ensures { OnOk result (Appends (W.contents w.old) (W.contents w.new) (written_text self.now.now.head (packets_of (list_at self.now.now.lists 0)))) }
     {
         self.stores[0].save(w, self.head)
+    }
+
+    /// Writes the current packets of source 0 as [`save`](Session::save) does, with a byte 00 after each
+    /// packet whose last token partition is empty: it is decoded as before, and players that use libvpx
+    /// show it too. No memory is taken, and the session does not change.
+    ///
+    /// `Write` if the writer returns an error; part of the file may have been written.
+    pub fn save_padded<W: Write>(&self, w: &mut W) -> Result<(), WriteFault>
+        ensures { OnOk result (Appends (W.contents w.old) (W.contents w.new) (written_text self.now.now.head (padded_packets_of (list_at self.now.now.lists 0)))) }
+    {
+        self.stores[0].save_padded(w, self.head)
     }
 
     /// The number of trailing bytes after the last whole record of each file, of all files together.

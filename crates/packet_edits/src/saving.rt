@@ -1,12 +1,13 @@
 ghost use Rattle.std.specs.Prelude.{◌≡◌, OnOk, map};
 ghost use Rattle.std.specs.Io.KnownBytes.{Appends};
-ghost use Rattle.stream_files.specs.Texts.{records_text};
-ghost use Rattle.packet_edits.specs.Saved.{packet_of};
+ghost use Rattle.stream_files.specs.Texts.{record_text, records_text};
+ghost use Rattle.packet_edits.specs.Saved.{packet_of, padded_packet_of};
 
 use crate::entry::Entry;
 use chunked_list::ChunkedList;
+use frame_header::ends_empty;
 use std::io::Write;
-use stream_files::{WriteFault, ivf_packet};
+use stream_files::{WriteFault, ivf_packet, ivf_padded_packet};
 
 /// Writes the records of packets in sequence.
 pub(crate) fn write_records<W: Write>(
@@ -18,6 +19,31 @@ pub(crate) fn write_records<W: Write>(
     for i in 0..entries.len() {
         let entry = entries.get(i);
         ivf_packet(w, entry.stamp, entry.bytes.as_slice())?;
+    }
+    Ok(())
+}
+
+/// Writes the record of a packet, padded if its last token partition is empty.
+fn write_padded<W: Write>(w: &mut W, entry: &Entry) -> Result<(), WriteFault>
+    ensures { OnOk result (Appends (W.contents w.old) (W.contents w.new) (record_text (padded_packet_of entry.now))) }
+{
+    let bytes = entry.bytes.as_slice();
+    if ends_empty(bytes) {
+        ivf_padded_packet(w, entry.stamp, bytes)
+    } else {
+        ivf_packet(w, entry.stamp, bytes)
+    }
+}
+
+/// Writes the records of packets in sequence, padded if their last token partition is empty.
+pub(crate) fn write_padded_records<W: Write>(
+    w: &mut W,
+    entries: &ChunkedList<Entry>,
+) -> Result<(), WriteFault>
+    ensures { OnOk result (Appends (W.contents w.old) (W.contents w.new) (records_text (map padded_packet_of entries.now))) }
+{
+    for i in 0..entries.len() {
+        write_padded(w, entries.get(i))?;
     }
     Ok(())
 }

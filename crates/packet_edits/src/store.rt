@@ -10,7 +10,7 @@ use crate::fault::EditFault;
 use crate::flag_index::FlagIndex;
 use crate::marks::{mark, move_marked};
 use crate::packet_index::PacketIndex;
-use crate::saving::write_records;
+use crate::saving::{write_padded_records, write_records};
 use chunked_list::ChunkedList;
 use frame_header::key_size;
 use pixel_planes::NoMemory;
@@ -49,7 +49,7 @@ impl Store {
     ghost use Rattle.packet_edits.specs.Edits.{copied, deleted, inserted, pushed, refused_copy, refused_deletion, refused_id, refused_insertion, refused_move, refused_push, refused_replacement, replaced, starting, with_move};
     ghost use Rattle.packet_edits.specs.Laws.{HasOwnIds};
     ghost use Rattle.packet_edits.specs.Marks.{marked_at, marks_deleted, marks_inserted, marks_moved, marks_replaced, unmarked_at};
-    ghost use Rattle.packet_edits.specs.Saved.{packet_of, packets_of};
+    ghost use Rattle.packet_edits.specs.Saved.{packet_of, packets_of, padded_packets_of};
     ghost use Rattle.packet_edits.specs.Shown.{shown_indexes, stream_of};
     ghost use Rattle.packet_edits.specs.Nearest.{IsFirst, IsLast};
     ghost use Rattle.packet_edits.specs.FlagCounts.{flag_at};
@@ -437,6 +437,18 @@ impl Store {
     {
         ivf_start(w, head, self.len() as u32)?;
         write_records(w, &self.entries)
+    }
+
+    /// Writes the packets as an IVF file, as [`save`](Store::save) does, with a byte 00 after each packet
+    /// whose last token partition is empty. Decoding such a packet is the same with the byte, but players
+    /// that use libvpx do not show it without one. It allocates nothing.
+    ///
+    /// `Write` if the writer returns an error. How much was written is then not known.
+    pub fn save_padded<W: Write>(&self, w: &mut W, head: Head) -> Result<(), WriteFault>
+        ensures { OnOk result (Appends (W.contents w.old) (W.contents w.new) (written_text head (padded_packets_of self.now.list))) }
+    {
+        ivf_start(w, head, self.len() as u32)?;
+        write_padded_records(w, &self.entries)
     }
 }
 

@@ -12,6 +12,7 @@ pub mod Flat
 pub mod FlatFrames
 pub mod Behind
 pub mod Tagged
+pub mod Padded
 pub mod PutRows
 pub mod PlacedInPlanes
 pub mod Agree

@@ -9,7 +9,7 @@ ghost use Rattle.reference_frames.specs.References.{references_after};
 ghost use Rattle.reference_frames.specs.declared.references.References.{References};
 ghost use Rattle.reference_frames.specs.AboveRightLaws.{ReadsRowAbove, ReadsNextBlock, RepeatsFirstRow, ReadsNextMacroblock, RepeatsLastColumn};
 ghost use Rattle.reference_frames.specs.InterPrediction.{block_vector};
-ghost use Rattle.reference_frames.specs.StepLaws.{KeysStepFromNone};
+ghost use Rattle.reference_frames.specs.StepLaws.{KeysStepFromNone, PaddingKeepsSteps, ZerosKeepSteps};
 ghost use Rattle.reference_frames.specs.TokenLaws.{FirstRowsReadOneEach, RowsReadInTurn, KeepsOtherReaders, Y2GoesFirst, Y2KeepsOthers, NoY2KeepsAll};
 ghost use Rattle.reference_frames.specs.Worked.{mixed_vectors};
 ghost use Rattle.reference_frames.specs.UnfilteredLaws.{AreFlat, WritesOneBlock};
@@ -19,6 +19,17 @@ pub fn keys_step_from_none()
     ensures { KeysStepFromNone }
 {
     frame_header::laws::keys_take_no_context();
+}
+
+/// A byte 00 after a packet whose header is accepted changes nothing in its step: zeros follow the end of
+/// its last token partition anyway (RFC 6386, section 7). So padding a packet, as a save with padding does,
+/// changes nothing in its step, accepted or refused.
+pub fn zeros_keep_steps()
+    ensures zeros { ZerosKeepSteps }
+    ensures padding { PaddingKeepsSteps }
+{
+    frame_header::laws::zeros_keep_headers();
+    frame_header::laws::padding_keeps_headers();
 }
 
 /// References are copied before any is refreshed, and altref before golden (RFC 6386, section 9.7).

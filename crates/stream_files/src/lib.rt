@@ -11,7 +11,7 @@ mod records;
 mod y4m;
 
 pub use ivf::{EMPTY, Head, Ivf, IvfFault, ivf_read};
-pub use ivf_writing::{ivf_packet, ivf_start};
+pub use ivf_writing::{ivf_packet, ivf_padded_packet, ivf_start};
 pub use packets::{Bytes, MAX_PACKETS, Packet, Packets};
 pub use reading::{ReadFault, read_all};
 pub use y4m::{WriteFault, y4m_frame, y4m_header};

@@ -1,5 +1,5 @@
 -- Which command lines are accepted.
-use Rattle.std.specs.Prelude.{◌≡◌, ◌≢◌, ◌⊎◌, ℕ, ◌<◌, ◌≤◌, ◌==◌, Bool, false, nat_eq, List, [], ◌∷◌, ◌++◌, length, map, All, Contains, Option, Some, None, option_map, codes, if◌then◌else◌}
+use Rattle.std.specs.Prelude.{◌≡◌, ◌≢◌, ◌⊎◌, ℕ, ◌<◌, ◌≤◌, ◌==◌, Bool, true, false, ◌&&◌, is_none, nat_eq, List, [], ◌∷◌, ◌++◌, length, map, All, Contains, Option, Some, None, option_map, codes, if◌then◌else◌}
 use Rattle.std.specs.Cmp.Lexicographic.{pointwise}
 use Rattle.std.specs.Borrow.{Bor}
 use Rattle.std.specs.List.{slice_split, starts_with}
@@ -93,10 +93,15 @@ IsFileFault words read (faults.NamedTwice same) = IsNamedTwice words read same
 IsFileFault words read faults.NoMemory = Unit {0}
 IsFileFault words read _ = ⊥
 
+-- packets are to be padded, but not saved
+abbrev pub pads_nothing : Words → Bool
+pads_nothing words = words.pads && is_none words.saved
+
 -- the command line is accepted, with this number of cached states and these paths of sources
 pub record IsAccepted (given : Words) (line : Accepted) : Type 0 where
   pub words : line.words ≡ given
   pub capacity : capacity_given given.cache ≡ Some line.capacity
+  pub pads : pads_nothing given ≡ false
   pub more : names_of line.more.items ≡ more_paths given
   pub paths : ArePaths (more_paths given)
   pub apart : AreApart given (read_files given (more_paths given))
@@ -107,7 +112,7 @@ source_names line = line.words.stream.now ∷ names_of line.more.items
 
 -- why the command line is not accepted
 abbrev pub IsMistake : Words → Fault → Type 0
-IsMistake words faults.CommandLine = (capacity_given words.cache ≡ None) ⊎ AreNoPaths (more_paths words)
+IsMistake words faults.CommandLine = (capacity_given words.cache ≡ None) ⊎ (pads_nothing words ≡ true) ⊎ AreNoPaths (more_paths words)
 IsMistake words (faults.NamedTwice same) = IsNamedTwice words (read_files words (more_paths words)) same
 IsMistake words faults.NoMemory = Unit {0}
 IsMistake words _ = ⊥

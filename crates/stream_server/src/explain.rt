@@ -37,6 +37,10 @@ fn explain_in<R: Files + AllocGlobal, E: Write>(
     messages: &mut Messages<'_, E>,
 ) -> io::Result<()> {
     match fault {
+        Fault::CommandLine if words.pads_nothing() => writeln!(
+            messages.errors,
+            "--pad is for the packets of --save: name a file for them by --save FILE"
+        ),
         Fault::CommandLine => writeln!(
             messages.errors,
             "--sources takes 1 to 7 paths, none of them empty: try vp8serve --help"

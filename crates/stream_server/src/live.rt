@@ -163,7 +163,7 @@ pub fn answer_live<'a, R: Files + AllocGlobal, I: Read, O: Write, E: Write>(
         output,
         messages,
     )?;
-    save_to_path(rt, &session, line.words.saved, messages)?;
+    save_to_path(rt, &session, line.words, messages)?;
     end(&session, line, slices.as_slice(), messages);
     Ok(())
 }

@@ -16,7 +16,7 @@ use crate::files::Argument;
 use crate::live::answer_live;
 use crate::messages::Messages;
 use crate::sources::{read_requests, read_sources, read_tables, slices_of};
-use crate::words::{self, Accepted, NO_FILE};
+use crate::words::{self, Accepted, NO_FILE, Words};
 use clap::error::ErrorKind;
 use frame_session::{Observer, Session, Settings, run_observed};
 use std::alloc::Global;
@@ -127,29 +127,36 @@ fn run_to_path<R: Files + AllocGlobal, P: Write, E: Write>(
     )
 }
 
-/// Writes the current packets of source 0 through a buffer, and flushes it.
+/// Writes the current packets of source 0, padded if that is asked for, through a buffer, and flushes
+/// it.
 pub fn save_to<W: Write + Drop>(
     session: &Session,
+    pads: bool,
     w: &mut BufWriter<W>,
 ) -> Result<(), Fault<'static>>
-    ensures saved { OnOk result (Appends (writer_contents W.contents w.old) (writer_contents W.contents w.new) (saved_text session.now.now)) }
+    ensures saved { OnOk result (Appends (writer_contents W.contents w.old) (writer_contents W.contents w.new) (saved_text pads session.now.now)) }
     ensures flushed { OnOk result (writer_buffer w.new ≡ []) }
     ensures fault { IfErr result (λ fault. fault ≡ Fault.CannotWrite) }
 {
-    session.save(w).map_err(|_| Fault::CannotWrite)?;
+    let saved = if pads {
+        session.save_padded(w)
+    } else {
+        session.save(w)
+    };
+    saved.map_err(|_| Fault::CannotWrite)?;
     w.flush().map_err(|_| Fault::CannotWrite)
 }
 
-/// The same to the file at `path`, which is created now, if one is given.
+/// The same to the file of `--save`, which is created now, if the arguments name one.
 pub fn save_to_path<R: Files + AllocGlobal, E: Write>(
     rt: &R,
     session: &Session,
-    path: Option<&str>,
+    words: Words<'_>,
     messages: &mut Messages<'_, E>,
 ) -> Result<(), Fault<'static>>
     ensures { IfErr result IsSaveFault }
 {
-    let Some(path) = path else {
+    let Some(path) = words.saved else {
         return Ok(());
     };
     messages.writes = Argument::Save;
@@ -160,7 +167,7 @@ pub fn save_to_path<R: Files + AllocGlobal, E: Write>(
     let mut saved = BufWriter::with_capacity(rt.alloc(), BYTES_AT_ONCE, file).map_err(
         |_| Fault::NoMemory,
     )?;
-    save_to(session, &mut saved)
+    save_to(session, words.pads, &mut saved)
 }
 
 /// Reports the number of trailing bytes of all sources, if there are any.
@@ -253,7 +260,7 @@ fn answer_inputs<R: Files + AllocGlobal, O: Write, E: Write>(
         output,
         messages,
     )?;
-    save_to_path(rt, &session, line.words.saved, messages)?;
+    save_to_path(rt, &session, line.words, messages)?;
     end(&session, line, slices.as_slice(), messages);
     Ok(())
 }

@@ -3,7 +3,7 @@ ghost use Rattle.std.specs.Prelude.{◌≡◌, ◌≤◌, ◌==◌, IfErr, IfOk,
 ghost use Rattle.std.specs.List.{slice_split};
 ghost use Rattle.clap.specs.Matches.{first_value, found_of};
 ghost use Rattle.stream_server.specs.Capacities.{capacity_given};
-ghost use Rattle.stream_server.specs.CommandLines.{AreNoPaths, ArePaths, IsAccepted, IsMistake, names_of, paths_in};
+ghost use Rattle.stream_server.specs.CommandLines.{AreNoPaths, ArePaths, IsAccepted, IsMistake, names_of, pads_nothing, paths_in};
 
 use crate::fault::Fault;
 use crate::files::check_files;
@@ -46,6 +46,8 @@ pub struct Words<'a> {
     pub tables: Option<&'a str>,
     /// The file for the packets after the run, if given.
     pub saved: Option<&'a str>,
+    /// Whether saved packets whose last token partition is empty are padded.
+    pub pads: bool,
     /// Whether each request line is answered as it comes.
     pub is_live: bool,
     /// Whether refusals and errors are explained.
@@ -64,6 +66,13 @@ impl Words<'_> {
             Some(count) if 1 <= count && count <= 4_096 => Some(count),
             Some(_) => None,
         }
+    }
+
+    /// Whether packets are to be padded, but not saved.
+    pub fn pads_nothing(self) -> bool
+        ensures { result ≡ pads_nothing self.entry }
+    {
+        self.pads && self.saved.is_none()
     }
 }
 
@@ -114,8 +123,8 @@ fn check_paths(paths: &[&str]) -> Result<(), Fault<'static>>
 impl<'a> Words<'a> {
     /// Checks the command line before any file is read.
     ///
-    /// `CommandLine` if the number of cached states is not 1 to 4,096, if `--sources` has more than seven
-    /// paths, or an empty one; `NamedTwice` if OUT or the file of `--save` is the file of another argument;
+    /// `CommandLine` if the number of cached states is not 1 to 4,096, if `--pad` is given without `--save`,
+    /// if `--sources` has more than seven paths, or an empty one; `NamedTwice` if OUT or the file of `--save` is the file of another argument;
     /// `NoMemory`. Paths under `/dev/` may be named twice.
     pub fn accept(self, alloc: Global) -> Result<Accepted<'a>, Fault<'a>>
         ensures accepted { IfOk result (IsAccepted self.entry) }
@@ -126,6 +135,9 @@ impl<'a> Words<'a> {
         let Some(capacity) = self.capacity() else {
             return Err(Fault::CommandLine);
         };
+        if self.pads_nothing() {
+            return Err(Fault::CommandLine);
+        }
         let more = paths_in(alloc, self.sources).map_err(|_| Fault::NoMemory)?;
         check_paths(more.as_slice())?;
         check_files(alloc, self, more.as_slice())?;
@@ -245,6 +257,11 @@ fn with_files<'a>(alloc: Global, command: Command<'a>) -> Result<Command<'a>, Al
             "save",
             "FILE",
             "IVF file for the packets of IN after the last request",
+        ))?
+        .arg(flag(
+            alloc,
+            "pad",
+            "With --save: a byte 00 after packets that other players do not show",
         ))
 }
 
@@ -270,6 +287,7 @@ fn words_of<'a>(matches: &ArgMatches<'a>) -> Words<'a> {
         cache: matches.get_one::<u16>("cache"),
         tables: matches.get_str("tables"),
         saved: matches.get_str("save"),
+        pads: matches.get_flag("pad"),
         is_live: matches.get_flag("live"),
         explains: matches.get_flag("explain"),
     }
