@@ -2,14 +2,13 @@
 use Rattle.std.specs.Prelude.{ℕ, Bool, if◌then◌else◌, List, [], ◌∷◌, ◌++◌, codes, Option, Some, None, Result, Ok, Err}
 use Rattle.std.specs.List.{flat_map}
 use Rattle.std.specs.Fmt.{decimal}
-use Rattle.vp8_tables.specs.Tables.{TableEntries}
 use Rattle.stream_files.specs.declared.packets.Packet.{Packet}
 use Rattle.frame_header.specs.declared.cause.Cause.{Cause}
 use Rattle.frame_header.specs.declared.references.Reference.{Reference}
 use Rattle.frame_header.specs.declared.references.Reference.TheVariants.{Last, Golden, Altref}
 use Rattle.frame_header.specs.declared.references.ReferenceUpdates.{ReferenceUpdates}
 use Rattle.frame_header.specs.declared.tag_fields.Tag.{Tag}
-use Rattle.stream_facts.specs.declared.facts.HeaderFacts.{HeaderFacts}
+use Rattle.frame_header.specs.declared.outline.Outline.{Outline}
 use Rattle.stream_facts.specs.declared.facts.Facts.{Facts}
 use Rattle.stream_facts.specs.Facts.{facts_in}
 use Rattle.stream_facts.specs.Lines.{cause_text}
@@ -71,18 +70,18 @@ abbrev pub reference_members : ReferenceUpdates → List ℕ
 reference_members updates = member (codes "last") (update_value updates.refreshes_last None) ++ member (codes "golden") (update_value updates.refreshes_golden updates.golden_copy) ++ member (codes "altref") (update_value updates.refreshes_altref updates.altref_copy)
 
 -- token partitions, quantizer index, filter level, and references
-abbrev pub field_members : HeaderFacts → List ℕ
+abbrev pub field_members : Outline → List ℕ
 field_members fields = number_member (codes "partitions") fields.partitions ++ number_member (codes "quantizer") fields.quantizer ++ number_member (codes "level") fields.level ++ reference_members fields.references
 
 abbrev pub no_fields : List ℕ
 no_fields = codes "\"partitions\":null,\"quantizer\":null,\"level\":null,\"last\":null,\"golden\":null,\"altref\":null,"
 
-abbrev pub some_fields : Option HeaderFacts → List ℕ
+abbrev pub some_fields : Option Outline → List ℕ
 some_fields None = no_fields
 some_fields (Some fields) = field_members fields
 
 -- the fields of the header, and the cause if it is refused
-abbrev pub header_members : Result (Option HeaderFacts) Cause → List ℕ
+abbrev pub header_members : Result (Option Outline) Cause → List ℕ
 header_members (Ok fields) = some_fields fields ++ codes "\"cause\":null"
 header_members (Err cause) = no_fields ++ codes "\"cause\":\"" ++ cause_text cause ++ codes "\""
 
@@ -90,5 +89,5 @@ abbrev pub object_of : Facts → List ℕ
 object_of facts = codes "{" ++ place_members facts ++ tag_members facts ++ size_members facts ++ header_members facts.header ++ codes "}\n"
 
 -- the objects of a stream's packets, a line each
-abbrev pub objects_of : TableEntries → List Packet → List ℕ
-objects_of tables packets = flat_map object_of (facts_in tables packets)
+abbrev pub objects_of : List Packet → List ℕ
+objects_of packets = flat_map object_of (facts_in packets)

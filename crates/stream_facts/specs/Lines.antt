@@ -2,7 +2,6 @@
 use Rattle.std.specs.Prelude.{ℕ, Bool, if◌then◌else◌, List, [], ◌∷◌, ◌++◌, codes, map, Option, Some, None, Result, Ok, Err}
 use Rattle.std.specs.List.{flat_map}
 use Rattle.std.specs.Fmt.{decimal}
-use Rattle.vp8_tables.specs.Tables.{TableEntries}
 use Rattle.stream_files.specs.declared.packets.Packet.{Packet}
 use Rattle.frame_header.specs.Cause.{cause_word}
 use Rattle.frame_header.specs.declared.cause.Cause.{Cause}
@@ -11,7 +10,7 @@ use Rattle.frame_header.specs.declared.references.Reference.{Reference}
 use Rattle.frame_header.specs.declared.references.Reference.TheVariants.{Last, Golden, Altref}
 use Rattle.frame_header.specs.declared.references.ReferenceUpdates.{ReferenceUpdates}
 use Rattle.frame_header.specs.declared.tag_fields.Tag.{Tag}
-use Rattle.stream_facts.specs.declared.facts.HeaderFacts.{HeaderFacts}
+use Rattle.frame_header.specs.declared.outline.Outline.{Outline}
 use Rattle.stream_facts.specs.declared.facts.Facts.{Facts}
 use Rattle.stream_facts.specs.Facts.{facts_in}
 
@@ -80,7 +79,7 @@ abbrev pub reference_columns : ReferenceUpdates → List ℕ
 reference_columns updates = update_column updates.refreshes_last None ++ update_column updates.refreshes_golden updates.golden_copy ++ update_column updates.refreshes_altref updates.altref_copy
 
 -- token partitions, quantizer index, filter level, and references
-abbrev pub field_columns : HeaderFacts → List ℕ
+abbrev pub field_columns : Outline → List ℕ
 field_columns fields = number fields.partitions ++ number fields.quantizer ++ number fields.level ++ reference_columns fields.references
 
 -- the cause, with the number of the partition if it has one
@@ -89,7 +88,7 @@ cause_text (causes.TokenPartition k) = codes "TokenPartition " ++ decimal k
 cause_text cause = cause_word cause
 
 -- the fields of the header, and the cause if it is refused
-abbrev pub header_columns : Result (Option HeaderFacts) Cause → List ℕ
+abbrev pub header_columns : Result (Option Outline) Cause → List ℕ
 header_columns (Ok (Some fields)) = field_columns fields ++ codes "-\n"
 header_columns (Ok None) = codes "-\t-\t-\t-\t-\t-\t-\n"
 header_columns (Err cause) = codes "-\t-\t-\t-\t-\t-\t" ++ cause_text cause ++ codes "\n"
@@ -98,5 +97,5 @@ abbrev pub line_of : Facts → List ℕ
 line_of facts = place_columns facts ++ tag_columns facts ++ size_columns facts ++ header_columns facts.header
 
 -- the list of a stream: the names of the columns, and a line a packet
-abbrev pub listing_of : TableEntries → List Packet → List ℕ
-listing_of tables packets = head_line ++ flat_map line_of (facts_in tables packets)
+abbrev pub listing_of : List Packet → List ℕ
+listing_of packets = head_line ++ flat_map line_of (facts_in packets)

@@ -4,12 +4,11 @@ ghost use Rattle.std.specs.Prelude.{◌≡◌, OnOk, codes};
 ghost use Rattle.std.specs.Io.KnownBytes.{Appends};
 ghost use Rattle.stream_facts.specs.Json.{copy_value, field_members, first_of, header_members, kind_value, member, number_member, object_of, objects_of, optional_member, place_members, reference_members, show_value, size_member, size_members, some_fields, tag_members, update_value, version_of};
 
-use crate::facts::{Facts, HeaderFacts, Position};
+use crate::facts::{Facts, Position};
 use crate::lines::{write_cause, write_text};
-use frame_header::{Cause, Reference, ReferenceUpdates, Tag};
+use frame_header::{Cause, Outline, Reference, ReferenceUpdates, Tag};
 use std::io::Write;
 use stream_files::{Packet, WriteFault};
-use vp8_tables::Tables;
 
 const NO_FIELDS: &str =
     "\"partitions\":null,\"quantizer\":null,\"level\":null,\"last\":null,\"golden\":null,\"altref\":null,";
@@ -153,7 +152,7 @@ fn write_references<W: Write>(w: &mut W, updates: ReferenceUpdates) -> Result<()
     write_member(w, "altref", altref)
 }
 
-fn write_fields<W: Write>(w: &mut W, fields: HeaderFacts) -> Result<(), WriteFault>
+fn write_fields<W: Write>(w: &mut W, fields: Outline) -> Result<(), WriteFault>
     ensures { OnOk result (Appends (W.contents w.old) (W.contents w.new) (field_members fields)) }
 {
     write_number(w, "partitions", fields.partitions as u64)?;
@@ -162,7 +161,7 @@ fn write_fields<W: Write>(w: &mut W, fields: HeaderFacts) -> Result<(), WriteFau
     write_references(w, fields.references)
 }
 
-fn write_some_fields<W: Write>(w: &mut W, fields: Option<HeaderFacts>) -> Result<(), WriteFault>
+fn write_some_fields<W: Write>(w: &mut W, fields: Option<Outline>) -> Result<(), WriteFault>
     ensures { OnOk result (Appends (W.contents w.old) (W.contents w.new) (some_fields fields)) }
 {
     match fields {
@@ -173,7 +172,7 @@ fn write_some_fields<W: Write>(w: &mut W, fields: Option<HeaderFacts>) -> Result
 
 fn write_header<W: Write>(
     w: &mut W,
-    header: Result<Option<HeaderFacts>, Cause>,
+    header: Result<Option<Outline>, Cause>,
 ) -> Result<(), WriteFault>
     ensures { OnOk result (Appends (W.contents w.old) (W.contents w.new) (header_members header)) }
 {
@@ -204,16 +203,12 @@ fn write_object<W: Write>(w: &mut W, facts: Facts) -> Result<(), WriteFault>
 }
 
 /// Writes a line for each packet, a JSON object with its facts. Only headers are read.
-pub fn write_objects<W: Write>(
-    w: &mut W,
-    tables: &Tables,
-    packets: &[Packet],
-) -> Result<(), WriteFault>
-    ensures { OnOk result (Appends (W.contents w.old) (W.contents w.new) (objects_of tables.now packets.now)) }
+pub fn write_objects<W: Write>(w: &mut W, packets: &[Packet]) -> Result<(), WriteFault>
+    ensures { OnOk result (Appends (W.contents w.old) (W.contents w.new) (objects_of packets.now)) }
 {
     let mut position = Position::first();
     for packet in packets {
-        let facts = position.next(tables, packet);
+        let facts = position.next(packet);
         write_object(w, facts)?;
     }
     Ok(())

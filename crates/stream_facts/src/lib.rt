@@ -5,10 +5,8 @@ mod facts;
 mod json;
 mod lines;
 mod listing;
-#[cfg(test)]
-mod tests;
 
-pub use facts::{Facts, HeaderFacts, Position};
+pub use facts::{Facts, Position};
 pub use json::write_objects;
 pub use lines::{write_cause, write_text};
 pub use listing::write_listing;

@@ -4,8 +4,8 @@ ghost use Rattle.std.specs.Prelude.{◌≡◌, OnOk};
 ghost use Rattle.std.specs.Io.KnownBytes.{Appends};
 ghost use Rattle.stream_facts.specs.Lines.{cause_text, copy_column, field_columns, first_column, frame_column, header_columns, kind_column, line_of, place_columns, reference_columns, show_column, size_column, size_columns, tag_columns, update_column, version_column};
 
-use crate::facts::{Facts, HeaderFacts};
-use frame_header::{Cause, Reference, ReferenceUpdates, Tag};
+use crate::facts::Facts;
+use frame_header::{Cause, Outline, Reference, ReferenceUpdates, Tag};
 use std::io::Write;
 use stream_files::WriteFault;
 
@@ -132,10 +132,10 @@ fn write_references<W: Write>(w: &mut W, updates: ReferenceUpdates) -> Result<()
     write_text(w, update_of(updates.refreshes_altref, updates.altref_copy))
 }
 
-fn write_fields<W: Write>(w: &mut W, fields: HeaderFacts) -> Result<(), WriteFault>
+fn write_fields<W: Write>(w: &mut W, fields: Outline) -> Result<(), WriteFault>
     ensures { OnOk result (Appends (W.contents w.old) (W.contents w.new) (field_columns fields)) }
 {
-    let HeaderFacts {
+    let Outline {
         partitions,
         quantizer,
         level,
@@ -159,7 +159,7 @@ pub fn write_cause<W: Write>(w: &mut W, cause: Cause) -> Result<(), WriteFault>
 
 fn write_header<W: Write>(
     w: &mut W,
-    header: Result<Option<HeaderFacts>, Cause>,
+    header: Result<Option<Outline>, Cause>,
 ) -> Result<(), WriteFault>
     ensures { OnOk result (Appends (W.contents w.old) (W.contents w.new) (header_columns header)) }
 {

@@ -8,7 +8,6 @@ use crate::facts::Position;
 use crate::lines::{write_line, write_text};
 use std::io::Write;
 use stream_files::{Packet, WriteFault};
-use vp8_tables::Tables;
 
 /// The names of the columns.
 const HEAD: &str =
@@ -16,17 +15,13 @@ const HEAD: &str =
 
 /// Writes a line with the names of the columns, and a line for each packet with its facts. Only
 /// headers are read.
-pub fn write_listing<W: Write>(
-    w: &mut W,
-    tables: &Tables,
-    packets: &[Packet],
-) -> Result<(), WriteFault>
-    ensures { OnOk result (Appends (W.contents w.old) (W.contents w.new) (listing_of tables.now packets.now)) }
+pub fn write_listing<W: Write>(w: &mut W, packets: &[Packet]) -> Result<(), WriteFault>
+    ensures { OnOk result (Appends (W.contents w.old) (W.contents w.new) (listing_of packets.now)) }
 {
     write_text(w, HEAD)?;
     let mut position = Position::first();
     for packet in packets {
-        let facts = position.next(tables, packet);
+        let facts = position.next(packet);
         write_line(w, facts)?;
     }
     Ok(())

@@ -1,7 +1,6 @@
 -- What the program writes for the bytes of a file.
 use Rattle.std.specs.Prelude.{◌≡◌, ℕ, List, Option}
 use Rattle.std.specs.Io.KnownBytes.{Appends}
-use Rattle.vp8_tables.specs.Tables.{TableEntries}
 use Rattle.stream_files.specs.declared.ivf.Ivf.{Ivf}
 use Rattle.stream_files.specs.Ivf.{IsIvf, IvfRefuses}
 use Rattle.stream_facts.specs.Lines.{listing_of}
@@ -9,10 +8,10 @@ use Rattle.vp8list.specs.declared.fault.Fault.{Fault}
 use Rattle.vp8list.specs.declared.fault.Fault.TheVariants.{CommandLine, CannotRead, TooLong, Tables, Input, CannotWrite, NoMemory}
 
 -- the bytes are an IVF file, and the output gained the list of its packets
-pub record IsListed (tables : TableEntries) (bytes : List ℕ) (output output' : Option (List ℕ)) : Type 0 where
+pub record IsListed (bytes : List ℕ) (output output' : Option (List ℕ)) : Type 0 where
   pub file : Ivf
   pub read : IsIvf bytes file
-  pub listed : Appends output output' (listing_of tables file.packets)
+  pub listed : Appends output output' (listing_of file.packets)
 
 -- why it did not: the bytes are not an IVF file, and then nothing was written, or the writer returned an error
 abbrev pub IsListFault : List ℕ → Option (List ℕ) → Option (List ℕ) → Fault → Type 0

@@ -8,23 +8,21 @@ use std::alloc::Global;
 use std::io::Write;
 use stream_facts::write_objects;
 use stream_files::ivf_read;
-use vp8_tables::Tables;
 
 /// Writes a JSON object for each packet of an IVF file, and flushes the writer.
 pub fn objects_to<O: Write>(
     alloc: Global,
-    tables: &Tables,
     bytes: &[u8],
     output: &mut O,
 ) -> Result<(), Fault<'static>>
-    ensures listed { OnOk result (IsListedAsJson tables.now bytes.now (O.contents output.old) (O.contents output.new)) }
+    ensures listed { OnOk result (IsListedAsJson bytes.now (O.contents output.old) (O.contents output.new)) }
     ensures fault { IfErr result (IsListFault bytes.now (O.contents output.old) (O.contents output.new)) }
 {
     let file = match ivf_read(alloc, bytes) {
         Ok(file) => file,
         Err(fault) => return Err(Fault::Input(fault)),
     };
-    let Ok(()) = write_objects(output, tables, file.packets.as_slice()) else {
+    let Ok(()) = write_objects(output, file.packets.as_slice()) else {
         return Err(Fault::CannotWrite);
     };
     let Ok(()) = output.flush() else {

@@ -53,18 +53,17 @@ fn help_or_fault<O: Write>(error: clap::Error, output: &mut O) -> Result<(), Fau
 /// Writes the list of the packets of an IVF file, and flushes the writer.
 pub fn list_to<O: Write>(
     alloc: Global,
-    tables: &Tables,
     bytes: &[u8],
     output: &mut O,
 ) -> Result<(), Fault<'static>>
-    ensures listed { OnOk result (IsListed tables.now bytes.now (O.contents output.old) (O.contents output.new)) }
+    ensures listed { OnOk result (IsListed bytes.now (O.contents output.old) (O.contents output.new)) }
     ensures fault { IfErr result (IsListFault bytes.now (O.contents output.old) (O.contents output.new)) }
 {
     let file = match ivf_read(alloc, bytes) {
         Ok(file) => file,
         Err(fault) => return Err(Fault::Input(fault)),
     };
-    let Ok(()) = write_listing(output, tables, file.packets.as_slice()) else {
+    let Ok(()) = write_listing(output, file.packets.as_slice()) else {
         return Err(Fault::CannotWrite);
     };
     let Ok(()) = output.flush() else {
@@ -96,8 +95,8 @@ fn answer_line<'a, R: Files + AllocGlobal, S: AsStr, O: Write>(
     match kind {
         Output::Findings => return check_to(rt.alloc(), &tables, bytes.as_slice(), output),
         Output::Hashes => hash_to(rt.alloc(), &tables, bytes.as_slice(), output)?,
-        Output::Objects => objects_to(rt.alloc(), &tables, bytes.as_slice(), output)?,
-        Output::List => list_to(rt.alloc(), &tables, bytes.as_slice(), output)?,
+        Output::Objects => objects_to(rt.alloc(), bytes.as_slice(), output)?,
+        Output::List => list_to(rt.alloc(), bytes.as_slice(), output)?,
     }
     Ok(0)
 }

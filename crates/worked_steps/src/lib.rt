@@ -1,9 +1,11 @@
-//! Worked steps: the state and picture after a packet, what forged packets decode to, and the MD5s of a clip's frames.
+//! Worked steps: the state and picture after a packet, what forged packets decode to, the MD5s of a clip's frames, and the list of packets.
 #![tactic(auto)]
 
 #[cfg(test)]
 mod forged;
 #[cfg(test)]
 mod hashes;
+#[cfg(test)]
+mod listing;
 #[cfg(test)]
 mod states;

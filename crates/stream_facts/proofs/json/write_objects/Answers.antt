@@ -11,7 +11,6 @@ use Rattle.stream_facts.proofs.json.write_objects.Goals as goal
 
 pub loop-packet-preserved : goal.loop-packet-preserved
 loop-packet-preserved g c =
-    let tables = c.args.tables.now in
     let position : Position = c.loop-packet.position in
     let done = c.loop-packet.invariant.done in
     let packet = c.packet-item.result in
@@ -20,8 +19,8 @@ loop-packet-preserved g c =
     record {
       done = done ++ object_of c.next-facts.result;
       whole = rw (c.next-facts.ensures.facts, c.next-facts.ensures.after)
-          (append_assoc done (object_of (facts_of tables position packet)) (flat_map object_of (facts_from tables (position_after tables position packet) rest))
-          ∙ ap (λ (packets : List Packet). done ++ flat_map object_of (facts_from tables position packets)) (sym at)
+          (append_assoc done (object_of (facts_of position packet)) (flat_map object_of (facts_from (position_after position packet) rest))
+          ∙ ap (λ (packets : List Packet). done ++ flat_map object_of (facts_from position packets)) (sym at)
           ∙ c.loop-packet.invariant.whole);
       said = Appends-trans _ _ _ _ _ c.loop-packet.invariant.said c.in_ok-write_object.ensures;
       packets = ap (λ (p : Position). p.packets) c.next-facts.ensures.after ∙ ap (λ (n : ℕ). n + 1) c.loop-packet.invariant.packets;
@@ -32,6 +31,6 @@ pub returns : goal.returns
 returns g c =
     let done = c.loop-packet.invariant.done in
     let all : drop c.loop-packet.packet-index c.args.packets.now ≡ [] = drop_all c.loop-packet.packet-index c.args.packets.now (omega (arith, c.loop-packet-test.false)) in
-    let whole : done ≡ objects_of c.args.tables.now c.args.packets.now =
-    sym (append-nil done) ∙ ap (λ (packets : List Packet). done ++ flat_map object_of (facts_from c.args.tables.now c.loop-packet.position packets)) (sym all) ∙ c.loop-packet.invariant.whole in
+    let whole : done ≡ objects_of c.args.packets.now =
+    sym (append-nil done) ∙ ap (λ (packets : List Packet). done ++ flat_map object_of (facts_from c.loop-packet.position packets)) (sym all) ∙ c.loop-packet.invariant.whole in
     subst (λ (text : List ℕ). Appends (g.W.Write.contents c.args.w.now) (g.W.Write.contents c.loop-packet.w) text) whole c.loop-packet.invariant.said

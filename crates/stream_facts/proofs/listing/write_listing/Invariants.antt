@@ -8,7 +8,7 @@ use Rattle.stream_facts.proofs.listing.write_listing.Given as goal
 abbrev pub invariant-loop-packet : goal.invariant-loop-packet
 invariant-loop-packet g l = record {
   done : List ℕ;
-  whole : done ++ flat_map line_of (facts_from l.tables l.position (drop l.packet-index l.packets)) ≡ listing_of l.tables l.packets;
+  whole : done ++ flat_map line_of (facts_from l.position (drop l.packet-index l.packets)) ≡ listing_of l.packets;
   said : Appends (g.W.Write.contents l.fn.w) (g.W.Write.contents l.w) done;
   packets : l.position.packets ≡ l.packet-index;
   frames : l.position.frames ≤ l.position.packets;

@@ -10,6 +10,6 @@ returns-clause-listed g c = record {
   file = c.in-Ok.file;
   read = c.in-Ok.ensures;
   listed =
-      let grown : List Packet → Type 0 = λ packets. Appends (g.O.Write.contents c.args.output.now) (g.O.Write.contents c.write_objects.new.w) (objects_of c.args.tables.now packets) in
+      let grown : List Packet → Type 0 = λ packets. Appends (g.O.Write.contents c.args.output.now) (g.O.Write.contents c.write_objects.new.w) (objects_of packets) in
       Appends-kept _ _ _ _ (subst grown c.as_slice.ensures c.in-Ok-write_objects.ensures) c.in-Ok-flush.ensures.bytes;
 }

@@ -1,9 +1,8 @@
-use crate::write_listing;
 use std::alloc::Global;
 use std::process::Abort;
 use std::test::Fail;
+use stream_facts::write_listing;
 use stream_files::{Bytes, Packet};
-use vp8_tables::Tables;
 
 const HEAD: &str =
     "packet\tframe\tstamp\tbytes\tkind\tshow\tversion\tsize\tfirst\tpartitions\tquantizer\tlevel\tlast\tgolden\taltref\tcause\n";
@@ -23,7 +22,7 @@ fn packets_of(alloc: Global, texts: &[&[u8]]) -> Result<Vec<Packet>, Fail> {
 fn expect_lines(rt: &impl Abort, alloc: Global, texts: &[&[u8]], lines: &str) -> Result<(), Fail> {
     let packets = packets_of(alloc, texts)?;
     let mut output = Vec::new(alloc);
-    write_listing(&mut output, &Tables::rfc(), packets.as_slice())?;
+    write_listing(&mut output, packets.as_slice())?;
     let text = str::from_utf8(output.as_slice())?;
     assert_eq!(rt; text.strip_prefix(HEAD), Some(lines));
     Ok(())
