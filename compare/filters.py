@@ -1,6 +1,6 @@
 #!/usr/bin/env python3
 """A plain loop filter, line by line as RFC 6386, section 15, has it, without segments and changes of the level. Prints
-the totals of the planes of the frames that the tests of `loop_filter` hold theirs against.
+the totals of the planes of the frames with which `crates/worked_blocks/src/filters.rt` compares its own.
 
 Run by hand: filters.py
 """
@@ -8,15 +8,35 @@ Run by hand: filters.py
 COLUMNS, ROWS = 3, 2
 WITH_TOKENS = [True, False, True, False, False, True]
 
-# whether the frame is a key frame, whether its filter is the simple one, level, sharpness, and how many values the samples have
+# whether the frame is a key frame, whether its filter is the simple one, level, sharpness, the least sample, and how many values the
+# samples have
 FRAMES = [
-    (False, False, 0, 0, 32),
-    (False, False, 44, 3, 12),
-    (False, False, 15, 0, 5),
-    (True, False, 44, 0, 32),
-    (True, False, 16, 6, 5),
-    (False, True, 9, 0, 32),
-    (True, True, 30, 7, 32),
+    (False, False, 0, 0, 100, 32),
+    (False, False, 44, 3, 100, 12),
+    (False, False, 15, 0, 100, 5),
+    (True, False, 44, 0, 100, 32),
+    (True, False, 16, 6, 100, 5),
+    (False, True, 9, 0, 100, 32),
+    (True, True, 30, 7, 100, 32),
+    # each sharpness, at levels on both sides of each threshold of high edge variance
+    (True, False, 14, 0, 100, 8),
+    (True, False, 15, 1, 100, 8),
+    (True, False, 39, 2, 100, 12),
+    (True, False, 40, 3, 100, 8),
+    (True, False, 63, 4, 100, 8),
+    (False, False, 14, 5, 100, 6),
+    (False, False, 19, 6, 100, 6),
+    (False, False, 20, 7, 100, 6),
+    (False, False, 39, 0, 100, 40),
+    (False, False, 63, 0, 100, 60),
+    (False, True, 1, 0, 100, 4),
+    (True, True, 63, 5, 100, 90),
+    # samples of any value, most of them clamped
+    (True, False, 63, 0, 0, 256),
+    (False, False, 63, 0, 0, 256),
+    (True, True, 63, 0, 0, 256),
+    (True, False, 63, 0, 200, 56),
+    (True, False, 63, 0, 0, 40),
 ]
 
 
@@ -125,11 +145,11 @@ def filter_frame(planes, is_key, is_simple, level, sharpness, with_inner):
                 filter_edge(s, start, y, side, stride, 1)
 
 
-def filled(count, seed, values):
+def filled(count, seed, least, values):
     samples = []
     for _ in range(count):
         seed = (seed * 1103515245 + 12345) % 2**32
-        samples.append(100 + (seed >> 16) % values)
+        samples.append(least + (seed >> 16) % values)
     return samples
 
 
@@ -141,11 +161,11 @@ def total(samples):
 
 
 def main():
-    for is_key, is_simple, level, sharpness, values in FRAMES:
+    for is_key, is_simple, level, sharpness, least, values in FRAMES:
         count = COLUMNS * ROWS * 64
-        planes = [filled(4 * count, 1, values), filled(count, 2, values), filled(count, 3, values)]
+        planes = [filled(4 * count, 1, least, values), filled(count, 2, least, values), filled(count, 3, least, values)]
         filter_frame(planes, is_key, is_simple, level, sharpness, [True] * 6 if is_key else WITH_TOKENS)
-        print("key" if is_key else "inter", "simple" if is_simple else "normal", level, sharpness, values, *map(total, planes))
+        print("key" if is_key else "inter", "simple" if is_simple else "normal", level, sharpness, least, values, *map(total, planes))
 
 
 if __name__ == "__main__":

@@ -7,6 +7,3 @@ mod passing;
 
 pub use chunks::CHUNK;
 pub use list::ChunkedList;
-
-#[cfg(test)]
-mod tests;

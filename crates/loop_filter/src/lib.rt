@@ -9,16 +9,12 @@ mod edge_limits;
 mod edges;
 mod four_samples;
 mod frames;
-#[cfg(test)]
-mod kernel_tests;
 mod kernels;
 mod lanes;
 pub mod laws;
 mod levels;
 mod pairs;
 mod strengths;
-#[cfg(test)]
-mod tests;
 
 pub use edge_limits::Limits;
 pub use four_samples::simple;

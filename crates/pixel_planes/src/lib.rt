@@ -6,8 +6,6 @@ pub mod laws;
 mod pictures;
 mod planes;
 mod spares;
-#[cfg(test)]
-mod tests;
 
 pub use pictures::{Component, Picture, Planes, same};
 pub use planes::{Plane, Window};

@@ -1,6 +1,8 @@
-//! Worked blocks: inverse transforms, intra prediction and inter prediction, sample by sample.
+//! Worked blocks: inverse transforms, intra prediction, inter prediction and the loop filter, sample by sample.
 #![tactic(auto)]
 
+#[cfg(test)]
+mod filters;
 #[cfg(test)]
 mod inter;
 #[cfg(test)]

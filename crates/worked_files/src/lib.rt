@@ -1,8 +1,10 @@
-//! Worked files, packet lists and scripts: texts that are read and written, edits, and the pictures that scripts make.
+//! Worked files, lists and scripts: texts that are read and written, edits, and the pictures that scripts make.
 #![tactic(auto)]
 
 #[cfg(test)]
 mod files;
+#[cfg(test)]
+mod lists;
 #[cfg(test)]
 mod packets;
 #[cfg(test)]

@@ -182,50 +182,68 @@ fn expect_faults<R: Abort>(
     }
 }
 
+/// Edits of a list of packets, the first of which has the id `first_id`. Copies of other packets are
+/// those of `other`. The faults come first, then the steps.
+struct Case {
+    first_id: u64,
+    other: &'static [(u64, &'static [u8])],
+    packets: &'static [(u64, &'static [u8])],
+    faults: &'static [(Edit, EditFault)],
+    steps: &'static [Step],
+}
+
+/// Makes the edits of a case. A test that only calls this is proved in a second or two.
+fn expect_case<R: Abort>(rt: &R, alloc: Global, case: &Case) -> Result<(), Fail> {
+    let other = stored(alloc, 0, case.other)?;
+    let mut store = stored(alloc, case.first_id, case.packets)?;
+    expect_faults(rt, alloc, &mut store, &other, case.faults);
+    expect_steps(rt, alloc, &mut store, &other, case.steps);
+    Ok(())
+}
+
 const A: Row = (0, 10, b"a");
 
 #[test]
 fn insertions(rt: HostRuntime) -> Result<(), Fail> {
-    let alloc = rt.alloc();
-    let none = Store::starting(alloc, 0);
-    expect_store(&rt, &none, &[], &[]);
-    let mut store = stored(alloc, 0, INSERTED_INTO)?;
-    expect_store(&rt, &store, THREE_ROWS, &[0, 2]);
-    expect_steps(&rt, alloc, &mut store, &none, INSERTIONS);
-    Ok(())
+    expect_case(&rt, rt.alloc(), &INSERTIONS)
 }
 
-/// Checks that a store has exactly these packets, of which exactly the ones at these indexes are
-/// shown, and no marks.
-fn expect_store<R: Abort>(rt: &R, store: &Store, rows: &[Row], shown: &[usize]) {
-    assert!(rt; holds(store, rows));
-    assert!(rt; shows(store, shown));
-    assert!(rt; marks(store, &[]));
-}
-
-const INSERTED_INTO: &[(u64, &[u8])] = &[(10, b"a"), (20, HIDDEN), (30, SHOWN)];
-
-const THREE_ROWS: &[Row] = &[A, (1, 20, HIDDEN), (2, 30, SHOWN)];
-
-const INSERTIONS: &[Step] = &[Step {
-    edit: Edit::Insert(1, 15, SHOWN),
-    answer: Ok(()),
-    rows: &[A, (3, 15, SHOWN), (1, 20, HIDDEN), (2, 30, SHOWN)],
-    shown: &[0, 1, 3],
-    marked: &[2],
-}];
+const INSERTIONS: Case = Case {
+    first_id: 0,
+    other: &[],
+    packets: &[(10, b"a"), (20, HIDDEN), (30, SHOWN)],
+    faults: &[],
+    steps: &[
+        Step {
+            edit: Edit::Push(0),
+            answer: Ok(()),
+            rows: &[A, (1, 20, HIDDEN), (2, 30, SHOWN)],
+            shown: &[0, 2],
+            marked: &[],
+        },
+        Step {
+            edit: Edit::Insert(1, 15, SHOWN),
+            answer: Ok(()),
+            rows: &[A, (3, 15, SHOWN), (1, 20, HIDDEN), (2, 30, SHOWN)],
+            shown: &[0, 1, 3],
+            marked: &[2],
+        },
+    ],
+};
 
 /// Moves in sequence.
 #[test]
 fn moves(rt: HostRuntime) -> Result<(), Fail> {
-    let alloc = rt.alloc();
-    let none = Store::starting(alloc, 0);
-    let mut store = stored(alloc, 0, MOVED)?;
-    expect_steps(&rt, alloc, &mut store, &none, MOVES);
-    Ok(())
+    expect_case(&rt, rt.alloc(), &MOVED)
 }
 
-const MOVED: &[(u64, &[u8])] = &[(10, b"a"), (15, SHOWN), (20, HIDDEN), (30, SHOWN)];
+const MOVED: Case = Case {
+    first_id: 0,
+    other: &[],
+    packets: &[(10, b"a"), (15, SHOWN), (20, HIDDEN), (30, SHOWN)],
+    faults: &[],
+    steps: MOVES,
+};
 
 const B: Row = (1, 15, SHOWN);
 
@@ -260,14 +278,17 @@ const MOVES: &[Step] = &[
 /// Copies from another store and within one, to both ends.
 #[test]
 fn copies(rt: HostRuntime) -> Result<(), Fail> {
-    let alloc = rt.alloc();
-    let source = stored(alloc, 0, &[(10, b"a"), (20, HIDDEN)])?;
-    let mut store = stored(alloc, 0, &[(30, SHOWN)])?;
-    expect_steps(&rt, alloc, &mut store, &source, COPIES);
-    // Ids 0 and 1 are the source's too.
-    assert!(rt; holds(&source, &[A, (1, 20, HIDDEN)]) && marks(&source, &[]));
-    Ok(())
+    expect_case(&rt, rt.alloc(), &COPIED)
 }
+
+// Ids 0 and 1 are those of the other packets too.
+const COPIED: Case = Case {
+    first_id: 0,
+    other: &[(10, b"a"), (20, HIDDEN)],
+    packets: &[(30, SHOWN)],
+    faults: &[],
+    steps: COPIES,
+};
 
 const OWN: Row = (0, 30, SHOWN);
 
@@ -340,14 +361,16 @@ const COPIES_WITHOUT_IDS: &[(Edit, EditFault)] = &[
 
 #[test]
 fn replacements_and_deletions(rt: HostRuntime) -> Result<(), Fail> {
-    let alloc = rt.alloc();
-    let none = Store::starting(alloc, 0);
-    let mut store = stored(alloc, 0, REPLACED)?;
-    expect_steps(&rt, alloc, &mut store, &none, REPLACEMENTS);
-    Ok(())
+    expect_case(&rt, rt.alloc(), &REPLACED)
 }
 
-const REPLACED: &[(u64, &[u8])] = &[(30, SHOWN), (20, HIDDEN), (15, SHOWN), (10, b"a")];
+const REPLACED: Case = Case {
+    first_id: 0,
+    other: &[],
+    packets: &[(30, SHOWN), (20, HIDDEN), (15, SHOWN), (10, b"a")],
+    faults: &[],
+    steps: REPLACEMENTS,
+};
 
 const OLD: Row = (3, 10, b"a");
 
@@ -380,15 +403,16 @@ const REPLACEMENTS: &[Step] = &[
 /// Edits at indexes where no packet is.
 #[test]
 fn indexes_without_packets(rt: HostRuntime) -> Result<(), Fail> {
-    let alloc = rt.alloc();
-    let none = Store::starting(alloc, 0);
-    let mut store = stored(alloc, 0, TWO)?;
-    expect_faults(&rt, alloc, &mut store, &none, OUTSIDE);
-    expect_steps(&rt, alloc, &mut store, &none, AT_THE_END);
-    Ok(())
+    expect_case(&rt, rt.alloc(), &TWO)
 }
 
-const TWO: &[(u64, &[u8])] = &[(10, b"a"), (20, b"b")];
+const TWO: Case = Case {
+    first_id: 0,
+    other: &[],
+    packets: &[(10, b"a"), (20, b"b")],
+    faults: OUTSIDE,
+    steps: AT_THE_END,
+};
 
 const OUTSIDE: &[(Edit, EditFault)] = &[
     (Edit::Insert(3, 0, b"x"), EditFault::Place),
@@ -423,13 +447,25 @@ const AT_THE_END: &[Step] = &[
 #[test]
 fn ids_that_are_spent(rt: HostRuntime) -> Result<(), Fail> {
     let alloc = rt.alloc();
-    let none = Store::starting(alloc, 0);
-    let mut store = Store::starting(alloc, LAST - 1);
-    expect_steps(&rt, alloc, &mut store, &none, LAST_ID);
-    let mut spent = Store::starting(alloc, LAST);
-    expect_steps(&rt, alloc, &mut spent, &none, NO_ID);
-    Ok(())
+    expect_case(&rt, alloc, &ONE_ID_LEFT)?;
+    expect_case(&rt, alloc, &NO_ID_LEFT)
 }
+
+const ONE_ID_LEFT: Case = Case {
+    first_id: LAST - 1,
+    other: &[],
+    packets: &[],
+    faults: &[],
+    steps: LAST_ID,
+};
+
+const NO_ID_LEFT: Case = Case {
+    first_id: LAST,
+    other: &[],
+    packets: &[],
+    faults: &[],
+    steps: NO_ID,
+};
 
 const LAST_ROW: Row = (LAST - 1, 7, b"x");
 

@@ -1,5 +1,5 @@
-use crate::ChunkedList;
-use std::alloc::AllocError;
+use chunked_list::ChunkedList;
+use std::alloc::{AllocError, Global};
 use std::test::Fail;
 
 /// An edit at an index or at two.
@@ -65,23 +65,33 @@ fn same(list: &ChunkedList<u32>, plain: &Vec<u32>) -> bool {
     list.len() == plain.len() && plain.iter().enumerate().all(|(i, x)| list.get(i) == x)
 }
 
+/// Lists that end before, at and after the end of a chunk.
+const LENGTHS: [u32; 8] = [0, 1, 1023, 1024, 1025, 2047, 2048, 2049];
+
+/// Whether each edit of a list of this length, and then a cut to one chunk, leaves the elements that
+/// a plain vector has.
+fn edits_as_plain(alloc: Global, len: u32) -> Result<bool, AllocError> {
+    let mut list = ChunkedList::new(alloc);
+    let mut plain = Vec::new(alloc);
+    for x in 0..len {
+        list.push(x)?;
+        plain.push(x)?;
+    }
+    for (i, edit) in EDITS.iter().enumerate() {
+        edit_both(&mut list, &mut plain, *edit, 9000 + i as u32)?;
+        if !same(&list, &plain) {
+            return Ok(false);
+        }
+    }
+    list.truncate(1024);
+    plain.truncate(1024);
+    Ok(same(&list, &plain))
+}
+
 #[test]
 fn edits_as_of_a_plain_vector(rt: HostRuntime) -> Result<(), Fail> {
-    let alloc = rt.alloc();
-    for len in [0, 1, 1023, 1024, 1025, 2047, 2048, 2049] {
-        let mut list = ChunkedList::new(alloc);
-        let mut plain = Vec::new(alloc);
-        for x in 0..len {
-            list.push(x)?;
-            plain.push(x)?;
-        }
-        for (i, edit) in EDITS.iter().enumerate() {
-            edit_both(&mut list, &mut plain, *edit, 9000 + i as u32)?;
-            assert!(rt; same(&list, &plain), "{len} {i}");
-        }
-        list.truncate(1024);
-        plain.truncate(1024);
-        assert!(rt; same(&list, &plain), "{len}");
+    for len in LENGTHS {
+        assert!(rt; edits_as_plain(rt.alloc(), len)?, "{len}");
     }
     Ok(())
 }
