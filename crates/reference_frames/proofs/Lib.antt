@@ -16,3 +16,4 @@ pub mod PutRows
 pub mod PlacedInPlanes
 pub mod Agree
 pub mod AgreeFrames
+pub mod MarkedPartitions

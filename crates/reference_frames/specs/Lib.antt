@@ -14,5 +14,6 @@ pub mod TokenLaws
 pub mod Worked
 pub mod Faults
 pub mod Steps
+pub mod PastEnds
 pub mod StepLaws
 pub mod WrittenBlocks
