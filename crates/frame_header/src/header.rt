@@ -1,6 +1,7 @@
 ghost use Rattle.std.specs.Prelude.{◌≡◌, ◌<◌, ◌≤◌, ◌+◌, false, length, IsTrue, IsSome, IfOk, All};
 ghost use Rattle.std.specs.Option.{option_copied};
-ghost use Rattle.frame_header.specs.Header.{first_end, header_of};
+ghost use Rattle.frame_header.specs.Header.{first_end, first_partition as first_partition_of, header_of, header_over, header_within};
+ghost use Rattle.frame_header.specs.Contexts.{first_context as first_context_of};
 ghost use Rattle.frame_header.specs.Tags.{has_key_tag};
 
 use crate::cause::Cause;
@@ -10,6 +11,7 @@ use crate::inter_fields::ReferenceProbabilities;
 use crate::places::{Place, token_ranges};
 use crate::references::ReferenceUpdates;
 use crate::start::{Start, start_of};
+use crate::tags::tag;
 use crate::trailing_fields::{Quantizers, read_trailing_fields};
 use arrayvec::ArrayVec;
 use bool_coder::Decoder;
@@ -71,27 +73,25 @@ fn first_end(start: &Start, packet: &[u8]) -> Result<usize, Cause>
     Ok(start.place + size)
 }
 
-/// The header of a packet after a context, or after none if no key frame came before. An `Err` is
-/// the first cause, in the order of `Cause`, whose condition holds.
-#[tactic(auto, unfolding(crate::specs::Header::header_of))]
-pub fn read_header<'a>(
+/// The header of a frame with this start, whose first partition is `first` and ends at `end`.
+fn header_within<'a>(
     tables: &Tables,
     context: Option<&Context>,
-    packet: &'a [u8],
+    packet: &[u8],
+    start: Start,
+    end: usize,
+    first: &'a [u8],
 ) -> Result<Header<'a>, Cause>
-    ensures value { result ≡ header_of tables.now (option_copied context.entry) packet.now }
-    ensures wide { IfOk result (λ header. IsTrue header.is_key → (1 ≤ header.width) × (header.width ≤ 16383)) }
-    ensures high { IfOk result (λ header. IsTrue header.is_key → (1 ≤ header.height) × (header.height ≤ 16383)) }
+    requires { end ≤ length packet.now }
+    ensures value { result ≡ header_within tables.now (first_context_of tables.now start.tag.key (option_copied context.entry)) packet.now start end first.now }
     ensures inside { IfOk result (λ header. All (λ place. place.start + place.length ≤ length packet.now) header.partitions.items) }
     ensures some { IfOk result (λ header. 0 < length header.partitions.items) }
-    ensures key { IfOk result (λ header. header.is_key ≡ has_key_tag packet.now) }
-    ensures whole { IfOk result (λ header. IsTrue header.is_key → 10 ≤ length packet.now) }
-    ensures following { IfOk result (λ header. header.is_key ≡ false → IsSome (option_copied context.entry)) }
+    ensures key { IfOk result (λ header. header.is_key ≡ start.tag.key) }
+    ensures wide { IfOk result (λ header. header.width ≡ start.width) }
+    ensures high { IfOk result (λ header. header.height ≡ start.height) }
 {
-    let start = start_of(context, packet)?;
-    let end = first_end(&start, packet)?;
     let is_key = start.tag.key;
-    let mut reader = Decoder::new(&packet[start.place..end]);
+    let mut reader = Decoder::new(first);
     let mut context = first_context(tables, is_key, context);
     let fields = read_fields(&mut reader, is_key, &mut context);
     let partitions = token_ranges(packet, end, fields.partition_count)?;
@@ -121,4 +121,61 @@ pub fn read_header<'a>(
         context_after,
         reader,
     })
+}
+
+/// The header of a packet after a context, or after none if no key frame came before. An `Err` is
+/// the first cause, in the order of `Cause`, whose condition holds.
+#[tactic(auto, unfolding(crate::specs::Header::header_of))]
+pub fn read_header<'a>(
+    tables: &Tables,
+    context: Option<&Context>,
+    packet: &'a [u8],
+) -> Result<Header<'a>, Cause>
+    ensures value { result ≡ header_of tables.now (option_copied context.entry) packet.now }
+    ensures wide { IfOk result (λ header. IsTrue header.is_key → (1 ≤ header.width) × (header.width ≤ 16383)) }
+    ensures high { IfOk result (λ header. IsTrue header.is_key → (1 ≤ header.height) × (header.height ≤ 16383)) }
+    ensures inside { IfOk result (λ header. All (λ place. place.start + place.length ≤ length packet.now) header.partitions.items) }
+    ensures some { IfOk result (λ header. 0 < length header.partitions.items) }
+    ensures key { IfOk result (λ header. header.is_key ≡ has_key_tag packet.now) }
+    ensures whole { IfOk result (λ header. IsTrue header.is_key → 10 ≤ length packet.now) }
+    ensures following { IfOk result (λ header. header.is_key ≡ false → IsSome (option_copied context.entry)) }
+{
+    let start = start_of(context, packet)?;
+    let end = first_end(&start, packet)?;
+    let first = &packet[start.place..end];
+    header_within(tables, context, packet, start, end, first)
+}
+
+/// The same, if the first partition is read from `first` in place of the packet's own bytes.
+#[tactic(auto, unfolding(crate::specs::Header::header_over))]
+pub fn read_header_over<'a>(
+    tables: &Tables,
+    context: Option<&Context>,
+    packet: &[u8],
+    first: &'a [u8],
+) -> Result<Header<'a>, Cause>
+    ensures value { result ≡ header_over tables.now (option_copied context.entry) packet.now first.now }
+    ensures wide { IfOk result (λ header. IsTrue header.is_key → (1 ≤ header.width) × (header.width ≤ 16383)) }
+    ensures high { IfOk result (λ header. IsTrue header.is_key → (1 ≤ header.height) × (header.height ≤ 16383)) }
+    ensures inside { IfOk result (λ header. All (λ place. place.start + place.length ≤ length packet.now) header.partitions.items) }
+    ensures some { IfOk result (λ header. 0 < length header.partitions.items) }
+    ensures key { IfOk result (λ header. header.is_key ≡ has_key_tag packet.now) }
+    ensures whole { IfOk result (λ header. IsTrue header.is_key → 10 ≤ length packet.now) }
+    ensures following { IfOk result (λ header. header.is_key ≡ false → IsSome (option_copied context.entry)) }
+{
+    let start = start_of(context, packet)?;
+    let end = first_end(&start, packet)?;
+    header_within(tables, context, packet, start, end, first)
+}
+
+/// The first partition of a packet, as far as the packet has it; nothing of a packet without a tag.
+pub fn first_partition(packet: &[u8]) -> &[u8]
+    ensures { result.now ≡ first_partition_of packet.now }
+{
+    let Some(tag) = tag(packet) else {
+        return &packet[..0];
+    };
+    let start = packet.len().min(if tag.key { 10 } else { 3 });
+    let end = packet.len().min(start + tag.first_partition as usize);
+    &packet[start..end]
 }

@@ -18,7 +18,7 @@ mod trailing_fields;
 pub use cause::Cause;
 pub use context::{Context, FilterDeltas, Probabilities, Segments, SignBiases};
 pub use fields::{Colors, Filter, Segmentation};
-pub use header::{Header, read_header};
+pub use header::{Header, first_partition, read_header, read_header_over};
 pub use inter_fields::ReferenceProbabilities;
 pub use places::Place;
 pub use references::{Reference, ReferenceUpdates};

@@ -15,5 +15,6 @@ pub mod Worked
 pub mod Faults
 pub mod Steps
 pub mod PastEnds
+pub mod PastEndLaws
 pub mod StepLaws
 pub mod WrittenBlocks

@@ -8,7 +8,8 @@ use Rattle.bool_coder.specs.Taken.{marked}
 use Rattle.vp8_tables.specs.Tables.{TableEntries}
 use Rattle.frame_header.specs.declared.cause.Cause.{Cause}
 use Rattle.frame_header.specs.declared.header.Header.{Header}
-use Rattle.frame_header.specs.Header.{header_of}
+use Rattle.frame_header.specs.declared.context.Context.{Context}
+use Rattle.frame_header.specs.Header.{first_partition, header_of, header_over}
 use Rattle.frame_header.specs.declared.places.Place.{Place}
 use Rattle.mode_parser.specs.declared.records.MbMode.{MbMode}
 use Rattle.pixel_planes.specs.Pictures.{macroblocks}
@@ -60,13 +61,24 @@ frame_tokens_past zeros packet header columns modes =
     let partitions = header.partitions.items in
     tokens_past zeros partitions (token_state header columns (marked_start zeros partitions packet columns) modes (length modes)).readers
 
--- of a frame after its header
-abbrev pub frame_past_ends : TableEntries → List ℕ → Header → Option State → PastEnds
-frame_past_ends tables packet header before =
+-- the bytes read past the end of a first partition of so many bytes, by the header read from it with the zeros and the mark, and
+-- the modes after the header. (It is never refused: that takes more bits past the end than 64 bytes have.)
+abbrev pub first_past_by : TableEntries → ℕ → ℕ → Option State → Result Header Cause → ℕ
+first_past_by tables zeros size before (Ok header) = bytes_past zeros size (frame_modes tables header before).left
+first_past_by tables zeros size before (Err cause) = zeros
+
+unfoldable pub first_past : TableEntries → ℕ → List ℕ → Option Context → Option State → ℕ
+first_past tables zeros packet context before =
+    let first = first_partition packet in
+    first_past_by tables zeros (length first) before (header_over tables context packet (marked zeros first))
+
+-- of a frame after its header, which was read after a context
+abbrev pub frame_past_ends : TableEntries → List ℕ → Header → Option Context → Option State → PastEnds
+frame_past_ends tables packet header context before =
     let columns = macroblocks (width_of header before) in
     let zeros = zeros_for columns (macroblocks (height_of header before)) in
     record {
-      first = 0;
+      first = first_past tables zeros packet context before;
       tokens = record { items = frame_tokens_past zeros packet header columns (frame_modes tables header before).records };
     }
 
@@ -74,10 +86,12 @@ frame_past_ends tables packet header before =
 abbrev pub no_past_ends : PastEnds
 no_past_ends = record { first = 0; tokens = record { items = [] } }
 
-abbrev pub past_ends_by : TableEntries → List ℕ → Option State → Result Header Cause → PastEnds
-past_ends_by tables packet state (Ok header) = frame_past_ends tables packet header (state_before packet state)
-past_ends_by tables packet state (Err cause) = no_past_ends
+abbrev pub past_ends_by : TableEntries → List ℕ → Option Context → Option State → Result Header Cause → PastEnds
+past_ends_by tables packet context before (Ok header) = frame_past_ends tables packet header context before
+past_ends_by tables packet context before (Err cause) = no_past_ends
 
 -- of the packet after a state, or after none: the bytes past the end of each partition that decoding it reads
 unfoldable pub past_ends_of : TableEntries → Option State → List ℕ → PastEnds
-past_ends_of tables state packet = past_ends_by tables packet state (header_of tables (option_map (λ s. s.context) state) packet)
+past_ends_of tables state packet =
+    let context = option_map (λ s. s.context) state in
+    past_ends_by tables packet context (state_before packet state) (header_of tables context packet)

@@ -4,9 +4,11 @@ ghost use Rattle.std.specs.Prelude.{◌≡◌, ◌+◌, ◌*◌, ◌<◌, ◌≤
 ghost use Rattle.std.specs.Option.{option_copied};
 ghost use Rattle.bool_coder.specs.Reader.{started};
 ghost use Rattle.bool_coder.specs.Taken.{marked};
+ghost use Rattle.frame_header.specs.Tags.{has_key_tag};
 ghost use Rattle.reference_frames.specs.FrameTokenValue.{state_of};
 ghost use Rattle.reference_frames.specs.FrameTokens.{token_state};
-ghost use Rattle.reference_frames.specs.PastEnds.{bytes_past, frame_past_ends, frame_tokens_past, marked_text, past_ends_of, tokens_past, zeros_for};
+ghost use Rattle.reference_frames.specs.Steps.{frame_modes};
+ghost use Rattle.reference_frames.specs.PastEnds.{bytes_past, first_past as first_past_of, frame_past_ends, frame_tokens_past, marked_text, past_ends_of, tokens_past, zeros_for};
 
 use crate::frame_tokens::FrameTokens;
 use crate::frames::macroblocks;
@@ -14,8 +16,8 @@ use crate::states::State;
 use crate::steps::{map_before, size_of};
 use arrayvec::ArrayVec;
 use bool_coder::Decoder;
-use frame_header::{Header, Place, read_header};
-use mode_parser::{MbMode, read_modes};
+use frame_header::{Context, Header, Place, first_partition, read_header, read_header_over};
+use mode_parser::{MbMode, Modes, read_modes};
 use pixel_planes::NoMemory;
 use std::alloc::Global;
 use vp8_tables::Tables;
@@ -155,38 +157,82 @@ fn frame_tokens_past(
     Ok(tokens_past(zeros, partitions, &tokens))
 }
 
-/// How many bytes decoding a frame with this header reads past the end of each partition, after
-/// the state before it.
-fn frame_past_ends(
+/// How many bytes decoding a packet reads past the end of its first partition: its header, after
+/// this context, and the modes of its frame, after this state.
+#[tactic(auto, unfolding(crate::specs::PastEnds::first_past))]
+fn first_past(
     alloc: Global,
     tables: &Tables,
+    zeros: usize,
     packet: &[u8],
+    context: Option<&Context>,
+    before: Option<&State>,
+) -> Result<usize, NoMemory>
+    requires zeros { zeros ≤ 4194368 }
+    requires following { has_key_tag packet.now ≡ false → IsSome before }
+    ensures { IfOk result (λ past. past ≡ first_past_of tables.now zeros packet.now (option_copied context.entry) (option_copied before.entry)) }
+{
+    let first = first_partition(packet);
+    let text = marked(alloc, zeros, first)?;
+    let Ok(header) = read_header_over(tables, context, packet, text.as_slice()) else {
+        return Ok(zeros);
+    };
+    let left = modes_after(alloc, tables, &header, before)?.left();
+    Ok(bytes_past(zeros, first.len(), left))
+}
+
+/// The modes of a frame with this header, after the state before it.
+fn modes_after(
+    alloc: Global,
+    tables: &Tables,
     header: &Header,
     before: Option<&State>,
-) -> Result<PastEnds, NoMemory>
+) -> Result<Modes, NoMemory>
     requires following { header.now.is_key ≡ false → IsSome before }
     requires wide { IsTrue header.now.is_key → (1 ≤ header.now.width) × (header.now.width ≤ 16383) }
     requires high { IsTrue header.now.is_key → (1 ≤ header.now.height) × (header.now.height ≤ 16383) }
-    requires some { 0 < length header.now.partitions.items }
-    requires inside { All (λ place. place.start + place.length ≤ length packet.now) header.now.partitions.items }
-    ensures { IfOk result (λ past. past ≡ frame_past_ends tables.now packet.now header.now (option_copied before.entry)) }
+    ensures { IfOk result (λ modes. modes ≡ frame_modes tables.now header.now (option_copied before.entry)) }
 {
     let (width, height) = size_of(header, before);
     let map = map_before(before);
     let columns = macroblocks(width);
     let rows = macroblocks(height);
-    let zeros = zeros_for(columns, rows);
-    let modes = read_modes(alloc, tables, header, columns, rows, map)?;
+    read_modes(alloc, tables, header, columns, rows, map)
+}
+
+/// How many bytes decoding a frame with this header, read after this context, reads past the end of
+/// each partition, after the state before it.
+fn frame_past_ends(
+    alloc: Global,
+    tables: &Tables,
+    packet: &[u8],
+    header: &Header,
+    context: Option<&Context>,
+    before: Option<&State>,
+) -> Result<PastEnds, NoMemory>
+    requires key { header.now.is_key ≡ has_key_tag packet.now }
+    requires following { header.now.is_key ≡ false → IsSome before }
+    requires wide { IsTrue header.now.is_key → (1 ≤ header.now.width) × (header.now.width ≤ 16383) }
+    requires high { IsTrue header.now.is_key → (1 ≤ header.now.height) × (header.now.height ≤ 16383) }
+    requires some { 0 < length header.now.partitions.items }
+    requires inside { All (λ place. place.start + place.length ≤ length packet.now) header.now.partitions.items }
+    ensures { IfOk result (λ past. past ≡ frame_past_ends tables.now packet.now header.now (option_copied context.entry) (option_copied before.entry)) }
+{
+    let (width, height) = size_of(header, before);
+    let columns = macroblocks(width);
+    let zeros = zeros_for(columns, macroblocks(height));
+    let modes = modes_after(alloc, tables, header, before)?;
+    let first = first_past(alloc, tables, zeros, packet, context, before)?;
     let tokens = frame_tokens_past(alloc, zeros, packet, header, columns, modes.records())?;
-    Ok(PastEnds { first: 0, tokens })
+    Ok(PastEnds { first, tokens })
 }
 
 /// How many bytes past the end of each partition decoding reads at one step: at the packet after
 /// this state, or after none. `laws` has examples.
 ///
-/// It reads the modes and the tokens of the frame once more, and makes no picture. `NoMemory` if
-/// memory for the modes, the marked partitions, their readers or the flags between macroblocks is
-/// refused.
+/// It reads the header, the modes and the tokens of the frame again, and makes no picture.
+/// `NoMemory` if memory for the modes, a marked partition, the readers or the flags between
+/// macroblocks is refused.
 #[tactic(auto, unfolding(crate::specs::PastEnds::past_ends_of))]
 pub fn past_ends(
     alloc: Global,
@@ -208,5 +254,5 @@ pub fn past_ends(
         });
     };
     let before = if header.is_key { None } else { state };
-    frame_past_ends(alloc, tables, packet, &header, before)
+    frame_past_ends(alloc, tables, packet, &header, context, before)
 }
