@@ -3,3 +3,4 @@ pub mod KeyLemmas
 pub mod UpdateLemmas
 pub mod InterLemmas
 mod ChainLemmas
+mod OverLemmas

@@ -1,9 +1,8 @@
-use Rattle.std.specs.Prelude.{ℕ, ◌+◌, ◌-◌, List, [], length, slice_range, nat_lt, Option, Result, Ok, Err, if◌then◌else◌}
-use Rattle.std.specs.Option.{option_map_or}
+use Rattle.std.specs.Prelude.{◌≡◌, ℕ, ◌+◌, ◌-◌, List, length, slice_range, nat_lt, Option, Result, Ok, Err, if◌then◌else◌}
 use Rattle.arrayvec.specs.ArrayVec.{ArrayVec}
 use Rattle.vp8_tables.specs.Tables.{TableEntries}
 use Rattle.bool_coder.specs.Reader.{Reader, started}
-use Rattle.frame_header.specs.Tags.{has_key_tag, tag_of}
+use Rattle.frame_header.specs.Tags.{has_key_tag}
 use Rattle.frame_header.specs.Contexts.{first_context}
 use Rattle.frame_header.specs.Fields.{fields}
 use Rattle.frame_header.specs.Places.{token_ranges}
@@ -15,7 +14,6 @@ use Rattle.frame_header.specs.declared.context.Context.{Context}
 use Rattle.frame_header.specs.declared.fields.Fields.{Fields}
 use Rattle.frame_header.specs.declared.places.Place.{Place}
 use Rattle.frame_header.specs.declared.start.Start.{Start}
-use Rattle.frame_header.specs.declared.tag_fields.Tag.{Tag}
 use Rattle.frame_header.specs.declared.trailing_fields.TrailingFields.{TrailingFields}
 use Rattle.frame_header.specs.declared.header.Header.{Header}
 
@@ -59,20 +57,22 @@ header_in start (fields, before) partitions ((trailing, context), reader) = reco
   reader = reader;
 }
 
--- the header of a frame whose first partition is this text and ends at an index of the packet, with the context that it
--- begins with, or the first cause against it: the fields up to the number of token partitions, those partitions, and the fields
--- after (RFC 6386, sections 9.2 to 9.11)
-abbrev pub header_within : TableEntries → Context → List ℕ → Start → ℕ → List ℕ → Result Header Cause
-header_within tables context packet start end first = do
-  let read = fields start.tag.key context (started first)
-  partitions ← token_ranges packet end read.0.0.partition_count
-  Ok (header_in start read.0 partitions (trailing_fields start.tag.key tables.updates read.0.1 read.1))
-
--- the header of a frame after its start, or the first cause against it: its first partition first
+-- the header of a frame after its start, with the context that it begins with, or the first cause against it: the first
+-- partition and its fields up to the number of token partitions, those partitions, and the fields after (RFC 6386, sections
+-- 9.2 to 9.11)
 abbrev pub header_after : TableEntries → Context → List ℕ → Start → Result Header Cause
 header_after tables context packet start = do
   end ← first_end start packet
-  header_within tables context packet start end (slice_range packet start.place end)
+  let read = fields start.tag.key context (started (slice_range packet start.place end))
+  partitions ← token_ranges packet end read.0.0.partition_count
+  Ok (header_in start read.0 partitions (trailing_fields start.tag.key tables.updates read.0.1 read.1))
+
+-- the header of a frame after its start and the end of its first partition, whose text is given: its own, or another one
+abbrev pub header_from : TableEntries → Context → List ℕ → Start → ℕ → List ℕ → Result Header Cause
+header_from tables context packet start end first = do
+  let read = fields start.tag.key context (started first)
+  partitions ← token_ranges packet end read.0.0.partition_count
+  Ok (header_in start read.0 partitions (trailing_fields start.tag.key tables.updates read.0.1 read.1))
 
 -- the header of a packet after a context or none, or the first cause against it (RFC 6386, sections 9 and 19)
 unfoldable pub header_of : TableEntries → Option Context → List ℕ → Result Header Cause
@@ -80,17 +80,25 @@ header_of tables before packet = do
   start ← start_of before packet
   header_after tables (first_context tables (has_key_tag packet) before) packet start
 
--- the same if the first partition is read from another text, for example its own with zeros and a mark after it
+-- the same with another text for the first partition
 unfoldable pub header_over : TableEntries → Option Context → List ℕ → List ℕ → Result Header Cause
 header_over tables before packet first = do
   start ← start_of before packet
   end ← first_end start packet
-  header_within tables (first_context tables (has_key_tag packet) before) packet start end first
+  header_from tables (first_context tables (has_key_tag packet) before) packet start end first
 
--- the first partition of a packet with this tag, and of a packet: it follows the tag, or the size of a key frame (RFC 6386,
--- section 9.1)
-abbrev pub tagged_partition : Tag → List ℕ → List ℕ
-tagged_partition tag packet = let place = if tag.key then 10 else 3 in slice_range packet place (place + tag.first_partition)
+-- the first partition of a packet, which follows its tag, or the first cause against the packet up to the end of it
+abbrev pub first_partition : Option Context → List ℕ → Result Place Cause
+first_partition before packet = do
+  start ← start_of before packet
+  end ← first_end start packet
+  Ok (record { start = start.place; length = end - start.place })
 
-abbrev pub first_partition : List ℕ → List ℕ
-first_partition packet = option_map_or (λ tag. tagged_partition tag packet) (tag_of packet) []
+-- a header is read from the packet's own first partition
+abbrev pub header_by_place : TableEntries → Option Context → List ℕ → Result Header Cause
+header_by_place tables before packet = do
+  place ← first_partition before packet
+  header_over tables before packet (slice_range packet place.start (place.start + place.length))
+
+abbrev pub HeadersAreOverTheirOwn : Type 0
+HeadersAreOverTheirOwn = (tables : TableEntries) (before : Option Context) (packet : List ℕ) → header_of tables before packet ≡ header_by_place tables before packet

@@ -1,7 +1,7 @@
-ghost use Rattle.std.specs.Prelude.{◌≡◌, ◌<◌, ◌≤◌, ◌+◌, false, length, IsTrue, IsSome, IfOk, All};
+ghost use Rattle.std.specs.Prelude.{◌≡◌, ◌<◌, ◌≤◌, ◌+◌, ◌*◌, false, length, IsTrue, IsSome, IfOk, All};
 ghost use Rattle.std.specs.Option.{option_copied};
-ghost use Rattle.frame_header.specs.Header.{first_end, first_partition as first_partition_of, header_of, header_over, header_within};
-ghost use Rattle.frame_header.specs.Contexts.{first_context as first_context_of};
+ghost use Rattle.frame_header.specs.Contexts.{first_context};
+ghost use Rattle.frame_header.specs.Header.{first_end, first_partition, header_from, header_of, header_over};
 ghost use Rattle.frame_header.specs.Tags.{has_key_tag};
 
 use crate::cause::Cause;
@@ -11,7 +11,6 @@ use crate::inter_fields::ReferenceProbabilities;
 use crate::places::{Place, token_ranges};
 use crate::references::ReferenceUpdates;
 use crate::start::{Start, start_of};
-use crate::tags::tag;
 use crate::trailing_fields::{Quantizers, read_trailing_fields};
 use arrayvec::ArrayVec;
 use bool_coder::Decoder;
@@ -73,22 +72,22 @@ fn first_end(start: &Start, packet: &[u8]) -> Result<usize, Cause>
     Ok(start.place + size)
 }
 
-/// The header of a frame with this start, whose first partition is `first` and ends at `end`.
-fn header_within<'a>(
+/// The header of a packet after its start and the end of its first partition, whose text is `first`.
+#[inline]
+fn header_from<'a>(
     tables: &Tables,
     context: Option<&Context>,
     packet: &[u8],
-    start: Start,
+    start: &Start,
     end: usize,
     first: &'a [u8],
 ) -> Result<Header<'a>, Cause>
     requires { end ≤ length packet.now }
-    ensures value { result ≡ header_within tables.now (first_context_of tables.now start.tag.key (option_copied context.entry)) packet.now start end first.now }
+    ensures value { result ≡ header_from tables.now (first_context tables.now start.now.tag.key (option_copied context.entry)) packet.now start.now end first.now }
+    ensures key { IfOk result (λ header. header.is_key ≡ start.now.tag.key) }
+    ensures size { IfOk result (λ header. (header.width ≡ start.now.width) × (header.height ≡ start.now.height)) }
     ensures inside { IfOk result (λ header. All (λ place. place.start + place.length ≤ length packet.now) header.partitions.items) }
     ensures some { IfOk result (λ header. 0 < length header.partitions.items) }
-    ensures key { IfOk result (λ header. header.is_key ≡ start.tag.key) }
-    ensures wide { IfOk result (λ header. header.width ≡ start.width) }
-    ensures high { IfOk result (λ header. header.height ≡ start.height) }
 {
     let is_key = start.tag.key;
     let mut reader = Decoder::new(first);
@@ -123,6 +122,20 @@ fn header_within<'a>(
     })
 }
 
+/// The position of a packet's first partition, which follows its tag (RFC 6386, section 9.1), after a
+/// context or none. An `Err` is the first cause against the packet up to the end of it.
+pub fn first_partition(context: Option<&Context>, packet: &[u8]) -> Result<Place, Cause>
+    ensures value { result ≡ first_partition (option_copied context.entry) packet.now }
+    ensures inside { IfOk result (λ place. place.start + place.length ≤ length packet.now) }
+{
+    let start = start_of(context, packet)?;
+    let end = first_end(&start, packet)?;
+    Ok(Place {
+        start: start.place,
+        length: end - start.place,
+    })
+}
+
 /// The header of a packet after a context, or after none if no key frame came before. An `Err` is
 /// the first cause, in the order of `Cause`, whose condition holds.
 #[tactic(auto, unfolding(crate::specs::Header::header_of))]
@@ -142,11 +155,12 @@ pub fn read_header<'a>(
 {
     let start = start_of(context, packet)?;
     let end = first_end(&start, packet)?;
-    let first = &packet[start.place..end];
-    header_within(tables, context, packet, start, end, first)
+    let own = &packet[start.place..end];
+    header_from(tables, context, packet, &start, end, own)
 }
 
-/// The same, if the first partition is read from `first` in place of the packet's own bytes.
+/// The header of a packet whose first partition is read from another text. The first partition's own
+/// text gives the packet's header (`laws::headers_are_over_their_own`).
 #[tactic(auto, unfolding(crate::specs::Header::header_over))]
 pub fn read_header_over<'a>(
     tables: &Tables,
@@ -165,17 +179,5 @@ pub fn read_header_over<'a>(
 {
     let start = start_of(context, packet)?;
     let end = first_end(&start, packet)?;
-    header_within(tables, context, packet, start, end, first)
-}
-
-/// The first partition of a packet, as far as the packet has it; nothing of a packet without a tag.
-pub fn first_partition(packet: &[u8]) -> &[u8]
-    ensures { result.now ≡ first_partition_of packet.now }
-{
-    let Some(tag) = tag(packet) else {
-        return &packet[..0];
-    };
-    let start = packet.len().min(if tag.key { 10 } else { 3 });
-    let end = packet.len().min(start + tag.first_partition as usize);
-    &packet[start..end]
+    header_from(tables, context, packet, &start, end, first)
 }

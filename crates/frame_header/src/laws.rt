@@ -5,7 +5,7 @@ ghost use Rattle.bool_coder.specs.Chains.{IsChain, and_then};
 ghost use Rattle.bool_coder.specs.Reader.{started};
 ghost use Rattle.frame_header.specs.Fields.{fields};
 ghost use Rattle.frame_header.specs.Contexts.{default_context};
-ghost use Rattle.frame_header.specs.Header.{header_of};
+ghost use Rattle.frame_header.specs.Header.{HeadersAreOverTheirOwn, header_of};
 ghost use Rattle.frame_header.specs.TrailingFields.{trailing_fields};
 ghost use Rattle.frame_header.specs.declared.context.Context.{Context};
 ghost use Rattle.frame_header.specs.KeyFrames.{KeysLeaveDefaults, KeysRefreshAll, KeysTakeNoContext};
@@ -83,4 +83,9 @@ pub fn headers_are_chains(updates: &[u8])
     ensures first { (is_key : Bool) (before : Context) → IsChain (fields is_key before) }
     ensures trailing { (is_key : Bool) (before : Context) → IsChain (trailing_fields is_key updates.now before) }
     ensures all { (is_key : Bool) (before : Context) → IsChain (and_then (fields is_key before) (λ read. trailing_fields is_key updates.now read.1)) }
+{}
+
+/// The header of a packet is read over its own first partition.
+pub fn headers_are_over_their_own()
+    ensures { HeadersAreOverTheirOwn }
 {}

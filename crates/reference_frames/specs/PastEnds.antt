@@ -31,7 +31,7 @@ bits_past zeros size left = (if size == 0 then 8 * zeros else 8 * (zeros + 1)) -
 abbrev pub bytes_past : ℕ → ℕ → ℕ → ℕ
 bytes_past zeros size left = min zeros ((bits_past zeros size left + 7) / 8)
 
--- a token partition with the zeros and the mark
+-- a partition with the zeros and the mark
 abbrev pub marked_text : ℕ → List ℕ → Place → List ℕ
 marked_text zeros packet place = marked zeros (slice_range packet place.start (place.start + place.length))
 
@@ -64,13 +64,16 @@ frame_tokens_past zeros packet header columns modes =
 -- the bytes read past the end of a first partition of so many bytes, by the header read from it with the zeros and the mark, and
 -- the modes after the header. (It is never refused: that takes more bits past the end than 64 bytes have.)
 abbrev pub first_past_by : TableEntries → ℕ → ℕ → Option State → Result Header Cause → ℕ
-first_past_by tables zeros size before (Ok header) = bytes_past zeros size (frame_modes tables header before).left
-first_past_by tables zeros size before (Err cause) = zeros
+first_past_by tables padding size before (Ok header) = bytes_past padding size (frame_modes tables header before).left
+first_past_by tables padding size before (Err cause) = padding
+
+abbrev pub first_past_at : TableEntries → ℕ → List ℕ → Option Context → Option State → Result Place Cause → ℕ
+first_past_at tables padding packet context before (Ok place) =
+    first_past_by tables padding place.length before (header_over tables context packet (marked_text padding packet place))
+first_past_at tables padding packet context before (Err cause) = 0
 
 unfoldable pub first_past : TableEntries → ℕ → List ℕ → Option Context → Option State → ℕ
-first_past tables zeros packet context before =
-    let first = first_partition packet in
-    first_past_by tables zeros (length first) before (header_over tables context packet (marked zeros first))
+first_past tables zeros packet context before = first_past_at tables zeros packet context before (first_partition context packet)
 
 -- of a frame after its header, which was read after a context
 abbrev pub frame_past_ends : TableEntries → List ℕ → Header → Option Context → Option State → PastEnds

@@ -172,13 +172,16 @@ fn first_past(
     requires following { has_key_tag packet.now ≡ false → IsSome before }
     ensures { IfOk result (λ past. past ≡ first_past_of tables.now zeros packet.now (option_copied context.entry) (option_copied before.entry)) }
 {
-    let first = first_partition(packet);
+    let Ok(place) = first_partition(context, packet) else {
+        return Ok(0);
+    };
+    let first = &packet[place.start..place.start + place.length];
     let text = marked(alloc, zeros, first)?;
     let Ok(header) = read_header_over(tables, context, packet, text.as_slice()) else {
         return Ok(zeros);
     };
     let left = modes_after(alloc, tables, &header, before)?.left();
-    Ok(bytes_past(zeros, first.len(), left))
+    Ok(bytes_past(zeros, place.length, left))
 }
 
 /// The modes of a frame with this header, after the state before it.
