@@ -17,3 +17,4 @@ pub mod PutRows
 pub mod PlacedInPlanes
 pub mod Agree
 pub mod AgreeFrames
+pub mod MarkedPartitions

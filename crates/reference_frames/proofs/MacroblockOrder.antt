@@ -55,6 +55,13 @@ flag_here header start old columns mx my n modes mode found so_far place in_row 
 pub flags_more : (flag : ℕ → Bool) (flags : List Bool) (n : ℕ) (here : Bool) → flags ≡ map flag (range_with_len 0 n) → here ≡ flag n → flags ++ here ∷ [] ≡ map flag (range_with_len 0 (n + 1))
 flags_more flag flags n here so_far is = rw (map-range_with_len_more {X = Bool} flag 0 n n (omega arith), so_far, is) refl
 
+-- the first index of the next row, and the next index of this row
+pub next_row : (columns my mx my' mx' n : ℕ) → my * columns + mx ≡ n → mx + 1 ≡ columns → my' ≡ my + 1 → mx' ≡ 0 → my' * columns + mx' ≡ n + 1
+next_row columns my mx my' mx' n place last row column = rw (row, column) (omega arith)
+
+pub next_column : (columns my mx my' mx' n : ℕ) → my * columns + mx ≡ n → my' ≡ my → mx' ≡ mx + 1 → my' * columns + mx' ≡ n + 1
+next_column columns my mx my' mx' n place row column = rw (row, column) (omega arith)
+
 -- how a macroblock is predicted goes by its luma mode
 pub by_whole : (y : YMode) (whole : WholeMode) (version : ℕ) (references : Option References) (planes : PlaneSamples) (mx my : ℕ) (mode : MbMode) (residual : Residual) → y ≡ Whole whole → predicted_by y version references planes mx my mode residual ≡ intra_macroblock planes mx my mode residual
 by_whole y whole version references planes mx my mode residual is = rw is refl

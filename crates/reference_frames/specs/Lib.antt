@@ -14,5 +14,7 @@ pub mod TokenLaws
 pub mod Worked
 pub mod Faults
 pub mod Steps
+pub mod PastEnds
+pub mod PastEndLaws
 pub mod StepLaws
 pub mod WrittenBlocks

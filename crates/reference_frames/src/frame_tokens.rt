@@ -1,11 +1,12 @@
 //! The tokens of a frame: the state between its macroblocks, and the residual of each (RFC 6386,
 //! sections 9.5 and 13).
 
-ghost use Rattle.std.specs.Prelude.{◌≡◌, ◌+◌, ◌%◌, ◌<◌, ◌≤◌, length, map, All, IfOk};
+ghost use Rattle.std.specs.Prelude.{◌≡◌, ◌+◌, ◌%◌, ◌<◌, ◌≤◌, [], length, map, replicate, slice_index_or, All, IfOk};
 ghost use Rattle.std.specs.Option.{option_copied};
+ghost use Rattle.bool_coder.specs.Reader.{started};
 ghost use Rattle.transforms.specs.Factors.{factors_of};
 ghost use Rattle.reference_frames.specs.FrameTokenValue.{state_of, kept_residual};
-ghost use Rattle.reference_frames.specs.FrameTokens.{reader_of, tokens_at, tokens_start, state_with, residual_with, flag_with};
+ghost use Rattle.reference_frames.specs.FrameTokens.{outside, reader_of, tokens_at, tokens_start, state_with, residual_with, flag_with};
 
 use crate::kept_blocks::{Blocks, Flags};
 use bool_coder::Decoder;
@@ -74,13 +75,33 @@ impl<'a> FrameTokens<'a> {
         requires { All (λ place. place.start + place.length ≤ length packet.now) partitions.now }
         ensures { IfOk result (λ tokens. state_of tokens ≡ tokens_start partitions.now packet.now columns) }
     {
+        let readers = partition_readers(alloc, packet, partitions)?;
+        FrameTokens::over(alloc, readers, columns)
+    }
+
+    /// The same over readers of the token partitions that are given.
+    pub fn over(
+        alloc: Global,
+        readers: Vec<Decoder<'a>>,
+        columns: usize,
+    ) -> Result<FrameTokens<'a>, NoMemory>
+        ensures { IfOk result (λ tokens. state_of tokens ≡ record { readers = readers.entry.items; above = replicate columns outside; left = outside }) }
+    {
         Ok(FrameTokens {
-            readers: partition_readers(alloc, packet, partitions)?,
+            readers,
             above: vec![in alloc; [false; 9]; columns]?,
             left: [false; 9],
             blocks: Blocks::new(),
             has_tokens: false,
         })
+    }
+
+    /// The number of bits that the reader of a token partition has left.
+    pub fn left(&self, partition: usize) -> u128
+        requires { partition < length (state_of self.now).readers }
+        ensures { result ≡ length (slice_index_or (state_of self.now).readers partition (started [])).rest }
+    {
+        self.readers[partition].left()
     }
 
     /// Reads the tokens of the macroblock in column `mx` of row `my`, which is next, and keeps its

@@ -1,6 +1,6 @@
 //! Laws over the definitions of this crate: each is the contract of a function that does nothing.
 
-ghost use Rattle.std.specs.Prelude.{◌≡◌, true, false, Some, None, map, [], ◌∷◌, pos, neg_ℤ};
+ghost use Rattle.std.specs.Prelude.{◌≡◌, ◌<◌, length, true, false, Some, None, map, [], ◌∷◌, pos, neg_ℤ};
 ghost use Rattle.frame_header.specs.declared.references.Reference.TheVariants.{Last, Golden, Altref};
 ghost use Rattle.mode_parser.specs.ChromaVectors.{group_vector};
 ghost use Rattle.mode_parser.specs.declared.records.VectorMode.TheVariants.{New, Split};
@@ -9,6 +9,8 @@ ghost use Rattle.reference_frames.specs.References.{references_after};
 ghost use Rattle.reference_frames.specs.declared.references.References.{References};
 ghost use Rattle.reference_frames.specs.AboveRightLaws.{ReadsRowAbove, ReadsNextBlock, RepeatsFirstRow, ReadsNextMacroblock, RepeatsLastColumn};
 ghost use Rattle.reference_frames.specs.InterPrediction.{block_vector};
+ghost use Rattle.reference_frames.specs.PastEnds.{bytes_past};
+ghost use Rattle.reference_frames.specs.PastEndLaws.{CountsBits, CountsBitsOfNone};
 ghost use Rattle.reference_frames.specs.StepLaws.{KeysStepFromNone, PaddingKeepsSteps, ZerosKeepSteps};
 ghost use Rattle.reference_frames.specs.TokenLaws.{FirstRowsReadOneEach, RowsReadInTurn, KeepsOtherReaders, Y2GoesFirst, Y2KeepsOthers, NoY2KeepsAll};
 ghost use Rattle.reference_frames.specs.Worked.{mixed_vectors};
@@ -83,4 +85,36 @@ pub fn worked_group_vectors()
     ensures split { map (group_vector 0 (block_vector Split mixed_vectors)) (0 ∷ 1 ∷ 2 ∷ 3 ∷ []) ≡ (neg_ℤ (pos 2), neg_ℤ (pos 2)) ∷ (neg_ℤ (pos 1), pos 2) ∷ (neg_ℤ (pos 1), neg_ℤ (pos 1)) ∷ (pos 0, pos 2) ∷ [] }
     ensures whole_samples { map (group_vector 3 (block_vector Split mixed_vectors)) (0 ∷ 1 ∷ 2 ∷ 3 ∷ []) ≡ (neg_ℤ (pos 8), neg_ℤ (pos 8)) ∷ (neg_ℤ (pos 8), pos 0) ∷ (neg_ℤ (pos 8), neg_ℤ (pos 8)) ∷ (pos 0, pos 0) ∷ [] }
     ensures not_split { map (group_vector 0 (block_vector New mixed_vectors)) (0 ∷ 3 ∷ []) ≡ (neg_ℤ (pos 21), pos 17) ∷ (neg_ℤ (pos 21), pos 17) ∷ [] }
+{}
+
+/// The bytes past the end of a text are the bits that any chain of reads takes in after it, in bytes
+/// and rounded up, as far as the zeros go.
+pub fn past_ends_count_bits<T>(bytes: &[u8])
+    requires { 0 < length bytes.now }
+    ensures { CountsBits T bytes.now }
+{
+    bool_coder::laws::marks_count_bits::<T>(bytes);
+}
+
+/// The same of an empty text, without the eight bits that are in its window before the first bit is
+/// read.
+pub fn past_ends_of_none_count_bits<T>()
+    ensures { CountsBitsOfNone T }
+{
+    bool_coder::laws::marks_count_bits::<T>(&[]);
+}
+
+/// Partitions with 64 zero bytes and a mark after them. Of two bytes, all of the mark and the zeros
+/// are left, 520 bits: none was read past its end. One bit less is a byte read past its end, and so
+/// are eight; with none left all 64 were read. An empty partition of which nothing is read has 512
+/// bits left, and the first bit that is taken in is one past its end.
+pub fn worked_past_ends()
+    ensures inside { bytes_past 64 2 520 ≡ 0 }
+    ensures more { bytes_past 64 2 533 ≡ 0 }
+    ensures one_bit { bytes_past 64 2 519 ≡ 1 }
+    ensures eight_bits { bytes_past 64 2 512 ≡ 1 }
+    ensures nine_bits { bytes_past 64 2 511 ≡ 2 }
+    ensures all { bytes_past 64 2 0 ≡ 64 }
+    ensures empty { bytes_past 64 0 512 ≡ 0 }
+    ensures first_bit { bytes_past 64 0 511 ≡ 1 }
 {}

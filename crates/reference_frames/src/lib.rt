@@ -8,6 +8,7 @@ mod frames;
 mod inter;
 mod kept_blocks;
 pub mod laws;
+mod partition_ends;
 mod prediction;
 mod references;
 mod residuals;
@@ -15,6 +16,7 @@ mod states;
 mod step_fault;
 mod steps;
 
+pub use partition_ends::{PastEnds, past_ends};
 pub use references::References;
 pub use states::{State, same_state};
 pub use step_fault::StepFault;

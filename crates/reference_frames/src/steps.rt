@@ -16,7 +16,7 @@ use std::alloc::Global;
 use vp8_tables::Tables;
 
 /// The shown size of a frame: its references' size, or a key frame's own.
-fn size_of(header: &Header, before: Option<&State>) -> (u16, u16)
+pub(crate) fn size_of(header: &Header, before: Option<&State>) -> (u16, u16)
     requires following { header.now.is_key ≡ false → IsSome before }
     requires wide { IsTrue header.now.is_key → (1 ≤ header.now.width) × (header.now.width ≤ 16383) }
     requires high { IsTrue header.now.is_key → (1 ≤ header.now.height) × (header.now.height ≤ 16383) }
@@ -35,7 +35,7 @@ fn size_of(header: &Header, before: Option<&State>) -> (u16, u16)
 }
 
 /// The segment map before a frame, if it has a state before it.
-fn map_before(before: Option<&State>) -> Option<&[u8]>
+pub(crate) fn map_before(before: Option<&State>) -> Option<&[u8]>
     ensures value { option_copied result ≡ option_map (λ s. s.segment_map) (option_copied before.entry) }
     ensures whole { ForSome before.entry (λ s. HasMap s.now) }
 {

@@ -8,7 +8,9 @@ use Rattle.state_cache.specs.Decoding.{Outcome, left_by, outcome, outcomes_from}
 use Rattle.stream_checks.specs.declared.checker.Checker.{Checker}
 use Rattle.stream_checks.specs.declared.packets.Found.{Found}
 use Rattle.stream_checks.specs.Breaks.{break_in}
-use Rattle.stream_checks.specs.Packets.{bytes_of, findings_from, found_at, is_unshown}
+use Rattle.stream_checks.specs.Packets.{bytes_of, findings_from, found_at, is_unshown, listed_of}
+use Rattle.stream_checks.specs.PastEnds.{past_at, past_findings, past_from}
+use Rattle.reference_frames.specs.declared.partition_ends.PastEnds.{PastEnds}
 use Rattle.stream_checks.specs.declared.finding.Finding.{Finding}
 use Rattle.stream_checks.specs.declared.fault.CheckFault.{CheckFault}
 use Rattle.stream_checks.specs.declared.fault.CheckFault.TheVariants.{NoMemory, Write}
@@ -24,6 +26,13 @@ abbrev pub found_next : TableEntries → Checker → Packet → List Packet → 
 found_next tables checker packet rest =
     found_at checker.least checker.position packet rest (break_in checker.position.packets (left_by (outcome_next tables checker packet)))
 
+abbrev pub past_next : TableEntries → Checker → Packet → PastEnds
+past_next tables checker packet = past_at tables checker.decoder packet.bytes
+
+abbrev pub findings_next : TableEntries → Checker → Packet → List Packet → List Finding
+findings_next tables checker packet rest =
+    past_findings checker.position.packets (past_next tables checker packet) ++ listed_of (found_next tables checker packet rest)
+
 -- what is known of a hidden packet before the position is the answer for the packets after it
 abbrev pub Answers : Option Bool → List Packet → Type 0
 Answers unshown rest = IfSome unshown (λ answer. answer ≡ is_unshown rest)
@@ -32,6 +41,7 @@ Answers unshown rest = IfSome unshown (λ answer. answer ≡ is_unshown rest)
 abbrev pub findings_after : TableEntries → Checker → List Packet → List Finding
 findings_after tables checker rest =
     findings_from checker.least checker.position rest (outcomes_from tables checker.position.packets checker.decoder (bytes_of rest))
+    (past_from tables checker.position.packets checker.decoder (bytes_of rest))
 
 -- a line for each finding, and the summary
 abbrev pub check_text : TableEntries → List ℕ → Ivf → List ℕ

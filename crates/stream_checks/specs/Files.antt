@@ -5,7 +5,8 @@ use Rattle.vp8_tables.specs.Tables.{TableEntries}
 use Rattle.stream_files.specs.declared.ivf.Ivf.{Ivf}
 use Rattle.stream_checks.specs.declared.finding.Finding.{Finding}
 use Rattle.stream_checks.specs.declared.finding.Finding.TheVariants.{FrameCount, CutRecord}
-use Rattle.stream_checks.specs.Packets.{listed, packet_findings}
+use Rattle.stream_checks.specs.Listed.{listed}
+use Rattle.stream_checks.specs.Packets.{packet_findings}
 
 -- the number of frames that the header gives: bytes 24 to 27
 abbrev pub claimed_frames : List ℕ → ℕ

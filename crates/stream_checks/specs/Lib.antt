@@ -1,4 +1,6 @@
 pub mod Breaks
+pub mod Listed
+pub mod PastEnds
 pub mod Packets
 pub mod Files
 pub mod Lines

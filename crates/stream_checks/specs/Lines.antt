@@ -6,7 +6,7 @@ use Rattle.frame_header.specs.Tags.{is_shown}
 use Rattle.stream_files.specs.declared.packets.Packet.{Packet}
 use Rattle.stream_facts.specs.Lines.{cause_text}
 use Rattle.stream_checks.specs.declared.finding.Finding.{Finding}
-use Rattle.stream_checks.specs.declared.finding.Finding.TheVariants.{FrameCount, Refused, StampRepeats, StampGoesBack, StampSkips, SizeChanges, NeverShown, CutRecord}
+use Rattle.stream_checks.specs.declared.finding.Finding.TheVariants.{FrameCount, Refused, PastFirst, PastToken, StampRepeats, StampGoesBack, StampSkips, SizeChanges, NeverShown, CutRecord}
 
 -- the beginnings and ends of lines
 abbrev pub refused_start : ℕ → List ℕ
@@ -47,6 +47,24 @@ cut_line number begins claimed left = cut_start number begins ++ left_text claim
 abbrev pub count_line : ℕ → ℕ → List ℕ
 count_line claimed packets = codes "header: " ++ decimal claimed ++ codes " frames, " ++ decimal packets ++ codes " packets\n"
 
+abbrev pub past_text : ℕ → List ℕ
+past_text bytes = decimal bytes ++ codes " bytes read past its end\n"
+
+abbrev pub first_start : ℕ → List ℕ
+first_start packet = codes "packet " ++ decimal packet ++ codes ": first partition: "
+
+abbrev pub past_first_line : ℕ → ℕ → List ℕ
+past_first_line packet bytes = first_start packet ++ past_text bytes
+
+abbrev pub partition_text : ℕ → List ℕ
+partition_text partition = codes "partition " ++ decimal partition ++ codes ": "
+
+abbrev pub token_start : ℕ → List ℕ
+token_start packet = codes "packet " ++ decimal packet ++ codes ": token "
+
+abbrev pub past_token_line : ℕ → ℕ → ℕ → List ℕ
+past_token_line packet partition bytes = token_start packet ++ partition_text partition ++ past_text bytes
+
 abbrev pub repeats_line : ℕ → ℕ → List ℕ
 repeats_line packet stamp = codes "packet " ++ decimal packet ++ codes ": time stamp " ++ decimal stamp ++ codes " repeats\n"
 
@@ -63,6 +81,8 @@ hidden_line packet = codes "packet " ++ decimal packet ++ codes ": hidden, never
 abbrev pub line_of : Finding → List ℕ
 line_of (FrameCount claimed packets) = count_line claimed packets
 line_of (Refused packet cause lost) = refused_line packet (cause_text cause) lost
+line_of (PastFirst packet bytes) = past_first_line packet bytes
+line_of (PastToken packet partition bytes) = past_token_line packet partition bytes
 line_of (StampRepeats packet stamp) = repeats_line packet stamp
 line_of (StampGoesBack packet stamp before) = back_line packet stamp before
 line_of (StampSkips packet stamp before) = skips_line packet stamp before

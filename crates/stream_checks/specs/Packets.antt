@@ -7,16 +7,14 @@ use Rattle.frame_header.specs.Tags.{has_key_tag, is_shown, key_size_of}
 use Rattle.vp8_tables.specs.Tables.{TableEntries}
 use Rattle.state_cache.specs.declared.outcomes.Broken.{Broken}
 use Rattle.state_cache.specs.Decoding.{Outcome, left_by, outcomes}
+use Rattle.reference_frames.specs.declared.partition_ends.PastEnds.{PastEnds}
 use Rattle.stream_checks.specs.Breaks.{break_in}
+use Rattle.stream_checks.specs.Listed.{listed}
+use Rattle.stream_checks.specs.PastEnds.{past_findings, past_from}
 use Rattle.stream_checks.specs.declared.finding.Finding.{Finding}
 use Rattle.stream_checks.specs.declared.finding.Finding.TheVariants.{Refused, StampRepeats, StampGoesBack, StampSkips, SizeChanges, NeverShown}
 use Rattle.stream_checks.specs.declared.packets.Position.{Position}
 use Rattle.stream_checks.specs.declared.packets.Found.{Found}
-
--- a finding or none, as a list
-abbrev pub listed : Option Finding → List Finding
-listed None = []
-listed (Some finding) = finding ∷ []
 
 -- the packets after a refused one that are lost with it: those before the next key tag
 abbrev pub lost_after : List Packet → ℕ
@@ -115,12 +113,14 @@ found_at least position packet rest cause = record {
 abbrev pub listed_of : Found → List Finding
 listed_of found = listed found.refused ++ listed found.stamp ++ listed found.size ++ listed found.hidden
 
--- the findings at packets, by their outcomes: in the order of the packets
-abbrev pub findings_from : ℕ → Position → List Packet → List Outcome → List Finding
-findings_from least position [] outcomes = []
-findings_from least position (packet ∷ packets) [] = []
-findings_from least position (packet ∷ packets) (outcome ∷ outcomes) =
-    listed_of (found_at least position packet packets (break_in position.packets (left_by outcome))) ++ findings_from least (position_after position packet) packets outcomes
+-- the findings at packets, by their outcomes and by how far decoding reads past the ends of their partitions: in the order of
+-- the packets. A packet that reads past an end is not refused, so its first findings are these, as a refused packet's first is
+-- the refusal
+abbrev pub findings_from : ℕ → Position → List Packet → List Outcome → List PastEnds → List Finding
+findings_from least position (packet ∷ packets) (outcome ∷ outcomes) (past ∷ pasts) =
+    past_findings position.packets past ++ listed_of (found_at least position packet packets (break_in position.packets (left_by outcome)))
+    ++ findings_from least (position_after position packet) packets outcomes pasts
+findings_from least position packets outcomes pasts = []
 
 -- the bytes of packets
 abbrev pub bytes_of : List Packet → List (List ℕ)
@@ -128,4 +128,5 @@ bytes_of packets = map (λ packet. packet.bytes) packets
 
 -- the findings at the packets of a stream
 abbrev pub packet_findings : TableEntries → List Packet → List Finding
-packet_findings tables packets = findings_from (least_step packets) first_position packets (outcomes tables (bytes_of packets))
+packet_findings tables packets =
+    findings_from (least_step packets) first_position packets (outcomes tables (bytes_of packets)) (past_from tables 0 (Ok None) (bytes_of packets))

@@ -28,7 +28,7 @@ fn write_packets<W: Write>(
     requires { length packets.now ≤ 1048576 }
     ensures written { OnOk result (Appends (W.contents w.old) (W.contents w.new) (lines_of (packet_findings tables.now packets.now))) }
     ensures counted { IfOk result (λ count. count ≡ length (packet_findings tables.now packets.now)) }
-    ensures few { IfOk result (λ count. count ≤ 4194304) }
+    ensures few { IfOk result (λ count. count ≤ 13631488) }
     ensures early { IfErr result (IsEarlyEnd (packet_findings tables.now packets.now) (W.contents w.old) (W.contents w.new)) }
 {
     let mut checker = Checker::new(alloc, least_step(packets));

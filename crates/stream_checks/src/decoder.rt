@@ -1,6 +1,6 @@
 //! Decoding of one packet after another, for the breaks of the stream.
 
-ghost use Rattle.std.specs.Prelude.{◌≡◌, Ok, None, IfOk, OnOk, Result};
+ghost use Rattle.std.specs.Prelude.{◌≡◌, ◌≤◌, Ok, None, IfOk, OnOk, Result, length};
 ghost use Rattle.std.specs.Option.{option_copied};
 ghost use Rattle.frame_header.specs.declared.cause.Cause.{Cause};
 ghost use Rattle.pixel_planes.specs.Pictures.{PictureSamples};
@@ -8,10 +8,11 @@ ghost use Rattle.reference_frames.specs.States.{StateValue};
 ghost use Rattle.reference_frames.specs.Steps.{StepAnswers};
 ghost use Rattle.state_cache.specs.Decoding.{left_by, outcome, reported_at};
 ghost use Rattle.stream_checks.specs.Breaks.{break_in, is_lost, state_from};
+ghost use Rattle.stream_checks.specs.PastEnds.{past_at};
 
 use frame_header::{Cause, has_key_tag};
 use pixel_planes::{NoMemory, Picture, Spare};
-use reference_frames::{State, StepFault, step_with};
+use reference_frames::{PastEnds, State, StepFault, past_ends, step_with};
 use state_cache::Broken;
 use std::alloc::Global;
 use std::marker::Model;
@@ -110,6 +111,19 @@ impl Decoder {
         let before = mem::replace(&mut self.progress, left);
         drop_into(before, &mut self.spare);
         Ok(())
+    }
+
+    /// How many bytes past the end of each partition decoding the next packet reads.
+    pub fn past_ends(&self, tables: &Tables, packet: &[u8]) -> Result<PastEnds, NoMemory>
+        ensures value { IfOk result (λ past. past ≡ past_at tables.now self.now packet.now) }
+        ensures few { IfOk result (λ past. length past.tokens.items ≤ 8) }
+    {
+        past_ends(
+            self.alloc,
+            tables,
+            state_from(&self.progress, packet),
+            packet,
+        )
     }
 
     /// The cause, if the stream breaks at this index.

@@ -16,6 +16,17 @@ pub enum Finding {
         cause: Cause,
         lost: usize,
     },
+    /// Decoding a packet reads so many bytes past the end of its first partition.
+    PastFirst {
+        packet: usize,
+        bytes: usize,
+    },
+    /// The same of one of its token partitions, counted from 0.
+    PastToken {
+        packet: usize,
+        partition: usize,
+        bytes: usize,
+    },
     /// A shown packet has the time stamp of the shown packet before it.
     StampRepeats {
         packet: usize,

@@ -1,7 +1,7 @@
 //! Laws about the definitions of this crate. Each law is the contract of a function that does
 //! nothing.
 
-ghost use Rattle.stream_checks.specs.Laws.{LostAreBroken, WorkedStamps};
+ghost use Rattle.stream_checks.specs.Laws.{LostAreBroken, WorkedEnds, WorkedStamps};
 
 /// Each packet that is counted as lost after a break has this break as its outcome.
 pub fn lost_are_broken()
@@ -12,4 +12,9 @@ pub fn lost_are_broken()
 /// own, or that of the packet after it.
 pub fn worked_stamps()
     ensures { WorkedStamps }
+{}
+
+/// A partition that is read past its end has a finding of its own; one that is not has none.
+pub fn worked_ends()
+    ensures { WorkedEnds }
 {}

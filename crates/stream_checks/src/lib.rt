@@ -11,6 +11,7 @@ mod finding;
 pub mod laws;
 mod lines;
 mod packets;
+mod past;
 
 pub use checking::check;
 pub use fault::CheckFault;

@@ -3,8 +3,8 @@
 ghost use Rattle.std.specs.Prelude.{◌≡◌, ◌≤◌, IfOk, OnOk, length};
 ghost use Rattle.std.specs.Io.KnownBytes.{Appends};
 ghost use Rattle.stream_facts.specs.Lines.{cause_text};
-ghost use Rattle.stream_checks.specs.Lines.{back_line, claimed_text, count_line, cut_line, cut_start, hidden_line, left_text, line_of, lines_of, lost_text, refused_line, refused_start, repeats_line, size_line, size_start, size_text, skips_line, summary_line, there_text};
-ghost use Rattle.stream_checks.specs.Packets.{listed};
+ghost use Rattle.stream_checks.specs.Lines.{back_line, claimed_text, count_line, cut_line, cut_start, hidden_line, left_text, line_of, lines_of, lost_text, first_start, past_first_line, partition_text, past_text, past_token_line, token_start, refused_line, refused_start, repeats_line, size_line, size_start, size_text, skips_line, summary_line, there_text};
+ghost use Rattle.stream_checks.specs.Listed.{listed};
 
 use crate::finding::Finding;
 use frame_header::Cause;
@@ -41,6 +41,50 @@ fn write_refused<W: Write>(
     write_refused_start(w, packet)?;
     write_cause(w, cause)?;
     write_lost(w, lost)
+}
+
+fn write_past<W: Write>(w: &mut W, bytes: usize) -> Result<(), WriteFault>
+    ensures { OnOk result (Appends (W.contents w.old) (W.contents w.new) (past_text bytes)) }
+{
+    write!(w, "{bytes} bytes read past its end\n").map_err(|_| WriteFault::Write)
+}
+
+fn write_first_start<W: Write>(w: &mut W, packet: usize) -> Result<(), WriteFault>
+    ensures { OnOk result (Appends (W.contents w.old) (W.contents w.new) (first_start packet)) }
+{
+    write!(w, "packet {packet}: first partition: ").map_err(|_| WriteFault::Write)
+}
+
+fn write_past_first<W: Write>(w: &mut W, packet: usize, bytes: usize) -> Result<(), WriteFault>
+    ensures { OnOk result (Appends (W.contents w.old) (W.contents w.new) (past_first_line packet bytes)) }
+{
+    write_first_start(w, packet)?;
+    write_past(w, bytes)
+}
+
+fn write_token_start<W: Write>(w: &mut W, packet: usize) -> Result<(), WriteFault>
+    ensures { OnOk result (Appends (W.contents w.old) (W.contents w.new) (token_start packet)) }
+{
+    write!(w, "packet {packet}: token ").map_err(|_| WriteFault::Write)
+}
+
+fn write_partition<W: Write>(w: &mut W, partition: usize) -> Result<(), WriteFault>
+    ensures { OnOk result (Appends (W.contents w.old) (W.contents w.new) (partition_text partition)) }
+{
+    write!(w, "partition {partition}: ").map_err(|_| WriteFault::Write)
+}
+
+fn write_past_token<W: Write>(
+    w: &mut W,
+    packet: usize,
+    partition: usize,
+    bytes: usize,
+) -> Result<(), WriteFault>
+    ensures { OnOk result (Appends (W.contents w.old) (W.contents w.new) (past_token_line packet partition bytes)) }
+{
+    write_token_start(w, packet)?;
+    write_partition(w, partition)?;
+    write_past(w, bytes)
 }
 
 fn write_repeats<W: Write>(w: &mut W, packet: usize, stamp: u64) -> Result<(), WriteFault>
@@ -162,6 +206,12 @@ fn write_line<W: Write>(w: &mut W, finding: Finding) -> Result<(), WriteFault>
             cause,
             lost,
         } => write_refused(w, packet, cause, lost),
+        Finding::PastFirst { packet, bytes } => write_past_first(w, packet, bytes),
+        Finding::PastToken {
+            packet,
+            partition,
+            bytes,
+        } => write_past_token(w, packet, partition, bytes),
         Finding::StampRepeats { packet, stamp } => write_repeats(w, packet, stamp),
         Finding::StampGoesBack {
             packet,

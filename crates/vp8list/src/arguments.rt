@@ -55,6 +55,10 @@ With --check every packet is decoded, and there is a line for each finding inste
   packet 60: refused ShortPacket, 12 packets lost
               why a packet is not decoded, and the packets before the next key
               packet, which are lost with it
+  packet 12: first partition: 2 bytes read past its end
+  packet 12: token partition 0: 5 bytes read past its end
+              decoding reads zeros after the end of a partition, as it does if
+              the packet was cut or changed; libvpx calls the frame corrupt
   packet 31: time stamp 30 repeats
   packet 31: time stamp 28 goes back from 30
               against the shown packet before it

@@ -8,19 +8,12 @@ use Rattle.pixel_planes.specs.PlaneSamples.{shown_of}
 use Rattle.reference_frames.specs.FrameTokens.{TokenState, flag_at, residual_at, token_state}
 use Rattle.reference_frames.specs.FrameTokenValue.{state_of}
 use Rattle.reference_frames.specs.Unfiltered.{predicted_macroblocks}
-use Rattle.reference_frames.proofs.MacroblockOrder.{flag_here, flags_more, predicted_more, residual_here, state_more}
+use Rattle.reference_frames.proofs.MacroblockOrder.{flag_here, flags_more, next_column, next_row, predicted_more, residual_here, state_more}
 use Rattle.reference_frames.proofs.frames.predict_macroblocks.Goals as goal
 use Rattle.reference_frames.proofs.frames.predict_macroblocks.Goals.{then-mx-columns, else-mx-columns}
 
 some_columns : (columns rows : ℕ) → 0 < columns * rows → 0 < columns
 some_columns columns rows some = grind arith
-
--- the first index of the next row, and the next index of this row
-next_row : (columns my mx my' mx' n : ℕ) → my * columns + mx ≡ n → mx + 1 ≡ columns → my' ≡ my + 1 → mx' ≡ 0 → my' * columns + mx' ≡ n + 1
-next_row columns my mx my' mx' n place last row column = rw (row, column) (omega arith)
-
-next_column : (columns my mx my' mx' n : ℕ) → my * columns + mx ≡ n → my' ≡ my → mx' ≡ mx + 1 → my' * columns + mx' ≡ n + 1
-next_column columns my mx my' mx' n place row column = rw (row, column) (omega arith)
 
 pub loop-mode-init : goal.loop-mode-init
 unfolding predicted_macroblocks token_state

@@ -2,7 +2,8 @@ use Rattle.std.proofs.Common.{◌≡◌, ◌+◌, ◌++◌, ℕ, List, Option, l
 use Rattle.std.specs.Io.KnownBytes.{Appends}
 use Rattle.stream_files.specs.declared.packets.Packet.{Packet}
 use Rattle.stream_checks.specs.declared.finding.Finding.{Finding}
-use Rattle.stream_checks.specs.Packets.{listed, packet_findings}
+use Rattle.stream_checks.specs.Listed.{listed}
+use Rattle.stream_checks.specs.Packets.{packet_findings}
 use Rattle.stream_checks.specs.Files.{claimed_frames, count_finding, cut_finding}
 use Rattle.stream_checks.specs.Lines.{frames_of, lines_of, summary_line}
 use Rattle.stream_checks.specs.Checks.{IsEarlyEnd}

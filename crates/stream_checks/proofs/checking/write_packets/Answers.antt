@@ -5,9 +5,8 @@ use Rattle.stream_files.specs.declared.packets.Packet.{Packet}
 use Rattle.stream_checks.specs.declared.checker.Checker.{Checker}
 use Rattle.stream_checks.specs.declared.finding.Finding.{Finding}
 use Rattle.stream_checks.specs.declared.packets.Position.{Position}
-use Rattle.stream_checks.specs.Packets.{listed_of}
 use Rattle.stream_checks.specs.Lines.{line_of}
-use Rattle.stream_checks.specs.Checks.{findings_after, found_next}
+use Rattle.stream_checks.specs.Checks.{findings_after, findings_next}
 use Rattle.stream_checks.proofs.Steps.{one_more}
 use Rattle.stream_checks.proofs.checking.write_packets.Goals as goal
 
@@ -18,7 +17,7 @@ loop-packet-preserved g c =
     let after : Checker = c.next.new.self in
     let packet = c.in-Some.packet.now in
     let following = c.in-Some.following.now in
-    let found : List Finding = listed_of (found_next tables before packet following) in
+    let found : List Finding = findings_next tables before packet following in
     let met = c.loop-packet.invariant in
     let at : c.loop-packet.rest.now ≡ packet ∷ following = c.in-Some.ensures.cases.0 in
     let shorter : length following + 1 ≡ length c.loop-packet.rest.now = c.in-Some.ensures.cases.1 in

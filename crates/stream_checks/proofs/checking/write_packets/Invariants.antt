@@ -12,7 +12,7 @@ invariant-loop-packet g l = record {
   whole : done ++ findings_after l.tables l.checker l.rest ≡ packet_findings l.tables l.packets;
   said : Appends (g.W.Write.contents l.fn.w) (g.W.Write.contents l.w) (lines_of done);
   counted : l.count ≡ length done;
-  few : l.count ≤ 4 * l.checker.position.packets;
+  few : l.count ≤ 13 * l.checker.position.packets;
   packets : l.checker.position.packets + length l.rest ≡ length l.packets;
   answers : Answers l.checker.unshown l.rest;
 }

@@ -1,0 +1,22 @@
+use Rattle.std.proofs.Common.{◌≡◌, List, length, map, ap, ◌∙◌, refl}
+use Rattle.std.proofs.lemmas.List.{length-map}
+use Rattle.frame_header.specs.declared.places.Place.{Place}
+use Rattle.bool_coder.specs.Reader.{Reader, started}
+use Rattle.reference_frames.specs.FrameTokens.{TokenState}
+use Rattle.reference_frames.specs.PastEnds.{marked_text}
+use Rattle.reference_frames.proofs.MarkedPartitions.{marked_readers, tokens_past_is}
+use Rattle.reference_frames.proofs.partition_ends.frame_tokens_past.Goals as goal
+
+pub tokens_past-requires-clause-each : goal.tokens_past-requires-clause-each
+tokens_past-requires-clause-each c =
+    let places : List Place = c.as_slice-partitions.result.now in
+    let readers : c.in_ok-readers.readers.items ≡ map (λ place. started (marked_text c.args.zeros c.args.packet.now place)) places =
+    c.in_ok-readers.ensures ∙ ap (λ texts. map (λ text. started text.items) texts) c.deref.ensures.value ∙ marked_readers (λ text. text.items) c.args.zeros c.args.packet.now c.in_ok-texts.texts.items places c.in_ok-texts.ensures in
+    c.read_tokens.ensures.count ∙ ap (λ (t : TokenState). length t.readers) c.in_ok-tokens.ensures ∙ ap (λ (rs : List Reader). length rs) readers ∙ length-map places _
+
+pub returns : goal.returns
+returns c =
+    let places : List Place = c.as_slice-partitions.result.now in
+    let readers : c.in_ok-readers.readers.items ≡ map (λ place. started (marked_text c.args.zeros c.args.packet.now place)) places =
+    c.in_ok-readers.ensures ∙ ap (λ texts. map (λ text. started text.items) texts) c.deref.ensures.value ∙ marked_readers (λ text. text.items) c.args.zeros c.args.packet.now c.in_ok-texts.texts.items places c.in_ok-texts.ensures in
+    c.tokens_past.ensures ∙ tokens_past_is c.args.zeros c.args.packet.now c.args.header.now c.args.columns c.args.modes.now c.in_ok-readers.readers.items places _ c.as_slice-partitions.ensures.value readers (rw c.in_ok-tokens.ensures at c.read_tokens.ensures.value)
