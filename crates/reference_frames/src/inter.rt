@@ -13,6 +13,7 @@ ghost use Rattle.reference_frames.specs.PlacedBlocks.{IsPlaced, from_corner};
 ghost use Rattle.reference_frames.specs.Restored.{restored};
 ghost use Rattle.reference_frames.specs.Unfiltered.{HoldsMacroblock, HoldsSquare, SameShape, SameSides, inter_macroblock, with_block};
 
+use crate::corners::Corner;
 use crate::residuals::{Blocks, add_to_square};
 use inter_predict::{Kind, block_in};
 use intra_predict::BlockSize;
@@ -41,8 +42,8 @@ pub(crate) fn is_split(mode: VectorMode) -> bool
     }
 }
 
-/// Predicts the square of this side that begins in column `column` of row `row` of a plane, in the
-/// plane's samples, `across` in a row. The vector is in eighths of a sample.
+/// Predicts the square of this side that begins at a corner, in the samples of a plane. The vector
+/// is in eighths of a sample.
 #[inline]
 fn predict_square(
     from: &Plane,
@@ -50,18 +51,17 @@ fn predict_square(
     kind: Kind,
     side: usize,
     samples: &mut [u8],
-    across: usize,
-    column: usize,
-    row: usize,
+    corner: Corner,
 )
     requires side { (0 < side) × (side ≤ 16) }
-    requires small { (across ≤ 16384) × (row + side ≤ 16384) }
-    requires column { column + side ≤ across }
-    requires room { (row + side) * across ≤ length samples.old }
-    ensures { IsPlaced (λ i j. inter_sample kind from.now.shown (pos i) (pos j) vector.0 vector.1) across side column row samples.old samples.new }
+    requires small { (corner.across ≤ 16384) × (corner.row + side ≤ 16384) }
+    requires column { corner.column + side ≤ corner.across }
+    requires room { (corner.row + side) * corner.across ≤ length samples.old }
+    ensures { IsPlaced (λ i j. inter_sample kind from.now.shown (pos i) (pos j) vector.0 vector.1) corner.across side corner.column corner.row samples.old samples.new }
 {
-    let (left, top) = (column as i32, row as i32);
-    let samples = &mut samples[across * row + column..];
+    let (left, top) = (corner.column as i32, corner.row as i32);
+    let across = corner.across;
+    let samples = &mut samples[across * corner.row + corner.column..];
     block_in(from, left, top, vector, kind, side, side, samples, across);
 }
 
@@ -103,20 +103,40 @@ fn predict_quarter(
     requires room { (16 * my + 16) * across ≤ length samples.old }
     ensures { IsPlaced (from_corner (16 * mx) (16 * my) (luma_sample kind from.now.shown mx my (λ n. slice_index_or vectors.now n zero_vector))) across 8 (16 * mx + 8 * (quarter % 2)) (16 * my + 8 * (quarter / 2)) samples.old samples.new }
 {
-    let (x, y) = (16 * mx + 8 * (quarter % 2), 16 * my + 8 * (quarter / 2));
+    let column = 16 * mx + 8 * (quarter % 2);
+    let row = 16 * my + 8 * (quarter / 2);
+    let corner = Corner {
+        across,
+        column,
+        row,
+    };
     let n = 8 * (quarter / 2) + 2 * (quarter % 2);
     let first = eighths(vectors, n);
     let second = eighths(vectors, n + 1);
     let third = eighths(vectors, n + 4);
     let fourth = eighths(vectors, n + 5);
     if are_same(first, second) && are_same(first, third) && are_same(first, fourth) {
-        predict_square(from, first, kind, 8, samples, across, x, y);
+        predict_square(from, first, kind, 8, samples, corner);
         return;
     }
-    predict_square(from, first, kind, 4, samples, across, x, y);
-    predict_square(from, second, kind, 4, samples, across, x + 4, y);
-    predict_square(from, third, kind, 4, samples, across, x, y + 4);
-    predict_square(from, fourth, kind, 4, samples, across, x + 4, y + 4);
+    let (right, below) = (corner.column + 4, corner.row + 4);
+    let beside = Corner {
+        column: right,
+        ..corner
+    };
+    let under = Corner {
+        row: below,
+        ..corner
+    };
+    let opposite = Corner {
+        across,
+        column: right,
+        row: below,
+    };
+    predict_square(from, first, kind, 4, samples, corner);
+    predict_square(from, second, kind, 4, samples, beside);
+    predict_square(from, third, kind, 4, samples, under);
+    predict_square(from, fourth, kind, 4, samples, opposite);
 }
 
 /// Predicts the luma of the macroblock in column `mx` of row `my`, in a plane's samples, `across`
@@ -144,7 +164,13 @@ fn luma_samples(
         return;
     }
     let vector = eighths(vectors, 15);
-    predict_square(from, vector, kind, 16, samples, across, 16 * mx, 16 * my);
+    let (column, row) = (16 * mx, 16 * my);
+    let corner = Corner {
+        across,
+        column,
+        row,
+    };
+    predict_square(from, vector, kind, 16, samples, corner);
 }
 
 /// The vector of luma block `n` of a macroblock (RFC 6386, section 16.3).
@@ -221,19 +247,38 @@ fn chroma_samples(
     ensures { IsPlaced (from_corner (8 * mx) (8 * my) (chroma_sample version from.now.shown mx my (block_vector mode vectors.now))) across 8 (8 * mx) (8 * my) samples.old samples.new }
 {
     let kind = kind_of(version);
-    let (x, y) = (8 * mx, 8 * my);
+    let (column, row) = (8 * mx, 8 * my);
+    let corner = Corner {
+        across,
+        column,
+        row,
+    };
     if is_split(mode) {
         let first = group_vector(mode, vectors, 0, version);
         let second = group_vector(mode, vectors, 1, version);
         let third = group_vector(mode, vectors, 2, version);
         let fourth = group_vector(mode, vectors, 3, version);
-        predict_square(from, first, kind, 4, samples, across, x, y);
-        predict_square(from, second, kind, 4, samples, across, x + 4, y);
-        predict_square(from, third, kind, 4, samples, across, x, y + 4);
-        predict_square(from, fourth, kind, 4, samples, across, x + 4, y + 4);
+        let (right, below) = (column + 4, row + 4);
+        let beside = Corner {
+            column: right,
+            ..corner
+        };
+        let under = Corner {
+            row: below,
+            ..corner
+        };
+        let opposite = Corner {
+            across,
+            column: right,
+            row: below,
+        };
+        predict_square(from, first, kind, 4, samples, corner);
+        predict_square(from, second, kind, 4, samples, beside);
+        predict_square(from, third, kind, 4, samples, under);
+        predict_square(from, fourth, kind, 4, samples, opposite);
         return;
     }
-    predict_square(from, whole, kind, 8, samples, across, x, y);
+    predict_square(from, whole, kind, 8, samples, corner);
 }
 
 /// Predicts the luma of a macroblock from a reference's, and adds its residual.
@@ -255,8 +300,12 @@ fn predict_luma(
     let samples = plane.samples_mut();
     let kind = kind_of(version);
     luma_samples(from, mx, my, kind, mode, vectors, samples, width);
-    let size = BlockSize::Sixteen;
-    add_to_square(residual, 0, size, samples, width, 16 * mx, 16 * my);
+    let corner = Corner {
+        across: width,
+        column: 16 * mx,
+        row: 16 * my,
+    };
+    add_to_square(residual, 0, BlockSize::Sixteen, samples, corner);
 }
 
 /// Predicts a macroblock's samples of a chroma plane from a reference's, and adds its residual,
@@ -282,8 +331,12 @@ fn predict_chroma(
     let width = plane.width();
     let samples = plane.samples_mut();
     chroma_samples(from, mx, my, version, mode, vectors, whole, samples, width);
-    let size = BlockSize::Eight;
-    add_to_square(residual, first, size, samples, width, 8 * mx, 8 * my);
+    let corner = Corner {
+        across: width,
+        column: 8 * mx,
+        row: 8 * my,
+    };
+    add_to_square(residual, first, BlockSize::Eight, samples, corner);
 }
 
 /// Predicts the macroblock in column `mx` of row `my` of a frame of this version from a picture, by
