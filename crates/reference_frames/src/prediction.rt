@@ -8,8 +8,8 @@ ghost use Rattle.reference_frames.specs.PlacedBlocks.{IsPlaced, from_corner};
 ghost use Rattle.reference_frames.specs.WrittenBlocks.{block_rows_put};
 ghost use Rattle.reference_frames.specs.Unfiltered.{HoldsSquare, HoldsMacroblock, HaveRoomFor, SameSides, SameShape, above, left, corner, above_row, left_column, above_eight, with_block, predicted_sub_block, predicted_sub_blocks, predicted_whole, predicted_luma, intra_macroblock, referred_macroblock, predicted_macroblock};
 
-use crate::corners::Corner;
-use crate::inter::predict_inter;
+use crate::corners::{Corner, MacroblockPlace};
+use crate::inter::{Motion, predict_inter};
 use crate::references::References;
 use crate::residuals::{Blocks, add_to_square, add_to_sub_block};
 use frame_header::Reference;
@@ -250,19 +250,18 @@ fn predict_square(
 fn predict_whole(
     plane: &mut Plane,
     size: BlockSize,
-    mx: usize,
-    my: usize,
+    place: MacroblockPlace,
     mode: WholeMode,
     residual: Option<&Blocks>,
     first: usize,
 )
     requires first { first + side_of size / 4 * (side_of size / 4) ≤ 24 }
-    requires within { HoldsSquare plane.old.shown (side_of size * mx) (side_of size * my) (side_of size) }
-    ensures value { plane.new.shown ≡ predicted_whole plane.old.shown (side_of size) mx my mode (option_copied residual.entry) first }
+    requires within { HoldsSquare plane.old.shown (side_of size * place.mx) (side_of size * place.my) (side_of size) }
+    ensures value { plane.new.shown ≡ predicted_whole plane.old.shown (side_of size) place.mx place.my mode (option_copied residual.entry) first }
     ensures sides { SameSides plane.old.shown plane.new.shown }
 {
     let side = size.side();
-    let (x, y) = (side * mx, side * my);
+    let (x, y) = (side * place.mx, side * place.my);
     let (mut above, mut left) = ([0; 16], [0; 16]);
     let (above, left) = (&mut above[..side], &mut left[..side]);
     read_above(plane, x, y, above);
@@ -288,7 +287,10 @@ fn predict_luma(plane: &mut Plane, mx: usize, my: usize, mode: &MbMode, residual
     ensures sides { SameSides plane.old.shown plane.new.shown }
 {
     match mode.y_mode {
-        YMode::Whole(whole) => predict_whole(plane, BlockSize::Sixteen, mx, my, whole, residual, 0),
+        YMode::Whole(whole) => {
+            let place = MacroblockPlace { mx, my };
+            predict_whole(plane, BlockSize::Sixteen, place, whole, residual, 0);
+        }
         YMode::B => predict_sub_blocks(plane, mx, my, &mode.sub_modes, residual),
         YMode::Inter(..) => {}
     }
@@ -308,24 +310,9 @@ fn predict_intra(
     ensures sides { SameShape (shown_of planes.old) (shown_of planes.new) }
 {
     predict_luma(&mut planes.luma, mx, my, mode, residual);
-    predict_whole(
-        &mut planes.cb,
-        BlockSize::Eight,
-        mx,
-        my,
-        mode.uv_mode,
-        residual,
-        16,
-    );
-    predict_whole(
-        &mut planes.cr,
-        BlockSize::Eight,
-        mx,
-        my,
-        mode.uv_mode,
-        residual,
-        20,
-    );
+    let (size, place) = (BlockSize::Eight, MacroblockPlace { mx, my });
+    predict_whole(&mut planes.cb, size, place, mode.uv_mode, residual, 16);
+    predict_whole(&mut planes.cr, size, place, mode.uv_mode, residual, 20);
 }
 
 /// The sources of prediction besides the current picture: the references (a key frame has none),
@@ -355,18 +342,13 @@ fn predict_referred(
     match sources.references {
         Some(references) => {
             let from = references.picture(reference);
-            let version = sources.version;
-            let vectors = &mode.vectors;
-            predict_inter(
-                planes,
-                from,
-                mx,
-                my,
-                version,
-                vector_mode,
-                vectors,
-                residual,
-            );
+            let place = MacroblockPlace { mx, my };
+            let motion = Motion {
+                version: sources.version,
+                mode: vector_mode,
+                vectors: &mode.vectors,
+            };
+            predict_inter(planes, from, place, motion, residual);
         }
         None => {}
     }
