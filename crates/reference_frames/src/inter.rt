@@ -13,11 +13,21 @@ ghost use Rattle.reference_frames.specs.PlacedBlocks.{IsPlaced, from_corner};
 ghost use Rattle.reference_frames.specs.Restored.{restored};
 ghost use Rattle.reference_frames.specs.Unfiltered.{HoldsMacroblock, HoldsSquare, SameShape, SameSides, inter_macroblock, with_block};
 
+use crate::corners::{Corner, MacroblockCorner, MacroblockPlace};
 use crate::residuals::{Blocks, add_to_square};
 use inter_predict::{Kind, block_in};
 use intra_predict::BlockSize;
 use mode_parser::{Vector, VectorMode, chroma_vector};
 use pixel_planes::{Picture, Plane, Planes};
+
+/// How a macroblock is predicted from a reference: the version of the frame, which determines the
+/// filters, the mode of the macroblock and its vectors.
+#[derive(Clone, Copy)]
+pub(crate) struct Motion<'a> {
+    pub(crate) version: u8,
+    pub(crate) mode: VectorMode,
+    pub(crate) vectors: &'a [Vector; 16],
+}
 
 /// The filters of a version (RFC 6386, section 9.1).
 fn kind_of(version: u8) -> Kind
@@ -41,8 +51,8 @@ pub(crate) fn is_split(mode: VectorMode) -> bool
     }
 }
 
-/// Predicts the square of this side that begins in column `column` of row `row` of a plane, in the
-/// plane's samples, `across` in a row. The vector is in eighths of a sample.
+/// Predicts the square of this side that begins at a corner, in the samples of a plane. The vector
+/// is in eighths of a sample.
 #[inline]
 fn predict_square(
     from: &Plane,
@@ -50,18 +60,17 @@ fn predict_square(
     kind: Kind,
     side: usize,
     samples: &mut [u8],
-    across: usize,
-    column: usize,
-    row: usize,
+    corner: Corner,
 )
     requires side { (0 < side) × (side ≤ 16) }
-    requires small { (across ≤ 16384) × (row + side ≤ 16384) }
-    requires column { column + side ≤ across }
-    requires room { (row + side) * across ≤ length samples.old }
-    ensures { IsPlaced (λ i j. inter_sample kind from.now.shown (pos i) (pos j) vector.0 vector.1) across side column row samples.old samples.new }
+    requires small { (corner.across ≤ 16384) × (corner.row + side ≤ 16384) }
+    requires column { corner.column + side ≤ corner.across }
+    requires room { (corner.row + side) * corner.across ≤ length samples.old }
+    ensures { IsPlaced (λ i j. inter_sample kind from.now.shown (pos i) (pos j) vector.0 vector.1) corner.across side corner.column corner.row samples.old samples.new }
 {
-    let (left, top) = (column as i32, row as i32);
-    let samples = &mut samples[across * row + column..];
+    let (left, top) = (corner.column as i32, corner.row as i32);
+    let across = corner.across;
+    let samples = &mut samples[across * corner.row + corner.column..];
     block_in(from, left, top, vector, kind, side, side, samples, across);
 }
 
@@ -85,66 +94,89 @@ fn are_same(a: (i32, i32), b: (i32, i32)) -> bool
     a.0 == b.0 && a.1 == b.1
 }
 
-/// Predicts a quarter of a split macroblock's luma, for the macroblock in column `mx` of row `my`:
-/// as one block if its four vectors are equal.
+/// Predicts a quarter of a split macroblock's luma: as one block if its four vectors are equal.
 fn predict_quarter(
     from: &Plane,
-    mx: usize,
-    my: usize,
     kind: Kind,
     vectors: &[Vector; 16],
     quarter: usize,
     samples: &mut [u8],
-    across: usize,
+    corner: MacroblockCorner,
 )
     requires quarter { quarter < 4 }
-    requires small { (across ≤ 16384) × (16 * my + 16 ≤ 16384) }
-    requires column { 16 * mx + 16 ≤ across }
-    requires room { (16 * my + 16) * across ≤ length samples.old }
-    ensures { IsPlaced (from_corner (16 * mx) (16 * my) (luma_sample kind from.now.shown mx my (λ n. slice_index_or vectors.now n zero_vector))) across 8 (16 * mx + 8 * (quarter % 2)) (16 * my + 8 * (quarter / 2)) samples.old samples.new }
+    requires small { (corner.across ≤ 16384) × (16 * corner.my + 16 ≤ 16384) }
+    requires column { 16 * corner.mx + 16 ≤ corner.across }
+    requires room { (16 * corner.my + 16) * corner.across ≤ length samples.old }
+    ensures { IsPlaced (from_corner (16 * corner.mx) (16 * corner.my) (luma_sample kind from.now.shown corner.mx corner.my (λ n. slice_index_or vectors.now n zero_vector))) corner.across 8 (16 * corner.mx + 8 * (quarter % 2)) (16 * corner.my + 8 * (quarter / 2)) samples.old samples.new }
 {
-    let (x, y) = (16 * mx + 8 * (quarter % 2), 16 * my + 8 * (quarter / 2));
+    let column = 16 * corner.mx + 8 * (quarter % 2);
+    let row = 16 * corner.my + 8 * (quarter / 2);
+    let across = corner.across;
+    let corner = Corner {
+        across,
+        column,
+        row,
+    };
     let n = 8 * (quarter / 2) + 2 * (quarter % 2);
     let first = eighths(vectors, n);
     let second = eighths(vectors, n + 1);
     let third = eighths(vectors, n + 4);
     let fourth = eighths(vectors, n + 5);
     if are_same(first, second) && are_same(first, third) && are_same(first, fourth) {
-        predict_square(from, first, kind, 8, samples, across, x, y);
+        predict_square(from, first, kind, 8, samples, corner);
         return;
     }
-    predict_square(from, first, kind, 4, samples, across, x, y);
-    predict_square(from, second, kind, 4, samples, across, x + 4, y);
-    predict_square(from, third, kind, 4, samples, across, x, y + 4);
-    predict_square(from, fourth, kind, 4, samples, across, x + 4, y + 4);
+    let (right, below) = (corner.column + 4, corner.row + 4);
+    let beside = Corner {
+        column: right,
+        ..corner
+    };
+    let under = Corner {
+        row: below,
+        ..corner
+    };
+    let opposite = Corner {
+        across,
+        column: right,
+        row: below,
+    };
+    predict_square(from, first, kind, 4, samples, corner);
+    predict_square(from, second, kind, 4, samples, beside);
+    predict_square(from, third, kind, 4, samples, under);
+    predict_square(from, fourth, kind, 4, samples, opposite);
 }
 
-/// Predicts the luma of the macroblock in column `mx` of row `my`, in a plane's samples, `across`
-/// in a row: as one block, or if it is split by its quarters.
+/// Predicts the luma of a macroblock, in a plane's samples: as one block, or if it is split by its
+/// quarters.
 fn luma_samples(
     from: &Plane,
-    mx: usize,
-    my: usize,
     kind: Kind,
     mode: VectorMode,
     vectors: &[Vector; 16],
     samples: &mut [u8],
-    across: usize,
+    corner: MacroblockCorner,
 )
-    requires small { (across ≤ 16384) × (16 * my + 16 ≤ 16384) }
-    requires column { 16 * mx + 16 ≤ across }
-    requires room { (16 * my + 16) * across ≤ length samples.old }
-    ensures { IsPlaced (from_corner (16 * mx) (16 * my) (luma_sample kind from.now.shown mx my (block_vector mode vectors.now))) across 16 (16 * mx) (16 * my) samples.old samples.new }
+    requires small { (corner.across ≤ 16384) × (16 * corner.my + 16 ≤ 16384) }
+    requires column { 16 * corner.mx + 16 ≤ corner.across }
+    requires room { (16 * corner.my + 16) * corner.across ≤ length samples.old }
+    ensures { IsPlaced (from_corner (16 * corner.mx) (16 * corner.my) (luma_sample kind from.now.shown corner.mx corner.my (block_vector mode vectors.now))) corner.across 16 (16 * corner.mx) (16 * corner.my) samples.old samples.new }
 {
     if is_split(mode) {
-        predict_quarter(from, mx, my, kind, vectors, 0, samples, across);
-        predict_quarter(from, mx, my, kind, vectors, 1, samples, across);
-        predict_quarter(from, mx, my, kind, vectors, 2, samples, across);
-        predict_quarter(from, mx, my, kind, vectors, 3, samples, across);
+        predict_quarter(from, kind, vectors, 0, samples, corner);
+        predict_quarter(from, kind, vectors, 1, samples, corner);
+        predict_quarter(from, kind, vectors, 2, samples, corner);
+        predict_quarter(from, kind, vectors, 3, samples, corner);
         return;
     }
     let vector = eighths(vectors, 15);
-    predict_square(from, vector, kind, 16, samples, across, 16 * mx, 16 * my);
+    let (column, row) = (16 * corner.mx, 16 * corner.my);
+    let across = corner.across;
+    let corner = Corner {
+        across,
+        column,
+        row,
+    };
+    predict_square(from, vector, kind, 16, samples, corner);
 }
 
 /// The vector of luma block `n` of a macroblock (RFC 6386, section 16.3).
@@ -201,62 +233,90 @@ fn whole_vector(mode: VectorMode, vectors: &[Vector; 16], version: u8) -> (i32, 
     (chroma_vector(x, version), chroma_vector(y, version))
 }
 
-/// Predicts the macroblock in column `mx` of row `my` in a chroma plane's samples, `across` in a
-/// row: as one block by the vector `whole`, or if it is split as four.
+/// Predicts a macroblock in a chroma plane's samples: as one block by the vector `whole`, or if it is
+/// split as four.
 fn chroma_samples(
     from: &Plane,
-    mx: usize,
-    my: usize,
-    version: u8,
-    mode: VectorMode,
-    vectors: &[Vector; 16],
+    motion: Motion,
     whole: (i32, i32),
     samples: &mut [u8],
-    across: usize,
+    corner: MacroblockCorner,
 )
-    requires whole { IsWholeVector version mode vectors.now whole }
-    requires small { (across ≤ 16384) × (8 * my + 8 ≤ 16384) }
-    requires column { 8 * mx + 8 ≤ across }
-    requires room { (8 * my + 8) * across ≤ length samples.old }
-    ensures { IsPlaced (from_corner (8 * mx) (8 * my) (chroma_sample version from.now.shown mx my (block_vector mode vectors.now))) across 8 (8 * mx) (8 * my) samples.old samples.new }
+    requires whole { IsWholeVector motion.version motion.mode motion.vectors.now whole }
+    requires small { (corner.across ≤ 16384) × (8 * corner.my + 8 ≤ 16384) }
+    requires column { 8 * corner.mx + 8 ≤ corner.across }
+    requires room { (8 * corner.my + 8) * corner.across ≤ length samples.old }
+    ensures { IsPlaced (from_corner (8 * corner.mx) (8 * corner.my) (chroma_sample motion.entry.version from.now.shown corner.mx corner.my (block_vector motion.entry.mode motion.entry.vectors.now))) corner.across 8 (8 * corner.mx) (8 * corner.my) samples.old samples.new }
 {
+    let Motion {
+        version,
+        mode,
+        vectors,
+    } = motion;
     let kind = kind_of(version);
-    let (x, y) = (8 * mx, 8 * my);
+    let (column, row) = (8 * corner.mx, 8 * corner.my);
+    let across = corner.across;
+    let corner = Corner {
+        across,
+        column,
+        row,
+    };
     if is_split(mode) {
         let first = group_vector(mode, vectors, 0, version);
         let second = group_vector(mode, vectors, 1, version);
         let third = group_vector(mode, vectors, 2, version);
         let fourth = group_vector(mode, vectors, 3, version);
-        predict_square(from, first, kind, 4, samples, across, x, y);
-        predict_square(from, second, kind, 4, samples, across, x + 4, y);
-        predict_square(from, third, kind, 4, samples, across, x, y + 4);
-        predict_square(from, fourth, kind, 4, samples, across, x + 4, y + 4);
+        let (right, below) = (column + 4, row + 4);
+        let beside = Corner {
+            column: right,
+            ..corner
+        };
+        let under = Corner {
+            row: below,
+            ..corner
+        };
+        let opposite = Corner {
+            across,
+            column: right,
+            row: below,
+        };
+        predict_square(from, first, kind, 4, samples, corner);
+        predict_square(from, second, kind, 4, samples, beside);
+        predict_square(from, third, kind, 4, samples, under);
+        predict_square(from, fourth, kind, 4, samples, opposite);
         return;
     }
-    predict_square(from, whole, kind, 8, samples, across, x, y);
+    predict_square(from, whole, kind, 8, samples, corner);
 }
 
 /// Predicts the luma of a macroblock from a reference's, and adds its residual.
 fn predict_luma(
     plane: &mut Plane,
     from: &Plane,
-    mx: usize,
-    my: usize,
-    version: u8,
-    mode: VectorMode,
-    vectors: &[Vector; 16],
+    place: MacroblockPlace,
+    motion: Motion,
     residual: Option<&Blocks>,
 )
-    requires { HoldsSquare plane.old.shown (16 * mx) (16 * my) 16 }
-    ensures value { plane.new.shown ≡ with_block plane.old.shown (16 * mx) (16 * my) 16 (restored 16 0 (option_copied residual.entry) (luma_sample (kind_of version) from.now.shown mx my (block_vector mode vectors.now))) }
+    requires { HoldsSquare plane.old.shown (16 * place.mx) (16 * place.my) 16 }
+    ensures value { plane.new.shown ≡ with_block plane.old.shown (16 * place.mx) (16 * place.my) 16 (restored 16 0 (option_copied residual.entry) (luma_sample (kind_of motion.entry.version) from.now.shown place.mx place.my (block_vector motion.entry.mode motion.entry.vectors.now))) }
     ensures sides { SameSides plane.old.shown plane.new.shown }
 {
     let width = plane.width();
     let samples = plane.samples_mut();
-    let kind = kind_of(version);
-    luma_samples(from, mx, my, kind, mode, vectors, samples, width);
-    let size = BlockSize::Sixteen;
-    add_to_square(residual, 0, size, samples, width, 16 * mx, 16 * my);
+    let kind = kind_of(motion.version);
+    let MacroblockPlace { mx, my } = place;
+    let corner = MacroblockCorner {
+        across: width,
+        mx,
+        my,
+    };
+    luma_samples(from, kind, motion.mode, motion.vectors, samples, corner);
+    let corner = Corner {
+        across: width,
+        column: 16 * mx,
+        row: 16 * my,
+    };
+    add_to_square(residual, 0, BlockSize::Sixteen, samples, corner);
 }
 
 /// Predicts a macroblock's samples of a chroma plane from a reference's, and adds its residual,
@@ -264,80 +324,53 @@ fn predict_luma(
 fn predict_chroma(
     plane: &mut Plane,
     from: &Plane,
-    mx: usize,
-    my: usize,
-    version: u8,
-    mode: VectorMode,
-    vectors: &[Vector; 16],
+    place: MacroblockPlace,
+    motion: Motion,
     whole: (i32, i32),
     residual: Option<&Blocks>,
     first: usize,
 )
-    requires whole { IsWholeVector version mode vectors.now whole }
+    requires whole { IsWholeVector motion.version motion.mode motion.vectors.now whole }
     requires first { first + 4 ≤ 24 }
-    requires within { HoldsSquare plane.old.shown (8 * mx) (8 * my) 8 }
-    ensures value { plane.new.shown ≡ with_block plane.old.shown (8 * mx) (8 * my) 8 (restored 8 first (option_copied residual.entry) (chroma_sample version from.now.shown mx my (block_vector mode vectors.now))) }
+    requires within { HoldsSquare plane.old.shown (8 * place.mx) (8 * place.my) 8 }
+    ensures value { plane.new.shown ≡ with_block plane.old.shown (8 * place.mx) (8 * place.my) 8 (restored 8 first (option_copied residual.entry) (chroma_sample motion.entry.version from.now.shown place.mx place.my (block_vector motion.entry.mode motion.entry.vectors.now))) }
     ensures sides { SameSides plane.old.shown plane.new.shown }
 {
     let width = plane.width();
     let samples = plane.samples_mut();
-    chroma_samples(from, mx, my, version, mode, vectors, whole, samples, width);
-    let size = BlockSize::Eight;
-    add_to_square(residual, first, size, samples, width, 8 * mx, 8 * my);
+    let MacroblockPlace { mx, my } = place;
+    let corner = MacroblockCorner {
+        across: width,
+        mx,
+        my,
+    };
+    chroma_samples(from, motion, whole, samples, corner);
+    let corner = Corner {
+        across: width,
+        column: 8 * mx,
+        row: 8 * my,
+    };
+    add_to_square(residual, first, BlockSize::Eight, samples, corner);
 }
 
-/// Predicts the macroblock in column `mx` of row `my` of a frame of this version from a picture, by
-/// its vectors, and adds its residual, if it has one.
+/// Predicts the macroblock at a place from a picture, by its motion, and adds its residual, if it has
+/// one.
 pub(crate) fn predict_inter(
     planes: &mut Planes,
     from: &Picture,
-    mx: usize,
-    my: usize,
-    version: u8,
-    mode: VectorMode,
-    vectors: &[Vector; 16],
+    place: MacroblockPlace,
+    motion: Motion,
     residual: Option<&Blocks>,
 )
-    requires { HoldsMacroblock (shown_of planes.old) mx my }
-    ensures value { shown_of planes.new ≡ inter_macroblock version from.now (shown_of planes.old) mx my mode vectors.now (option_copied residual.entry) }
+    requires { HoldsMacroblock (shown_of planes.old) place.mx place.my }
+    ensures value { shown_of planes.new ≡ inter_macroblock motion.entry.version from.now (shown_of planes.old) place.mx place.my motion.entry.mode motion.entry.vectors.now (option_copied residual.entry) }
     ensures sides { SameShape (shown_of planes.old) (shown_of planes.new) }
 {
     let luma = from.luma();
-    predict_luma(
-        &mut planes.luma,
-        luma,
-        mx,
-        my,
-        version,
-        mode,
-        vectors,
-        residual,
-    );
-    let whole = whole_vector(mode, vectors, version);
+    predict_luma(&mut planes.luma, luma, place, motion, residual);
+    let whole = whole_vector(motion.mode, motion.vectors, motion.version);
     let cb = from.cb();
-    predict_chroma(
-        &mut planes.cb,
-        cb,
-        mx,
-        my,
-        version,
-        mode,
-        vectors,
-        whole,
-        residual,
-        16,
-    );
+    predict_chroma(&mut planes.cb, cb, place, motion, whole, residual, 16);
     let cr = from.cr();
-    predict_chroma(
-        &mut planes.cr,
-        cr,
-        mx,
-        my,
-        version,
-        mode,
-        vectors,
-        whole,
-        residual,
-        20,
-    );
+    predict_chroma(&mut planes.cr, cr, place, motion, whole, residual, 20);
 }

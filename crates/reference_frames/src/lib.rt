@@ -3,6 +3,7 @@
 #![tactic(auto)]
 
 mod comparison;
+mod corners;
 mod frame_tokens;
 mod frames;
 mod inter;

@@ -8,7 +8,8 @@ ghost use Rattle.reference_frames.specs.PlacedBlocks.{IsPlaced, from_corner};
 ghost use Rattle.reference_frames.specs.WrittenBlocks.{block_rows_put};
 ghost use Rattle.reference_frames.specs.Unfiltered.{HoldsSquare, HoldsMacroblock, HaveRoomFor, SameSides, SameShape, above, left, corner, above_row, left_column, above_eight, with_block, predicted_sub_block, predicted_sub_blocks, predicted_whole, predicted_luma, intra_macroblock, referred_macroblock, predicted_macroblock};
 
-use crate::inter::predict_inter;
+use crate::corners::{Corner, MacroblockPlace};
+use crate::inter::{Motion, predict_inter};
 use crate::references::References;
 use crate::residuals::{Blocks, add_to_square, add_to_sub_block};
 use frame_header::Reference;
@@ -219,29 +220,28 @@ fn side_inside(is_outside: bool, samples: &[u8]) -> Option<&[u8]>
     if is_outside { None } else { Some(samples) }
 }
 
-/// Predicts the square of this size that begins in column `x` of row `y` of a plane, between its
-/// sides, in the plane's samples, `across` in a row.
+/// Predicts the square of this size that begins at a corner, between its sides, in the samples of a
+/// plane.
 #[inline(always)]
 fn predict_square(
     mode: WholeMode,
     size: BlockSize,
     above: Option<&[u8]>,
     left: Option<&[u8]>,
-    corner: u8,
+    diagonal: u8,
     samples: &mut [u8],
-    across: usize,
-    x: usize,
-    y: usize,
+    corner: Corner,
 )
     requires above { ForSome above (λ side. length side.now ≡ side_of size) }
     requires left { ForSome left (λ side. length side.now ≡ side_of size) }
-    requires small { (across ≤ 16384) × (y + side_of size ≤ 16384) }
-    requires column { x + side_of size ≤ across }
-    requires room { (y + side_of size) * across ≤ length samples.old }
-    ensures { IsPlaced (from_corner x y (whole_sample mode (option_copied above.entry) (option_copied left.entry) corner)) across (side_of size) x y samples.old samples.new }
+    requires small { (corner.across ≤ 16384) × (corner.row + side_of size ≤ 16384) }
+    requires column { corner.column + side_of size ≤ corner.across }
+    requires room { (corner.row + side_of size) * corner.across ≤ length samples.old }
+    ensures { IsPlaced (from_corner corner.column corner.row (whole_sample mode (option_copied above.entry) (option_copied left.entry) diagonal)) corner.across (side_of size) corner.column corner.row samples.old samples.new }
 {
-    let samples = &mut samples[across * y + x..];
-    whole(mode, size, above, left, corner, samples, across);
+    let across = corner.across;
+    let samples = &mut samples[across * corner.row + corner.column..];
+    whole(mode, size, above, left, diagonal, samples, across);
 }
 
 /// Predicts the whole block of a macroblock of this size straight into a plane, and adds its
@@ -250,30 +250,34 @@ fn predict_square(
 fn predict_whole(
     plane: &mut Plane,
     size: BlockSize,
-    mx: usize,
-    my: usize,
+    place: MacroblockPlace,
     mode: WholeMode,
     residual: Option<&Blocks>,
     first: usize,
 )
     requires first { first + side_of size / 4 * (side_of size / 4) ≤ 24 }
-    requires within { HoldsSquare plane.old.shown (side_of size * mx) (side_of size * my) (side_of size) }
-    ensures value { plane.new.shown ≡ predicted_whole plane.old.shown (side_of size) mx my mode (option_copied residual.entry) first }
+    requires within { HoldsSquare plane.old.shown (side_of size * place.mx) (side_of size * place.my) (side_of size) }
+    ensures value { plane.new.shown ≡ predicted_whole plane.old.shown (side_of size) place.mx place.my mode (option_copied residual.entry) first }
     ensures sides { SameSides plane.old.shown plane.new.shown }
 {
     let side = size.side();
-    let (x, y) = (side * mx, side * my);
+    let (x, y) = (side * place.mx, side * place.my);
     let (mut above, mut left) = ([0; 16], [0; 16]);
     let (above, left) = (&mut above[..side], &mut left[..side]);
     read_above(plane, x, y, above);
     read_left(plane, x, y, left);
     let above = side_inside(y == 0, above);
     let left = side_inside(x == 0, left);
-    let corner = sample_corner(plane, x, y);
+    let diagonal = sample_corner(plane, x, y);
     let across = plane.width();
     let samples = plane.samples_mut();
-    predict_square(mode, size, above, left, corner, samples, across, x, y);
-    add_to_square(residual, first, size, samples, across, x, y);
+    let corner = Corner {
+        across,
+        column: x,
+        row: y,
+    };
+    predict_square(mode, size, above, left, diagonal, samples, corner);
+    add_to_square(residual, first, size, samples, corner);
 }
 
 /// Predicts the luma of a macroblock, as one block or by sub blocks, and adds its residual.
@@ -283,7 +287,10 @@ fn predict_luma(plane: &mut Plane, mx: usize, my: usize, mode: &MbMode, residual
     ensures sides { SameSides plane.old.shown plane.new.shown }
 {
     match mode.y_mode {
-        YMode::Whole(whole) => predict_whole(plane, BlockSize::Sixteen, mx, my, whole, residual, 0),
+        YMode::Whole(whole) => {
+            let place = MacroblockPlace { mx, my };
+            predict_whole(plane, BlockSize::Sixteen, place, whole, residual, 0);
+        }
         YMode::B => predict_sub_blocks(plane, mx, my, &mode.sub_modes, residual),
         YMode::Inter(..) => {}
     }
@@ -303,24 +310,9 @@ fn predict_intra(
     ensures sides { SameShape (shown_of planes.old) (shown_of planes.new) }
 {
     predict_luma(&mut planes.luma, mx, my, mode, residual);
-    predict_whole(
-        &mut planes.cb,
-        BlockSize::Eight,
-        mx,
-        my,
-        mode.uv_mode,
-        residual,
-        16,
-    );
-    predict_whole(
-        &mut planes.cr,
-        BlockSize::Eight,
-        mx,
-        my,
-        mode.uv_mode,
-        residual,
-        20,
-    );
+    let (size, place) = (BlockSize::Eight, MacroblockPlace { mx, my });
+    predict_whole(&mut planes.cb, size, place, mode.uv_mode, residual, 16);
+    predict_whole(&mut planes.cr, size, place, mode.uv_mode, residual, 20);
 }
 
 /// The sources of prediction besides the current picture: the references (a key frame has none),
@@ -350,18 +342,13 @@ fn predict_referred(
     match sources.references {
         Some(references) => {
             let from = references.picture(reference);
-            let version = sources.version;
-            let vectors = &mode.vectors;
-            predict_inter(
-                planes,
-                from,
-                mx,
-                my,
-                version,
-                vector_mode,
-                vectors,
-                residual,
-            );
+            let place = MacroblockPlace { mx, my };
+            let motion = Motion {
+                version: sources.version,
+                mode: vector_mode,
+                vectors: &mode.vectors,
+            };
+            predict_inter(planes, from, place, motion, residual);
         }
         None => {}
     }

@@ -9,150 +9,128 @@ ghost use Rattle.reference_frames.specs.Restored.{restored};
 ghost use Rattle.reference_frames.specs.AddedBlocks.{IsAddedAt, blocks_residual};
 ghost use Rattle.reference_frames.specs.PlacedBlocks.{IsPlaced, from_corner, square_from};
 
+use crate::corners::Corner;
 pub use crate::kept_blocks::Blocks;
 use intra_predict::BlockSize;
 use transforms::{dct_add_four_firsts, dct_add_two_firsts};
 
-/// Adds the residual of block `k` to its samples in rows of `across` samples, starting at this
-/// column and row.
+/// Adds the residual of block `k` to its samples, which begin at this corner.
 #[inline(always)]
-fn add_at(blocks: &Blocks, k: usize, samples: &mut [u8], across: usize, column: usize, row: usize)
+fn add_at(blocks: &Blocks, k: usize, samples: &mut [u8], corner: Corner)
     requires block { k < 24 }
-    requires small { (across ≤ 16384) × (row + 4 ≤ 16384) }
-    requires column { column + 4 ≤ across }
-    requires room { (row + 4) * across ≤ length samples.old }
-    ensures { IsAddedAt (inverse_dct (slice_index_or blocks.now k [])) across 4 column row samples.old samples.new }
+    requires small { (corner.across ≤ 16384) × (corner.row + 4 ≤ 16384) }
+    requires column { corner.column + 4 ≤ corner.across }
+    requires room { (corner.row + 4) * corner.across ≤ length samples.old }
+    ensures { IsAddedAt (inverse_dct (slice_index_or blocks.now k [])) corner.across 4 corner.column corner.row samples.old samples.new }
 {
-    blocks.add(k, &mut samples[across * row + column..], across);
+    let start = corner.across * corner.row + corner.column;
+    blocks.add(k, &mut samples[start..], corner.across);
 }
 
 /// Adds the residuals of `count` blocks next to each other, starting with block `k`, one after
 /// another.
 #[inline(always)]
-fn add_each(
-    blocks: &Blocks,
-    k: usize,
-    count: usize,
-    samples: &mut [u8],
-    across: usize,
-    column: usize,
-    row: usize,
-)
+fn add_each(blocks: &Blocks, k: usize, count: usize, samples: &mut [u8], corner: Corner)
     requires blocks { (count ≤ 4) × (k + count ≤ 24) }
-    requires small { (across ≤ 16384) × (row + 4 ≤ 16384) }
-    requires column { column + 4 * count ≤ across }
-    requires room { (row + 4) * across ≤ length samples.old }
-    ensures { IsAddedAt (blocks_residual blocks.now k) across (4 * count) column row samples.old samples.new }
+    requires small { (corner.across ≤ 16384) × (corner.row + 4 ≤ 16384) }
+    requires column { corner.column + 4 * count ≤ corner.across }
+    requires room { (corner.row + 4) * corner.across ≤ length samples.old }
+    ensures { IsAddedAt (blocks_residual blocks.now k) corner.across (4 * count) corner.column corner.row samples.old samples.new }
 {
     for n in 0..count {
-        add_at(blocks, k + n, samples, across, column + 4 * n, row);
+        let column = corner.column + 4 * n;
+        add_at(blocks, k + n, samples, Corner { column, ..corner });
     }
 }
 
 /// Adds the residuals of four blocks next to each other, starting with block `k`: at once if each
 /// has only a first coefficient.
 #[inline(always)]
-fn add_four(blocks: &Blocks, k: usize, samples: &mut [u8], across: usize, column: usize, row: usize)
+fn add_four(blocks: &Blocks, k: usize, samples: &mut [u8], corner: Corner)
     requires blocks { k + 4 ≤ 24 }
-    requires small { (across ≤ 16384) × (row + 4 ≤ 16384) }
-    requires column { column + 16 ≤ across }
-    requires room { (row + 4) * across ≤ length samples.old }
-    ensures { IsAddedAt (blocks_residual blocks.now k) across 16 column row samples.old samples.new }
+    requires small { (corner.across ≤ 16384) × (corner.row + 4 ≤ 16384) }
+    requires column { corner.column + 16 ≤ corner.across }
+    requires room { (corner.row + 4) * corner.across ≤ length samples.old }
+    ensures { IsAddedAt (blocks_residual blocks.now k) corner.across 16 corner.column corner.row samples.old samples.new }
 {
     match blocks.four_firsts(k) {
         Some(firsts) => {
-            dct_add_four_firsts(firsts, &mut samples[across * row + column..], across);
+            let start = corner.across * corner.row + corner.column;
+            dct_add_four_firsts(firsts, &mut samples[start..], corner.across);
         }
-        None => add_each(blocks, k, 4, samples, across, column, row),
+        None => add_each(blocks, k, 4, samples, corner),
     }
 }
 
 /// The same for two blocks.
 #[inline(always)]
-fn add_two(blocks: &Blocks, k: usize, samples: &mut [u8], across: usize, column: usize, row: usize)
+fn add_two(blocks: &Blocks, k: usize, samples: &mut [u8], corner: Corner)
     requires blocks { k + 2 ≤ 24 }
-    requires small { (across ≤ 16384) × (row + 4 ≤ 16384) }
-    requires column { column + 8 ≤ across }
-    requires room { (row + 4) * across ≤ length samples.old }
-    ensures { IsAddedAt (blocks_residual blocks.now k) across 8 column row samples.old samples.new }
+    requires small { (corner.across ≤ 16384) × (corner.row + 4 ≤ 16384) }
+    requires column { corner.column + 8 ≤ corner.across }
+    requires room { (corner.row + 4) * corner.across ≤ length samples.old }
+    ensures { IsAddedAt (blocks_residual blocks.now k) corner.across 8 corner.column corner.row samples.old samples.new }
 {
     match blocks.two_firsts(k) {
         Some(firsts) => {
-            dct_add_two_firsts(firsts, &mut samples[across * row + column..], across);
+            let start = corner.across * corner.row + corner.column;
+            dct_add_two_firsts(firsts, &mut samples[start..], corner.across);
         }
-        None => add_each(blocks, k, 2, samples, across, column, row),
+        None => add_each(blocks, k, 2, samples, corner),
     }
 }
 
 /// Adds the residuals of a row of blocks of a square of this size, starting with block `k`.
 #[inline(always)]
-fn add_row(
-    blocks: &Blocks,
-    k: usize,
-    size: BlockSize,
-    samples: &mut [u8],
-    across: usize,
-    column: usize,
-    row: usize,
-)
+fn add_row(blocks: &Blocks, k: usize, size: BlockSize, samples: &mut [u8], corner: Corner)
     requires blocks { k + side_of size / 4 ≤ 24 }
-    requires small { (across ≤ 16384) × (row + 4 ≤ 16384) }
-    requires column { column + side_of size ≤ across }
-    requires room { (row + 4) * across ≤ length samples.old }
-    ensures { IsAddedAt (blocks_residual blocks.now k) across (side_of size) column row samples.old samples.new }
+    requires small { (corner.across ≤ 16384) × (corner.row + 4 ≤ 16384) }
+    requires column { corner.column + side_of size ≤ corner.across }
+    requires room { (corner.row + 4) * corner.across ≤ length samples.old }
+    ensures { IsAddedAt (blocks_residual blocks.now k) corner.across (side_of size) corner.column corner.row samples.old samples.new }
 {
     match size {
-        BlockSize::Sixteen => add_four(blocks, k, samples, across, column, row),
-        BlockSize::Eight => add_two(blocks, k, samples, across, column, row),
+        BlockSize::Sixteen => add_four(blocks, k, samples, corner),
+        BlockSize::Eight => add_two(blocks, k, samples, corner),
     }
 }
 
 /// Adds the residual of a macroblock to one of its squares, whose blocks are numbered starting at
-/// `first`, and which begins in column `x` of row `y` of rows of `across` samples.
+/// `first`, and which begins at this corner.
 #[inline(never)]
-fn add_blocks(
-    blocks: &Blocks,
-    first: usize,
-    size: BlockSize,
-    samples: &mut [u8],
-    across: usize,
-    x: usize,
-    y: usize,
-)
+fn add_blocks(blocks: &Blocks, first: usize, size: BlockSize, samples: &mut [u8], corner: Corner)
     requires first { first + side_of size / 4 * (side_of size / 4) ≤ 24 }
-    requires small { (across ≤ 16384) × (y + side_of size ≤ 16384) }
-    requires column { x + side_of size ≤ across }
-    requires room { (y + side_of size) * across ≤ length samples.old }
-    ensures { IsPlaced (from_corner x y (restored (side_of size) first (Some blocks.now) (square_from samples.old across x y))) across (side_of size) x y samples.old samples.new }
+    requires small { (corner.across ≤ 16384) × (corner.row + side_of size ≤ 16384) }
+    requires column { corner.column + side_of size ≤ corner.across }
+    requires room { (corner.row + side_of size) * corner.across ≤ length samples.old }
+    ensures { IsPlaced (from_corner corner.column corner.row (restored (side_of size) first (Some blocks.now) (square_from samples.old corner.across corner.column corner.row))) corner.across (side_of size) corner.column corner.row samples.old samples.new }
 {
     let count = size.side() / 4;
     for n in 0..count {
         let k = first + n * count;
-        add_row(blocks, k, size, samples, across, x, y + 4 * n);
+        let row = corner.row + 4 * n;
+        add_row(blocks, k, size, samples, Corner { row, ..corner });
     }
 }
 
 /// Adds the residual of a macroblock, if it has one, to one of its squares, whose blocks are
-/// numbered starting at `first`, and which begins in column `x` of row `y` of rows of `across`
-/// samples.
+/// numbered starting at `first`, and which begins at this corner.
 #[inline(always)]
 pub fn add_to_square(
     residual: Option<&Blocks>,
     first: usize,
     size: BlockSize,
     samples: &mut [u8],
-    across: usize,
-    x: usize,
-    y: usize,
+    corner: Corner,
 )
     requires first { first + side_of size / 4 * (side_of size / 4) ≤ 24 }
-    requires small { (across ≤ 16384) × (y + side_of size ≤ 16384) }
-    requires column { x + side_of size ≤ across }
-    requires room { (y + side_of size) * across ≤ length samples.old }
-    ensures { IsPlaced (from_corner x y (restored (side_of size) first (option_copied residual.entry) (square_from samples.old across x y))) across (side_of size) x y samples.old samples.new }
+    requires small { (corner.across ≤ 16384) × (corner.row + side_of size ≤ 16384) }
+    requires column { corner.column + side_of size ≤ corner.across }
+    requires room { (corner.row + side_of size) * corner.across ≤ length samples.old }
+    ensures { IsPlaced (from_corner corner.column corner.row (restored (side_of size) first (option_copied residual.entry) (square_from samples.old corner.across corner.column corner.row))) corner.across (side_of size) corner.column corner.row samples.old samples.new }
 {
     if let Some(blocks) = residual {
-        add_blocks(blocks, first, size, samples, across, x, y);
+        add_blocks(blocks, first, size, samples, corner);
     }
 }
 

@@ -9,18 +9,18 @@ use Rattle.reference_frames.proofs.inter.chroma_samples.Goals as goal
 pub returns-then-is_split : goal.returns-then-is_split
 returns-then-is_split c =
     let p : Samples = c.args.from.now.shown in
-    let x : ℕ = 8 * c.args.mx in
-    let y : ℕ = 8 * c.args.my in
-    let vector_of = block_vector c.args.mode c.args.vectors.now in
-    let sample : ℕ → ℕ → ℕ = chroma_sample c.args.version p c.args.mx c.args.my vector_of in
-    four_placed (from_corner x y sample) c.args.across 4 x y c.args.samples.now c.predict_square.new.samples c.predict_square-then-is_split.new.samples c.predict_square-then-is_split-2.new.samples c.predict_square-then-is_split-3.new.samples (omega (arith, c.requires.column))
-    (placed_from sample _ c.args.across 4 x y 0 0 x y _ _ (omega arith) (omega arith) (λ i j inside. in_group c.args.version p c.args.mx c.args.my vector_of 0 0 i j c.kind_of-kind.result c.group_vector-first.result c.kind_of-kind.ensures c.group_vector-first.ensures.x c.group_vector-first.ensures.y inside) c.predict_square.ensures)
-    (placed_from sample _ c.args.across 4 x y 4 0 (x + 4) y _ _ (omega arith) (omega arith) (λ i j inside. in_group c.args.version p c.args.mx c.args.my vector_of 1 0 i j c.kind_of-kind.result c.group_vector-second.result c.kind_of-kind.ensures c.group_vector-second.ensures.x c.group_vector-second.ensures.y inside) c.predict_square-then-is_split.ensures)
-    (placed_from sample _ c.args.across 4 x y 0 4 x (y + 4) _ _ (omega arith) (omega arith) (λ i j inside. in_group c.args.version p c.args.mx c.args.my vector_of 0 1 i j c.kind_of-kind.result c.group_vector-third.result c.kind_of-kind.ensures c.group_vector-third.ensures.x c.group_vector-third.ensures.y inside) c.predict_square-then-is_split-2.ensures)
-    (placed_from sample _ c.args.across 4 x y 4 4 (x + 4) (y + 4) _ _ (omega arith) (omega arith) (λ i j inside. in_group c.args.version p c.args.mx c.args.my vector_of 1 1 i j c.kind_of-kind.result c.group_vector-fourth.result c.kind_of-kind.ensures c.group_vector-fourth.ensures.x c.group_vector-fourth.ensures.y inside) c.predict_square-then-is_split-3.ensures)
+    let x : ℕ = 8 * c.args.corner.mx in
+    let y : ℕ = 8 * c.args.corner.my in
+    let vector_of = block_vector c.args.motion.mode c.args.motion.vectors.now in
+    let sample : ℕ → ℕ → ℕ = chroma_sample c.args.motion.version p c.args.corner.mx c.args.corner.my vector_of in
+    four_placed (from_corner x y sample) c.args.corner.across 4 x y c.args.samples.now c.predict_square.new.samples c.predict_square-then-is_split.new.samples c.predict_square-then-is_split-2.new.samples c.predict_square-then-is_split-3.new.samples (omega (arith, c.requires.column))
+    (placed_from sample _ c.args.corner.across 4 x y 0 0 x y _ _ (omega arith) (omega arith) (λ i j inside. in_group c.args.motion.version p c.args.corner.mx c.args.corner.my vector_of 0 0 i j c.kind_of-kind.result c.group_vector-first.result c.kind_of-kind.ensures c.group_vector-first.ensures.x c.group_vector-first.ensures.y inside) c.predict_square.ensures)
+    (placed_from sample _ c.args.corner.across 4 x y 4 0 (x + 4) y _ _ (omega arith) (omega arith) (λ i j inside. in_group c.args.motion.version p c.args.corner.mx c.args.corner.my vector_of 1 0 i j c.kind_of-kind.result c.group_vector-second.result c.kind_of-kind.ensures c.group_vector-second.ensures.x c.group_vector-second.ensures.y inside) c.predict_square-then-is_split.ensures)
+    (placed_from sample _ c.args.corner.across 4 x y 0 4 x (y + 4) _ _ (omega arith) (omega arith) (λ i j inside. in_group c.args.motion.version p c.args.corner.mx c.args.corner.my vector_of 0 1 i j c.kind_of-kind.result c.group_vector-third.result c.kind_of-kind.ensures c.group_vector-third.ensures.x c.group_vector-third.ensures.y inside) c.predict_square-then-is_split-2.ensures)
+    (placed_from sample _ c.args.corner.across 4 x y 4 4 (x + 4) (y + 4) _ _ (omega arith) (omega arith) (λ i j inside. in_group c.args.motion.version p c.args.corner.mx c.args.corner.my vector_of 1 1 i j c.kind_of-kind.result c.group_vector-fourth.result c.kind_of-kind.ensures c.group_vector-fourth.ensures.x c.group_vector-fourth.ensures.y inside) c.predict_square-then-is_split-3.ensures)
 
 pub returns : goal.returns
 returns c =
     let p : Samples = c.args.from.now.shown in
-    placed_from (chroma_sample c.args.version p c.args.mx c.args.my (block_vector c.args.mode c.args.vectors.now)) _ c.args.across 8 (8 * c.args.mx) (8 * c.args.my) 0 0 _ _ _ _ (omega arith) (omega arith)
-    (λ i j inside. in_whole c.args.version p c.args.mx c.args.my c.args.mode c.args.vectors.now i j c.kind_of-kind.result c.args.whole (sym c.if-is_split.ensures) c.kind_of-kind.ensures (c.requires.whole (sym c.if-is_split.ensures)).0 (c.requires.whole (sym c.if-is_split.ensures)).1) c.predict_square-2.ensures
+    placed_from (chroma_sample c.args.motion.version p c.args.corner.mx c.args.corner.my (block_vector c.args.motion.mode c.args.motion.vectors.now)) _ c.args.corner.across 8 (8 * c.args.corner.mx) (8 * c.args.corner.my) 0 0 _ _ _ _ (omega arith) (omega arith)
+    (λ i j inside. in_whole c.args.motion.version p c.args.corner.mx c.args.corner.my c.args.motion.mode c.args.motion.vectors.now i j c.kind_of-kind.result c.args.whole (sym c.if-is_split.ensures) c.kind_of-kind.ensures (c.requires.whole (sym c.if-is_split.ensures)).0 (c.requires.whole (sym c.if-is_split.ensures)).1) c.predict_square-2.ensures

@@ -6,4 +6,4 @@ use Rattle.reference_frames.proofs.residuals.add_at.Goals as goal
 
 pub returns : goal.returns
 returns c =
-    added_at (inverse_dct (slice_index_or c.args.blocks.now c.args.k [])) c.args.across 4 c.args.column c.args.row c.args.samples.now c.add.new.samples _ (omega arith) c.requires.column c.requires.room c.add.ensures refl
+    added_at (inverse_dct (slice_index_or c.args.blocks.now c.args.k [])) c.args.corner.across 4 c.args.corner.column c.args.corner.row c.args.samples.now c.add.new.samples _ (omega arith) c.requires.column c.requires.room c.add.ensures refl

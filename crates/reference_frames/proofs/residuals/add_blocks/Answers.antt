@@ -20,20 +20,20 @@ pub add_row-requires-clause-room : goal.add_row-requires-clause-room
 add_row-requires-clause-room c =
     let few = rw c.side-count.ensures at c.loop-n-test.true in
     let inside = rows_inside c.args.size c.loop-n.n few in
-    let rows = rows_room (c.args.y + 4 * c.loop-n.n + 4) (c.args.y + side_of c.args.size) c.args.across (length c.args.samples.now) (omega (arith, inside.0)) c.requires.room in
+    let rows = rows_room (c.args.corner.row + 4 * c.loop-n.n + 4) (c.args.corner.row + side_of c.args.size) c.args.corner.across (length c.args.samples.now) (omega (arith, inside.0)) c.requires.room in
     omega (arith, rows, c.loop-n.invariant.whole)
 
 pub loop-n-init : goal.loop-n-init
-loop-n-init c = no_row (side_of c.args.size) c.args.first c.args.blocks.now c.args.across c.args.x c.args.y c.args.samples.now
+loop-n-init c = no_row (side_of c.args.size) c.args.first c.args.blocks.now c.args.corner.across c.args.corner.column c.args.corner.row c.args.samples.now
 
 pub loop-n-preserved : goal.loop-n-preserved
 loop-n-preserved c =
     let is = rw c.side-count.ensures at c.add_row.ensures in
     let few = rw c.side-count.ensures at c.loop-n-test.true in
-    row_more c.args.size c.args.first c.args.blocks.now c.args.across c.args.x c.args.y c.loop-n.n c.args.samples.now c.loop-n.samples c.add_row.new.samples c.requires.column few c.loop-n.invariant is
+    row_more c.args.size c.args.first c.args.blocks.now c.args.corner.across c.args.corner.column c.args.corner.row c.loop-n.n c.args.samples.now c.loop-n.samples c.add_row.new.samples c.requires.column few c.loop-n.invariant is
 
 pub returns : goal.returns
 returns c =
     let end : c.loop-n.n ≡ c.side-count.result / 4 = omega (arith, c.loop-n.auto.n-end, c.loop-n-test.false) in
     let all = rw c.side-count.ensures at end in
-    all_added c.args.size c.args.first c.args.blocks.now c.args.across c.args.x c.args.y c.loop-n.n c.args.samples.now c.loop-n.samples c.loop-n.invariant all
+    all_added c.args.size c.args.first c.args.blocks.now c.args.corner.across c.args.corner.column c.args.corner.row c.loop-n.n c.args.samples.now c.loop-n.samples c.loop-n.invariant all

@@ -4,11 +4,11 @@ use Rattle.reference_frames.specs.AddedBlocks.{blocks_residual}
 use Rattle.reference_frames.proofs.residuals.add_each.Goals as goal
 
 pub loop-n-init : goal.loop-n-init
-loop-n-init c = none_added_at (blocks_residual c.args.blocks.now c.args.k) c.args.across c.args.column c.args.row c.args.samples.now
+loop-n-init c = none_added_at (blocks_residual c.args.blocks.now c.args.k) c.args.corner.across c.args.corner.column c.args.corner.row c.args.samples.now
 
 pub loop-n-preserved : goal.loop-n-preserved
 loop-n-preserved c =
-    one_added c.args.blocks.now c.args.across c.args.k c.loop-n.n c.args.column c.args.row c.args.samples.now c.loop-n.samples c.add_at.new.samples (omega (arith, c.loop-n-test.true, c.requires.column)) c.loop-n.invariant c.add_at.ensures
+    one_added c.args.blocks.now c.args.corner.across c.args.k c.loop-n.n c.args.corner.column c.args.corner.row c.args.samples.now c.loop-n.samples c.add_at.new.samples (omega (arith, c.loop-n-test.true, c.requires.column)) c.loop-n.invariant c.add_at.ensures
 
 pub returns : goal.returns
 returns c =

@@ -5,5 +5,5 @@ use Rattle.reference_frames.proofs.residuals.add_four.Goals as goal
 
 pub returns-in-Some : goal.returns-in-Some
 returns-in-Some c =
-    let is = added_at (firsts_residual c.in-Some.firsts) c.args.across 16 c.args.column c.args.row c.args.samples.now c.dct_add_four_firsts.new.samples _ (omega arith) c.requires.column c.requires.room c.dct_add_four_firsts.ensures refl in
-    firsts_are c.args.blocks.now c.in-Some.firsts c.args.across 4 c.args.k c.args.column c.args.row c.args.samples.now _ c.in-Some.ensures is
+    let is = added_at (firsts_residual c.in-Some.firsts) c.args.corner.across 16 c.args.corner.column c.args.corner.row c.args.samples.now c.dct_add_four_firsts.new.samples _ (omega arith) c.requires.column c.requires.room c.dct_add_four_firsts.ensures refl in
+    firsts_are c.args.blocks.now c.in-Some.firsts c.args.corner.across 4 c.args.k c.args.corner.column c.args.corner.row c.args.samples.now _ c.in-Some.ensures is

@@ -1,0 +1,22 @@
+/// The upper left corner of a block in the samples of a plane, whose rows are `across` samples.
+#[derive(Clone, Copy)]
+pub(crate) struct Corner {
+    pub(crate) across: usize,
+    pub(crate) column: usize,
+    pub(crate) row: usize,
+}
+
+/// The place of a macroblock among those of a frame: column `mx` of row `my`.
+#[derive(Clone, Copy)]
+pub(crate) struct MacroblockPlace {
+    pub(crate) mx: usize,
+    pub(crate) my: usize,
+}
+
+/// The place of a macroblock in the samples of a plane, whose rows are `across` samples.
+#[derive(Clone, Copy)]
+pub(crate) struct MacroblockCorner {
+    pub(crate) across: usize,
+    pub(crate) mx: usize,
+    pub(crate) my: usize,
+}
