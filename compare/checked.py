@@ -1,10 +1,12 @@
 #!/usr/bin/env python3
-"""Compares the findings of `vp8list --check` with those that are found here from headers, and with vpxdec's errors.
+"""Compares the findings of `vp8list --check` with those that are found here from headers, and with libvpx's errors.
 
 Run manually, not in the gate: checked.py FILE.. compares the findings of these IVF files; checked.py --damage N [SEED] those of N
 streams made from the example and the real streams with packets cut, dropped, doubled, moved and with bytes changed, and counts the
-packets that vpxdec does not decode next to those that are refused. It needs the built program (see README.md) and, for --damage,
-vpxdec (Debian's vpx-tools).
+packets that vpxdec does not decode next to those that are refused, and the packets that libvpx calls corrupt next to those with a
+partition that is read past its end. With so many zero bytes after each such partition as `--check` says, libvpx must call no
+further packet corrupt, and with one byte less it must call that packet corrupt. It needs the built program (see README.md) and,
+for --damage, vpxdec (Debian's vpx-tools) and its library.
 """
 
 import collections
@@ -16,6 +18,7 @@ import subprocess
 import sys
 import tempfile
 
+from corrupt import padded, verdicts
 from damaged import damage, has_key_tag, is_shown
 from listed import HERE, PROGRAM, facts, records, size_of
 
@@ -95,14 +98,27 @@ def lines(text):
         yield f"record {len(rows)} at byte {begins}: {left} bytes are there"
 
 
+PAST = re.compile(r"packet (\d+): (?:first|token) partition(?: (\d+))?: (\d+) bytes read past its end")
+
+
+def past_ends(path):
+    """By packet and partition (0 is the first, 1 token partition 0): the bytes that `--check` says are read past its end."""
+    said = subprocess.run([PROGRAM, path, "--check"], capture_output=True, text=True, check=False).stdout
+    found = collections.defaultdict(dict)
+    for packet, partition, count in PAST.findall(said):
+        found[int(packet)][int(partition) + 1 if partition else 0] = int(count)
+    return found
+
+
 def differs(path):
-    """Whether the findings of a file differ; the first line that does is printed."""
+    """Whether the findings of a file differ, except for partitions that are read past their end; the first that does is printed."""
     ran = subprocess.run([PROGRAM, path, "--check"], capture_output=True, text=True, check=False)
     text = path.read_bytes()
     packets, theirs = [packet for _, packet in records(text)], list(lines(text))
-    status = 1 if theirs else 0
-    theirs.append(f"{len(packets)} packets, {sum(map(is_shown, packets))} frames, {len(theirs)} findings")
-    ours = ran.stdout.splitlines()
+    past = len(PAST.findall(ran.stdout))
+    status = 1 if theirs or past else 0
+    theirs.append(f"{len(packets)} packets, {sum(map(is_shown, packets))} frames, {len(theirs) + past} findings")
+    ours = [line for line in ran.stdout.splitlines() if not PAST.fullmatch(line)]
     if ran.returncode == status and ours == theirs:
         return False
     pair = next((pair for pair in zip(ours, theirs) if pair[0] != pair[1]), (len(ours), len(theirs)))
@@ -116,6 +132,35 @@ def failures(path):
     said = subprocess.run(words, capture_output=True, text=True, errors="replace", check=False).stderr
     corrupt = re.search(r"(\d+) frames corrupted", said)
     return {int(n) - 1 for n in re.findall(r"Failed to decode frame (\d+)", said)}, int(corrupt.group(1)) if corrupt else 0
+
+
+def ends_by_libvpx(packets, past, lost, totals):
+    """Compares the partitions that are read past their end with what libvpx calls corrupt; returns how many differ."""
+    packets = [b"" if place in lost else packet for place, packet in enumerate(packets)]
+    said = verdicts(packets)
+    whole = verdicts([padded(packet, past.get(place, {})) for place, packet in enumerate(packets)])
+    wrong, spoiled = 0, False
+    for place, packet in enumerate(packets):
+        spoiled = spoiled and not has_key_tag(packet)
+        bad = packet and said[place] != "ok"
+        totals["corrupt or failed by libvpx"] += bool(bad)
+        totals["read past an end by --check"] += place in past
+        totals["both libvpx and --check"] += bool(bad and place in past)
+        totals["libvpx only, after such a packet, before a key packet"] += bool(bad and place not in past and spoiled)
+        other = bool(bad and place not in past and not spoiled)
+        totals["libvpx only, any other"] += other
+        totals["--check only"] += place in past and not bad
+        spoiled = spoiled or bool(bad) or place in past
+        if packet and whole[place] != "ok":
+            totals["still corrupt or failed with the zeros"] += 1
+        for partition in past.get(place, {}):
+            shorter = dict(past[place])
+            shorter[partition] -= 1
+            front = [padded(before, past.get(index, {})) for index, before in enumerate(packets[:place])]
+            short = verdicts([*front, padded(packet, shorter)])[-1]
+            totals["partitions with one zero byte less"] += 1
+            totals["of these, corrupt or failed by libvpx"] += short != "ok"
+    return wrong
 
 
 def damaged_streams(count, seed):
@@ -134,6 +179,7 @@ def damaged_streams(count, seed):
             packets = [packet for _, packet in records(path.read_bytes())]
             refused, (failed, corrupt) = refusals(packets), failures(path)
             lost = {n for place in refused for n in range(place, place + 1 + len(run_before_key(packets[place + 1 :])))}
+            ends_by_libvpx(packets, past_ends(path), lost, totals)
             totals["packets"] += len(packets)
             totals["refused or lost here"] += len(lost)
             totals["not decoded by vpxdec"] += len(failed)

@@ -1,7 +1,8 @@
 """What libvpx says of each packet of a stream, by its decoder library (Debian's libvpx7), called by ctypes."""
 
 import ctypes
-import ctypes.util
+
+from listed import fields
 
 ABI = 12
 FRAME_CORRUPTED = 257
@@ -38,6 +39,22 @@ def verdicts(packets):
     return said
 
 
-def alone(packets, place):
-    """What libvpx says of one packet, after the sound packets before it."""
-    return verdicts(packets[: place + 1])[-1]
+def padded(packet, zeros):
+    """The packet with so many zero bytes after its partitions: number 0 is the first, 1 token partition 0."""
+    if not zeros:
+        return packet
+    tag = int.from_bytes(packet[:3], "little")
+    start = 3 if tag & 1 else 10
+    first = tag >> 5
+    rest = packet[start + first :]
+    count = fields(packet, not tag & 1, first)[0]
+    sizes = [int.from_bytes(rest[3 * k : 3 * k + 3], "little") for k in range(count - 1)]
+    rest, tokens = rest[3 * (count - 1) :], []
+    for size in sizes:
+        tokens.append(rest[:size])
+        rest = rest[size:]
+    tokens.append(rest)
+    first += zeros.get(0, 0)
+    head = (tag & 31 | first << 5).to_bytes(3, "little") + packet[3:start] + packet[start : start + (tag >> 5)] + bytes(zeros.get(0, 0))
+    tokens = [text + bytes(zeros.get(k + 1, 0)) for k, text in enumerate(tokens)]
+    return head + b"".join(len(text).to_bytes(3, "little") for text in tokens[:-1]) + b"".join(tokens)
