@@ -113,6 +113,15 @@ class Tests(unittest.TestCase):
                 self.assertFalse(os.path.exists(saved))
             self.assertEqual(packets_of(saved), packets + [packets[47]])
 
+    def test_pads_saved_packets(self):
+        with tempfile.TemporaryDirectory() as room:
+            saved, padded = os.path.join(room, "out.ivf"), os.path.join(room, "padded.ivf")
+            for path in (saved, padded):
+                with session(save=path, pad=path == padded) as stream:
+                    stream.hold(1)
+            packets = packets_of(CLIP)
+            self.assertEqual(packets_of(padded), packets[:1] + [packets_of(saved)[1] + b"\0"] + packets[1:])
+
     def test_the_program_reports_its_errors(self):
         with self.assertRaises(Ended) as ended:
             with session("/nowhere.ivf") as stream:

@@ -115,10 +115,11 @@ class Session:
     """A running vp8serve over an IVF file, or over an empty stream if `stream` is `-`.
 
     `sources` are the paths of sources 1 to 7, `cache` the number of cached states, `tables` a file that replaces the RFC's long tables,
-    and `save` the file that gets the packets of source 0 when the session is closed. `program` is the path of vp8serve.
+    and `save` the file that gets the packets of source 0 when the session is closed; with `pad` players that use libvpx show the
+    packets of `blank` and `hold` in it too. `program` is the path of vp8serve.
     """
 
-    def __init__(self, stream="-", sources=(), cache=None, tables=None, save=None, program="vp8serve"):
+    def __init__(self, stream="-", sources=(), cache=None, tables=None, save=None, program="vp8serve", pad=False):
         out, into = os.pipe()
         words = [program, os.fspath(stream), "-", f"/dev/fd/{into}", "--live"]
         if sources:
@@ -126,6 +127,8 @@ class Session:
         for option, value in (("--cache", cache), ("--tables", tables), ("--save", save)):
             if value is not None:
                 words += [option, str(value)]
+        if pad:
+            words.append("--pad")
         try:
             self._process = subprocess.Popen(
                 words, stdin=subprocess.PIPE, stdout=subprocess.PIPE, stderr=subprocess.PIPE, pass_fds=(into,)

@@ -164,6 +164,12 @@ fn explains_paths(rt: HostRuntime) {
 fn explains_arguments(rt: HostRuntime) {
     expect_end(
         &rt,
+        "vp8serve --pad --explain",
+        "vp8serve: command line\n--pad is for the packets of --save: name a file for them by --save FILE\n",
+        2,
+    );
+    expect_end(
+        &rt,
         "vp8serve a b c d --explain",
         "vp8serve: command line\nerror: unexpected argument 'd' found\n\nUsage: vp8serve [OPTIONS] [IN] [REQUESTS] [OUT]\n\nFor more information, try '--help'.\ntry vp8serve --help\n",
         2,

@@ -100,6 +100,7 @@ vp8serve --cache 4097 => command line
 vp8serve --cache x --tables none => command line
 vp8serve --cache 1 --cache 2 => command line
 vp8serve --save => command line
+vp8serve none.ivf --pad => command line
 vp8serve --sources => command line
 vp8serve --sources a --sources b => command line
 vp8serve --sources -:-:-:-:-:-:-:- => command line

@@ -42,6 +42,7 @@ Options:
       --cache <N>       Most decoded frames to cache, 1 to 4096 [default: 32]
       --tables <FILE>   3012 bytes to use instead of RFC 6386's long tables
       --save <FILE>     IVF file for the packets of IN after the last request
+      --pad             With --save: a byte 00 after packets that other players do not show
       --live            Answer each request line as it comes, before the next is read
       --explain         Explain refusals and errors on standard error
   -h, --help            Print help

@@ -110,6 +110,31 @@ fn saves_the_packets(rt: HostRuntime) {
     clear(&rt, "saving.ivf saved.ivf");
 }
 
+/// The key packet and two packets after it: one whose last token partition is empty, and one of no bytes.
+const EDITED: &[u8] =
+    b"DKIF\0\0\x20\0VP80\x10\0\x10\0\x1E\0\0\0\x01\0\0\0\x03\0\0\0\0\0\0\0\x0A\0\0\0\0\0\0\0\0\0\0\0\x10\0\0\x9D\x01\x2A\x10\0\x10\0\x03\0\0\0\x01\0\0\0\0\0\0\0\x11\0\0\0\0\0\0\x02\0\0\0\0\0\0\0";
+
+/// The same, padded: the first two packets have a byte 00 more.
+const PADDED: &[u8] =
+    b"DKIF\0\0\x20\0VP80\x10\0\x10\0\x1E\0\0\0\x01\0\0\0\x03\0\0\0\0\0\0\0\x0B\0\0\0\0\0\0\0\0\0\0\0\x10\0\0\x9D\x01\x2A\x10\0\x10\0\0\x04\0\0\0\x01\0\0\0\0\0\0\0\x11\0\0\0\0\0\0\0\x02\0\0\0\0\0\0\0";
+
+/// With `--pad` packets whose last token partition is empty are saved with a byte 00 more.
+#[test]
+fn pads_saved_packets(rt: HostRuntime) {
+    put(&rt, "padding.ivf", ONE);
+    let line = "vp8serve padding.ivf - - --save padded.ivf";
+    let requests = "insert 1 1 110000\ninsert 2 2 -\n";
+    expect(&rt, line, requests, "ok 2\nok 3\n", "", 0);
+    check(&rt, "padded.ivf", EDITED);
+    let line = "vp8serve padding.ivf - - --save padded.ivf --pad";
+    expect(&rt, line, requests, "ok 2\nok 3\n", "", 0);
+    check(&rt, "padded.ivf", PADDED);
+    let line = "vp8serve padding.ivf - - --pad --live --save padded.ivf";
+    expect(&rt, line, requests, "ok 2\nok 3\n", "", 0);
+    check(&rt, "padded.ivf", PADDED);
+    clear(&rt, "padding.ivf padded.ivf");
+}
+
 /// A save that fails is reported after the replies, and then trailing bytes are not reported.
 #[test]
 fn tells_a_save_that_fails(rt: HostRuntime) {

@@ -783,6 +783,73 @@ fn saves_the_packets(rt: HostRuntime) -> Result<(), Fail> {
     Ok(())
 }
 
+/// Packets whose last token partition is empty: a key frame, another frame, and a key frame with two
+/// partitions, whose first has one byte. Then packets that are saved as they are: with a byte in the last
+/// partition, of no bytes, too short for a tag, of version 4, and without a start code.
+const UNPADDED: &[(u64, &[u8])] = &[
+    (0, &[0x10, 0, 0, 0x9D, 0x01, 0x2A, 0x10, 0, 0x10, 0]),
+    (1, &[0x11, 0, 0]),
+    (
+        2,
+        &[
+            0x30, 0x01, 0, 0x9D, 0x01, 0x2A, 0x10, 0, 0x10, 0, 0x80, 0x19, 0x94, 0xFF, 0x6E, 0xDE,
+            0x0E, 0, 0, 0x01, 0, 0, 0x55,
+        ],
+    ),
+    (3, &[0x10, 0, 0, 0x9D, 0x01, 0x2A, 0x10, 0, 0x10, 0, 0x05]),
+    (
+        4,
+        &[
+            0x30, 0x01, 0, 0x9D, 0x01, 0x2A, 0x10, 0, 0x10, 0, 0x80, 0x19, 0x94, 0xFF, 0x6E, 0xDE,
+            0x0E, 0, 0, 0x01, 0, 0, 0x55, 0x07,
+        ],
+    ),
+    (5, &[]),
+    (6, &[0x11, 0]),
+    (7, &[0x19, 0, 0]),
+    (8, &[0x10, 0, 0, 0x9D, 0x01, 0x2B, 0x10, 0, 0x10, 0]),
+];
+
+/// The file of these packets, padded: a byte 00 after the first three, which their sizes count.
+const PADDED: &[u8] = &[
+    b'D', b'K', b'I', b'F', 0, 0, 32, 0, b'V', b'P', b'8', b'0', 16, 0, 9, 0, 30, 0, 0, 0, 1, 0, 0,
+    0, 9, 0, 0, 0, 0, 0, 0, 0, //
+    11, 0, 0, 0, 0, 0, 0, 0, 0, 0, 0, 0, //
+    0x10, 0, 0, 0x9D, 0x01, 0x2A, 0x10, 0, 0x10, 0, 0, //
+    4, 0, 0, 0, 1, 0, 0, 0, 0, 0, 0, 0, //
+    0x11, 0, 0, 0, //
+    24, 0, 0, 0, 2, 0, 0, 0, 0, 0, 0, 0, //
+    0x30, 0x01, 0, 0x9D, 0x01, 0x2A, 0x10, 0, 0x10, 0, 0x80, 0x19, 0x94, 0xFF, 0x6E, 0xDE, 0x0E, 0,
+    0, 0x01, 0, 0, 0x55, 0, //
+    11, 0, 0, 0, 3, 0, 0, 0, 0, 0, 0, 0, //
+    0x10, 0, 0, 0x9D, 0x01, 0x2A, 0x10, 0, 0x10, 0, 0x05, //
+    24, 0, 0, 0, 4, 0, 0, 0, 0, 0, 0, 0, //
+    0x30, 0x01, 0, 0x9D, 0x01, 0x2A, 0x10, 0, 0x10, 0, 0x80, 0x19, 0x94, 0xFF, 0x6E, 0xDE, 0x0E, 0,
+    0, 0x01, 0, 0, 0x55, 0x07, //
+    0, 0, 0, 0, 5, 0, 0, 0, 0, 0, 0, 0, //
+    2, 0, 0, 0, 6, 0, 0, 0, 0, 0, 0, 0, //
+    0x11, 0, //
+    3, 0, 0, 0, 7, 0, 0, 0, 0, 0, 0, 0, //
+    0x19, 0, 0, //
+    10, 0, 0, 0, 8, 0, 0, 0, 0, 0, 0, 0, //
+    0x10, 0, 0, 0x9D, 0x01, 0x2B, 0x10, 0, 0x10, 0, //
+];
+
+#[test]
+fn pads_empty_last_partitions(rt: HostRuntime) -> Result<(), Fail> {
+    let alloc = rt.alloc();
+    let mut store = Store::starting(alloc, 0);
+    assert_eq!(rt; store.push_all(packets_of(alloc, UNPADDED)?), Ok(()));
+    let mut saved = Vec::new(alloc);
+    assert_eq!(rt; store.save_padded(&mut saved, HEAD), Ok(()));
+    assert_eq!(rt; saved.as_slice(), PADDED);
+    assert_eq!(rt;
+        store.save_padded(&mut Broken {}, HEAD),
+        Err(WriteFault::Write)
+    );
+    Ok(())
+}
+
 #[test]
 fn words(rt: HostRuntime) {
     assert_eq!(rt; EditFault::Place.word(), "Place");

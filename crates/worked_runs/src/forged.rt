@@ -1,11 +1,12 @@
 //! Forged packets and saving in a session.
 
 use crate::files::{NEVER, Refusing};
-use frame_session::{Edit, Refusal, Session, run};
+use frame_session::{Edit, Refusal, RunFault, Session, run};
 use run_fixtures::{HIDDEN, INTER, KEY, ivf_of, run_over, run_packets, y4m_of};
 use std::alloc::Global;
+use std::process::Abort;
 use std::test::Fail;
-use stream_files::{EMPTY, WriteFault, ivf_read};
+use stream_files::{EMPTY, Packet, WriteFault, ivf_read};
 use vp8_tables::Tables;
 
 const LINE: &[u8] = b"YUV4MPEG2 W16 H16 F30:1 Ip C420jpeg\n";
@@ -15,11 +16,11 @@ const KEY_FRAME: &[(usize, u8)] = &[(64, 0x80), (192, 0x81), (128, 0x80)];
 
 const GREY: &[(usize, u8)] = &[(384, 0x80)];
 
-/// The packets after a run over this file, saved.
-fn saved_by(alloc: Global, file: &[u8], requests: &[u8]) -> Result<Vec<u8>, Fail> {
+/// The session after a run over this file.
+fn session_after(alloc: Global, file: &[u8], requests: &[u8]) -> Result<Session, RunFault> {
     let mut frames = Vec::new(alloc);
     let mut replies = Vec::new(alloc);
-    let session = run(
+    run(
         alloc,
         Tables::flat(),
         8,
@@ -27,7 +28,12 @@ fn saved_by(alloc: Global, file: &[u8], requests: &[u8]) -> Result<Vec<u8>, Fail
         requests,
         &mut frames,
         &mut replies,
-    )?;
+    )
+}
+
+/// The packets after a run over this file, saved.
+fn saved_by(alloc: Global, file: &[u8], requests: &[u8]) -> Result<Vec<u8>, Fail> {
+    let session = session_after(alloc, file, requests)?;
     let mut saved = Vec::new(alloc);
     session.save(&mut saved)?;
     Ok(saved)
@@ -83,6 +89,37 @@ fn a_stream_from_nothing(rt: HostRuntime) -> Result<(), Fail> {
     let want = y4m_of(rt.alloc(), LINE, &[GREY])?;
     assert_eq!(rt; ran.frames.as_slice(), want.as_slice());
     Ok(())
+}
+
+/// Checks that packets are those of another file, each with a byte 00 more, and have their time stamps.
+fn check_padded<R: Abort + AllocGlobal>(
+    rt: &R,
+    plain: &[Packet],
+    padded: &[Packet],
+) -> Result<(), Fail> {
+    assert_eq!(rt; padded.len(), plain.len());
+    for (packet, longer) in plain.iter().zip(padded) {
+        let mut want = Vec::from_slice(rt.alloc(), packet.bytes.as_slice())?;
+        want.push(0)?;
+        assert_eq!(rt; longer.bytes.as_slice(), want.as_slice());
+        assert_eq!(rt; longer.stamp, packet.stamp);
+    }
+    Ok(())
+}
+
+// Forged packets have an empty last token partition.
+#[test]
+fn forged_packets_are_padded(rt: HostRuntime) -> Result<(), Fail> {
+    let alloc = rt.alloc();
+    let session = session_after(alloc, &EMPTY, b"blank 0 16 32\nhold 1\n")?;
+    let mut plain = Vec::new(alloc);
+    session.save(&mut plain)?;
+    let mut padded = Vec::new(alloc);
+    session.save_padded(&mut padded)?;
+    let plain = ivf_read(alloc, plain.as_slice())?;
+    let padded = ivf_read(alloc, padded.as_slice())?;
+    assert_eq!(rt; plain.packets.len(), 2);
+    check_padded(&rt, plain.packets.as_slice(), padded.packets.as_slice())
 }
 
 // A side above 16,383, or above 65,535, is not a size; the size after a key tag may be missing.
