@@ -135,11 +135,11 @@ def failures(path):
 
 
 def ends_by_libvpx(packets, past, lost, totals):
-    """Compares the partitions that are read past their end with what libvpx calls corrupt; returns how many differ."""
+    """Counts the partitions that are read past their end next to the packets that libvpx calls corrupt."""
     packets = [b"" if place in lost else packet for place, packet in enumerate(packets)]
     said = verdicts(packets)
     whole = verdicts([padded(packet, past.get(place, {})) for place, packet in enumerate(packets)])
-    wrong, spoiled = 0, False
+    spoiled = False
     for place, packet in enumerate(packets):
         spoiled = spoiled and not has_key_tag(packet)
         bad = packet and said[place] != "ok"
@@ -150,17 +150,19 @@ def ends_by_libvpx(packets, past, lost, totals):
         other = bool(bad and place not in past and not spoiled)
         totals["libvpx only, any other"] += other
         totals["--check only"] += place in past and not bad
+        totals["of these, the first partition too"] += place in past and not bad and 0 in past[place]
         spoiled = spoiled or bool(bad) or place in past
         if packet and whole[place] != "ok":
             totals["still corrupt or failed with the zeros"] += 1
+            totals["of these, the first partition is read past its end"] += 0 in past.get(place, {})
         for partition in past.get(place, {}):
             shorter = dict(past[place])
             shorter[partition] -= 1
             front = [padded(before, past.get(index, {})) for index, before in enumerate(packets[:place])]
             short = verdicts([*front, padded(packet, shorter)])[-1]
-            totals["partitions with one zero byte less"] += 1
-            totals["of these, corrupt or failed by libvpx"] += short != "ok"
-    return wrong
+            kind = "token" if partition else "first"
+            totals[f"{kind} partitions with one zero byte less"] += 1
+            totals[f"{kind} partitions with one zero byte less, corrupt by libvpx"] += short != "ok"
 
 
 def damaged_streams(count, seed):

@@ -51,11 +51,7 @@ fn help_or_fault<O: Write>(error: clap::Error, output: &mut O) -> Result<(), Fau
 }
 
 /// Writes the list of the packets of an IVF file, and flushes the writer.
-pub fn list_to<O: Write>(
-    alloc: Global,
-    bytes: &[u8],
-    output: &mut O,
-) -> Result<(), Fault<'static>>
+pub fn list_to<O: Write>(alloc: Global, bytes: &[u8], output: &mut O) -> Result<(), Fault<'static>>
     ensures listed { OnOk result (IsListed bytes.now (O.contents output.old) (O.contents output.new)) }
     ensures fault { IfErr result (IsListFault bytes.now (O.contents output.old) (O.contents output.new)) }
 {
