@@ -84,11 +84,7 @@ fn write_padded_record<W: Write>(w: &mut W, stamp: u64, bytes: &[u8]) -> io::Res
 /// packet of 4,294,967,295 bytes or more does not fit its field.
 ///
 /// `Write` if the writer returns an error; part of the record may have been written.
-pub fn ivf_padded_packet<W: Write>(
-    w: &mut W,
-    stamp: u64,
-    bytes: &[u8],
-) -> Result<(), WriteFault>
+pub fn ivf_padded_packet<W: Write>(w: &mut W, stamp: u64, bytes: &[u8]) -> Result<(), WriteFault>
     ensures { OnOk result (Appends (W.contents w.old) (W.contents w.new)
         (record_text (record { stamp = stamp; bytes = bytes.now ++ 0 ∷ [] }))) }
 {
