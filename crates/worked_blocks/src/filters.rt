@@ -161,17 +161,6 @@ struct Case {
     totals: [u32; 3],
 }
 
-/// The planes of a frame before the filter.
-fn planes_of(alloc: Global, least: u8, count: u32) -> Result<Planes, Fail> {
-    let mut luma = Plane::make(alloc, 48, 32, 0)?;
-    let mut cb = Plane::make(alloc, 24, 16, 0)?;
-    let mut cr = Plane::make(alloc, 24, 16, 0)?;
-    fill(luma.samples_mut(), 1, least, count);
-    fill(cb.samples_mut(), 2, least, count);
-    fill(cr.samples_mut(), 3, least, count);
-    Ok(Planes { luma, cb, cr })
-}
-
 /// The header of a frame of zero bits with this filter.
 fn header_of(rt: &impl Abort, is_key: bool, filter: Filter) -> Header<'static> {
     let tables = Tables::flat();
@@ -187,7 +176,14 @@ fn filtered(rt: &impl Abort, alloc: Global, case: &Case) -> Result<[u32; 3], Fai
     let filter = filter_of(case.is_simple, case.level, case.sharpness);
     let header = header_of(rt, case.is_key, filter);
     let modes = read_modes(alloc, &Tables::flat(), &header, 3, 2, Some(&[0; 6]))?;
-    let mut planes = planes_of(alloc, case.least, case.count)?;
+    let mut planes = Planes {
+        luma: Plane::make(alloc, 48, 32, 0)?,
+        cb: Plane::make(alloc, 24, 16, 0)?,
+        cr: Plane::make(alloc, 24, 16, 0)?,
+    };
+    fill(planes.luma.samples_mut(), 1, case.least, case.count);
+    fill(planes.cb.samples_mut(), 2, case.least, case.count);
+    fill(planes.cr.samples_mut(), 3, case.least, case.count);
     let flags = [true, false, true, false, false, true];
     frame(&header, &modes, &flags, &mut planes);
     Ok([total(&planes.luma), total(&planes.cb), total(&planes.cr)])
