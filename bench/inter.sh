@@ -21,13 +21,14 @@ block_times: pixel_planes inter_predict
 END
 # A plane takes memory, which an exported function has none of: what `block` makes of a window is
 # timed here, and `block` itself in a program.
-sed -i 's/^mod strips;/pub mod strips;/; s/^mod taps;/pub mod taps;/' "$room/crates/inter_predict/src/lib.rt"
+sed -i 's/^mod rows;/pub mod rows;/; s/^mod strips;/pub mod strips;/; s/^mod taps;/pub mod taps;/' "$room/crates/inter_predict/src/lib.rt"
 cat > "$room/crates/inter_times/src/lib.rt" <<'END'
 #![tactic(auto)]
 
 use inter_predict::Kind;
+use inter_predict::rows::Strip;
 use inter_predict::strips::strip;
-use inter_predict::taps::Taps;
+use inter_predict::taps::{Filters, Taps};
 
 #[unsafe(no_mangle)]
 pub extern "C" fn proved_predict(
@@ -48,10 +49,32 @@ pub extern "C" fn proved_predict(
     };
     let across = Taps::of(kind, (right % 8) as usize);
     let down = Taps::of(kind, (below % 8) as usize);
+    let filters = Filters { across, down };
     match side {
-        16 => strip::<16, 336>(samples, stride, across, down, 0, 16, out, 16),
-        8 => strip::<8, 168>(samples, stride, across, down, 0, 8, out, 8),
-        _ => strip::<4, 84>(samples, stride, across, down, 0, 4, out, 4),
+        16 => {
+            let block = Strip {
+                first: 0,
+                height: 16,
+                stride: 16,
+            };
+            strip::<16, 336>(samples, stride, filters, block, out);
+        }
+        8 => {
+            let block = Strip {
+                first: 0,
+                height: 8,
+                stride: 8,
+            };
+            strip::<8, 168>(samples, stride, filters, block, out);
+        }
+        _ => {
+            let block = Strip {
+                first: 0,
+                height: 4,
+                stride: 4,
+            };
+            strip::<4, 84>(samples, stride, filters, block, out);
+        }
     }
 }
 END

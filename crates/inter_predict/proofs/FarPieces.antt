@@ -100,11 +100,18 @@ fraction_small (pos n) = omega arith
 fraction_small (negsuc n) = omega arith
 
 -- the start of a piece, in 64 bits
-pub begun : (x offset : ℤ) (n side own : ℕ) → IsWithin 5000000000 x → own ≤ 16384 → side ≡ own → offset ≡ pos (min n (side + 8589934592)) → to_z w64 (of_z w64 (to_z w64 (of_z w64 x) +ℤ to_z w64 (of_z w64 offset))) ≡ to_z w64 (of_z w64 x) +ℤ pos (min n (own + 8589934592))
+pub begun : (x offset : ℤ) (n side own : ℕ) → IsWithin 5000000000 x → own ≤ 16384 → side ≡ own → offset ≡ pos (min n (side + 8589934592)) → to_z w64 (of_z w64 (to_z w64 (of_z w64 x) +ℤ to_z w64 (of_z w64 offset))) ≡ x +ℤ pos (min n (own + 8589934592))
 begun x offset n side own within small same offset_is = omega (arith, ints)
 
-pub still_within : (x : ℤ) → IsWithin 5000000000 x → IsWithin 5000000000 (to_z w64 (of_z w64 x))
-still_within x within = (omega (arith, ints), omega (arith, ints))
+-- the whole samples two after a first tap, in 64 bits
+pub near_within : (place : ℤ) → IsNear place → IsWithin 5000000000 (to_z w64 (of_z w64 (to_z w64 (of_z w64 place) +ℤ pos 2)))
+near_within place near = (omega (arith, ints), omega (arith, ints))
+
+pub same_within : (place : ℤ) → IsWithin 68719476736 place → to_z w64 (of_z w64 place) ≡ place
+same_within place within = omega (arith, ints)
+
+pub further_within : (place : ℤ) → IsWithin 5000000000 place → IsWithin 68719476736 place
+further_within place within = (omega (arith, ints), omega (arith, ints))
 
 -- a vector's whole samples and its eighths apart
 pub whole_apart : (kind : Kind) (p : Samples) (x y right below x' y' : ℤ) (right' below' column row : ℕ) → x' ≡ x +ℤ whole_part right → y' ≡ y +ℤ whole_part below → right' ≡ fraction right → below' ≡ fraction below → predicted kind p x' y' (pos right') (pos below') column row ≡ predicted kind p x y right below column row

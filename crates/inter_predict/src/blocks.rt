@@ -5,8 +5,10 @@ ghost use Rattle.inter_predict.specs.Kernels.{IsNear};
 
 use crate::kinds::Kind;
 use crate::pieces::{block_at, in_rows};
+use crate::rows::{Rows, Strip};
+use crate::sources::{NearSource, Source};
 use crate::strips::{copy, strip};
-use crate::taps::Taps;
+use crate::taps::{Filters, Taps};
 use pixel_planes::Plane;
 
 /// The eighths of a sample by which a vector points past a whole one, 0 to 7.
@@ -49,33 +51,40 @@ pub fn block(
     requires { length out.old ≡ width * height }
     ensures { IsBlockIn (predicted kind plane.now.shown x y vector.0 vector.1) width height width out.old out.new }
 {
+    let source = Source {
+        plane,
+        x,
+        y,
+        vector,
+        kind,
+    };
     if 0 < width && width <= 16 && 0 < height && height <= 16 {
-        block_in(plane, x, y, vector, kind, width, height, out, width);
+        block_in(source, width, height, out, width);
     } else {
-        large(plane, x, y, vector, kind, width, height, out);
+        large(source, width, height, out);
     }
 }
 
 /// Does the same as `block`, in pieces.
 #[cold]
 #[inline(never)]
-fn large(
-    plane: &Plane,
-    x: i32,
-    y: i32,
-    vector: (i32, i32),
-    kind: Kind,
-    width: usize,
-    height: usize,
-    out: &mut [u8],
-)
+fn large(source: Source, width: usize, height: usize, out: &mut [u8])
     requires { length out.old ≡ width * height }
-    ensures { IsBlockIn (predicted kind plane.now.shown x y vector.0 vector.1) width height width out.old out.new }
+    ensures { IsBlockIn (predicted source.entry.kind source.entry.plane.now.shown source.entry.x source.entry.y source.entry.vector.0 source.entry.vector.1) width height width out.old out.new }
 {
-    let (right, below) = (fraction(vector.0), fraction(vector.1));
-    let column = first_tap(x, vector.0) + 2;
-    let row = first_tap(y, vector.1) + 2;
-    in_rows(plane, column, row, kind, right, below, width, height, out);
+    let Source { plane, kind, .. } = source;
+    let (right, below) = (fraction(source.vector.0), fraction(source.vector.1));
+    let x = first_tap(source.x, source.vector.0) + 2;
+    let y = first_tap(source.y, source.vector.1) + 2;
+    let near = NearSource {
+        plane,
+        x,
+        y,
+        kind,
+        right,
+        below,
+    };
+    in_rows(near, width, height, out);
 }
 
 /// Does the same as `block`, into rows `stride` samples apart: at least the width, and at most
@@ -84,39 +93,25 @@ fn large(
 /// The block begins with the first sample of `out`; samples next to it and below it stay as they
 /// are.
 #[inline]
-pub fn block_in(
-    plane: &Plane,
-    x: i32,
-    y: i32,
-    vector: (i32, i32),
-    kind: Kind,
-    width: usize,
-    height: usize,
-    out: &mut [u8],
-    stride: usize,
-)
+pub fn block_in(source: Source, width: usize, height: usize, out: &mut [u8], stride: usize)
     requires wide { (0 < width) × (width ≤ 16) }
     requires high { (0 < height) × (height ≤ 16) }
     requires stride { (width ≤ stride) × (stride ≤ 65536) }
     requires room { (height - 1) * stride + width ≤ length out.old }
-    ensures { IsBlockIn (predicted kind plane.now.shown x y vector.0 vector.1) width height stride out.old out.new }
+    ensures { IsBlockIn (predicted source.entry.kind source.entry.plane.now.shown source.entry.x source.entry.y source.entry.vector.0 source.entry.vector.1) width height stride out.old out.new }
 {
     match width {
-        16 => columns::<16, 336>(plane, x, y, vector, kind, height, out, stride),
-        8 => columns::<8, 168>(plane, x, y, vector, kind, height, out, stride),
-        4 => columns::<4, 84>(plane, x, y, vector, kind, height, out, stride),
-        _ => any_columns(plane, x, y, vector, kind, width, height, out, stride),
+        16 => columns::<16, 336>(source, height, out, stride),
+        8 => columns::<8, 168>(source, height, out, stride),
+        4 => columns::<4, 84>(source, height, out, stride),
+        _ => any_columns(source, width, height, out, stride),
     }
 }
 
 /// Does the same as `block_in` for a block of `N` columns. `M` is 21 times `N`.
 #[inline]
 fn columns<const N: usize, const M: usize>(
-    plane: &Plane,
-    x: i32,
-    y: i32,
-    vector: (i32, i32),
-    kind: Kind,
+    source: Source,
     height: usize,
     out: &mut [u8],
     stride: usize,
@@ -125,51 +120,48 @@ fn columns<const N: usize, const M: usize>(
     requires high { (0 < height) × (height ≤ 16) }
     requires stride { (N ≤ stride) × (stride ≤ 65536) }
     requires room { (height - 1) * stride + N ≤ length out.old }
-    ensures { IsBlockIn (predicted kind plane.now.shown x y vector.0 vector.1) N height stride out.old out.new }
+    ensures { IsBlockIn (predicted source.entry.kind source.entry.plane.now.shown source.entry.x source.entry.y source.entry.vector.0 source.entry.vector.1) N height stride out.old out.new }
 {
-    if fraction(vector.0) == 0 && fraction(vector.1) == 0 {
-        copied::<N>(plane, x, y, vector, kind, height, out, stride);
+    if fraction(source.vector.0) == 0 && fraction(source.vector.1) == 0 {
+        copied::<N>(source, height, out, stride);
     } else {
-        filtered::<N, M>(plane, x, y, vector, kind, height, out, stride);
+        filtered::<N, M>(source, height, out, stride);
     }
 }
 
 /// Does the same as `columns` if the vector points to whole samples: no other samples are read.
 #[inline(never)]
-fn copied<const N: usize>(
-    plane: &Plane,
-    x: i32,
-    y: i32,
-    vector: (i32, i32),
-    kind: Kind,
-    height: usize,
-    out: &mut [u8],
-    stride: usize,
-)
-    requires whole { (fraction_of vector.0 ≡ 0) × (fraction_of vector.1 ≡ 0) }
+fn copied<const N: usize>(source: Source, height: usize, out: &mut [u8], stride: usize)
+    requires whole { (fraction_of source.vector.0 ≡ 0) × (fraction_of source.vector.1 ≡ 0) }
     requires lanes { (0 < N) × (N ≤ 16) }
     requires high { (0 < height) × (height ≤ 16) }
     requires stride { (N ≤ stride) × (stride ≤ 65536) }
     requires room { (height - 1) * stride + N ≤ length out.old }
-    ensures { IsBlockIn (predicted kind plane.now.shown x y vector.0 vector.1) N height stride out.old out.new }
+    ensures { IsBlockIn (predicted source.entry.kind source.entry.plane.now.shown source.entry.x source.entry.y source.entry.vector.0 source.entry.vector.1) N height stride out.old out.new }
 {
-    let left = first_tap(x, vector.0);
-    let top = first_tap(y, vector.1);
-    if let Some(window) = plane.window(left + 2, top + 2, N, height) {
-        copy::<N>(window.samples, 0, window.stride, height, out, 0, stride);
+    let left = first_tap(source.x, source.vector.0);
+    let top = first_tap(source.y, source.vector.1);
+    if let Some(window) = source.plane.window(left + 2, top + 2, N, height) {
+        let rows = Rows {
+            samples: window.samples,
+            start: 0,
+            stride: window.stride,
+        };
+        let strip = Strip {
+            first: 0,
+            height,
+            stride,
+        };
+        copy::<N>(rows, strip, out);
     } else {
-        any_columns(plane, x, y, vector, kind, N, height, out, stride);
+        any_columns(source, N, height, out, stride);
     }
 }
 
 /// Does the same as `columns`, by the filters.
 #[inline(never)]
 fn filtered<const N: usize, const M: usize>(
-    plane: &Plane,
-    x: i32,
-    y: i32,
-    vector: (i32, i32),
-    kind: Kind,
+    source: Source,
     height: usize,
     out: &mut [u8],
     stride: usize,
@@ -178,44 +170,46 @@ fn filtered<const N: usize, const M: usize>(
     requires high { (0 < height) × (height ≤ 16) }
     requires stride { (N ≤ stride) × (stride ≤ 65536) }
     requires room { (height - 1) * stride + N ≤ length out.old }
-    ensures { IsBlockIn (predicted kind plane.now.shown x y vector.0 vector.1) N height stride out.old out.new }
+    ensures { IsBlockIn (predicted source.entry.kind source.entry.plane.now.shown source.entry.x source.entry.y source.entry.vector.0 source.entry.vector.1) N height stride out.old out.new }
 {
-    let left = first_tap(x, vector.0);
-    let top = first_tap(y, vector.1);
-    if let Some(window) = plane.window(left, top, N + 5, height + 5) {
-        let across = Taps::of(kind, fraction(vector.0));
-        let down = Taps::of(kind, fraction(vector.1));
-        let (samples, apart) = (window.samples, window.stride);
-        strip::<N, M>(samples, apart, across, down, 0, height, out, stride);
+    let left = first_tap(source.x, source.vector.0);
+    let top = first_tap(source.y, source.vector.1);
+    if let Some(window) = source.plane.window(left, top, N + 5, height + 5) {
+        let across = Taps::of(source.kind, fraction(source.vector.0));
+        let down = Taps::of(source.kind, fraction(source.vector.1));
+        let filters = Filters { across, down };
+        let columns = Strip {
+            first: 0,
+            height,
+            stride,
+        };
+        strip::<N, M>(window.samples, window.stride, filters, columns, out);
     } else {
-        any_columns(plane, x, y, vector, kind, N, height, out, stride);
+        any_columns(source, N, height, out, stride);
     }
 }
 
 /// Does the same as `block_in`, for any width, and also if the plane's border has no such window.
 #[cold]
 #[inline(never)]
-fn any_columns(
-    plane: &Plane,
-    x: i32,
-    y: i32,
-    vector: (i32, i32),
-    kind: Kind,
-    width: usize,
-    height: usize,
-    out: &mut [u8],
-    stride: usize,
-)
+fn any_columns(source: Source, width: usize, height: usize, out: &mut [u8], stride: usize)
     requires wide { (0 < width) × (width ≤ 16) }
     requires high { (0 < height) × (height ≤ 16) }
     requires stride { (width ≤ stride) × (stride ≤ 65536) }
     requires room { (height - 1) * stride + width ≤ length out.old }
-    ensures { IsBlockIn (predicted kind plane.now.shown x y vector.0 vector.1) width height stride out.old out.new }
+    ensures { IsBlockIn (predicted source.entry.kind source.entry.plane.now.shown source.entry.x source.entry.y source.entry.vector.0 source.entry.vector.1) width height stride out.old out.new }
 {
-    let (right, below) = (fraction(vector.0), fraction(vector.1));
-    let column = first_tap(x, vector.0) + 2;
-    let row = first_tap(y, vector.1) + 2;
-    block_at(
-        plane, column, row, kind, right, below, width, height, out, stride,
-    );
+    let Source { plane, kind, .. } = source;
+    let (right, below) = (fraction(source.vector.0), fraction(source.vector.1));
+    let x = first_tap(source.x, source.vector.0) + 2;
+    let y = first_tap(source.y, source.vector.1) + 2;
+    let near = NearSource {
+        plane,
+        x,
+        y,
+        kind,
+        right,
+        below,
+    };
+    block_at(near, width, height, out, stride);
 }

@@ -8,9 +8,12 @@ mod lanes;
 pub mod laws;
 mod passes;
 mod pieces;
+mod rows;
+mod sources;
 mod strips;
 mod taps;
 mod windows;
 
 pub use blocks::{block, block_in};
 pub use kinds::Kind;
+pub use sources::Source;

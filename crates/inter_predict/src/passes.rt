@@ -3,64 +3,47 @@ ghost use Rattle.inter_predict.specs.Kernels.{AreTapsOf, IsTaps, IsStrip, betwee
 ghost use Rattle.inter_predict.specs.declared.kinds.Kind.{Kind};
 
 use crate::lanes::tapped;
+use crate::rows::{Rows, Strip};
 use crate::taps::Taps;
 
-/// Filters `height` rows of `N` samples into the strip of `out` that starts at column `first`,
-/// whose rows are `out_stride` samples apart.
-///
-/// The first tap of the first sample reads index `start`, the first tap of the next row the index
-/// `stride` after it, and the taps read indices `step` apart.
+/// Filters rows of `N` samples into a strip of `out`. The first tap of a row's first sample reads
+/// where the row begins, and the taps read indices `step` apart.
 #[inline(always)]
-fn pass_by<const N: usize>(
-    samples: &[u8],
-    start: usize,
-    stride: usize,
-    step: usize,
-    taps: Taps,
-    height: usize,
-    out: &mut [u8],
-    first: usize,
-    out_stride: usize,
-)
+fn pass_by<const N: usize>(rows: Rows, step: usize, taps: Taps, strip: Strip, out: &mut [u8])
     requires lanes { (0 < N) × (N ≤ 16) }
-    requires height { (0 < height) × (height ≤ 21) }
-    requires strides { (start ≤ 262144) × (stride ≤ 65536) × (step ≤ 65536) × (out_stride ≤ 65536) }
-    requires room { start + (height - 1) * stride + 5 * step + N ≤ length samples.now }
-    requires out { (height - 1) * out_stride + (first + N) ≤ length out.old }
-    requires inside { first + N ≤ out_stride }
+    requires height { (0 < strip.height) × (strip.height ≤ 21) }
+    requires strides { (rows.start ≤ 262144) × (rows.stride ≤ 65536) × (step ≤ 65536) × (strip.stride ≤ 65536) }
+    requires room { rows.start + (strip.height - 1) * rows.stride + 5 * step + N ≤ length rows.samples.now }
+    requires out { (strip.height - 1) * strip.stride + (strip.first + N) ≤ length out.old }
+    requires inside { strip.first + N ≤ strip.stride }
     requires small { IsTaps taps }
-    ensures taps { IsStrip (λ column row. tapped_at taps samples.now step (start + row * stride + column)) first N height out_stride out.old out.new }
-    ensures between { (kind : Kind) (eighths : ℕ) → AreTapsOf taps kind eighths → IsStrip (between_in kind eighths samples.now start stride step) first N height out_stride out.old out.new }
+    ensures taps { IsStrip (λ column row. tapped_at taps rows.entry.samples.now step (rows.entry.start + row * rows.entry.stride + column)) strip.first N strip.height strip.stride out.old out.new }
+    ensures between { (kind : Kind) (eighths : ℕ) → AreTapsOf taps kind eighths → IsStrip (between_in kind eighths rows.entry.samples.now rows.entry.start rows.entry.stride step) strip.first N strip.height strip.stride out.old out.new }
 {
-    for row in 0..height {
+    let Rows {
+        samples,
+        start,
+        stride,
+    } = rows;
+    for row in 0..strip.height {
         tapped::<N>(samples, start + row * stride, step, taps).copy_to_slice(
-            &mut out[row * out_stride + first..],
+            &mut out[row * strip.stride + strip.first..],
         );
     }
 }
 
 /// Does the same as `pass_by`, without the products of taps that are 0.
 #[inline]
-pub fn pass<const N: usize>(
-    samples: &[u8],
-    start: usize,
-    stride: usize,
-    step: usize,
-    taps: Taps,
-    height: usize,
-    out: &mut [u8],
-    first: usize,
-    out_stride: usize,
-)
+pub fn pass<const N: usize>(rows: Rows, step: usize, taps: Taps, strip: Strip, out: &mut [u8])
     requires lanes { (0 < N) × (N ≤ 16) }
-    requires height { (0 < height) × (height ≤ 21) }
-    requires strides { (start ≤ 262144) × (stride ≤ 65536) × (step ≤ 65536) × (out_stride ≤ 65536) }
-    requires room { start + (height - 1) * stride + 5 * step + N ≤ length samples.now }
-    requires out { (height - 1) * out_stride + (first + N) ≤ length out.old }
-    requires inside { first + N ≤ out_stride }
+    requires height { (0 < strip.height) × (strip.height ≤ 21) }
+    requires strides { (rows.start ≤ 262144) × (rows.stride ≤ 65536) × (step ≤ 65536) × (strip.stride ≤ 65536) }
+    requires room { rows.start + (strip.height - 1) * rows.stride + 5 * step + N ≤ length rows.samples.now }
+    requires out { (strip.height - 1) * strip.stride + (strip.first + N) ≤ length out.old }
+    requires inside { strip.first + N ≤ strip.stride }
     requires small { IsTaps taps }
-    ensures taps { IsStrip (λ column row. tapped_at taps samples.now step (start + row * stride + column)) first N height out_stride out.old out.new }
-    ensures between { (kind : Kind) (eighths : ℕ) → AreTapsOf taps kind eighths → IsStrip (between_in kind eighths samples.now start stride step) first N height out_stride out.old out.new }
+    ensures taps { IsStrip (λ column row. tapped_at taps rows.entry.samples.now step (rows.entry.start + row * rows.entry.stride + column)) strip.first N strip.height strip.stride out.old out.new }
+    ensures between { (kind : Kind) (eighths : ℕ) → AreTapsOf taps kind eighths → IsStrip (between_in kind eighths rows.entry.samples.now rows.entry.start rows.entry.stride step) strip.first N strip.height strip.stride out.old out.new }
 {
     if taps.a == 0 && taps.f == 0 {
         if taps.b == 0 && taps.e == 0 {
@@ -71,18 +54,12 @@ pub fn pass<const N: usize>(
                 f: 0,
                 ..taps
             };
-            pass_by::<N>(
-                samples, start, stride, step, two, height, out, first, out_stride,
-            );
+            pass_by::<N>(rows, step, two, strip, out);
         } else {
             let four = Taps { a: 0, f: 0, ..taps };
-            pass_by::<N>(
-                samples, start, stride, step, four, height, out, first, out_stride,
-            );
+            pass_by::<N>(rows, step, four, strip, out);
         }
     } else {
-        pass_by::<N>(
-            samples, start, stride, step, taps, height, out, first, out_stride,
-        );
+        pass_by::<N>(rows, step, taps, strip, out);
     }
 }

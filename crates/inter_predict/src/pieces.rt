@@ -6,67 +6,50 @@ ghost use Rattle.inter_predict.specs.InterSample.{predicted};
 ghost use Rattle.inter_predict.specs.Blocks.{IsBlockIn};
 
 use crate::gathering::{GATHERED_STRIDE, gather};
-use crate::kinds::Kind;
-use crate::taps::Taps;
+use crate::sources::NearSource;
+use crate::taps::{Filters, Taps};
 use crate::windows::predict;
-use pixel_planes::Plane;
+use pixel_planes::Window;
 
-/// Predicts a block of 1 to 16 columns and rows at the whole samples that start at column `x` of
-/// row `y`; `right` and `below` are eighths of a sample.
-pub fn block_at(
-    plane: &Plane,
-    x: i64,
-    y: i64,
-    kind: Kind,
-    right: usize,
-    below: usize,
-    width: usize,
-    height: usize,
-    out: &mut [u8],
-    stride: usize,
-)
-    requires near { IsWithin 68719476736 x × IsWithin 68719476736 y }
-    requires eighths { (right < 8) × (below < 8) }
+/// Predicts a block of 1 to 16 columns and rows into rows `stride` samples apart.
+pub fn block_at(source: NearSource, width: usize, height: usize, out: &mut [u8], stride: usize)
+    requires near { IsWithin 68719476736 source.x × IsWithin 68719476736 source.y }
+    requires eighths { (source.right < 8) × (source.below < 8) }
     requires wide { (0 < width) × (width ≤ 16) }
     requires high { (0 < height) × (height ≤ 16) }
     requires stride { (width ≤ stride) × (stride ≤ 65536) }
     requires room { (height - 1) * stride + width ≤ length out.old }
-    ensures { IsBlockIn (predicted kind plane.now.shown x y (pos right) (pos below)) width height stride out.old out.new }
+    ensures { IsBlockIn (predicted source.entry.kind source.entry.plane.now.shown source.entry.x source.entry.y (pos source.entry.right) (pos source.entry.below)) width height stride out.old out.new }
 {
-    let (across, down) = (Taps::of(kind, right), Taps::of(kind, below));
-    let (left, top) = (x - 2, y - 2);
+    let NearSource { plane, kind, .. } = source;
+    let across = Taps::of(kind, source.right);
+    let down = Taps::of(kind, source.below);
+    let filters = Filters { across, down };
+    let (left, top) = (source.x - 2, source.y - 2);
     if let Some(window) = plane.window(left, top, width + 5, height + 5) {
-        let (samples, apart) = (window.samples, window.stride);
-        predict(samples, apart, across, down, width, height, out, stride);
+        predict(window, filters, width, height, out, stride);
     } else {
         let mut gathered = [0; 441];
         gather(plane, left, top, width + 5, height + 5, &mut gathered);
-        let apart = GATHERED_STRIDE;
-        predict(&gathered, apart, across, down, width, height, out, stride);
+        let window = Window {
+            samples: &gathered,
+            stride: GATHERED_STRIDE,
+        };
+        predict(window, filters, width, height, out, stride);
     }
 }
 
 /// Predicts 1 to 16 samples of a row into `out`, starting at index `start`.
-fn piece(
-    plane: &Plane,
-    x: i64,
-    y: i64,
-    kind: Kind,
-    right: usize,
-    below: usize,
-    width: usize,
-    out: &mut [u8],
-    start: usize,
-)
-    requires near { IsWithin 68719476736 x × IsWithin 68719476736 y }
-    requires eighths { (right < 8) × (below < 8) }
+fn piece(source: NearSource, width: usize, out: &mut [u8], start: usize)
+    requires near { IsWithin 68719476736 source.x × IsWithin 68719476736 source.y }
+    requires eighths { (source.right < 8) × (source.below < 8) }
     requires wide { (0 < width) × (width ≤ 16) }
     requires room { start + width ≤ length out.old }
     ensures before { (place : ℕ) → place < start → slice_index out.new place ≡ slice_index out.old place }
-    ensures each { (column : ℕ) → column < width → slice_index out.new (start + column) ≡ predicted kind plane.now.shown x y (pos right) (pos below) column 0 }
+    ensures each { (column : ℕ) → column < width → slice_index out.new (start + column) ≡ predicted source.entry.kind source.entry.plane.now.shown source.entry.x source.entry.y (pos source.entry.right) (pos source.entry.below) column 0 }
 {
     let mut samples = [0; 16];
-    block_at(plane, x, y, kind, right, below, width, 1, &mut samples, 16);
+    block_at(source, width, 1, &mut samples, 16);
     for column in 0..width {
         out[start + column] = samples[column];
     }
@@ -82,60 +65,30 @@ fn offset(count: usize, side: usize) -> i64
 }
 
 /// Predicts a row of samples into `out`, starting at index `start`, in pieces of 16.
-fn row_in_pieces(
-    plane: &Plane,
-    x: i64,
-    y: i64,
-    kind: Kind,
-    right: usize,
-    below: usize,
-    width: usize,
-    out: &mut [u8],
-    start: usize,
-)
-    requires near { IsWithin 5000000000 x × IsWithin 34359738368 y }
-    requires eighths { (right < 8) × (below < 8) }
+fn row_in_pieces(source: NearSource, width: usize, out: &mut [u8], start: usize)
+    requires near { IsWithin 5000000000 source.x × IsWithin 34359738368 source.y }
+    requires eighths { (source.right < 8) × (source.below < 8) }
     requires room { start + width ≤ length out.old }
     ensures before { (place : ℕ) → place < start → slice_index out.new place ≡ slice_index out.old place }
-    ensures each { (column : ℕ) → column < width → slice_index out.new (start + column) ≡ predicted kind plane.now.shown x y (pos right) (pos below) column 0 }
+    ensures each { (column : ℕ) → column < width → slice_index out.new (start + column) ≡ predicted source.entry.kind source.entry.plane.now.shown source.entry.x source.entry.y (pos source.entry.right) (pos source.entry.below) column 0 }
 {
     for number in 0..width.div_ceil(16) {
         let first = 16 * number;
         let count = (width - first).min(16);
-        let from = x + offset(first, plane.width());
-        piece(
-            plane,
-            from,
-            y,
-            kind,
-            right,
-            below,
-            count,
-            out,
-            start + first,
-        );
+        let x = source.x + offset(first, source.plane.width());
+        piece(NearSource { x, ..source }, count, out, start + first);
     }
 }
 
 /// Predicts a block of any width and height, row by row.
-pub fn in_rows(
-    plane: &Plane,
-    x: i64,
-    y: i64,
-    kind: Kind,
-    right: usize,
-    below: usize,
-    width: usize,
-    height: usize,
-    out: &mut [u8],
-)
-    requires near { IsWithin 5000000000 x × IsWithin 5000000000 y }
-    requires eighths { (right < 8) × (below < 8) }
+pub fn in_rows(source: NearSource, width: usize, height: usize, out: &mut [u8])
+    requires near { IsWithin 5000000000 source.x × IsWithin 5000000000 source.y }
+    requires eighths { (source.right < 8) × (source.below < 8) }
     requires out { length out.old ≡ width * height }
-    ensures { IsBlockIn (predicted kind plane.now.shown x y (pos right) (pos below)) width height width out.old out.new }
+    ensures { IsBlockIn (predicted source.entry.kind source.entry.plane.now.shown source.entry.x source.entry.y (pos source.entry.right) (pos source.entry.below)) width height width out.old out.new }
 {
     for row in 0..height {
-        let from = y + offset(row, plane.height());
-        row_in_pieces(plane, x, from, kind, right, below, width, out, row * width);
+        let y = source.y + offset(row, source.plane.height());
+        row_in_pieces(NearSource { y, ..source }, width, out, row * width);
     }
 }

@@ -18,6 +18,13 @@ pub struct Taps {
     pub f: u16,
 }
 
+/// The filters that make a block: rows are filtered across, and then columns down.
+#[derive(Clone, Copy)]
+pub struct Filters {
+    pub across: Taps,
+    pub down: Taps,
+}
+
 /// The taps of the six-tap filters without signs, by eighths.
 const SIX_TAPS: [[u16; 6]; 8] = [
     [0, 0, 128, 0, 0, 0],

@@ -15,7 +15,7 @@ ghost use Rattle.reference_frames.specs.Unfiltered.{HoldsMacroblock, HoldsSquare
 
 use crate::corners::{Corner, MacroblockCorner, MacroblockPlace};
 use crate::residuals::{Blocks, add_to_square};
-use inter_predict::{Kind, block_in};
+use inter_predict::{Kind, Source, block_in};
 use intra_predict::BlockSize;
 use mode_parser::{Vector, VectorMode, chroma_vector};
 use pixel_planes::{Picture, Plane, Planes};
@@ -68,10 +68,16 @@ fn predict_square(
     requires room { (corner.row + side) * corner.across ≤ length samples.old }
     ensures { IsPlaced (λ i j. inter_sample kind from.now.shown (pos i) (pos j) vector.0 vector.1) corner.across side corner.column corner.row samples.old samples.new }
 {
-    let (left, top) = (corner.column as i32, corner.row as i32);
+    let source = Source {
+        plane: from,
+        x: corner.column as i32,
+        y: corner.row as i32,
+        vector,
+        kind,
+    };
     let across = corner.across;
     let samples = &mut samples[across * corner.row + corner.column..];
-    block_in(from, left, top, vector, kind, side, side, samples, across);
+    block_in(source, side, side, samples, across);
 }
 
 /// The vector of luma block `n`, in eighths of a luma sample.

@@ -1,6 +1,6 @@
 ghost use Rattle.std.specs.Prelude.{◌<◌, ◌≤◌};
 
-use inter_predict::{Kind, block, block_in};
+use inter_predict::{Kind, Source, block, block_in};
 use pixel_planes::{NoMemory, Picture, Plane, Planes};
 use std::alloc::Global;
 use std::test::Fail;
@@ -49,20 +49,19 @@ fn predicted(plane: &Plane, x: i64, y: i64, vector: (i32, i32), kind: Kind) -> u
 
 /// Whether a block of these sides among samples of 7, in rows of 16, is as read plainly, and whether
 /// every other sample is 7 still.
-fn is_right(
-    plane: &Plane,
-    x: i32,
-    y: i32,
-    vector: (i32, i32),
-    kind: Kind,
-    width: usize,
-    height: usize,
-) -> bool
+fn is_right(source: Source, width: usize, height: usize) -> bool
     requires wide { (0 < width) × (width ≤ 16) }
     requires high { (0 < height) × (height ≤ 16) }
 {
+    let Source {
+        plane,
+        x,
+        y,
+        vector,
+        kind,
+    } = source;
     let mut out = [7; 256];
-    block_in(plane, x, y, vector, kind, width, height, &mut out, 16);
+    block_in(source, width, height, &mut out, 16);
     for row in 0..16 {
         for column in 0..16 {
             let expected = if row < height && column < width {
@@ -105,9 +104,16 @@ fn all_fractions_are_as_read_plainly(rt: HostRuntime) -> Result<(), Fail> {
         let right = (fractions % 8) as i32 - 16;
         let below = (fractions / 8) as i32 + 24;
         for kind in [Kind::SixTap, Kind::Bilinear] {
-            let holds = is_right(plane, 20, 30, (right, below), kind, 16, 3)
-                && is_right(plane, 3, 30, (right, below), kind, 8, 3)
-                && is_right(plane, 20, 2, (right, below), kind, 4, 4);
+            let source = Source {
+                plane,
+                x: 20,
+                y: 30,
+                vector: (right, below),
+                kind,
+            };
+            let holds = is_right(source, 16, 3)
+                && is_right(Source { x: 3, ..source }, 8, 3)
+                && is_right(Source { y: 2, ..source }, 4, 4);
             assert!(rt; holds, "{kind:?} {right} {below}");
         }
     }
@@ -119,25 +125,23 @@ fn all_widths_are_as_read_plainly(rt: HostRuntime) -> Result<(), Fail> {
     let picture = picture(rt.alloc(), 32)?;
     for width in 1..17 {
         let height = 17 - width;
-        let holds = is_right(
-            picture.luma(),
-            -4,
-            7,
-            (-13, 30),
-            Kind::SixTap,
-            width,
-            height,
-        );
+        let source = Source {
+            plane: picture.luma(),
+            x: -4,
+            y: 7,
+            vector: (-13, 30),
+            kind: Kind::SixTap,
+        };
+        let holds = is_right(source, width, height);
         assert!(rt; holds, "{width}");
-        let holds = is_right(
-            picture.luma(),
-            3,
-            2,
-            (21, -37),
-            Kind::Bilinear,
-            width,
-            height,
-        );
+        let source = Source {
+            plane: picture.luma(),
+            x: 3,
+            y: 2,
+            vector: (21, -37),
+            kind: Kind::Bilinear,
+        };
+        let holds = is_right(source, width, height);
         assert!(rt; holds, "{width}");
     }
     Ok(())
@@ -168,8 +172,22 @@ fn blocks_do_not_depend_on_the_border(rt: HostRuntime) -> Result<(), Fail> {
 fn a_plane_being_written_is_read(rt: HostRuntime) -> Result<(), Fail> {
     let mut plane = Plane::make(rt.alloc(), 16, 16, 9)?;
     plane.row_mut(0).fill(200);
-    assert!(rt; is_right(&plane, 0, 0, (3, -5), Kind::SixTap, 16, 16));
-    assert!(rt; is_right(&plane, -7, 5, (2, 2), Kind::Bilinear, 5, 9));
+    let source = Source {
+        plane: &plane,
+        x: 0,
+        y: 0,
+        vector: (3, -5),
+        kind: Kind::SixTap,
+    };
+    assert!(rt; is_right(source, 16, 16));
+    let source = Source {
+        plane: &plane,
+        x: -7,
+        y: 5,
+        vector: (2, 2),
+        kind: Kind::Bilinear,
+    };
+    assert!(rt; is_right(source, 5, 9));
     Ok(())
 }
 

@@ -1,0 +1,17 @@
+/// Rows of samples to read: the first begins at index `start`, and each further one `stride` after
+/// the last.
+#[derive(Clone, Copy)]
+pub struct Rows<'a> {
+    pub samples: &'a [u8],
+    pub start: usize,
+    pub stride: usize,
+}
+
+/// A strip of samples to write: it begins at column `first`, and has `height` rows, `stride` samples
+/// apart. Its width is said by what writes it.
+#[derive(Clone, Copy)]
+pub struct Strip {
+    pub first: usize,
+    pub height: usize,
+    pub stride: usize,
+}
