@@ -17,27 +17,34 @@ use mode_parser::{MbMode, Modes};
 use pixel_planes::{NoMemory, Picture, Planes};
 use std::alloc::Global;
 
-/// Predicts the macroblocks of a frame in raster order, each by its record, and adds the residual
+/// The macroblocks of a frame in raster order: their records, for so many columns and rows.
+#[derive(Clone, Copy)]
+struct Raster<'a> {
+    columns: usize,
+    rows: usize,
+    modes: &'a [MbMode],
+}
+
+/// Predicts the macroblocks of a frame one after another, each by its record, and adds the residual
 /// of its tokens. Returns for each whether one of its blocks has a token.
 fn predict_macroblocks(
     alloc: Global,
     planes: &mut Planes,
     sources: Sources,
-    columns: usize,
-    rows: usize,
     header: &Header,
-    modes: &[MbMode],
+    raster: Raster,
     tokens: &mut FrameTokens,
 ) -> Result<Vec<bool>, NoMemory>
-    requires room { HaveRoomFor (shown_of planes.old) columns rows }
-    requires each { length modes.now ≡ columns * rows }
+    requires room { HaveRoomFor (shown_of planes.old) raster.columns raster.rows }
+    requires each { length raster.modes.now ≡ raster.columns * raster.rows }
     requires some { 0 < length (state_of tokens.old).readers }
-    requires above { length (state_of tokens.old).above ≡ columns }
-    ensures value { IfOk result (λ flags. shown_of planes.new ≡ predicted_macroblocks sources.entry.version (option_copied sources.entry.references) (shown_of planes.old) columns modes.now (residual_at header.now columns (state_of tokens.old) modes.now) (length modes.now)) }
-    ensures flags { IfOk result (λ flags. flags.items ≡ flags_of header.now columns (state_of tokens.old) modes.now) }
-    ensures count { IfOk result (λ flags. length flags.items ≡ length modes.now) }
+    requires above { length (state_of tokens.old).above ≡ raster.columns }
+    ensures value { IfOk result (λ flags. shown_of planes.new ≡ predicted_macroblocks sources.entry.version (option_copied sources.entry.references) (shown_of planes.old) raster.entry.columns raster.entry.modes.now (residual_at header.now raster.entry.columns (state_of tokens.old) raster.entry.modes.now) (length raster.entry.modes.now)) }
+    ensures flags { IfOk result (λ flags. flags.items ≡ flags_of header.now raster.entry.columns (state_of tokens.old) raster.entry.modes.now) }
+    ensures count { IfOk result (λ flags. length flags.items ≡ length raster.entry.modes.now) }
     ensures sides { IfOk result (λ flags. SameShape (shown_of planes.old) (shown_of planes.new)) }
 {
+    let Raster { columns, modes, .. } = raster;
     let mut flags = Vec::with_capacity(alloc, modes.len())?;
     let mut mx = 0;
     let mut my = 0;
@@ -108,16 +115,12 @@ pub(crate) fn decoded_picture(
         references,
     };
     let mut tokens = FrameTokens::new(alloc, packet, &header.partitions, columns)?;
-    let flags = predict_macroblocks(
-        alloc,
-        &mut planes,
-        sources,
+    let raster = Raster {
         columns,
         rows,
-        header,
-        modes.records(),
-        &mut tokens,
-    )?;
+        modes: modes.records(),
+    };
+    let flags = predict_macroblocks(alloc, &mut planes, sources, header, raster, &mut tokens)?;
     loop_filter::frame(header, modes, &flags, &mut planes);
     Picture::share(alloc, planes, width, height)
 }

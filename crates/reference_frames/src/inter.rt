@@ -29,6 +29,14 @@ pub(crate) struct Motion<'a> {
     pub(crate) vectors: &'a [Vector; 16],
 }
 
+/// How the chroma of a macroblock is predicted: its motion, and the vector of all its chroma if it is
+/// not split.
+#[derive(Clone, Copy)]
+struct ChromaMotion<'a> {
+    motion: Motion<'a>,
+    whole: (i32, i32),
+}
+
 /// The filters of a version (RFC 6386, section 9.1).
 fn kind_of(version: u8) -> Kind
     ensures { result ≡ kind_of version }
@@ -326,20 +334,19 @@ fn predict_luma(
 }
 
 /// Predicts a macroblock's samples of a chroma plane from a reference's, and adds its residual,
-/// whose blocks are numbered starting at `first`. If it is not split, its vector is `whole`.
+/// whose blocks are numbered starting at `first`.
 fn predict_chroma(
     plane: &mut Plane,
     from: &Plane,
     place: MacroblockPlace,
-    motion: Motion,
-    whole: (i32, i32),
+    chroma: ChromaMotion,
     residual: Option<&Blocks>,
     first: usize,
 )
-    requires whole { IsWholeVector motion.version motion.mode motion.vectors.now whole }
+    requires whole { IsWholeVector chroma.motion.version chroma.motion.mode chroma.motion.vectors.now chroma.whole }
     requires first { first + 4 ≤ 24 }
     requires within { HoldsSquare plane.old.shown (8 * place.mx) (8 * place.my) 8 }
-    ensures value { plane.new.shown ≡ with_block plane.old.shown (8 * place.mx) (8 * place.my) 8 (restored 8 first (option_copied residual.entry) (chroma_sample motion.entry.version from.now.shown place.mx place.my (block_vector motion.entry.mode motion.entry.vectors.now))) }
+    ensures value { plane.new.shown ≡ with_block plane.old.shown (8 * place.mx) (8 * place.my) 8 (restored 8 first (option_copied residual.entry) (chroma_sample chroma.entry.motion.version from.now.shown place.mx place.my (block_vector chroma.entry.motion.mode chroma.entry.motion.vectors.now))) }
     ensures sides { SameSides plane.old.shown plane.new.shown }
 {
     let width = plane.width();
@@ -350,6 +357,7 @@ fn predict_chroma(
         mx,
         my,
     };
+    let ChromaMotion { motion, whole } = chroma;
     chroma_samples(from, motion, whole, samples, corner);
     let corner = Corner {
         across: width,
@@ -375,8 +383,9 @@ pub(crate) fn predict_inter(
     let luma = from.luma();
     predict_luma(&mut planes.luma, luma, place, motion, residual);
     let whole = whole_vector(motion.mode, motion.vectors, motion.version);
+    let chroma = ChromaMotion { motion, whole };
     let cb = from.cb();
-    predict_chroma(&mut planes.cb, cb, place, motion, whole, residual, 16);
+    predict_chroma(&mut planes.cb, cb, place, chroma, residual, 16);
     let cr = from.cr();
-    predict_chroma(&mut planes.cr, cr, place, motion, whole, residual, 20);
+    predict_chroma(&mut planes.cr, cr, place, chroma, residual, 20);
 }

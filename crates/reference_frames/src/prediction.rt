@@ -220,25 +220,37 @@ fn side_inside(is_outside: bool, samples: &[u8]) -> Option<&[u8]>
     if is_outside { None } else { Some(samples) }
 }
 
-/// Predicts the square of this size that begins at a corner, between its sides, in the samples of a
-/// plane.
+/// The samples around a block: the row above it and the column to its left, `None` outside the frame,
+/// and the sample above that column.
+#[derive(Clone, Copy)]
+struct Around<'a> {
+    above: Option<&'a [u8]>,
+    left: Option<&'a [u8]>,
+    diagonal: u8,
+}
+
+/// Predicts the square of this size that begins at a corner, from the samples around it, in the
+/// samples of a plane.
 #[inline(always)]
 fn predict_square(
     mode: WholeMode,
     size: BlockSize,
-    above: Option<&[u8]>,
-    left: Option<&[u8]>,
-    diagonal: u8,
+    around: Around,
     samples: &mut [u8],
     corner: Corner,
 )
-    requires above { ForSome above (λ side. length side.now ≡ side_of size) }
-    requires left { ForSome left (λ side. length side.now ≡ side_of size) }
+    requires above { ForSome around.above (λ side. length side.now ≡ side_of size) }
+    requires left { ForSome around.left (λ side. length side.now ≡ side_of size) }
     requires small { (corner.across ≤ 16384) × (corner.row + side_of size ≤ 16384) }
     requires column { corner.column + side_of size ≤ corner.across }
     requires room { (corner.row + side_of size) * corner.across ≤ length samples.old }
-    ensures { IsPlaced (from_corner corner.column corner.row (whole_sample mode (option_copied above.entry) (option_copied left.entry) diagonal)) corner.across (side_of size) corner.column corner.row samples.old samples.new }
+    ensures { IsPlaced (from_corner corner.column corner.row (whole_sample mode (option_copied around.entry.above) (option_copied around.entry.left) around.entry.diagonal)) corner.across (side_of size) corner.column corner.row samples.old samples.new }
 {
+    let Around {
+        above,
+        left,
+        diagonal,
+    } = around;
     let across = corner.across;
     let samples = &mut samples[across * corner.row + corner.column..];
     whole(mode, size, above, left, diagonal, samples, across);
@@ -269,6 +281,11 @@ fn predict_whole(
     let above = side_inside(y == 0, above);
     let left = side_inside(x == 0, left);
     let diagonal = sample_corner(plane, x, y);
+    let around = Around {
+        above,
+        left,
+        diagonal,
+    };
     let across = plane.width();
     let samples = plane.samples_mut();
     let corner = Corner {
@@ -276,7 +293,7 @@ fn predict_whole(
         column: x,
         row: y,
     };
-    predict_square(mode, size, above, left, diagonal, samples, corner);
+    predict_square(mode, size, around, samples, corner);
     add_to_square(residual, first, size, samples, corner);
 }
 
@@ -323,29 +340,33 @@ pub(crate) struct Sources<'a> {
     pub(crate) references: Option<&'a References>,
 }
 
+/// What an inter macroblock refers to: its reference, and the mode of its vectors.
+#[derive(Clone, Copy)]
+struct Referred {
+    reference: Reference,
+    vector_mode: VectorMode,
+}
+
 /// Predicts a macroblock from a reference, by its vectors, and adds its residual. Without
 /// references the planes remain as they are.
 fn predict_referred(
     planes: &mut Planes,
     sources: Sources,
-    reference: Reference,
-    vector_mode: VectorMode,
-    mx: usize,
-    my: usize,
+    referred: Referred,
+    place: MacroblockPlace,
     mode: &MbMode,
     residual: Option<&Blocks>,
 )
-    requires { HoldsMacroblock (shown_of planes.old) mx my }
-    ensures value { shown_of planes.new ≡ referred_macroblock sources.entry.version (option_copied sources.entry.references) reference vector_mode (shown_of planes.old) mx my mode.now (option_copied residual.entry) }
+    requires { HoldsMacroblock (shown_of planes.old) place.mx place.my }
+    ensures value { shown_of planes.new ≡ referred_macroblock sources.entry.version (option_copied sources.entry.references) referred.reference referred.vector_mode (shown_of planes.old) place.mx place.my mode.now (option_copied residual.entry) }
     ensures sides { SameShape (shown_of planes.old) (shown_of planes.new) }
 {
     match sources.references {
         Some(references) => {
-            let from = references.picture(reference);
-            let place = MacroblockPlace { mx, my };
+            let from = references.picture(referred.reference);
             let motion = Motion {
                 version: sources.version,
-                mode: vector_mode,
+                mode: referred.vector_mode,
                 vectors: &mode.vectors,
             };
             predict_inter(planes, from, place, motion, residual);
@@ -372,16 +393,12 @@ pub(crate) fn predict_macroblock(
         YMode::Whole(_) => predict_intra(planes, mx, my, mode, residual),
         YMode::B => predict_intra(planes, mx, my, mode, residual),
         YMode::Inter(reference, vector_mode) => {
-            predict_referred(
-                planes,
-                sources,
+            let referred = Referred {
                 reference,
                 vector_mode,
-                mx,
-                my,
-                mode,
-                residual,
-            );
+            };
+            let place = MacroblockPlace { mx, my };
+            predict_referred(planes, sources, referred, place, mode, residual);
         }
     }
 }

@@ -21,7 +21,7 @@ pub returns-clause-value : goal.returns-clause-value
 returns-clause-value c =
     let p : Samples = c.args.plane.now.shown in
     let written : List ℕ = c.add_to_square.new.samples in
-    let sample : ℕ → ℕ → ℕ = chroma_sample c.args.motion.version c.args.from.now.shown c.args.place.mx c.args.place.my (block_vector c.args.motion.mode c.args.motion.vectors.now) in
+    let sample : ℕ → ℕ → ℕ = chroma_sample c.args.chroma.motion.version c.args.from.now.shown c.args.place.mx c.args.place.my (block_vector c.args.chroma.motion.mode c.args.chroma.motion.vectors.now) in
     let predicted = rw (c.samples_mut-samples.ensures.value, c.width-width.ensures.value) at c.chroma_samples.ensures in
     let added = rw c.width-width.ensures.value at c.add_to_square.ensures in
     let is = restored_placed 8 c.args.first (option_copied c.args.residual) sample p.width (8 * c.args.place.mx) (8 * c.args.place.my) p.samples c.chroma_samples.new.samples written predicted added in

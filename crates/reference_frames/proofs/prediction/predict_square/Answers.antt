@@ -21,5 +21,5 @@ whole-requires-clause-room c =
 pub returns : goal.returns
 returns c =
     let size : ℕ = side_of c.args.size in
-    let sample : ℕ → ℕ → ℕ = whole_sample c.args.mode (option_copied c.args.above) (option_copied c.args.left) c.args.diagonal in
+    let sample : ℕ → ℕ → ℕ = whole_sample c.args.mode (option_copied c.args.around.above) (option_copied c.args.around.left) c.args.around.diagonal in
     placed_at (from_corner c.args.corner.column c.args.corner.row sample) sample c.args.corner.across size c.args.corner.column c.args.corner.row c.args.samples.now c.whole.new.out _ (side_some c.args.size) c.requires.column c.requires.room (λ i j inside. refl) (as_block_in sample size c.args.corner.across _ c.whole.new.out c.whole.ensures) refl
