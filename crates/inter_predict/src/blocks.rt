@@ -6,7 +6,7 @@ ghost use Rattle.inter_predict.specs.Kernels.{IsNear};
 use crate::kinds::Kind;
 use crate::pieces::{block_at, in_rows};
 use crate::rows::{Rows, Strip};
-use crate::sources::{NearSource, Source};
+use crate::sources::{NearSource, Place, Reference, Source};
 use crate::strips::{copy, strip};
 use crate::taps::{Filters, Taps};
 use pixel_planes::Plane;
@@ -122,26 +122,42 @@ fn columns<const N: usize, const M: usize>(
     requires room { (height - 1) * stride + N ≤ length out.old }
     ensures { IsBlockIn (predicted source.entry.kind source.entry.plane.now.shown source.entry.x source.entry.y source.entry.vector.0 source.entry.vector.1) N height stride out.old out.new }
 {
-    if fraction(source.vector.0) == 0 && fraction(source.vector.1) == 0 {
-        copied::<N>(source, height, out, stride);
+    let Source {
+        plane,
+        x,
+        y,
+        vector,
+        kind,
+    } = source;
+    let reference = Reference { plane, kind };
+    let place = Place { x, y };
+    if fraction(vector.0) == 0 && fraction(vector.1) == 0 {
+        copied::<N>(reference, place, vector, height, out, stride);
     } else {
-        filtered::<N, M>(source, height, out, stride);
+        filtered::<N, M>(reference, place, vector, height, out, stride);
     }
 }
 
 /// Does the same as `columns` if the vector points to whole samples: no other samples are read.
 #[inline(never)]
-fn copied<const N: usize>(source: Source, height: usize, out: &mut [u8], stride: usize)
-    requires whole { (fraction_of source.vector.0 ≡ 0) × (fraction_of source.vector.1 ≡ 0) }
+fn copied<const N: usize>(
+    reference: Reference,
+    place: Place,
+    vector: (i32, i32),
+    height: usize,
+    out: &mut [u8],
+    stride: usize,
+)
+    requires whole { (fraction_of vector.0 ≡ 0) × (fraction_of vector.1 ≡ 0) }
     requires lanes { (0 < N) × (N ≤ 16) }
     requires high { (0 < height) × (height ≤ 16) }
     requires stride { (N ≤ stride) × (stride ≤ 65536) }
     requires room { (height - 1) * stride + N ≤ length out.old }
-    ensures { IsBlockIn (predicted source.entry.kind source.entry.plane.now.shown source.entry.x source.entry.y source.entry.vector.0 source.entry.vector.1) N height stride out.old out.new }
+    ensures { IsBlockIn (predicted reference.entry.kind reference.entry.plane.now.shown place.x place.y vector.0 vector.1) N height stride out.old out.new }
 {
-    let left = first_tap(source.x, source.vector.0);
-    let top = first_tap(source.y, source.vector.1);
-    if let Some(window) = source.plane.window(left + 2, top + 2, N, height) {
+    let left = first_tap(place.x, vector.0);
+    let top = first_tap(place.y, vector.1);
+    if let Some(window) = reference.plane.window(left + 2, top + 2, N, height) {
         let rows = Rows {
             samples: window.samples,
             start: 0,
@@ -154,6 +170,13 @@ fn copied<const N: usize>(source: Source, height: usize, out: &mut [u8], stride:
         };
         copy::<N>(rows, strip, out);
     } else {
+        let source = Source {
+            plane: reference.plane,
+            x: place.x,
+            y: place.y,
+            vector,
+            kind: reference.kind,
+        };
         any_columns(source, N, height, out, stride);
     }
 }
@@ -161,7 +184,9 @@ fn copied<const N: usize>(source: Source, height: usize, out: &mut [u8], stride:
 /// Does the same as `columns`, by the filters.
 #[inline(never)]
 fn filtered<const N: usize, const M: usize>(
-    source: Source,
+    reference: Reference,
+    place: Place,
+    vector: (i32, i32),
     height: usize,
     out: &mut [u8],
     stride: usize,
@@ -170,13 +195,13 @@ fn filtered<const N: usize, const M: usize>(
     requires high { (0 < height) × (height ≤ 16) }
     requires stride { (N ≤ stride) × (stride ≤ 65536) }
     requires room { (height - 1) * stride + N ≤ length out.old }
-    ensures { IsBlockIn (predicted source.entry.kind source.entry.plane.now.shown source.entry.x source.entry.y source.entry.vector.0 source.entry.vector.1) N height stride out.old out.new }
+    ensures { IsBlockIn (predicted reference.entry.kind reference.entry.plane.now.shown place.x place.y vector.0 vector.1) N height stride out.old out.new }
 {
-    let left = first_tap(source.x, source.vector.0);
-    let top = first_tap(source.y, source.vector.1);
-    if let Some(window) = source.plane.window(left, top, N + 5, height + 5) {
-        let across = Taps::of(source.kind, fraction(source.vector.0));
-        let down = Taps::of(source.kind, fraction(source.vector.1));
+    let left = first_tap(place.x, vector.0);
+    let top = first_tap(place.y, vector.1);
+    if let Some(window) = reference.plane.window(left, top, N + 5, height + 5) {
+        let across = Taps::of(reference.kind, fraction(vector.0));
+        let down = Taps::of(reference.kind, fraction(vector.1));
         let filters = Filters { across, down };
         let columns = Strip {
             first: 0,
@@ -185,6 +210,13 @@ fn filtered<const N: usize, const M: usize>(
         };
         strip::<N, M>(window.samples, window.stride, filters, columns, out);
     } else {
+        let source = Source {
+            plane: reference.plane,
+            x: place.x,
+            y: place.y,
+            vector,
+            kind: reference.kind,
+        };
         any_columns(source, N, height, out, stride);
     }
 }

@@ -19,6 +19,20 @@ pub struct Source<'a> {
     pub kind: Kind,
 }
 
+/// A reference plane, and the filters between its samples.
+#[derive(Clone, Copy)]
+pub struct Reference<'a> {
+    pub plane: &'a Plane,
+    pub kind: Kind,
+}
+
+/// The place of a block among the samples of a plane: its first sample is in column `x` of row `y`.
+#[derive(Clone, Copy)]
+pub struct Place {
+    pub x: i32,
+    pub y: i32,
+}
+
 /// A source whose vector points less than a sample to the right and down: its whole samples are
 /// added to the position, so it needs 64 bits.
 #[derive(Clone, Copy)]

@@ -16,5 +16,5 @@ returns-in-Some g c =
     let samples = c.in-Some.window.samples.now in
     let sample : ℕ → ℕ → ℕ = λ (column row : ℕ). tapped_twice c.of-across.result c.of-down.result samples c.in-Some.window.stride column row in
     let strip = same_strip _ sample 0 g.row.N c.args.height c.args.stride c.args.out.now c.strip.new.out c.strip.ensures.taps (λ column row inside below. ap (λ k. sample k row) (zero-add column)) in
-    block_is c.args.source.kind c.args.source.plane.now.shown c.args.source.x c.args.source.y c.args.source.vector.0 c.args.source.vector.1 c.first_tap-left.result c.first_tap-top.result c.fraction.result c.fraction-in-Some.result c.of-across.result c.of-down.result c.in-Some.window.samples.now c.in-Some.window.stride g.row.N c.args.height c.args.stride c.args.out.now c.strip.new.out
+    block_is c.args.reference.kind c.args.reference.plane.now.shown c.args.place.x c.args.place.y c.args.vector.0 c.args.vector.1 c.first_tap-left.result c.first_tap-top.result c.fraction.result c.fraction-in-Some.result c.of-across.result c.of-down.result c.in-Some.window.samples.now c.in-Some.window.stride g.row.N c.args.height c.args.stride c.args.out.now c.strip.new.out
     c.of-across.ensures.value c.of-down.ensures.value c.fraction.ensures.value c.fraction-in-Some.ensures.value (search rules) (search rules) (search rules) (search rules) c.first_tap-left.ensures.value c.first_tap-top.ensures.value c.first_tap-left.ensures.near c.first_tap-top.ensures.near c.in-Some.ensures.samples strip
