@@ -7,6 +7,7 @@ use std::process::ExitCode;
 use std::str::Utf8Error;
 use stream_checks::{CheckFault, check};
 use stream_files::{IvfFault, ReadFault, ivf_read, read_all};
+use stream_progress::Unwatched;
 use thiserror::Error;
 use vp8_tables::Tables;
 
@@ -34,7 +35,14 @@ fn report<O: Write>(rt: &HostRuntime, name: &str, output: &mut O) -> Result<(), 
     let bytes = read_all(rt.alloc(), &mut file, LIMIT)?;
     let file = ivf_read(rt.alloc(), bytes.as_slice())?;
     writeln!(output, "{name}")?;
-    let found = check(output, rt.alloc(), &Tables::rfc(), bytes.as_slice(), &file)?;
+    let found = check(
+        output,
+        rt.alloc(),
+        &Tables::rfc(),
+        bytes.as_slice(),
+        &file,
+        &mut Unwatched,
+    )?;
     writeln!(output, "returned {found}")?;
     Ok(())
 }

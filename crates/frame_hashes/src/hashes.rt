@@ -14,6 +14,7 @@ use pixel_planes::Picture;
 use std::alloc::Global;
 use std::io::Write;
 use stream_files::{Ivf, Packet, WriteFault};
+use stream_progress::Progress;
 use thiserror::Error;
 use vp8_tables::Tables;
 
@@ -99,17 +100,18 @@ impl Writing {
 }
 
 /// Writes the MD5 of each shown frame of a file that decodes, as ffmpeg's muxer `framemd5` does.
-/// Each packet is decoded once, and no sample is copied.
+/// Each packet is decoded once, and no sample is copied. `progress` is called after each packet.
 ///
 /// A packet that is hidden, or that does not decode, has no line.
 ///
 /// `NoMemory` if memory for decoding was refused; the front of the text is then written. `Write` if
 /// the writer returns an error; part of the text may have been written.
-pub fn write_hashes<W: Write>(
+pub fn write_hashes<W: Write, P: Progress>(
     w: &mut W,
     alloc: Global,
     tables: &Tables,
     file: &Ivf,
+    progress: &mut P,
 ) -> Result<(), HashFault>
     ensures hashed { OnOk result (IsHashed tables.now file.now (W.contents w.old) (W.contents w.new)) }
     ensures fault { IfErr result (IsHashFault tables.now file.now (W.contents w.old) (W.contents w.new)) }
@@ -123,6 +125,7 @@ pub fn write_hashes<W: Write>(
         if let Err(fault) = writing.add(w, tables, packet) {
             return Err(fault);
         }
+        progress.packet_done(file.packets.len());
     }
     writing.write_head_once(w, file.head.width, file.head.height)?;
     Ok(())

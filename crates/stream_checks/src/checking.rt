@@ -16,14 +16,16 @@ use crate::packets::{frames_of, least_step};
 use std::alloc::Global;
 use std::io::Write;
 use stream_files::{Ivf, Packet};
+use stream_progress::Progress;
 use vp8_tables::Tables;
 
 /// Decodes packets and writes the lines of their findings, and returns the number of findings.
-fn write_packets<W: Write>(
+fn write_packets<W: Write, P: Progress>(
     w: &mut W,
     alloc: Global,
     tables: &Tables,
     packets: &[Packet],
+    progress: &mut P,
 ) -> Result<u64, CheckFault>
     requires { length packets.now ≤ 1048576 }
     ensures written { OnOk result (Appends (W.contents w.old) (W.contents w.new) (lines_of (packet_findings tables.now packets.now))) }
@@ -39,6 +41,7 @@ fn write_packets<W: Write>(
             Ok(more) => count += more,
             Err(fault) => return Err(fault),
         }
+        progress.packet_done(packets.len());
         rest = following;
     }
     Ok(count)
@@ -47,16 +50,17 @@ fn write_packets<W: Write>(
 /// Checks an IVF file: decodes its packets once, writes a line for each finding, and then the line
 /// with the numbers of packets, frames and findings. It returns the number of findings. Findings
 /// come in the order of the file: at its header, at each packet, and at its end. Memory is taken
-/// for decoding only.
+/// for decoding only. `progress` is called after each packet.
 ///
 /// `NoMemory` if memory runs out for a step of decoding: the lines of the findings before it were
 /// written whole. `Write` if the writer returns an error; part of a line may have been written.
-pub fn check<W: Write>(
+pub fn check<W: Write, P: Progress>(
     w: &mut W,
     alloc: Global,
     tables: &Tables,
     bytes: &[u8],
     file: &Ivf,
+    progress: &mut P,
 ) -> Result<u64, CheckFault>
     requires { IsIvf bytes.now file.now }
     ensures written { OnOk result (Appends (W.contents w.old) (W.contents w.new) (check_text tables.now bytes.now file.now)) }
@@ -67,7 +71,7 @@ pub fn check<W: Write>(
     let Ok(at_header) = write_found(w, count_finding(bytes, packets.len())) else {
         return Err(CheckFault::Write);
     };
-    let at_packets = match write_packets(w, alloc, tables, packets) {
+    let at_packets = match write_packets(w, alloc, tables, packets, progress) {
         Ok(count) => count,
         Err(fault) => return Err(fault),
     };

@@ -5,7 +5,7 @@ use crate::messages::Messages;
 use crate::words::{NO_FILE, Words, parse};
 use explanations::{CutRecord, StreamReason, cut_record, stream_reason};
 use std::convert::AsStr;
-use std::fs::File;
+use std::fs::{self, File};
 use std::io::{self, Read, Write};
 use std::rt::Files;
 use std::str;
@@ -67,7 +67,7 @@ fn explain_unread<R: Files + AllocGlobal, E: Write>(
     path: &str,
     messages: &mut Messages<'_, E>,
 ) -> io::Result<()> {
-    if path != NO_FILE {
+    if path != NO_FILE && !is_read_once(rt, path) {
         if let Err(error) = probe(rt, path) {
             return writeln!(messages.errors, "{path}: {error}");
         }
@@ -80,6 +80,22 @@ fn explain_unread<R: Files + AllocGlobal, E: Write>(
         );
     }
     writeln!(messages.errors, "{path}: reading it failed")
+}
+
+/// Whether this is a pipe or a device: its bytes may be gone, and opening a pipe may wait for a writer.
+fn is_read_once<R: Files>(rt: &R, path: &str) -> bool {
+    match fs::metadata(rt, path) {
+        Ok(known) => !known.is_file() && !known.is_dir(),
+        Err(_) => false,
+    }
+}
+
+/// Says that a pipe or a device is not looked at.
+fn explain_read_once<E: Write>(path: &str, errors: &mut E) -> io::Result<()> {
+    writeln!(
+        errors,
+        "{path} is a pipe or a device and is not read again: copy it to a file, and try that"
+    )
 }
 
 /// Opens a file, and reads a byte.
@@ -115,6 +131,9 @@ fn explain_tables<R: Files + AllocGlobal, E: Write>(
     let Some(path) = words.tables else {
         return Ok(());
     };
+    if is_read_once(rt, path) {
+        return explain_read_once(path, messages.errors);
+    }
     let mut file = File::open(rt, path)?;
     match read_all(rt.alloc(), &mut file, 1_073_741_824) {
         Ok(bytes) => {
@@ -136,7 +155,8 @@ fn path_of<'a>(words: Words<'a>, source: usize) -> &'a str {
     }
 }
 
-/// Explains why the bytes of a source are not a stream, with the first bytes of its file.
+/// Explains why the bytes of a source are not a stream, with the first bytes of its file, which is opened
+/// again.
 fn explain_input<R: Files + AllocGlobal, E: Write>(
     rt: &R,
     words: Words<'_>,
@@ -145,6 +165,9 @@ fn explain_input<R: Files + AllocGlobal, E: Write>(
     messages: &mut Messages<'_, E>,
 ) -> io::Result<()> {
     let path = path_of(words, source);
+    if is_read_once(rt, path) {
+        return explain_read_once(path, messages.errors);
+    }
     let mut file = File::open(rt, path)?;
     let mut bytes = [0; 32];
     let count = file.read(&mut bytes)?;

@@ -7,6 +7,7 @@ use std::alloc::Global;
 use std::io::Write;
 use stream_checks::{CheckFault, check};
 use stream_files::ivf_read;
+use stream_progress::Progress;
 use vp8_tables::Tables;
 
 /// The exit status of a check with this many findings.
@@ -19,11 +20,12 @@ fn status_of(found: u64) -> u8
 
 /// Writes the findings of an IVF file, flushes the writer, and returns the exit status: 0 without
 /// findings, 1 with some. If memory runs out, the lines before are written and not flushed.
-pub fn check_to<O: Write>(
+pub fn check_to<O: Write, P: Progress>(
     alloc: Global,
     tables: &Tables,
     bytes: &[u8],
     output: &mut O,
+    progress: &mut P,
 ) -> Result<u8, Fault<'static>>
     ensures checked { IfOk result (λ status. IsChecked tables.now bytes.now status (O.contents output.old) (O.contents output.new)) }
     ensures fault { IfErr result (IsCheckedFault tables.now bytes.now (O.contents output.old) (O.contents output.new)) }
@@ -33,7 +35,9 @@ pub fn check_to<O: Write>(
         Ok(file) => file,
         Err(fault) => return Err(Fault::Input(fault)),
     };
-    let found = match check(output, alloc, tables, bytes, &file) {
+    let checked = check(output, alloc, tables, bytes, &file, progress);
+    progress.end();
+    let found = match checked {
         Ok(found) => found,
         Err(CheckFault::Write) => return Err(Fault::CannotWrite),
         Err(CheckFault::NoMemory) => return Err(Fault::NoMemory),

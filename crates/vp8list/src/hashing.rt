@@ -7,14 +7,16 @@ use frame_hashes::{HashFault, write_hashes};
 use std::alloc::Global;
 use std::io::Write;
 use stream_files::ivf_read;
+use stream_progress::Progress;
 use vp8_tables::Tables;
 
 /// Writes the MD5 of each frame of an IVF file, and flushes the writer.
-pub fn hash_to<O: Write>(
+pub fn hash_to<O: Write, P: Progress>(
     alloc: Global,
     tables: &Tables,
     bytes: &[u8],
     output: &mut O,
+    progress: &mut P,
 ) -> Result<(), Fault<'static>>
     ensures hashed { OnOk result (IsFileHashed tables.now bytes.now (O.contents output.old) (O.contents output.new)) }
     ensures fault { IfErr result (IsFileHashFault tables.now bytes.now (O.contents output.old) (O.contents output.new)) }
@@ -23,7 +25,9 @@ pub fn hash_to<O: Write>(
         Ok(file) => file,
         Err(fault) => return Err(Fault::Input(fault)),
     };
-    match write_hashes(output, alloc, tables, &file) {
+    let hashed = write_hashes(output, alloc, tables, &file, progress);
+    progress.end();
+    match hashed {
         Ok(()) => {}
         Err(HashFault::NoMemory) => return Err(Fault::NoMemory),
         Err(HashFault::Write) => return Err(Fault::CannotWrite),

@@ -7,9 +7,11 @@ mod fault;
 mod hashing;
 mod objects;
 mod program;
+mod progress;
 mod reading;
 
 use fault::Fault;
+use progress::ProgressLine;
 use std::io::{BufWriter, Write};
 use std::process::ExitCode;
 
@@ -21,7 +23,14 @@ fn start<E: Write>(rt: &HostRuntime, errors: &mut E) -> Result<u8, Fault<'static
         program::BYTES_AT_ONCE,
         rt.stdout(),
     ).map_err(|_| Fault::NoMemory)?;
-    Ok(program::answer(rt, words.as_slice(), &mut output, errors))
+    let mut progress = ProgressLine::new(rt, rt.stderr());
+    Ok(program::answer(
+        rt,
+        words.as_slice(),
+        &mut output,
+        errors,
+        &mut progress,
+    ))
 }
 
 fn main(rt: HostRuntime) -> ExitCode {

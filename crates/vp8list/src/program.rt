@@ -18,6 +18,7 @@ use std::io::Write;
 use std::rt::Files;
 use stream_facts::write_listing;
 use stream_files::ivf_read;
+use stream_progress::Progress;
 use vp8_tables::Tables;
 
 /// The number of bytes of the list that are buffered.
@@ -69,10 +70,11 @@ pub fn list_to<O: Write>(alloc: Global, bytes: &[u8], output: &mut O) -> Result<
 }
 
 /// Does what a command line asks for, and returns the exit status.
-fn answer_line<'a, R: Files + AllocGlobal, S: AsStr, O: Write>(
+fn answer_line<'a, R: Files + AllocGlobal, S: AsStr, O: Write, P: Progress>(
     rt: &R,
     words: &'a [S],
     output: &mut O,
+    progress: &mut P,
 ) -> Result<u8, Fault<'a>>
     ensures { IfOk result (λ status. status ≤ 1) }
 {
@@ -89,8 +91,10 @@ fn answer_line<'a, R: Files + AllocGlobal, S: AsStr, O: Write>(
     let tables = read_tables(rt, given.tables)?;
     let bytes = read_file(rt, given.stream)?;
     match kind {
-        Output::Findings => return check_to(rt.alloc(), &tables, bytes.as_slice(), output),
-        Output::Hashes => hash_to(rt.alloc(), &tables, bytes.as_slice(), output)?,
+        Output::Findings => {
+            return check_to(rt.alloc(), &tables, bytes.as_slice(), output, progress);
+        }
+        Output::Hashes => hash_to(rt.alloc(), &tables, bytes.as_slice(), output, progress)?,
         Output::Objects => objects_to(rt.alloc(), bytes.as_slice(), output)?,
         Output::List => list_to(rt.alloc(), bytes.as_slice(), output)?,
     }
@@ -102,16 +106,18 @@ fn answer_line<'a, R: Files + AllocGlobal, S: AsStr, O: Write>(
 /// if a check found something, and 2 for every error.
 ///
 /// The file is read whole, up to 1,073,741,824 bytes, before the first line is written. The list,
-/// findings, help and the version go to `output`; the text of an error goes to `errors`.
-pub fn answer<R: Files + AllocGlobal, S: AsStr, O: Write, E: Write>(
+/// findings, help and the version go to `output`; the text of an error goes to `errors`. `progress` is
+/// called after each packet that is decoded.
+pub fn answer<R: Files + AllocGlobal, S: AsStr, O: Write, E: Write, P: Progress>(
     rt: &R,
     words: &[S],
     output: &mut O,
     errors: &mut E,
+    progress: &mut P,
 ) -> u8
     ensures { result ≤ 2 }
 {
-    match answer_line(rt, words, output) {
+    match answer_line(rt, words, output, progress) {
         Ok(status) => status,
         Err(fault) => {
             // Findings that were written before memory ran out.

@@ -126,6 +126,18 @@ fn explains_files(rt: HostRuntime) {
         "vp8serve: tables are not 3012 bytes\nc.ivf has 32 bytes\n",
         1,
     );
+    expect_end(
+        &rt,
+        "vp8serve /dev/null --explain",
+        "vp8serve: input Header\n/dev/null is a pipe or a device and is not read again: copy it to a file, and try that\n",
+        1,
+    );
+    expect_end(
+        &rt,
+        "vp8serve --tables /dev/null --explain",
+        "vp8serve: tables are not 3012 bytes\n/dev/null is a pipe or a device and is not read again: copy it to a file, and try that\n",
+        1,
+    );
     clear(&rt, "a.webm b.webm c.ivf");
 }
 

@@ -6,6 +6,7 @@ use std::io::{self, ErrorKind, Write};
 use std::process::Abort;
 use std::test::Fail;
 use stream_files::{Bytes, Head, Ivf, Packet, Packets};
+use stream_progress::Unwatched;
 use vp8_tables::Tables;
 
 /// A key packet of 7x5 samples, from vpxenc.
@@ -83,7 +84,7 @@ fn clip(alloc: Global) -> Result<Ivf, Fail> {
 fn hashes_as_ffmpeg(rt: HostRuntime) -> Result<(), Fail> {
     let file = clip(rt.alloc())?;
     let mut output = Vec::new(rt.alloc());
-    let hashed = write_hashes(&mut output, rt.alloc(), &Tables::rfc(), &file);
+    let hashed = write_hashes(&mut output, rt.alloc(), &Tables::rfc(), &file, &mut Unwatched);
     assert_eq!(rt; hashed, Ok(()));
     assert_eq!(rt; str::from_utf8(output.as_slice())?, TEXT);
     Ok(())
@@ -106,7 +107,7 @@ const NO_FRAMES: &str = "\
 fn hashes_no_frames(rt: HostRuntime) -> Result<(), Fail> {
     let file = file_of(rt.alloc(), &[(0, FIRST), (1, "b004")])?;
     let mut output = Vec::new(rt.alloc());
-    let hashed = write_hashes(&mut output, rt.alloc(), &Tables::rfc(), &file);
+    let hashed = write_hashes(&mut output, rt.alloc(), &Tables::rfc(), &file, &mut Unwatched);
     assert_eq!(rt; hashed, Ok(()));
     assert_eq!(rt; str::from_utf8(output.as_slice())?, NO_FRAMES);
     Ok(())
@@ -138,7 +139,7 @@ fn reports_a_failing_writer(rt: HostRuntime) -> Result<(), Fail> {
     let file = clip(rt.alloc())?;
     for room in [0, 100, 250, 300, 400] {
         let mut output = Filling { room };
-        let hashed = write_hashes(&mut output, rt.alloc(), &Tables::rfc(), &file);
+        let hashed = write_hashes(&mut output, rt.alloc(), &Tables::rfc(), &file, &mut Unwatched);
         assert_eq!(rt; hashed, Err(HashFault::Write));
     }
     Ok(())
