@@ -84,7 +84,13 @@ fn clip(alloc: Global) -> Result<Ivf, Fail> {
 fn hashes_as_ffmpeg(rt: HostRuntime) -> Result<(), Fail> {
     let file = clip(rt.alloc())?;
     let mut output = Vec::new(rt.alloc());
-    let hashed = write_hashes(&mut output, rt.alloc(), &Tables::rfc(), &file, &mut Unwatched);
+    let hashed = write_hashes(
+        &mut output,
+        rt.alloc(),
+        &Tables::rfc(),
+        &file,
+        &mut Unwatched,
+    );
     assert_eq!(rt; hashed, Ok(()));
     assert_eq!(rt; str::from_utf8(output.as_slice())?, TEXT);
     Ok(())
@@ -107,7 +113,13 @@ const NO_FRAMES: &str = "\
 fn hashes_no_frames(rt: HostRuntime) -> Result<(), Fail> {
     let file = file_of(rt.alloc(), &[(0, FIRST), (1, "b004")])?;
     let mut output = Vec::new(rt.alloc());
-    let hashed = write_hashes(&mut output, rt.alloc(), &Tables::rfc(), &file, &mut Unwatched);
+    let hashed = write_hashes(
+        &mut output,
+        rt.alloc(),
+        &Tables::rfc(),
+        &file,
+        &mut Unwatched,
+    );
     assert_eq!(rt; hashed, Ok(()));
     assert_eq!(rt; str::from_utf8(output.as_slice())?, NO_FRAMES);
     Ok(())
@@ -139,7 +151,13 @@ fn reports_a_failing_writer(rt: HostRuntime) -> Result<(), Fail> {
     let file = clip(rt.alloc())?;
     for room in [0, 100, 250, 300, 400] {
         let mut output = Filling { room };
-        let hashed = write_hashes(&mut output, rt.alloc(), &Tables::rfc(), &file, &mut Unwatched);
+        let hashed = write_hashes(
+            &mut output,
+            rt.alloc(),
+            &Tables::rfc(),
+            &file,
+            &mut Unwatched,
+        );
         assert_eq!(rt; hashed, Err(HashFault::Write));
     }
     Ok(())
