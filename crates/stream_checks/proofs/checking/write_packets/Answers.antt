@@ -1,5 +1,5 @@
-use Rattle.std.proofs.Common.{◌≡◌, ◌+◌, ℕ, List, ◌∷◌, ◌++◌, length, ap, sym, ◌∙◌, arith, append_assoc, length-append}
-use Rattle.std.proofs.KnownBytes.{Appends-trans}
+use Rattle.std.proofs.Common.{rules, ◌≡◌, ◌+◌, ℕ, List, [], ◌∷◌, ◌++◌, length, ap, sym, refl, ◌∙◌, arith, append_assoc, length-append}
+use Rattle.std.proofs.KnownBytes.{Appends-nil, Appends-trans}
 use Rattle.std.proofs.lemmas.Grind.{flat_map-append}
 use Rattle.stream_files.specs.declared.packets.Packet.{Packet}
 use Rattle.stream_checks.specs.declared.checker.Checker.{Checker}
@@ -9,6 +9,17 @@ use Rattle.stream_checks.specs.Lines.{line_of}
 use Rattle.stream_checks.specs.Checks.{findings_after, findings_next}
 use Rattle.stream_checks.proofs.Steps.{one_more}
 use Rattle.stream_checks.proofs.checking.write_packets.Goals as goal
+
+pub loop-packet-init : goal.loop-packet-init
+loop-packet-init g c = record {
+  done = [];
+  whole = search rules;
+  said = Appends-nil _;
+  counted = refl;
+  few = search rules;
+  packets = search rules;
+  answers = search rules;
+}
 
 pub loop-packet-preserved : goal.loop-packet-preserved
 loop-packet-preserved g c =
