@@ -35,9 +35,7 @@ pub fn check_to<O: Write, P: Progress>(
         Ok(file) => file,
         Err(fault) => return Err(Fault::Input(fault)),
     };
-    let checked = check(output, alloc, tables, bytes, &file, progress);
-    progress.end();
-    let found = match checked {
+    let found = match check(output, alloc, tables, bytes, &file, progress) {
         Ok(found) => found,
         Err(CheckFault::Write) => return Err(Fault::CannotWrite),
         Err(CheckFault::NoMemory) => return Err(Fault::NoMemory),

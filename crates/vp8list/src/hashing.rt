@@ -25,9 +25,7 @@ pub fn hash_to<O: Write, P: Progress>(
         Ok(file) => file,
         Err(fault) => return Err(Fault::Input(fault)),
     };
-    let hashed = write_hashes(output, alloc, tables, &file, progress);
-    progress.end();
-    match hashed {
+    match write_hashes(output, alloc, tables, &file, progress) {
         Ok(()) => {}
         Err(HashFault::NoMemory) => return Err(Fault::NoMemory),
         Err(HashFault::Write) => return Err(Fault::CannotWrite),

@@ -118,8 +118,12 @@ pub fn answer<R: Files + AllocGlobal, S: AsStr, O: Write, E: Write, P: Progress>
     ensures { result ≤ 2 }
 {
     match answer_line(rt, words, output, progress) {
-        Ok(status) => status,
+        Ok(status) => {
+            progress.end();
+            status
+        }
         Err(fault) => {
+            progress.end();
             // Findings that were written before memory ran out.
             let _ = output.flush();
             tell(fault, errors)

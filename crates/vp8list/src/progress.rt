@@ -10,8 +10,8 @@ const SILENT_FOR: u64 = 1000;
 const SHOWN_FOR: u64 = 200;
 
 /// A line that counts packets, as `vp8list: 1200 of 9000 packets`. It appears if the work takes longer
-/// than a second, and is erased at the end. Nothing is shown if the writer is not a terminal, or if the
-/// clock cannot be read.
+/// than a second, and is erased after the last packet or where decoding ends early. Nothing is shown
+/// if the writer is not a terminal, or if the clock cannot be read.
 #[derive(Drop)]
 pub struct ProgressLine<'a, R: Clock, E: Write> {
     clock: &'a R,
@@ -57,7 +57,9 @@ impl<'a, R: Clock, E: Write> ProgressLine<'a, R, E> {
 impl<'a, R: Clock, E: Write> Progress for ProgressLine<'a, R, E> {
     fn packet_done(&mut self, count: usize) {
         self.done = self.done.saturating_add(1);
-        if let Some(now) = self.due() {
+        if self.done >= count {
+            self.end();
+        } else if let Some(now) = self.due() {
             self.since = Some(now);
             self.is_shown = true;
             let done = self.done;
