@@ -16,7 +16,7 @@ import threading
 from bits import ivf
 from listed import PROGRAM
 
-COUNT = 2500
+COUNT = 500
 KEY, INTER = bytes.fromhex("1000009D012A80073804"), bytes.fromhex("110000")
 LINE = re.compile(r"\rvp8list: (\d+) of (\d+) packets\x1b\[K")
 ERASED = "\r\x1b[K"
