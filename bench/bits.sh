@@ -1,5 +1,5 @@
 #!/bin/sh
-# Times reads of the bit decoder beside the same algorithm written by hand. README.md says more.
+# Times reads of the bit decoder next to the same algorithm written manually. README.md says more.
 set -eu
 here=$(cd "$(dirname "$0")" && pwd)
 kit=$(dirname "$(rt doc | head -n 1)")

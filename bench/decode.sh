@@ -4,8 +4,8 @@ set -eu
 here=$(cd "$(dirname "$0")" && pwd)
 crate=$here/../crates/vp8serve
 clips=${XDG_CACHE_HOME:-$HOME/.cache}/wokureti
-for tool in vpxenc vpxdec ffmpeg; do
-    command -v "$tool" > /dev/null || { echo "$tool is missing: install vpx-tools and ffmpeg" >&2; exit 1; }
+for tool in vpxenc vpxdec ffmpeg /usr/bin/time; do
+    command -v "$tool" > /dev/null || { echo "$tool is missing: install vpx-tools, ffmpeg and time" >&2; exit 1; }
 done
 room=$(mktemp -d)
 trap 'rm -rf "$room"' EXIT

@@ -1,5 +1,5 @@
 #!/bin/sh
-# Times random edits of a long packet list, and the same on a plain vector beside them. README.md says more.
+# Times random edits of a long packet list, next to the same on a plain vector. README.md says more.
 set -eu
 here=$(cd "$(dirname "$0")" && pwd)
 program=$here/../crates/vp8serve/out/vp8serve

@@ -1,5 +1,5 @@
 #!/bin/sh
-# Times a fade beside memcpy. README.md says more.
+# Times a fade next to memcpy. README.md says more.
 set -eu
 here=$(cd "$(dirname "$0")" && pwd)
 kit=$(dirname "$(rt doc | head -n 1)")

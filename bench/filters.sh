@@ -1,5 +1,5 @@
 #!/bin/sh
-# Times the loop filter beside libvpx's. README.md says more.
+# Times the loop filter next to libvpx's. README.md says more.
 set -eu
 here=$(cd "$(dirname "$0")" && pwd)
 kit=$(dirname "$(rt doc | head -n 1)")

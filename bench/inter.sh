@@ -1,5 +1,5 @@
 #!/bin/sh
-# Times inter prediction beside libvpx's. README.md says more.
+# Times inter prediction next to libvpx's. README.md says more.
 set -eu
 here=$(cd "$(dirname "$0")" && pwd)
 kit=$(dirname "$(rt doc | head -n 1)")

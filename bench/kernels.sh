@@ -1,5 +1,5 @@
 #!/bin/sh
-# Times the inverse transforms beside libvpx's. README.md says more.
+# Times the inverse transforms next to libvpx's. README.md says more.
 set -eu
 here=$(cd "$(dirname "$0")" && pwd)
 kit=$(dirname "$(rt doc | head -n 1)")

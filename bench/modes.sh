@@ -1,5 +1,5 @@
 #!/bin/sh
-# Times the reading of a key frame's modes beside plain reads of as many bits. README.md says more.
+# Times the reading of a key frame's modes next to plain reads of as many bits. README.md says more.
 set -eu
 here=$(cd "$(dirname "$0")" && pwd)
 room=$(mktemp -d)

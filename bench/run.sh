@@ -1,5 +1,5 @@
 #!/bin/sh
-# Times the serving of a 1920x1080 key frame, and a plain fill of planes of its size beside it. README.md says more.
+# Times the serving of a 1920x1080 key frame, and a plain fill of planes of its size next to it. README.md says more.
 set -eu
 here=$(cd "$(dirname "$0")" && pwd)
 program=$here/../crates/vp8serve/out/vp8serve

@@ -1,5 +1,5 @@
 #!/bin/sh
-# Times the reading of tokens beside the same algorithm written by hand. README.md says more.
+# Times the reading of tokens next to the same algorithm written manually. README.md says more.
 set -eu
 here=$(cd "$(dirname "$0")" && pwd)
 kit=$(dirname "$(rt doc | head -n 1)")

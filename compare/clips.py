@@ -1,7 +1,7 @@
 #!/usr/bin/env python3
 """Compares every frame of clips with what vpxdec shows, sample for sample.
 
-Run by hand, not in the gate: clips.py [CLIPS] [SEED]. It needs the built program (see README.md), vpxenc and vpxdec
+Run manually, not in the gate: clips.py [CLIPS] [SEED]. It needs the built program (see README.md), vpxenc and vpxdec
 (Debian's vpx-tools) and ffmpeg. ffmpeg draws each clip, and vpxenc codes it with settings drawn at random.
 """
 
@@ -64,7 +64,7 @@ def kinds_of(packet):
 
 
 def drawn(source, width, height):
-    """A source of ffmpeg's of this size; the size goes behind the first of its words, or behind `scale`."""
+    """A source of ffmpeg's of this size; the size goes after the first of its words, or after `scale`."""
     if source.endswith("scale"):
         return f"{source}={width}:{height}"
     first, _, rest = source.partition(",")

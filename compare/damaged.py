@@ -1,19 +1,19 @@
 #!/usr/bin/env python3
 """Compares the frames of damaged streams with what vpxdec shows, sample for sample.
 
-Run by hand, not in the gate: damaged.py [STREAMS] [SEED]. It needs the built program (see README.md), vpxenc and vpxdec
+Run manually, not in the gate: damaged.py [STREAMS] [SEED]. It needs the built program (see README.md), vpxenc and vpxdec
 (Debian's vpx-tools) and ffmpeg. Clips are coded as by clips.py, and each gives streams with packets cut, dropped, doubled,
 moved and with bytes changed. The replies tell which packets are sound: each run of them from a key packet on is decoded by
 vpxdec as a stream of its own, and every frame that it shows must be the one that was served.
 
 Behind the end of a partition all bits are 0. vpxdec stops there, and ffmpeg reads on in the next partition; so both get
-the packets with zeros behind each partition, which changes no frame of ours, and the script sees that it does not.
+the packets with zeros after each partition, which changes no frame of ours, and the script sees that it does not.
 
 All bits of a partition that begins with FF are 1. vpxdec loses the top of its window there and reads others. A frame that
-differs from vpxdec's, with such a partition in its packet or in one before it from the key packet on, is told by that name.
+differs from vpxdec's, with such a partition in its packet or in one before it back to the key packet, is reported by that name.
 
 In version 3 vpxdec leaves chroma unpredicted where its vector points far out of the frame. A frame of that version that
-differs from vpxdec's in chroma alone is told by that name.
+differs from vpxdec's only in chroma is reported by that name.
 """
 
 import collections
@@ -111,7 +111,7 @@ def partitions_of(packet):
 
 
 def padded(packet):
-    """A sound packet with zeros behind each of its partitions."""
+    """A sound packet with zeros after each of its partitions."""
     head, first, texts = partitions_of(packet)
     texts = [text + bytes(PADDING) for text in texts]
     first += bytes(PADDING)
@@ -228,7 +228,7 @@ def compare(room, width, height, packets, told):
             elif is_unpredicted_chroma(packets[place], width, height, served[n], wanted[place - start]):
                 told["chroma of version 3 unpredicted by vpxdec"] += 1
             elif any(map(begins_with_ff, packets[start : place + 1])):
-                told["behind a partition that begins with FF"] += 1
+                told["after a partition that begins with FF"] += 1
             else:
                 if others is None:
                     others = frames_by_place(room, packets[start:end], "ffmpeg")

@@ -1,5 +1,5 @@
 #!/usr/bin/env python3
-"""Compares the program's replies to random lists of requests with those of a plain model of them, written anew here.
+"""Compares the program's replies to random lists of requests with those of a plain model of them, written again here.
 
     compare/edits.py [LISTS [LONG_LISTS]]
 

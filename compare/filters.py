@@ -2,7 +2,7 @@
 """A plain loop filter, line by line as RFC 6386, section 15, has it, without segments and changes of the level. Prints
 the totals of the planes of the frames with which `crates/worked_blocks/src/filters.rt` compares its own.
 
-Run by hand: filters.py
+Run manually: filters.py
 """
 
 COLUMNS, ROWS = 3, 2

@@ -1,5 +1,5 @@
 #!/usr/bin/env python3
-"""Compares what a session with a small cache serves behind random edits with what a session serves that keeps nothing.
+"""Compares what a session with a small cache serves after random edits with what a session serves that caches nothing.
 
     compare/kept.py [LISTS] [SEED]
 
@@ -85,7 +85,7 @@ def compare(room, choose, pools, told):
     replies = [reply for reply in replies if not reply.startswith("ok ")]
     for reply, (n, standing) in zip(replies, states, strict=True):
         alone, shown = served(room, standing, [f"frame {n}", "stats"])
-        told["steps that a session that keeps nothing makes"] += int(alone[1].split()[1])
+        told["steps that a session that caches nothing makes"] += int(alone[1].split()[1])
         if reply != alone[0] or (shown and shown[0] != frames.pop(0)):
             sys.exit(f"capacity {capacity}, frame {n}: {reply}, and alone {alone[0]}; the lines are {lines}")
         told[" ".join(word for word in reply.split() if not word.isdigit())] += 1
@@ -101,7 +101,7 @@ def main():
         room = pathlib.Path(name)
         pools = [clip_packets(room, choose) for _ in range(CLIPS)]
         frames = sum(compare(room, choose, pools, told) for _ in range(count))
-    print(f"{count} lists of edits and {frames} requests for a frame, caches of 1 to 8 states: all are those of a session that keeps nothing")
+    print(f"{count} lists of edits and {frames} requests for a frame, caches of 1 to 8 states: all are those of a session that caches nothing")
     for kind, number in sorted(told.items()):
         print(f"{number:9} {kind}")
 

@@ -1,7 +1,7 @@
 #!/usr/bin/env python3
 """Compares key frames of random prediction modes with what vpxdec and ffmpeg show, sample for sample.
 
-Run by hand, not in the gate. It needs the built program (see README.md), vpxdec (Debian's vpx-tools) and
+Run manually, not in the gate. It needs the built program (see README.md), vpxdec (Debian's vpx-tools) and
 ffmpeg, and the long tables of RFC 6386 as a file of 3,012 bytes, with which the modes are written.
 """
 

@@ -1,7 +1,7 @@
 #!/usr/bin/env python3
 """Makes the clips of the crate real_streams, and what its program must print of them.
 
-Run by hand, not in the gate: real_streams.py. It needs vpxenc and vpxdec (Debian's vpx-tools) and ffmpeg. Each line that
+Run manually, not in the gate: real_streams.py. It needs vpxenc and vpxdec (Debian's vpx-tools) and ffmpeg. Each line that
 the program must print is a clip's name, how many frames vpxdec shows of it, and the MD5 that vpxdec gives of their samples; the
 last line is the same of three clips, one after another.
 """

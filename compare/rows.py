@@ -2,7 +2,7 @@
 """Prints the samples that vpxdec shows for the frames of modes that the tests compare with, row by row, and how often
 each row stands. A digit stands for 120 more.
 
-Run by hand: rows.py TABLES NAME, where NAME is sub_modes or whole_modes and TABLES the long tables of
+Run manually: rows.py TABLES NAME, where NAME is sub_modes or whole_modes and TABLES the long tables of
 RFC 6386 as a file of 3,012 bytes.
 """
 

@@ -1,7 +1,7 @@
 #!/usr/bin/env python3
 """Compares served frames with what two other decoders show, sample for sample.
 
-Run by hand, not in the gate. It needs the built program (see README.md), vpxdec (Debian's vpx-tools)
+Run manually, not in the gate. It needs the built program (see README.md), vpxdec (Debian's vpx-tools)
 and ffmpeg. Each stream has two key packets whose partitions hold zero bytes only, enough of them that
 no decoder finds a partition cut.
 """
@@ -31,7 +31,7 @@ def ivf(width, height, packets):
 
 
 def frames_of(text, size):
-    """The frames of a YUV4MPEG2 text, one behind another, without their marks."""
+    """The frames of a YUV4MPEG2 text, one after another, without their marks."""
     rest, frames = text.split(b"\n", 1)[1], b""
     while rest:
         if not rest.startswith(b"FRAME\n"):

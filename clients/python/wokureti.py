@@ -193,7 +193,7 @@ class Session:
         return int(self.request(line).split()[1])
 
     def frame(self, number):
-        """Frame `number` of the stream as it is now."""
+        """Frame `number` of the current stream."""
         self.request(f"frame {number}")
         frame = self._frames.ready.get()
         if frame is None:
@@ -202,7 +202,7 @@ class Session:
         return Frame(number, width, height, *planes)
 
     def use(self, source):
-        """Edits act on this source from now on. Like every edit it returns the number of packets of the current source."""
+        """Later edits act on this source. Like every edit it returns the number of packets of the current source."""
         return self._number(f"use {source}")
 
     def insert(self, at, data, stamp=0):

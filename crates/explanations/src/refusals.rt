@@ -72,7 +72,7 @@ fn write_meaning<W: Write>(w: &mut W, count: Option<usize>, refusal: Refusal) ->
         Refusal::Size => {
             write_text(
                 w,
-                "a side is 0 or above 16383, or no packet before has a size",
+                "a side is 0 or above 16383, or no key packet is before it, or the last one has no size",
             )
         }
         Refusal::TooLarge => write_text(w, "the first partition would have over 524287 bytes"),

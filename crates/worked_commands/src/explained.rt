@@ -24,7 +24,7 @@ line 12: frame: packet 0 has 2 bytes, a tag needs 3
 line 14: frame: packet 0 has 5 bytes, a key frame needs 10
 line 15: use: there is no such source
 line 16: delete: there is no such packet
-line 17: blank: a side is 0 or above 16383, or no packet before has a size
+line 17: blank: a side is 0 or above 16383, or no key packet is before it, or the last one has no size
 line 18: script: the text is not a list of nodes
 line 19: script: a word is missing
 line 20: count: 1 is one word too many

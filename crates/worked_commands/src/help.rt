@@ -21,7 +21,7 @@ To look at a frame before the next edit, answer each line as it comes:
   vp8serve in.ivf - out.y4m --save edited.ivf --live
 
 Type `frame 0`; `served 0` comes when the frame is in out.y4m. `hold 1` repeats
-it, `delete 1` takes the repeat out again. At the end of input (Ctrl-D) the
+it, `delete 1` removes the repeat. At the end of input (Ctrl-D) the
 packets are saved.
 
 If a request is refused or the program ends with an error, run it again with
