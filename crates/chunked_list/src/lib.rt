@@ -1,4 +1,4 @@
-//! A list whose edits take time in proportion to the square root of its length.
+//! A list in chunks of 1,024 elements: an edit moves elements of one chunk, and one element of each chunk after it.
 #![tactic(auto)]
 
 mod chunks;
