@@ -1,6 +1,6 @@
 -- The layout of the samples of a plane and of its border in one block of memory.
-use Rattle.std.specs.Prelude.{◌≡◌, ℕ, zero, suc, ◌+◌, ◌-◌, ◌*◌, ◌<◌, ◌≤◌, min, List, [], ◌++◌, length, replicate, slice_index, slice_range}
-use Rattle.pixel_planes.specs.Samples.{Samples, row_of}
+use Rattle.std.specs.Prelude.{◌≡◌, ℕ, false, zero, suc, ◌+◌, ◌-◌, ◌*◌, ◌<◌, ◌≤◌, min, List, [], ◌++◌, length, replicate, slice_index, slice_range}
+use Rattle.pixel_planes.specs.Samples.{Samples, PlaneValue, row_of}
 
 -- so many rows of `width` samples, the first of them starting at index `first` and each further one `stride` after the one above, concatenated
 unfoldable pub rows_of : List ℕ → ℕ → ℕ → ℕ → ℕ → List ℕ
@@ -39,9 +39,17 @@ layout_of width height border first stride = record { width = width; height = he
 abbrev pub shown_in : Layout → List ℕ → Samples
 shown_in l items = record { width = l.width; height = l.height; samples = rows_of items l.first l.stride l.width l.height }
 
+-- the plane of these sides whose rows start `stride` apart, the first of them at the front of these samples
+abbrev pub cropped : ℕ → ℕ → ℕ → List ℕ → Samples
+cropped width height stride items = record { width = width; height = height; samples = rows_of items 0 stride width height }
+
 -- the plane of these sides whose rows are one directly after the other at the front of the block
 abbrev pub flat_plane : ℕ → ℕ → List ℕ → Samples
-flat_plane width height items = record { width = width; height = height; samples = rows_of items 0 width width height }
+flat_plane width height items = cropped width height width items
+
+-- the plane with all its rows written over, from samples in which they start as far apart as a row with its border is wide; its border is then out of date
+abbrev pub with_rows_written : PlaneValue → List ℕ → PlaneValue
+with_rows_written plane items = record plane { shown = cropped plane.shown.width plane.shown.height (bordered_side plane.shown.width plane.border) items; is_current = false }
 
 -- the rows from the front of the block are now in it with their border
 abbrev pub HasBorderedRows : ℕ → ℕ → ℕ → List ℕ → List ℕ → Type 0
