@@ -1,13 +1,16 @@
 -- One more macroblock, one more row, and the planes of a frame written back.
-use Rattle.std.proofs.Common.{◌≡◌, ℕ, ◌+◌, ◌*◌, ◌==◌, Bool, true, false, List, length, Option, refl, sym, ◌∙◌, add-one}
+use Rattle.std.proofs.Common.{◌≡◌, ℕ, ◌+◌, ◌*◌, Bool, false, List, length, Option, refl, sym, ap, ◌∙◌, arith, add-one, mul_comm}
 use Rattle.std.specs.Simd.Lanes.{put_chunk}
+use Rattle.std.proofs.lemmas.List.{take_all}
 use Rattle.std.proofs.lemmas.Simd.{put_chunk_whole}
-use Rattle.frame_header.specs.declared.header.Header.{Header}
-use Rattle.mode_parser.specs.declared.records.MbMode.{MbMode}
-use Rattle.pixel_planes.specs.Samples.{Samples}
-use Rattle.pixel_planes.specs.PlaneSamples.{PlaneSamples}
-use Rattle.loop_filter.specs.Blocks.{Shape, luma, chroma, filtered_by}
-use Rattle.loop_filter.specs.Frames.{block_at, strength_at, row_filtered, rows_filtered, columns_in, rows_in, filtered_planes}
+use Rattle.pixel_planes.specs.Samples.{Samples, PlaneValue, with_samples_written}
+use Rattle.pixel_planes.specs.Layout.{rows_of, cropped, bordered_side, with_rows_written}
+use Rattle.pixel_planes.specs.Pictures.{HasBlocks}
+use Rattle.pixel_planes.proofs.BlockRows.{rows_at_front}
+use Rattle.loop_filter.specs.Blocks.{Shape, filtered_by}
+use Rattle.loop_filter.specs.Frames.{block_at, row_filtered, rows_filtered}
+use Rattle.loop_filter.specs.Macroblocks.{plane_in, rows_of_all, with_plane_filtered}
+use Rattle.loop_filter.specs.declared.frames.Macroblocks.{Macroblocks}
 use Rattle.loop_filter.specs.declared.strengths.Strength.{Strength}
 
 pub row_more : (shape : Shape) (is_simple : Bool) (strength : ℕ → Option Strength) (columns my : ℕ) (samples : List ℕ) (mx : ℕ) → row_filtered shape is_simple strength columns my samples (mx + 1) ≡ filtered_by shape is_simple (strength (my * columns + mx)) (block_at shape.side columns mx my) (row_filtered shape is_simple strength columns my samples mx)
@@ -18,32 +21,26 @@ pub rows_more : (shape : Shape) (is_simple : Bool) (strength : ℕ → Option St
 unfolding rows_filtered
 rows_more shape is_simple strength columns samples my = rw add-one refl
 
--- a plane with all its samples written
-with_all : (p : Samples) (left whole : List ℕ) → length left ≡ length p.samples → left ≡ whole → put_chunk 0 p.samples left ≡ whole
-with_all p left whole long is = put_chunk_whole p.samples left (sym long) ∙ is
+-- a plane whose rows were written apart from each other, and one whose samples were written one directly after the other
+pub rows_written : (shape : Shape) (all : Macroblocks) (plane : PlaneValue) (stride : ℕ) (old new : List ℕ) → HasBlocks plane.shown shape.side all.columns all.rows → stride ≡ bordered_side plane.shown.width plane.border
+    → cropped plane.shown.width plane.shown.height (bordered_side plane.shown.width plane.border) old ≡ plane.shown → plane_in shape all stride new ≡ rows_of_all shape all (plane_in shape all stride old) all.rows → with_rows_written plane new ≡ with_plane_filtered shape all plane
+rows_written shape all plane stride old new blocks apart shown is =
+    let before : plane_in shape all stride old ≡ plane.shown.samples = rw (apart, ← blocks.0, ← blocks.1) (ap (λ (p : Samples). p.samples) shown) in
+    let after : rows_of new 0 stride (shape.side * all.columns) (shape.side * all.rows) ≡ rows_of_all shape all plane.shown.samples all.rows = is ∙ ap (λ s. rows_of_all shape all s all.rows) before in
+    let samples : rows_of new 0 (bordered_side plane.shown.width plane.border) plane.shown.width plane.shown.height ≡ rows_of_all shape all plane.shown.samples all.rows = rw (← apart, blocks.0, blocks.1) after in
+    ap (λ (s : List ℕ). record plane { shown = record plane.shown { samples = s }; is_current = false }) samples
 
-pub normal_frame : (header : Header) (records : List MbMode) (flags : List Bool) (planes : PlaneSamples) (y u v : List ℕ) → (header.filter.level == 0) ≡ false → header.filter.is_simple ≡ false
-    → length y ≡ length planes.luma.samples → length u ≡ length planes.cb.samples → length v ≡ length planes.cr.samples
-    → y ≡ rows_filtered luma header.filter.is_simple (strength_at header records flags) (columns_in planes) planes.luma.samples (rows_in planes)
-    → u ≡ rows_filtered chroma header.filter.is_simple (strength_at header records flags) (columns_in planes) planes.cb.samples (rows_in planes)
-    → v ≡ rows_filtered chroma header.filter.is_simple (strength_at header records flags) (columns_in planes) planes.cr.samples (rows_in planes)
-    → record {
-      luma = record planes.luma { samples = put_chunk 0 planes.luma.samples y };
-      cb = record planes.cb { samples = put_chunk 0 planes.cb.samples u };
-      cr = record planes.cr { samples = put_chunk 0 planes.cr.samples v };
-    } ≡ filtered_planes header records flags planes
-unfolding filtered_planes
-normal_frame header records flags planes y u v level kind long_y long_u long_v is_y is_u is_v =
-    rw (level, with_all planes.luma y _ long_y is_y, with_all planes.cb u _ long_u is_u, with_all planes.cr v _ long_v is_v, kind) refl
+-- all samples of a plane, in rows one directly after the other
+flat : (shape : Shape) (all : Macroblocks) (p : Samples) (items : List ℕ) → HasBlocks p shape.side all.columns all.rows → length items ≡ p.width * p.height → plane_in shape all (shape.side * all.columns) items ≡ items
+flat shape all p items blocks whole =
+    let count : length items ≡ shape.side * all.rows * (shape.side * all.columns) = whole ∙ rw (blocks.0, blocks.1) (mul_comm (shape.side * all.columns) (shape.side * all.rows)) in
+    rows_at_front items (shape.side * all.columns) (shape.side * all.rows) ∙ take_all (shape.side * all.rows * (shape.side * all.columns)) items (omega (arith, count))
 
-pub simple_frame : (header : Header) (records : List MbMode) (flags : List Bool) (planes : PlaneSamples) (y : List ℕ) → (header.filter.level == 0) ≡ false → header.filter.is_simple ≡ true
-    → length y ≡ length planes.luma.samples
-    → y ≡ rows_filtered luma header.filter.is_simple (strength_at header records flags) (columns_in planes) planes.luma.samples (rows_in planes)
-    → record {
-      luma = record planes.luma { samples = put_chunk 0 planes.luma.samples y };
-      cb = planes.cb;
-      cr = planes.cr;
-    } ≡ filtered_planes header records flags planes
-unfolding filtered_planes
-simple_frame header records flags planes y level kind long_y is_y =
-    rw (level, with_all planes.luma y _ long_y is_y, kind) refl
+pub samples_written : (shape : Shape) (all : Macroblocks) (plane : PlaneValue) (width : ℕ) (old new : List ℕ) → HasBlocks plane.shown shape.side all.columns all.rows → width ≡ shape.side * all.columns
+    → old ≡ plane.shown.samples → length old ≡ plane.shown.width * plane.shown.height → length new ≡ length old → plane_in shape all width new ≡ rows_of_all shape all (plane_in shape all width old) all.rows → with_samples_written plane new ≡ with_plane_filtered shape all plane
+samples_written shape all plane width old new blocks across shown whole long is =
+    let is' : plane_in shape all (shape.side * all.columns) new ≡ rows_of_all shape all (plane_in shape all (shape.side * all.columns) old) all.rows = rw across at is in
+    let after : new ≡ rows_of_all shape all plane.shown.samples all.rows =
+    sym (flat shape all plane.shown new blocks (long ∙ whole)) ∙ is' ∙ ap (λ s. rows_of_all shape all s all.rows) (flat shape all plane.shown old blocks whole ∙ shown) in
+    let samples : put_chunk 0 plane.shown.samples new ≡ rows_of_all shape all plane.shown.samples all.rows = put_chunk_whole plane.shown.samples new (ap (λ s. length s) (sym shown) ∙ sym long) ∙ after in
+    ap (λ (s : List ℕ). record plane { shown = record plane.shown { samples = s }; is_current = false }) samples

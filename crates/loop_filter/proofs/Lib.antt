@@ -10,3 +10,5 @@ pub mod Raster
 pub mod ThreeEdges
 pub mod Transposed
 pub mod OwnLines
+pub mod Apart
+pub mod ApartBlocks

@@ -1,8 +1,11 @@
 -- The arguments of the loops of a frame's filter.
-use Rattle.std.specs.Prelude.{◌≡◌, ℕ, ◌+◌, ◌*◌, ◌≤◌, length, List, Option}
+use Rattle.std.specs.Prelude.{◌≡◌, ◌==◌, ℕ, false, ◌+◌, ◌*◌, ◌≤◌, length, List, Option}
+use Rattle.pixel_planes.specs.Layout.{rows_of}
+use Rattle.pixel_planes.specs.Samples.{PlaneValue}
 use Rattle.loop_filter.specs.Blocks.{Shape, filtered_by}
-use Rattle.loop_filter.specs.Frames.{block_at, strength_at, row_filtered, rows_filtered}
+use Rattle.loop_filter.specs.Frames.{strength_at, row_filtered, rows_filtered}
 use Rattle.loop_filter.specs.Strengths.{AreLimits}
+use Rattle.loop_filter.specs.declared.blocks.Block.{Block}
 use Rattle.loop_filter.specs.declared.frames.Macroblocks.{Macroblocks}
 use Rattle.loop_filter.specs.declared.strengths.Strength.{Strength}
 
@@ -13,20 +16,38 @@ pub record IsFrame (all : Macroblocks) : Type 0 where
   pub limits : AreLimits all.header.now.filter.sharpness all.header.now.is_key all.limits.now
   pub small : (all.columns ≤ 1024) × (all.rows ≤ 1024)
 
--- so many samples are a plane with a block of this side for each macroblock
-abbrev pub IsPlane : ℕ → Macroblocks → ℕ → Type 0
-IsPlane side all count = count ≡ side * all.columns * (side * all.rows)
+-- so many samples are a plane with a block of this side for each macroblock, in rows `stride` apart
+abbrev pub IsPlane : ℕ → Macroblocks → ℕ → ℕ → Type 0
+IsPlane side all stride count = (side * all.columns ≤ stride) × (stride ≤ 16512) × (count ≡ side * all.rows * stride)
+
+-- the samples of that plane, row after row
+abbrev pub plane_in : Shape → Macroblocks → ℕ → List ℕ → List ℕ
+plane_in shape all stride samples = rows_of samples 0 stride (shape.side * all.columns) (shape.side * all.rows)
+
+-- the position of the block of the macroblock in column mx of row my among samples in rows `stride` apart
+abbrev pub block_apart : ℕ → ℕ → ℕ → ℕ → Block
+block_apart side stride mx my = record {
+  start = my * (side * stride) + side * mx;
+  stride = stride;
+  is_leftmost = mx == 0;
+  is_topmost = my == 0;
+}
 
 -- how each macroblock is filtered
 abbrev pub strengths : Macroblocks → ℕ → Option Strength
 strengths all = strength_at all.header.now all.records.now all.flags.now
 
--- the samples after one macroblock, after one row, and after all
-abbrev pub macroblock_filtered : Shape → Macroblocks → ℕ → ℕ → List ℕ → List ℕ
-macroblock_filtered shape all mx my samples = filtered_by shape all.header.now.filter.is_simple (strengths all (my * all.columns + mx)) (block_at shape.side all.columns mx my) samples
+-- samples in rows `stride` apart after one macroblock
+abbrev pub macroblock_filtered : Shape → Macroblocks → ℕ → ℕ → ℕ → List ℕ → List ℕ
+macroblock_filtered shape all stride mx my samples = filtered_by shape all.header.now.filter.is_simple (strengths all (my * all.columns + mx)) (block_apart shape.side stride mx my) samples
 
+-- the samples of a plane after one row of macroblocks, and after all
 abbrev pub row_of_all : Shape → Macroblocks → ℕ → List ℕ → ℕ → List ℕ
 row_of_all shape all my samples n = row_filtered shape all.header.now.filter.is_simple (strengths all) all.columns my samples n
 
 abbrev pub rows_of_all : Shape → Macroblocks → List ℕ → ℕ → List ℕ
 rows_of_all shape all samples n = rows_filtered shape all.header.now.filter.is_simple (strengths all) all.columns samples n
+
+-- a plane after all its macroblocks are filtered; its border is then out of date
+abbrev pub with_plane_filtered : Shape → Macroblocks → PlaneValue → PlaneValue
+with_plane_filtered shape all plane = record plane { shown = record plane.shown { samples = rows_of_all shape all plane.shown.samples all.rows }; is_current = false }

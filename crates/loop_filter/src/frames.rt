@@ -1,11 +1,12 @@
 //! The filter of a frame: its macroblocks in raster order (RFC 6386, section 15.1).
 
 ghost use Rattle.std.specs.Prelude.{◌≡◌, ◌*◌, ◌<◌, ◌≤◌, true, false, length, IfSome};
+ghost use Rattle.pixel_planes.specs.Pictures.{HasBlocks};
 ghost use Rattle.pixel_planes.specs.PlaneSamples.{shown_of};
 ghost use Rattle.loop_filter.specs.Blocks.{HasSmallLimits, luma, chroma};
-ghost use Rattle.loop_filter.specs.Frames.{HaveBlocks, KeepSides, HasOldBorder, block_at, columns_in, rows_in, filtered_planes};
+ghost use Rattle.loop_filter.specs.Frames.{HaveBlocks, KeepSides, HasOldBorder, columns_in, rows_in, filtered_planes};
 ghost use Rattle.loop_filter.specs.Strengths.{AreLimits};
-ghost use Rattle.loop_filter.specs.Macroblocks.{IsFrame, IsPlane, strengths, macroblock_filtered, row_of_all, rows_of_all};
+ghost use Rattle.loop_filter.specs.Macroblocks.{IsFrame, IsPlane, plane_in, block_apart, strengths, macroblock_filtered, row_of_all, rows_of_all, with_plane_filtered};
 
 use crate::blocks::{Block, filter_block};
 use crate::chroma_blocks::filter_blocks;
@@ -13,7 +14,7 @@ use crate::edge_limits::Limits;
 use crate::strengths::{Strength, limits_of_levels, strength_for};
 use frame_header::Header;
 use mode_parser::{MbMode, Modes};
-use pixel_planes::Planes;
+use pixel_planes::{Plane, Planes};
 
 /// The macroblocks of a frame, in raster order, their number each way, and the limits of each
 /// level.
@@ -45,14 +46,13 @@ fn strength_at(all: Macroblocks, place: usize) -> Option<Strength>
     )
 }
 
-/// The position of the block of the macroblock in column `mx` of row `my` in a plane of so many
-/// columns.
+/// The position of the block of the macroblock in column `mx` of row `my` among the samples of a
+/// plane whose rows are `stride` apart.
 #[inline]
-fn block_at(side: usize, columns: usize, mx: usize, my: usize) -> Block
-    requires small { (side ≤ 16) × (columns ≤ 1024) × (mx ≤ 1024) × (my ≤ 1024) }
-    ensures { result ≡ block_at side columns mx my }
+fn block_at(side: usize, stride: usize, mx: usize, my: usize) -> Block
+    requires small { (side ≤ 16) × (stride ≤ 16512) × (mx ≤ 1024) × (my ≤ 1024) }
+    ensures { result ≡ block_apart side stride mx my }
 {
-    let stride = side * columns;
     let row = side * stride;
     Block {
         start: my * row + side * mx,
@@ -65,14 +65,14 @@ fn block_at(side: usize, columns: usize, mx: usize, my: usize) -> Block
 /// Filters the luma of the macroblock in column `mx` of row `my`.
 #[inline]
 #[tactic(auto, unfolding(crate::specs::Blocks::filtered_by))]
-fn filter_luma_block(all: Macroblocks, samples: &mut [u8], mx: usize, my: usize)
+fn filter_luma_block(all: Macroblocks, samples: &mut [u8], stride: usize, mx: usize, my: usize)
     requires frame { IsFrame all }
-    requires plane { IsPlane 16 all (length samples.old) }
+    requires plane { IsPlane 16 all stride (length samples.old) }
     requires place { (mx < all.columns) × (my < all.rows) }
-    ensures { samples.new ≡ macroblock_filtered luma all.entry mx my samples.old }
+    ensures { samples.new ≡ macroblock_filtered luma all.entry stride mx my samples.old }
 {
     if let Some(strength) = strength_at(all, my * all.columns + mx) {
-        let block = block_at(16, all.columns, mx, my);
+        let block = block_at(16, stride, mx, my);
         filter_block(all.header.filter.is_simple, strength, samples, block);
     }
 }
@@ -80,68 +80,108 @@ fn filter_luma_block(all: Macroblocks, samples: &mut [u8], mx: usize, my: usize)
 /// Filters the chroma of the macroblock in column `mx` of row `my`.
 #[inline]
 #[tactic(auto, unfolding(crate::specs::Blocks::filtered_by))]
-fn filter_chroma_block(all: Macroblocks, cb: &mut [u8], cr: &mut [u8], mx: usize, my: usize)
+fn filter_chroma_block(
+    all: Macroblocks,
+    cb: &mut [u8],
+    cr: &mut [u8],
+    stride: usize,
+    mx: usize,
+    my: usize,
+)
     requires frame { IsFrame all }
-    requires cb { IsPlane 8 all (length cb.old) }
-    requires cr { IsPlane 8 all (length cr.old) }
+    requires cb { IsPlane 8 all stride (length cb.old) }
+    requires cr { IsPlane 8 all stride (length cr.old) }
     requires place { (mx < all.columns) × (my < all.rows) }
-    ensures cb { cb.new ≡ macroblock_filtered chroma all.entry mx my cb.old }
-    ensures cr { cr.new ≡ macroblock_filtered chroma all.entry mx my cr.old }
+    ensures cb { cb.new ≡ macroblock_filtered chroma all.entry stride mx my cb.old }
+    ensures cr { cr.new ≡ macroblock_filtered chroma all.entry stride mx my cr.old }
 {
     if let Some(strength) = strength_at(all, my * all.columns + mx) {
-        let block = block_at(8, all.columns, mx, my);
+        let block = block_at(8, stride, mx, my);
         filter_blocks(all.header.filter.is_simple, strength, cb, cr, block);
     }
 }
 
 /// Filters the luma of a row of macroblocks.
-fn filter_luma_row(all: Macroblocks, samples: &mut [u8], my: usize)
+fn filter_luma_row(all: Macroblocks, samples: &mut [u8], stride: usize, my: usize)
     requires frame { IsFrame all }
-    requires plane { IsPlane 16 all (length samples.old) }
+    requires plane { IsPlane 16 all stride (length samples.old) }
     requires place { my < all.rows }
-    ensures { samples.new ≡ row_of_all luma all.entry my samples.old all.entry.columns }
+    ensures { plane_in luma all.entry stride samples.new ≡ row_of_all luma all.entry my (plane_in luma all.entry stride samples.old) all.entry.columns }
 {
     for mx in 0..all.columns {
-        filter_luma_block(all, samples, mx, my);
+        filter_luma_block(all, samples, stride, mx, my);
     }
 }
 
 /// Filters the chroma of a row of macroblocks.
-fn filter_chroma_row(all: Macroblocks, cb: &mut [u8], cr: &mut [u8], my: usize)
+fn filter_chroma_row(all: Macroblocks, cb: &mut [u8], cr: &mut [u8], stride: usize, my: usize)
     requires frame { IsFrame all }
-    requires cb { IsPlane 8 all (length cb.old) }
-    requires cr { IsPlane 8 all (length cr.old) }
+    requires cb { IsPlane 8 all stride (length cb.old) }
+    requires cr { IsPlane 8 all stride (length cr.old) }
     requires place { my < all.rows }
-    ensures cb { cb.new ≡ row_of_all chroma all.entry my cb.old all.entry.columns }
-    ensures cr { cr.new ≡ row_of_all chroma all.entry my cr.old all.entry.columns }
+    ensures cb { plane_in chroma all.entry stride cb.new ≡ row_of_all chroma all.entry my (plane_in chroma all.entry stride cb.old) all.entry.columns }
+    ensures cr { plane_in chroma all.entry stride cr.new ≡ row_of_all chroma all.entry my (plane_in chroma all.entry stride cr.old) all.entry.columns }
 {
     for mx in 0..all.columns {
-        filter_chroma_block(all, cb, cr, mx, my);
+        filter_chroma_block(all, cb, cr, stride, mx, my);
     }
 }
 
-/// Filters the luma of all macroblocks.
-fn filter_luma(all: Macroblocks, samples: &mut [u8])
+/// Filters the luma of all macroblocks, in rows `stride` samples apart.
+fn filter_luma(all: Macroblocks, samples: &mut [u8], stride: usize)
     requires frame { IsFrame all }
-    requires plane { IsPlane 16 all (length samples.old) }
-    ensures { samples.new ≡ rows_of_all luma all.entry samples.old all.entry.rows }
+    requires plane { IsPlane 16 all stride (length samples.old) }
+    ensures { plane_in luma all.entry stride samples.new ≡ rows_of_all luma all.entry (plane_in luma all.entry stride samples.old) all.entry.rows }
 {
     for my in 0..all.rows {
-        filter_luma_row(all, samples, my);
+        filter_luma_row(all, samples, stride, my);
     }
 }
 
-/// Filters the chroma of all macroblocks.
-fn filter_chroma(all: Macroblocks, cb: &mut [u8], cr: &mut [u8])
+/// Filters the chroma of all macroblocks, in rows `stride` samples apart.
+fn filter_chroma(all: Macroblocks, cb: &mut [u8], cr: &mut [u8], stride: usize)
     requires frame { IsFrame all }
-    requires cb { IsPlane 8 all (length cb.old) }
-    requires cr { IsPlane 8 all (length cr.old) }
-    ensures cb { cb.new ≡ rows_of_all chroma all.entry cb.old all.entry.rows }
-    ensures cr { cr.new ≡ rows_of_all chroma all.entry cr.old all.entry.rows }
+    requires cb { IsPlane 8 all stride (length cb.old) }
+    requires cr { IsPlane 8 all stride (length cr.old) }
+    ensures cb { plane_in chroma all.entry stride cb.new ≡ rows_of_all chroma all.entry (plane_in chroma all.entry stride cb.old) all.entry.rows }
+    ensures cr { plane_in chroma all.entry stride cr.new ≡ rows_of_all chroma all.entry (plane_in chroma all.entry stride cr.old) all.entry.rows }
 {
     for my in 0..all.rows {
-        filter_chroma_row(all, cb, cr, my);
+        filter_chroma_row(all, cb, cr, stride, my);
     }
+}
+
+/// Filters the luma plane.
+fn filter_luma_plane(all: Macroblocks, plane: &mut Plane)
+    requires frame { IsFrame all }
+    requires blocks { HasBlocks plane.old.shown 16 all.columns all.rows }
+    ensures { plane.new ≡ with_plane_filtered luma all.entry plane.old }
+{
+    let stride = plane.width();
+    filter_luma(all, plane.samples_mut(), stride);
+}
+
+/// Filters the chroma planes.
+fn filter_chroma_planes(all: Macroblocks, cb: &mut Plane, cr: &mut Plane)
+    requires frame { IsFrame all }
+    requires cb { HasBlocks cb.old.shown 8 all.columns all.rows }
+    requires cr { HasBlocks cr.old.shown 8 all.columns all.rows }
+    ensures cb { cb.new ≡ with_plane_filtered chroma all.entry cb.old }
+    ensures cr { cr.new ≡ with_plane_filtered chroma all.entry cr.old }
+{
+    filter_flat_chroma(all, cb, cr);
+}
+
+/// Filters chroma planes whose borders differ in width.
+fn filter_flat_chroma(all: Macroblocks, cb: &mut Plane, cr: &mut Plane)
+    requires frame { IsFrame all }
+    requires cb { HasBlocks cb.old.shown 8 all.columns all.rows }
+    requires cr { HasBlocks cr.old.shown 8 all.columns all.rows }
+    ensures cb { cb.new ≡ with_plane_filtered chroma all.entry cb.old }
+    ensures cr { cr.new ≡ with_plane_filtered chroma all.entry cr.old }
+{
+    let width = cb.width();
+    filter_chroma(all, cb.samples_mut(), cr.samples_mut(), width);
 }
 
 /// Filters the planes of a frame by its records and flags, one for each macroblock in raster order
@@ -174,8 +214,8 @@ pub fn frame(header: &Header, modes: &Modes, flags: &[bool], planes: &mut Planes
         rows: planes.luma.height() / 16,
         limits: &limits,
     };
-    filter_luma(all, planes.luma.samples_mut());
+    filter_luma_plane(all, &mut planes.luma);
     if !header.filter.is_simple {
-        filter_chroma(all, planes.cb.samples_mut(), planes.cr.samples_mut());
+        filter_chroma_planes(all, &mut planes.cb, &mut planes.cr);
     }
 }

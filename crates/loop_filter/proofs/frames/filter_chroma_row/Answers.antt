@@ -1,8 +1,6 @@
-use Rattle.std.proofs.Common.{ap, sym, refl, ◌∙◌}
-use Rattle.loop_filter.specs.Blocks.{chroma}
+use Rattle.std.proofs.Common.{◌<◌, refl, rules}
 use Rattle.loop_filter.specs.Frames.{row_filtered}
-use Rattle.loop_filter.specs.Macroblocks.{strengths, macroblock_filtered}
-use Rattle.loop_filter.proofs.Folds.{row_more}
+use Rattle.loop_filter.proofs.ApartBlocks.{more_of_chroma}
 use Rattle.loop_filter.proofs.frames.filter_chroma_row.Goals as goal
 
 pub loop-mx-init : goal.loop-mx-init
@@ -11,7 +9,7 @@ loop-mx-init c = (refl, refl)
 
 pub loop-mx-preserved : goal.loop-mx-preserved
 loop-mx-preserved c =
-    let more = row_more chroma c.args.all.header.now.filter.is_simple (strengths c.args.all) c.args.all.columns c.args.my in (
-      c.filter_chroma_block.ensures.cb ∙ ap (λ s. macroblock_filtered chroma c.args.all c.loop-mx.mx c.args.my s) c.loop-mx.invariant.0 ∙ sym (more c.args.cb.now c.loop-mx.mx),
-      c.filter_chroma_block.ensures.cr ∙ ap (λ s. macroblock_filtered chroma c.args.all c.loop-mx.mx c.args.my s) c.loop-mx.invariant.1 ∙ sym (more c.args.cr.now c.loop-mx.mx),
+    let inside : c.loop-mx.mx < c.args.all.columns = search rules in (
+      more_of_chroma c.args.all c.args.stride c.loop-mx.mx c.args.my c.args.cb.now c.loop-mx.cb c.filter_chroma_block.new.cb c.requires.cb c.loop-mx.auto.cb inside c.requires.place c.filter_chroma_block.ensures.cb c.loop-mx.invariant.0,
+      more_of_chroma c.args.all c.args.stride c.loop-mx.mx c.args.my c.args.cr.now c.loop-mx.cr c.filter_chroma_block.new.cr c.requires.cr c.loop-mx.auto.cr inside c.requires.place c.filter_chroma_block.ensures.cr c.loop-mx.invariant.1,
     )
