@@ -1,5 +1,5 @@
 -- The arguments of the loops of a frame's filter.
-use Rattle.std.specs.Prelude.{◌≡◌, ◌==◌, ℕ, false, ◌+◌, ◌*◌, ◌≤◌, length, List, Option}
+use Rattle.std.specs.Prelude.{◌≡◌, ◌==◌, ℕ, false, ◌+◌, ◌*◌, ◌<◌, ◌≤◌, length, List, Option}
 use Rattle.pixel_planes.specs.Layout.{rows_of}
 use Rattle.pixel_planes.specs.Samples.{PlaneValue}
 use Rattle.loop_filter.specs.Blocks.{Shape, filtered_by}
@@ -9,11 +9,12 @@ use Rattle.loop_filter.specs.declared.blocks.Block.{Block}
 use Rattle.loop_filter.specs.declared.frames.Macroblocks.{Macroblocks}
 use Rattle.loop_filter.specs.declared.strengths.Strength.{Strength}
 
--- each macroblock has a record and a flag, and there are at most 1,024 each way; the limits are those of the frame
+-- each macroblock has a record and a flag, and there are 1 to 1,024 each way; the limits are those of the frame
 pub record IsFrame (all : Macroblocks) : Type 0 where
   pub records : length all.records.now ≡ all.columns * all.rows
   pub flags : length all.flags.now ≡ all.columns * all.rows
   pub limits : AreLimits all.header.now.filter.sharpness all.header.now.is_key all.limits.now
+  pub some : (0 < all.columns) × (0 < all.rows)
   pub small : (all.columns ≤ 1024) × (all.rows ≤ 1024)
 
 -- so many samples are a plane with a block of this side for each macroblock, in rows `stride` apart

@@ -157,8 +157,8 @@ fn filter_luma_plane(all: Macroblocks, plane: &mut Plane)
     requires blocks { HasBlocks plane.old.shown 16 all.columns all.rows }
     ensures { plane.new ≡ with_plane_filtered luma all.entry plane.old }
 {
-    let stride = plane.width();
-    filter_luma(all, plane.samples_mut(), stride);
+    let stride = plane.stride();
+    filter_luma(all, plane.rows_mut(), stride);
 }
 
 /// Filters the chroma planes.
@@ -169,7 +169,12 @@ fn filter_chroma_planes(all: Macroblocks, cb: &mut Plane, cr: &mut Plane)
     ensures cb { cb.new ≡ with_plane_filtered chroma all.entry cb.old }
     ensures cr { cr.new ≡ with_plane_filtered chroma all.entry cr.old }
 {
-    filter_flat_chroma(all, cb, cr);
+    let stride = cb.stride();
+    if cr.stride() == stride {
+        filter_chroma(all, cb.rows_mut(), cr.rows_mut(), stride);
+    } else {
+        filter_flat_chroma(all, cb, cr);
+    }
 }
 
 /// Filters chroma planes whose borders differ in width.
