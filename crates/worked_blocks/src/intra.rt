@@ -1,4 +1,5 @@
 use intra_predict::{BlockSize, SubMode, WholeMode, sub, whole};
+use std::process::Abort;
 
 /// The samples to the left of the worked sub blocks (L0 to L3).
 const LEFT: [u8; 4] = [7, 20, 4, 100];
@@ -118,71 +119,172 @@ fn chroma(mode: WholeMode, above: bool, left: bool, corner: u8) -> [u8; 64] {
     block
 }
 
-/// The first and the last row of chroma blocks, worked manually from RFC 6386, section 12.2.
+/// A chroma block between sides that are inside the frame or not, and its first and its last row.
+struct ChromaCase {
+    mode: WholeMode,
+    above: bool,
+    left: bool,
+    corner: u8,
+    first: [u8; 8],
+    last: [u8; 8],
+}
+
+/// Worked manually from RFC 6386, section 12.2.
+const CHROMA: &[ChromaCase] = &[
+    // (360 + 80 + 8) / 16, (360 + 4) / 8 = 45.5, (80 + 4) / 8 = 10.5, and 128 with no side.
+    ChromaCase {
+        mode: WholeMode::Dc,
+        above: true,
+        left: true,
+        corner: 0,
+        first: [28; 8],
+        last: [28; 8],
+    },
+    ChromaCase {
+        mode: WholeMode::Dc,
+        above: true,
+        left: false,
+        corner: 0,
+        first: [45; 8],
+        last: [45; 8],
+    },
+    ChromaCase {
+        mode: WholeMode::Dc,
+        above: false,
+        left: true,
+        corner: 0,
+        first: [10; 8],
+        last: [10; 8],
+    },
+    ChromaCase {
+        mode: WholeMode::Dc,
+        above: false,
+        left: false,
+        corner: 0,
+        first: [128; 8],
+        last: [128; 8],
+    },
+    // 127 above the frame, and 129 to its left.
+    ChromaCase {
+        mode: WholeMode::V,
+        above: true,
+        left: false,
+        corner: 0,
+        first: ROW,
+        last: ROW,
+    },
+    ChromaCase {
+        mode: WholeMode::V,
+        above: false,
+        left: true,
+        corner: 0,
+        first: [127; 8],
+        last: [127; 8],
+    },
+    ChromaCase {
+        mode: WholeMode::H,
+        above: false,
+        left: true,
+        corner: 0,
+        first: [3; 8],
+        last: [17; 8],
+    },
+    ChromaCase {
+        mode: WholeMode::H,
+        above: true,
+        left: false,
+        corner: 0,
+        first: [129; 8],
+        last: [129; 8],
+    },
+    // 3 + 10 - 40, .., 3 + 80 - 40; 17 + 10 - 40, .., 17 + 80 - 40.
+    ChromaCase {
+        mode: WholeMode::Tm,
+        above: true,
+        left: true,
+        corner: 40,
+        first: [0, 0, 0, 3, 13, 23, 33, 43],
+        last: [0, 0, 7, 17, 27, 37, 47, 57],
+    },
+    // 3 + 127 - 40, 17 + 127 - 40; 129 + 10 - 40, .., 129 + 80 - 40; 129 + 127 - 127.
+    ChromaCase {
+        mode: WholeMode::Tm,
+        above: false,
+        left: true,
+        corner: 40,
+        first: [90; 8],
+        last: [104; 8],
+    },
+    ChromaCase {
+        mode: WholeMode::Tm,
+        above: true,
+        left: false,
+        corner: 40,
+        first: [99, 109, 119, 129, 139, 149, 159, 169],
+        last: [99, 109, 119, 129, 139, 149, 159, 169],
+    },
+    ChromaCase {
+        mode: WholeMode::Tm,
+        above: false,
+        left: false,
+        corner: 127,
+        first: [129; 8],
+        last: [129; 8],
+    },
+];
+
 #[test]
 fn chroma_blocks_are_as_worked_by_hand(rt: HostRuntime) {
-    for (mode, above, left, corner, first, last) in [
-        // (360 + 80 + 8) / 16, (360 + 4) / 8 = 45.5, (80 + 4) / 8 = 10.5, and 128 with no side.
-        (WholeMode::Dc, true, true, 0, [28; 8], [28; 8]),
-        (WholeMode::Dc, true, false, 0, [45; 8], [45; 8]),
-        (WholeMode::Dc, false, true, 0, [10; 8], [10; 8]),
-        (WholeMode::Dc, false, false, 0, [128; 8], [128; 8]),
-        // 127 above the frame, and 129 to its left.
-        (WholeMode::V, true, false, 0, ROW, ROW),
-        (WholeMode::V, false, true, 0, [127; 8], [127; 8]),
-        (WholeMode::H, false, true, 0, [3; 8], [17; 8]),
-        (WholeMode::H, true, false, 0, [129; 8], [129; 8]),
-        // 3 + 10 - 40, .., 3 + 80 - 40; 17 + 10 - 40, .., 17 + 80 - 40.
-        (
-            WholeMode::Tm,
-            true,
-            true,
-            40,
-            [0, 0, 0, 3, 13, 23, 33, 43],
-            [0, 0, 7, 17, 27, 37, 47, 57],
-        ),
-        // 3 + 127 - 40, 17 + 127 - 40; 129 + 10 - 40, .., 129 + 80 - 40; 129 + 127 - 127.
-        (WholeMode::Tm, false, true, 40, [90; 8], [104; 8]),
-        (
-            WholeMode::Tm,
-            true,
-            false,
-            40,
-            [99, 109, 119, 129, 139, 149, 159, 169],
-            [99, 109, 119, 129, 139, 149, 159, 169],
-        ),
-        (WholeMode::Tm, false, false, 127, [129; 8], [129; 8]),
-    ] {
-        let block = chroma(mode, above, left, corner);
-        assert_eq!(rt; &block[..8], first.as_slice(), "{mode:?} {above} {left}");
-        assert_eq!(rt; &block[56..], last.as_slice(), "{mode:?} {above} {left}");
+    for case in CHROMA {
+        expect_chroma(&rt, case);
     }
 }
 
-/// The first and the last row of luma blocks whose sides are all 200 above and all 101 to the left.
+fn expect_chroma<R: Abort>(rt: &R, case: &ChromaCase) {
+    let (mode, above, left) = (case.mode, case.above, case.left);
+    let block = chroma(mode, above, left, case.corner);
+    assert!(rt;
+        &block[..8] == case.first.as_slice(),
+        "{mode:?} {above} {left}"
+    );
+    assert!(rt;
+        &block[56..] == case.last.as_slice(),
+        "{mode:?} {above} {left}"
+    );
+}
+
+/// Luma blocks whose sides are all 200 above and all 101 to the left: the mode, the corner, and the
+/// value of all samples.
+const LUMA: &[(WholeMode, u8, u8)] = &[
+    // (16 * 200 + 16 * 101 + 16) / 32 = 151; 101 + 200 - 46 = 255; 101 + 200 - 20 = 281 is
+    // clamped.
+    (WholeMode::Dc, 0, 151),
+    (WholeMode::V, 0, 200),
+    (WholeMode::H, 0, 101),
+    (WholeMode::Tm, 46, 255),
+    (WholeMode::Tm, 47, 254),
+    (WholeMode::Tm, 20, 255),
+];
+
+fn luma(mode: WholeMode, corner: u8) -> [u8; 256] {
+    let mut block = [0; 256];
+    let (above, left) = (Some([200; 16].as_slice()), Some([101; 16].as_slice()));
+    whole(
+        mode,
+        BlockSize::Sixteen,
+        above,
+        left,
+        corner,
+        &mut block,
+        16,
+    );
+    block
+}
+
 #[test]
 fn luma_blocks_are_as_worked_by_hand(rt: HostRuntime) {
-    for (mode, corner, value) in [
-        // (16 * 200 + 16 * 101 + 16) / 32 = 151; 101 + 200 - 46 = 255; 101 + 200 - 20 = 281 is
-        // clamped.
-        (WholeMode::Dc, 0, 151),
-        (WholeMode::V, 0, 200),
-        (WholeMode::H, 0, 101),
-        (WholeMode::Tm, 46, 255),
-        (WholeMode::Tm, 47, 254),
-        (WholeMode::Tm, 20, 255),
-    ] {
-        let mut block = [0; 256];
-        whole(
-            mode,
-            BlockSize::Sixteen,
-            Some(&[200; 16]),
-            Some(&[101; 16]),
-            corner,
-            &mut block,
-            16,
-        );
-        assert_eq!(rt; block.as_slice(), [value; 256].as_slice(), "{mode:?}");
+    for (mode, corner, value) in LUMA {
+        assert!(rt; luma(*mode, *corner) == [*value; 256], "{mode:?}");
     }
 }
 
@@ -190,6 +292,14 @@ fn luma_blocks_are_as_worked_by_hand(rt: HostRuntime) {
 /// the block has the first 8, and a last row of which it has none.
 #[test]
 fn samples_round_a_block_are_unchanged(rt: HostRuntime) {
+    let samples = among_sevens();
+    for row in samples.chunks(10).take(8) {
+        assert!(rt; row == [10, 20, 30, 40, 50, 60, 70, 80, 7, 7].as_slice());
+    }
+    assert!(rt; &samples[80..] == [7; 10].as_slice());
+}
+
+fn among_sevens() -> [u8; 90] {
     let mut samples = [7; 90];
     let above = Some(ROW.as_slice());
     whole(
@@ -201,9 +311,5 @@ fn samples_round_a_block_are_unchanged(rt: HostRuntime) {
         &mut samples,
         10,
     );
-    let line = [10, 20, 30, 40, 50, 60, 70, 80, 7, 7];
-    for row in 0..8 {
-        assert_eq!(rt; &samples[10 * row..10 * row + 10], line.as_slice(), "{row}");
-    }
-    assert_eq!(rt; &samples[80..], [7; 10].as_slice());
+    samples
 }

@@ -60,6 +60,64 @@ fn products_keep_sixteen_bits(rt: HostRuntime) {
     assert_eq!(rt; dequantise(&tokens, 157, 440), expected);
 }
 
+/// Quantizers of a header, and the factors of a macroblock without a segment.
+const FACTORS: &[(Quantizers, Factors)] = &[
+    (
+        Quantizers {
+            y_ac_index: 0,
+            y_dc_delta: 0,
+            y2_dc_delta: 0,
+            y2_ac_delta: 0,
+            uv_dc_delta: 0,
+            uv_ac_delta: 0,
+        },
+        Factors {
+            y_dc: 4,
+            y_ac: 4,
+            y2_dc: 8,
+            y2_ac: 8,
+            uv_dc: 4,
+            uv_ac: 4,
+        },
+    ),
+    (
+        Quantizers {
+            y_ac_index: 127,
+            y_dc_delta: 0,
+            y2_dc_delta: 0,
+            y2_ac_delta: 0,
+            uv_dc_delta: 0,
+            uv_ac_delta: 0,
+        },
+        Factors {
+            y_dc: 157,
+            y_ac: 284,
+            y2_dc: 314,
+            y2_ac: 440,
+            uv_dc: 132,
+            uv_ac: 284,
+        },
+    ),
+    (
+        Quantizers {
+            y_ac_index: 120,
+            y_dc_delta: 15,
+            y2_dc_delta: -15,
+            y2_ac_delta: 3,
+            uv_dc_delta: -3,
+            uv_ac_delta: 1,
+        },
+        Factors {
+            y_dc: 157,
+            y_ac: 249,
+            y2_dc: 212,
+            y2_ac: 409,
+            uv_dc: 132,
+            uv_ac: 254,
+        },
+    ),
+];
+
 #[test]
 fn factors_are_held(rt: HostRuntime) {
     let packet = [0x10, 0, 0, 0x9D, 0x01, 0x2A, 16, 0, 16, 0];
@@ -67,49 +125,10 @@ fn factors_are_held(rt: HostRuntime) {
         &rt,
         "a key frame of zeros",
     );
-    let least = Factors {
-        y_dc: 4,
-        y_ac: 4,
-        y2_dc: 8,
-        y2_ac: 8,
-        uv_dc: 4,
-        uv_ac: 4,
-    };
-    assert_eq!(rt; factors(&header, 0), least);
-    header.quantizers = Quantizers {
-        y_ac_index: 127,
-        y_dc_delta: 0,
-        y2_dc_delta: 0,
-        y2_ac_delta: 0,
-        uv_dc_delta: 0,
-        uv_ac_delta: 0,
-    };
-    let greatest = Factors {
-        y_dc: 157,
-        y_ac: 284,
-        y2_dc: 314,
-        y2_ac: 440,
-        uv_dc: 132,
-        uv_ac: 284,
-    };
-    assert_eq!(rt; factors(&header, 0), greatest);
-    header.quantizers = Quantizers {
-        y_ac_index: 120,
-        y_dc_delta: 15,
-        y2_dc_delta: -15,
-        y2_ac_delta: 3,
-        uv_dc_delta: -3,
-        uv_ac_delta: 1,
-    };
-    let changed = Factors {
-        y_dc: 157,
-        y_ac: 249,
-        y2_dc: 212,
-        y2_ac: 409,
-        uv_dc: 132,
-        uv_ac: 254,
-    };
-    assert_eq!(rt; factors(&header, 0), changed);
+    for (quantizers, expected) in FACTORS {
+        header.quantizers = *quantizers;
+        assert!(rt; factors(&header, 0) == *expected, "{quantizers:?}");
+    }
 }
 
 /// Factors of luma only, which show the index: 4 + index for both while it is below 7.

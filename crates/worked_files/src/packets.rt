@@ -143,16 +143,9 @@ fn bytes_of(alloc: Global, bytes: &[u8]) -> Result<Bytes, EditFault> {
 
 /// A store with these packets, whose first has the id `first_id`.
 fn stored(alloc: Global, first_id: u64, rows: &[(u64, &[u8])]) -> Result<Store, EditFault> {
-    let mut store = Store::starting(alloc, first_id);
     let packets = packets_of(alloc, rows).map_err(|_| EditFault::NoMemory)?;
-    store.push_all(packets)?;
-    Ok(store)
-}
-
-/// A store with 1,048,576 packets of no bytes, the first with the id `first_id`.
-fn full_store(alloc: Global, first_id: u64) -> Result<Store, EditFault> {
     let mut store = Store::starting(alloc, first_id);
-    push_empty(alloc, &mut store, 1_048_576)?;
+    store.push_all(packets)?;
     Ok(store)
 }
 
@@ -182,23 +175,77 @@ fn expect_faults<R: Abort>(
     }
 }
 
-/// Edits of a list of packets, the first of which has the id `first_id`. Copies of other packets are
-/// those of `other`. The faults come first, then the steps.
+/// What is done to a store, or asked of it.
+enum Check {
+    /// Edits that are answered with these errors, and change nothing.
+    Faults(&'static [(Edit, EditFault)]),
+    /// Edits with their answers, and what each leaves.
+    Steps(&'static [Step]),
+    /// Edits, after each of which exactly the packets at these indexes are marked.
+    Marks(&'static [(Edit, &'static [usize])]),
+    /// The same, and the marks are found one after another.
+    Found(&'static [(Edit, &'static [usize])]),
+    /// The number of packets, and exactly the marked ones.
+    Left(usize, &'static [usize]),
+    /// How many packets are shown, and the index of the shown packet with each number.
+    Shown(usize, &'static [(u64, Option<usize>)]),
+    /// The last packet with a key tag before each index.
+    LastKeys(&'static [(usize, Option<usize>)]),
+    /// The first packet with a key tag from an index on, before another.
+    NextKeys(&'static [(usize, usize, Option<usize>)]),
+    /// The size in the last key packet before each index.
+    Sizes(&'static [(u64, Option<(u16, u16)>)]),
+    /// The bytes of the file that is saved.
+    Saved(&'static [u8]),
+    /// And of the file that is saved padded.
+    Padded(&'static [u8]),
+}
+
+/// A list of packets, the first of which has the id `first_id`, and its checks in sequence. Copies of
+/// other packets are those of `other`.
 struct Case {
     first_id: u64,
     other: &'static [(u64, &'static [u8])],
     packets: &'static [(u64, &'static [u8])],
-    faults: &'static [(Edit, EditFault)],
-    steps: &'static [Step],
+    checks: &'static [Check],
 }
 
-/// Makes the edits of a case. A test that only calls this is proved in a second or two.
+/// Makes the checks of a case. A test that only calls this is proved in a second or two.
 fn expect_case<R: Abort>(rt: &R, alloc: Global, case: &Case) -> Result<(), Fail> {
     let other = stored(alloc, 0, case.other)?;
     let mut store = stored(alloc, case.first_id, case.packets)?;
-    expect_faults(rt, alloc, &mut store, &other, case.faults);
-    expect_steps(rt, alloc, &mut store, &other, case.steps);
+    expect_checks(rt, alloc, &mut store, &other, case.checks);
     Ok(())
+}
+
+fn expect_checks<R: Abort>(
+    rt: &R,
+    alloc: Global,
+    store: &mut Store,
+    other: &Store,
+    checks: &[Check],
+) {
+    for check in checks {
+        expect_check(rt, alloc, store, other, check);
+    }
+}
+
+fn expect_check<R: Abort>(rt: &R, alloc: Global, store: &mut Store, other: &Store, check: &Check) {
+    match check {
+        Check::Faults(cases) => expect_faults(rt, alloc, store, other, cases),
+        Check::Steps(steps) => expect_steps(rt, alloc, store, other, steps),
+        Check::Marks(cases) => expect_marks(rt, alloc, store, other, cases),
+        Check::Found(cases) => expect_found(rt, alloc, store, other, cases),
+        Check::Left(count, marked) => {
+            assert!(rt; store.len() == *count && marks(store, marked), "{count}");
+        }
+        Check::Shown(count, cases) => expect_shown(rt, store, *count, cases),
+        Check::LastKeys(keys) => expect_last_keys(rt, store, keys),
+        Check::NextKeys(keys) => expect_next_keys(rt, store, keys),
+        Check::Sizes(sizes) => expect_sizes(rt, store, sizes),
+        Check::Saved(bytes) => expect_saved(rt, alloc, store, bytes),
+        Check::Padded(bytes) => expect_padded(rt, alloc, store, bytes),
+    }
 }
 
 const A: Row = (0, 10, b"a");
@@ -212,8 +259,7 @@ const INSERTIONS: Case = Case {
     first_id: 0,
     other: &[],
     packets: &[(10, b"a"), (20, HIDDEN), (30, SHOWN)],
-    faults: &[],
-    steps: &[
+    checks: &[Check::Steps(&[
         Step {
             edit: Edit::Push(0),
             answer: Ok(()),
@@ -228,7 +274,7 @@ const INSERTIONS: Case = Case {
             shown: &[0, 1, 3],
             marked: &[2],
         },
-    ],
+    ])],
 };
 
 /// Moves in sequence.
@@ -241,8 +287,7 @@ const MOVED: Case = Case {
     first_id: 0,
     other: &[],
     packets: &[(10, b"a"), (15, SHOWN), (20, HIDDEN), (30, SHOWN)],
-    faults: &[],
-    steps: MOVES,
+    checks: &[Check::Steps(MOVES)],
 };
 
 const B: Row = (1, 15, SHOWN);
@@ -286,8 +331,7 @@ const COPIED: Case = Case {
     first_id: 0,
     other: &[(10, b"a"), (20, HIDDEN)],
     packets: &[(30, SHOWN)],
-    faults: &[],
-    steps: COPIES,
+    checks: &[Check::Steps(COPIES)],
 };
 
 const OWN: Row = (0, 30, SHOWN);
@@ -332,16 +376,22 @@ const COPIES: &[Step] = &[
 /// The errors of copies, in their order.
 #[test]
 fn copies_that_are_refused(rt: HostRuntime) -> Result<(), Fail> {
-    let alloc = rt.alloc();
-    let source = stored(alloc, 0, &[(10, b"a")])?;
-    // The last packet has the greatest id that a packet may have.
-    let mut full = full_store(alloc, LAST - 1_048_576)?;
-    expect_faults(&rt, alloc, &mut full, &source, COPIES_INTO_FULL);
-    assert_eq!(rt; full.delete(1), Ok(()));
-    expect_faults(&rt, alloc, &mut full, &source, COPIES_WITHOUT_IDS);
-    assert!(rt; full.len() == 1_048_575 && marks(&full, &[1]));
-    Ok(())
+    expect_case(&rt, rt.alloc(), &COPIES_REFUSED)
 }
+
+// The last of 1,048,576 packets has the greatest id that a packet may have.
+const COPIES_REFUSED: Case = Case {
+    first_id: LAST - 1_048_576,
+    other: &[(10, b"a")],
+    packets: &[],
+    checks: &[
+        Check::Marks(&[(Edit::Push(1_048_576), &[])]),
+        Check::Faults(COPIES_INTO_FULL),
+        Check::Marks(&[(Edit::Delete(1), &[1])]),
+        Check::Faults(COPIES_WITHOUT_IDS),
+        Check::Left(1_048_575, &[1]),
+    ],
+};
 
 const COPIES_INTO_FULL: &[(Edit, EditFault)] = &[
     (Edit::Copy(1_048_577, 0), EditFault::Place),
@@ -368,8 +418,7 @@ const REPLACED: Case = Case {
     first_id: 0,
     other: &[],
     packets: &[(30, SHOWN), (20, HIDDEN), (15, SHOWN), (10, b"a")],
-    faults: &[],
-    steps: REPLACEMENTS,
+    checks: &[Check::Steps(REPLACEMENTS)],
 };
 
 const OLD: Row = (3, 10, b"a");
@@ -410,8 +459,7 @@ const TWO: Case = Case {
     first_id: 0,
     other: &[],
     packets: &[(10, b"a"), (20, b"b")],
-    faults: OUTSIDE,
-    steps: AT_THE_END,
+    checks: &[Check::Faults(OUTSIDE), Check::Steps(AT_THE_END)],
 };
 
 const OUTSIDE: &[(Edit, EditFault)] = &[
@@ -455,16 +503,14 @@ const ONE_ID_LEFT: Case = Case {
     first_id: LAST - 1,
     other: &[],
     packets: &[],
-    faults: &[],
-    steps: LAST_ID,
+    checks: &[Check::Steps(LAST_ID)],
 };
 
 const NO_ID_LEFT: Case = Case {
     first_id: LAST,
     other: &[],
     packets: &[],
-    faults: &[],
-    steps: NO_ID,
+    checks: &[Check::Steps(NO_ID)],
 };
 
 const LAST_ROW: Row = (LAST - 1, 7, b"x");
@@ -538,16 +584,24 @@ const NO_ID: &[Step] = &[Step {
 
 #[test]
 fn the_most_packets(rt: HostRuntime) -> Result<(), Fail> {
-    let alloc = rt.alloc();
-    let none = Store::starting(alloc, 0);
-    let mut store = full_store(alloc, 0)?;
-    expect_faults(&rt, alloc, &mut store, &none, NO_ROOM);
-    make(alloc, &mut store, &none, Edit::Delete(0))?;
-    make(alloc, &mut store, &none, Edit::Insert(0, 0, HIDDEN))?;
-    assert!(rt; store.frames() == 1_048_575 && store.shown(1_048_575).is_none());
-    assert_eq!(rt; store.shown(1_048_574), Some(1_048_575));
-    Ok(())
+    expect_case(&rt, rt.alloc(), &MOST)
 }
+
+const MOST: Case = Case {
+    first_id: 0,
+    other: &[],
+    packets: &[],
+    checks: &[
+        Check::Marks(&[(Edit::Push(1_048_576), &[])]),
+        Check::Faults(NO_ROOM),
+        Check::Marks(&[(Edit::Delete(0), &[0]), (Edit::Insert(0, 0, HIDDEN), &[1])]),
+        Check::Shown(
+            1_048_575,
+            &[(1_048_575, None), (1_048_574, Some(1_048_575))],
+        ),
+        Check::Left(1_048_576, &[1]),
+    ],
+};
 
 const NO_ROOM: &[(Edit, EditFault)] = &[
     (Edit::Push(1), EditFault::Full),
@@ -558,12 +612,15 @@ const NO_ROOM: &[(Edit, EditFault)] = &[
 /// The marks after each edit of four packets, and marks that are set and removed.
 #[test]
 fn marks_of_edits(rt: HostRuntime) -> Result<(), Fail> {
-    let alloc = rt.alloc();
-    let mut store = stored(alloc, 0, FOUR_SHOWN)?;
-    let none = Store::starting(alloc, 0);
-    expect_marks(&rt, alloc, &mut store, &none, MARKED);
-    Ok(())
+    expect_case(&rt, rt.alloc(), &FOUR_MARKED)
 }
+
+const FOUR_MARKED: Case = Case {
+    first_id: 0,
+    other: &[],
+    packets: &[(0, SHOWN), (0, SHOWN), (0, SHOWN), (0, SHOWN)],
+    checks: &[Check::Marks(MARKED)],
+};
 
 /// Makes edits in sequence, after each of which exactly the packets at these indexes are marked.
 fn expect_marks<R: Abort>(
@@ -578,8 +635,6 @@ fn expect_marks<R: Abort>(
         assert!(rt; marks(store, marked), "{edit:?}");
     }
 }
-
-const FOUR_SHOWN: &[(u64, &[u8])] = &[(0, SHOWN), (0, SHOWN), (0, SHOWN), (0, SHOWN)];
 
 const MARKED: &[(Edit, &[usize])] = &[
     (Edit::Insert(1, 0, HIDDEN), &[2]),
@@ -651,13 +706,25 @@ fn expect_found<R: Abort>(
 /// and after the last whole run. The only key packet is at index 1,024.
 #[test]
 fn marks_of_long_lists(rt: HostRuntime) -> Result<(), Fail> {
-    let alloc = rt.alloc();
-    let none = Store::starting(alloc, 0);
-    let mut store = Store::starting(alloc, 0);
-    expect_found(&rt, alloc, &mut store, &none, FOUND);
-    expect_last_keys(&rt, &store, LAST_KEYS);
-    expect_next_keys(&rt, &store, NEXT_KEYS);
-    Ok(())
+    expect_case(&rt, rt.alloc(), &LONG_LIST)
+}
+
+const LONG_LIST: Case = Case {
+    first_id: 0,
+    other: &[],
+    packets: &[],
+    checks: &[
+        Check::Found(FOUND),
+        Check::LastKeys(LAST_KEYS),
+        Check::NextKeys(NEXT_KEYS),
+    ],
+};
+
+fn expect_shown<R: Abort>(rt: &R, store: &Store, count: usize, cases: &[(u64, Option<usize>)]) {
+    assert!(rt; store.frames() == count);
+    for (number, place) in cases {
+        assert!(rt; store.shown(*number) == *place, "{number}");
+    }
 }
 
 fn expect_last_keys<R: Abort>(rt: &R, store: &Store, keys: &[(usize, Option<usize>)]) {
@@ -704,11 +771,7 @@ const NEXT_KEYS: &[(usize, usize, Option<usize>)] = &[
 /// The size in the last key packet before each index.
 #[test]
 fn sizes_before_places(rt: HostRuntime) -> Result<(), Fail> {
-    let mut store = stored(rt.alloc(), 0, SIZED)?;
-    expect_sizes(&rt, &store, SIZES);
-    store.delete(4)?;
-    assert_eq!(rt; store.size_at(LAST), Some((300, 9)));
-    Ok(())
+    expect_case(&rt, rt.alloc(), &SIZED)
 }
 
 fn expect_sizes<R: Abort>(rt: &R, store: &Store, sizes: &[(u64, Option<(u16, u16)>)]) {
@@ -718,14 +781,23 @@ fn expect_sizes<R: Abort>(rt: &R, store: &Store, sizes: &[(u64, Option<(u16, u16
 }
 
 /// A key packet of 16 by 9 samples, one of 300 by 9, and one that is cut off before its size.
-const SIZED: &[(u64, &[u8])] = &[
-    (0, SHOWN),
-    (0, &[0x10, 0, 0, 0x9D, 1, 0x2A, 16, 0, 9, 0x40]),
-    (0, HIDDEN),
-    (0, &[0x10, 0, 0, 0x9D, 1, 0x2A, 0x2C, 0x81, 9, 0, 7]),
-    (0, &[0x10, 0, 0, 0x9D, 1, 0x2A]),
-    (0, SHOWN),
-];
+const SIZED: Case = Case {
+    first_id: 0,
+    other: &[],
+    packets: &[
+        (0, SHOWN),
+        (0, &[0x10, 0, 0, 0x9D, 1, 0x2A, 16, 0, 9, 0x40]),
+        (0, HIDDEN),
+        (0, &[0x10, 0, 0, 0x9D, 1, 0x2A, 0x2C, 0x81, 9, 0, 7]),
+        (0, &[0x10, 0, 0, 0x9D, 1, 0x2A]),
+        (0, SHOWN),
+    ],
+    checks: &[
+        Check::Sizes(SIZES),
+        Check::Marks(&[(Edit::Delete(4), &[4])]),
+        Check::Sizes(&[(LAST, Some((300, 9)))]),
+    ],
+};
 
 const SIZES: &[(u64, Option<(u16, u16)>)] = &[
     (0, None),
@@ -759,34 +831,61 @@ const HEAD: Head = Head {
     scale: 1,
 };
 
-/// A header with the number of packets, and one record per packet.
-const SAVED: [u8; 59] = [
+/// A header with the number of packets.
+const EMPTY: &[u8] = &[
+    b'D', b'K', b'I', b'F', 0, 0, 32, 0, b'V', b'P', b'8', b'0', 16, 0, 9, 0, 30, 0, 0, 0, 1, 0, 0,
+    0, 0, 0, 0, 0, 0, 0, 0, 0,
+];
+
+/// The same, and one record per packet.
+const SAVED: &[u8] = &[
     b'D', b'K', b'I', b'F', 0, 0, 32, 0, b'V', b'P', b'8', b'0', 16, 0, 9, 0, 30, 0, 0, 0, 1, 0, 0,
     0, 2, 0, 0, 0, 0, 0, 0, 0, //
     3, 0, 0, 0, 20, 0, 0, 0, 0, 0, 0, 0, 0x11, 0, 0, //
     0, 0, 0, 0, 1, 2, 0, 0, 0, 0, 0, 0x80,
 ];
 
+/// A file of no packets, and one of two.
 #[test]
 fn saves_the_packets(rt: HostRuntime) -> Result<(), Fail> {
     let alloc = rt.alloc();
-    let mut store = Store::starting(alloc, 7);
-    let mut none = Vec::new(alloc);
-    assert_eq!(rt; store.save(&mut none, HEAD), Ok(()));
-    assert_eq!(rt; (none.len(), none[24]), (32, 0));
-    let rows = &[(20, SHOWN), (0x8000_0000_0000_0201, b"".as_slice())];
-    assert_eq!(rt; store.push_all(packets_of(alloc, rows)?), Ok(()));
+    expect_case(&rt, alloc, &NO_PACKETS)?;
+    expect_case(&rt, alloc, &TWO_PACKETS)
+}
+
+const NO_PACKETS: Case = Case {
+    first_id: 7,
+    other: &[],
+    packets: &[],
+    checks: &[Check::Saved(EMPTY)],
+};
+
+const TWO_PACKETS: Case = Case {
+    first_id: 7,
+    other: &[],
+    packets: &[(20, SHOWN), (0x8000_0000_0000_0201, b"")],
+    checks: &[Check::Saved(SAVED)],
+};
+
+/// Saves the packets, and saves them into a writer that returns only errors.
+fn expect_saved<R: Abort>(rt: &R, alloc: Global, store: &Store, bytes: &[u8]) {
     let mut saved = Vec::new(alloc);
-    assert_eq!(rt; store.save(&mut saved, HEAD), Ok(()));
-    assert_eq!(rt; saved.as_slice(), SAVED.as_slice());
-    assert_eq!(rt; store.save(&mut Broken {}, HEAD), Err(WriteFault::Write));
-    Ok(())
+    assert!(rt; store.save(&mut saved, HEAD) == Ok(()));
+    assert!(rt; saved.as_slice() == bytes);
+    assert!(rt; store.save(&mut Broken {}, HEAD) == Err(WriteFault::Write));
+}
+
+fn expect_padded<R: Abort>(rt: &R, alloc: Global, store: &Store, bytes: &[u8]) {
+    let mut saved = Vec::new(alloc);
+    assert!(rt; store.save_padded(&mut saved, HEAD) == Ok(()));
+    assert!(rt; saved.as_slice() == bytes);
+    assert!(rt; store.save_padded(&mut Broken {}, HEAD) == Err(WriteFault::Write));
 }
 
 /// Packets whose last token partition is empty: a key frame, another frame, and a key frame with two
 /// partitions, whose first has one byte. Then packets that are saved as they are: with a byte in the last
 /// partition, of no bytes, too short for a tag, of version 4, and without a start code.
-const UNPADDED: &[(u64, &[u8])] = &[
+const UNPADDED_PACKETS: &[(u64, &[u8])] = &[
     (0, &[0x10, 0, 0, 0x9D, 0x01, 0x2A, 0x10, 0, 0x10, 0]),
     (1, &[0x11, 0, 0]),
     (
@@ -837,18 +936,15 @@ const PADDED: &[u8] = &[
 
 #[test]
 fn pads_empty_last_partitions(rt: HostRuntime) -> Result<(), Fail> {
-    let alloc = rt.alloc();
-    let mut store = Store::starting(alloc, 0);
-    assert_eq!(rt; store.push_all(packets_of(alloc, UNPADDED)?), Ok(()));
-    let mut saved = Vec::new(alloc);
-    assert_eq!(rt; store.save_padded(&mut saved, HEAD), Ok(()));
-    assert_eq!(rt; saved.as_slice(), PADDED);
-    assert_eq!(rt;
-        store.save_padded(&mut Broken {}, HEAD),
-        Err(WriteFault::Write)
-    );
-    Ok(())
+    expect_case(&rt, rt.alloc(), &UNPADDED)
 }
+
+const UNPADDED: Case = Case {
+    first_id: 0,
+    other: &[],
+    packets: UNPADDED_PACKETS,
+    checks: &[Check::Padded(PADDED)],
+};
 
 #[test]
 fn words(rt: HostRuntime) {

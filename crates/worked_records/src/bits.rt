@@ -113,9 +113,16 @@ fn mark_counts_bits_taken_in(rt: HostRuntime) {
         let _bits = (decoder.bit(prob), reader.bit(prob));
     }
     assert_eq!(rt; decoder.left(), 0);
-    assert_eq!(rt; Decoder::new(&[]).left(), 0);
-    assert_eq!(rt; Decoder::new(&[0xFF]).left(), 0);
-    assert_eq!(rt; Decoder::new(&[0, 0x40, 0]).left(), 2);
+}
+
+/// How many bits are left before any is read.
+const LEFT: &[(&[u8], u128)] = &[(&[], 0), (&[0xFF], 0), (&[0, 0x40, 0], 2)];
+
+#[test]
+fn mark_is_the_last_one(rt: HostRuntime) {
+    for (text, bits) in LEFT {
+        assert!(rt; Decoder::new(text).left() == *bits, "{text:?}");
+    }
 }
 
 #[test]
@@ -150,18 +157,35 @@ fn step_of(text: &[u8], probs: [u8; 3]) -> u8 {
     Decoder::new(text).tree(&STEPS, &probs)
 }
 
+/// Numbers of so many bits.
+const NUMBERS: &[(&[u8], u32, u16)] = &[
+    (&[0x9F, 0xC0], 3, 0b101),
+    (&[0xFF; 4], 16, 0xFFFF),
+    (&[], 16, 0),
+];
+
+/// Signed numbers of so many bits without the sign.
+const SIGNED: &[(&[u8], u32, i16)] = &[(&[0xC0], 1, 1), (&[0xFF; 4], 15, -32_767), (&[], 15, 0)];
+
+const LEAVES: &[(&[u8], u8)] = &[(&[], 0), (&[0x9F, 0xC0], 1), (&[0xC0], 2), (&[0xFF; 4], 3)];
+
 // The bits are those of the test above. 0xC0 is 192: 1 leaves 64 of 127, doubled 128 of 254; 1
 // leaves 1 of 127, doubled 2 of 254, which is below the split at 127.
 #[test]
 fn reads_numbers_and_leaves(rt: HostRuntime) {
-    assert_eq!(rt; Decoder::new(&[0x9F, 0xC0]).literal(3), 0b101);
-    assert_eq!(rt; Decoder::new(&[0xFF; 4]).literal(16), 0xFFFF);
-    assert_eq!(rt; Decoder::new(&[]).literal(16), 0);
-    assert_eq!(rt; Decoder::new(&[0xC0]).signed(1), 1);
-    assert_eq!(rt; Decoder::new(&[0xFF; 4]).signed(15), -32_767);
-    assert_eq!(rt; Decoder::new(&[]).signed(15), 0);
-    assert_eq!(rt; step_of(&[], [128; 3]), 0);
-    assert_eq!(rt; step_of(&[0x9F, 0xC0], [128; 3]), 1);
-    assert_eq!(rt; step_of(&[0xC0], [128; 3]), 2);
-    assert_eq!(rt; step_of(&[0xFF; 4], [128; 3]), 3);
+    for (text, count, number) in NUMBERS {
+        assert!(rt;
+            Decoder::new(text).literal((*count).min(16)) == *number,
+            "{text:?}"
+        );
+    }
+    for (text, count, number) in SIGNED {
+        assert!(rt;
+            Decoder::new(text).signed((*count).min(15)) == *number,
+            "{text:?}"
+        );
+    }
+    for (text, leaf) in LEAVES {
+        assert!(rt; step_of(text, [128; 3]) == *leaf, "{text:?}");
+    }
 }

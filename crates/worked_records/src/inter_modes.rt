@@ -1,5 +1,5 @@
 use bool_coder::Encoder;
-use frame_header::{Reference, read_header};
+use frame_header::{Header, Reference, read_header};
 use intra_predict::{SubMode, WholeMode};
 use mode_parser::{MbMode, Vector, VectorMode, YMode, chroma_vector, read_modes};
 use std::alloc::{AllocError, Global};
@@ -31,6 +31,56 @@ fn write_byte(encoder: &mut Encoder, byte: u8) -> Result<(), AllocError> {
     Ok(())
 }
 
+/// The probabilities of skipping, of a reference, of the last frame and of golden, and no change of the
+/// others.
+fn write_probabilities(encoder: &mut Encoder, probabilities: [u8; 4]) -> Result<(), AllocError> {
+    for probability in probabilities {
+        write_byte(encoder, probability)?;
+    }
+    write_pairs(encoder, &[(0, 128), (0, 128)])?;
+    for component in &VECTOR_UPDATE_PROBABILITIES {
+        for prob in component {
+            encoder.bit(false, *prob)?;
+        }
+    }
+    Ok(())
+}
+
+/// So many bits of 0, but 1 for the sign bias of golden, no change of coefficients, the probabilities
+/// if there are any, and the macroblocks.
+fn write_frame(
+    encoder: &mut Encoder,
+    tables: &Tables,
+    zeros: usize,
+    rest: &[&[Pair]],
+    probabilities: Option<[u8; 4]>,
+) -> Result<(), AllocError> {
+    for field in 0..zeros {
+        encoder.bit(field == GOLDEN_BIAS, 128)?;
+    }
+    for prob in tables.updates() {
+        encoder.bit(false, *prob)?;
+    }
+    encoder.bit(probabilities.is_some(), 128)?;
+    if let Some(probabilities) = probabilities {
+        write_probabilities(encoder, probabilities)?;
+    }
+    for part in rest {
+        write_pairs(encoder, part)?;
+    }
+    Ok(())
+}
+
+/// A packet of a tag and a first partition.
+fn joined(alloc: Global, is_inter: bool, tag: &[u8], first: &[u8]) -> Result<Vec<u8>, AllocError> {
+    let size = 0x10 + is_inter as u32 + 32 * (first.len() % 524_288) as u32;
+    let mut packet = Vec::new(alloc);
+    packet.extend_from_slice(&size.to_le_bytes()[..3])?;
+    packet.extend_from_slice(tag)?;
+    packet.extend_from_slice(first)?;
+    Ok(packet)
+}
+
 /// A packet of a tag, and of a first partition that begins with so many bits of 0, but 1 for the
 /// sign bias of golden, and without a change of coefficients.
 fn packet_of(
@@ -42,35 +92,9 @@ fn packet_of(
     probabilities: Option<[u8; 4]>,
 ) -> Result<Vec<u8>, AllocError> {
     let mut encoder = Encoder::new(alloc);
-    for field in 0..zeros {
-        encoder.bit(field == GOLDEN_BIAS, 128)?;
-    }
-    for prob in tables.updates() {
-        encoder.bit(false, *prob)?;
-    }
-    encoder.bit(probabilities.is_some(), 128)?;
-    if let Some(probabilities) = probabilities {
-        for probability in probabilities {
-            write_byte(&mut encoder, probability)?;
-        }
-        write_pairs(&mut encoder, &[(0, 128), (0, 128)])?;
-        for component in &VECTOR_UPDATE_PROBABILITIES {
-            for prob in component {
-                encoder.bit(false, *prob)?;
-            }
-        }
-    }
-    for part in rest {
-        write_pairs(&mut encoder, part)?;
-    }
+    write_frame(&mut encoder, tables, zeros, rest, probabilities)?;
     let first = encoder.finish()?;
-    let is_inter = probabilities.is_some() as u32;
-    let size = 0x10 + is_inter + 32 * (first.len() % 524_288) as u32;
-    let mut packet = Vec::new(alloc);
-    packet.extend_from_slice(&size.to_le_bytes()[..3])?;
-    packet.extend_from_slice(tag)?;
-    packet.extend_from_slice(first.as_slice())?;
-    Ok(packet)
+    joined(alloc, probabilities.is_some(), tag, &first)
 }
 
 /// Whether an inter frame after a key frame has these records, if its probabilities of skipping, of
@@ -92,6 +116,17 @@ fn check_frame(
     let header = read_header(&tables, Some(&key.context_after), packet.as_slice());
     let header = header.expect(rt, "an inter packet");
     assert!(rt; !header.is_key);
+    expect_modes(rt, alloc, &header, columns, records)
+}
+
+/// The records of a frame whose map before it is of threes.
+fn expect_modes<R: Abort>(
+    rt: &R,
+    alloc: Global,
+    header: &Header,
+    columns: usize,
+    records: &[MbMode],
+) -> Result<(), AllocError> {
     assert!(rt; 1 <= columns && columns <= 16);
     assert!(rt; records.len() <= 16);
     let rows = records.len() / columns;
@@ -99,9 +134,8 @@ fn check_frame(
     let map = [3; 16];
     assert!(rt; columns * rows <= 16);
     let map = &map[..columns * rows];
-    let modes = read_modes(alloc, &tables, &header, columns, rows, Some(map))?;
-    assert_eq!(rt; modes.records(), records);
-    assert_eq!(rt; modes.segment_map(), map);
+    let modes = read_modes(alloc, &Tables::rfc(), header, columns, rows, Some(map))?;
+    assert!(rt; modes.records() == records && modes.segment_map() == map);
     Ok(())
 }
 

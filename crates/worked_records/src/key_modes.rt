@@ -3,6 +3,7 @@ use frame_header::read_header;
 use intra_predict::{SubMode, WholeMode};
 use mode_parser::{MbMode, Vector, YMode, read_modes};
 use std::alloc::{AllocError, Global};
+use std::process::Abort;
 use std::test::Fail;
 use vp8_tables::Tables;
 
@@ -248,18 +249,32 @@ fn record_of(macroblock: &Written, skips: bool) -> MbMode {
     }
 }
 
+/// Writes the frame, and reads it.
+fn expect_frame<R: Abort>(
+    rt: &R,
+    alloc: Global,
+    tables: &Tables,
+    skips: bool,
+) -> Result<(), AllocError> {
+    let packet = packet_of(alloc, tables, skips)?;
+    let header = read_header(tables, None, &packet).expect(rt, "a key packet");
+    let modes = read_modes(alloc, tables, &header, 4, 2, None)?;
+    expect_records(rt, modes.records(), skips);
+    assert!(rt; modes.segment_map() == [0; 8].as_slice());
+    Ok(())
+}
+
+fn expect_records<R: Abort>(rt: &R, records: &[MbMode], skips: bool) {
+    assert!(rt; records.len() == 8);
+    for (record, macroblock) in records.iter().zip(&frame()) {
+        assert!(rt; *record == record_of(macroblock, skips), "{record:?}");
+    }
+}
+
 #[test]
 fn reads_what_was_written(rt: HostRuntime) -> Result<(), Fail> {
     let tables = counted_tables().expect(&rt, "3012 bytes");
-    for skips in [true, false] {
-        let packet = packet_of(rt.alloc(), &tables, skips)?;
-        let header = read_header(&tables, None, packet.as_slice()).expect(&rt, "a key packet");
-        let modes = read_modes(rt.alloc(), &tables, &header, 4, 2, None)?;
-        assert_eq!(rt; modes.records().len(), 8);
-        for (record, macroblock) in modes.records().iter().zip(&frame()) {
-            assert_eq!(rt; *record, record_of(macroblock, skips));
-        }
-        assert_eq!(rt; modes.segment_map(), [0; 8].as_slice());
-    }
+    expect_frame(&rt, rt.alloc(), &tables, true)?;
+    expect_frame(&rt, rt.alloc(), &tables, false)?;
     Ok(())
 }

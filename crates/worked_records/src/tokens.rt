@@ -103,82 +103,127 @@ fn write_ends(encoder: &mut Encoder, kind: u8, count: u32) -> Result<(), AllocEr
     Ok(())
 }
 
+/// A token of a size in a luma block, and then the size with the other sign.
+fn write_size(
+    encoder: &mut Encoder,
+    has_y2: bool,
+    flags: u8,
+    row: &(i16, usize, bool, &[u8]),
+) -> Result<(), AllocError> {
+    let (size, token, bit, probs) = *row;
+    let (kind, first) = if has_y2 { (0, 1) } else { (3, 0) };
+    let large = if size > 1 { 2 } else { 1 };
+    write_token(encoder, nodes(kind, first, flags), token, false)?;
+    write_extra(encoder, bit, probs)?;
+    encoder.bit(false, 128)?;
+    write_token(encoder, nodes(kind, first + 1, large), token, false)?;
+    write_extra(encoder, bit, probs)?;
+    encoder.bit(true, 128)?;
+    write_token(encoder, nodes(kind, first + 2, large), END, false)
+}
+
+fn write_sizes(encoder: &mut Encoder, has_y2: bool) -> Result<(), AllocError> {
+    if has_y2 {
+        write_ends(encoder, 1, 1)?;
+    }
+    for (n, row) in SIZES.iter().enumerate() {
+        let flags = (n % 4 > 0) as u8 + (n > 3) as u8;
+        write_size(encoder, has_y2, flags, row)?;
+    }
+    write_ends(encoder, 2, 8)
+}
+
 /// In luma block n the n-th of `SIZES` is at the first index, and its negative at the second; no
 /// other block has a token.
 fn sizes_text(alloc: Global, has_y2: bool) -> Result<Vec<u8>, AllocError> {
     let mut encoder = Encoder::new(alloc);
-    let (kind, first) = if has_y2 { (0, 1) } else { (3, 0) };
-    if has_y2 {
-        write_ends(&mut encoder, 1, 1)?;
-    }
-    for (n, (size, token, bit, probs)) in SIZES.iter().enumerate() {
-        let flags = (n % 4 > 0) as u8 + (n > 3) as u8;
-        let large = if *size > 1 { 2 } else { 1 };
-        write_token(&mut encoder, nodes(kind, first, flags), *token, false)?;
-        write_extra(&mut encoder, *bit, probs)?;
-        encoder.bit(false, 128)?;
-        write_token(&mut encoder, nodes(kind, first + 1, large), *token, false)?;
-        write_extra(&mut encoder, *bit, probs)?;
-        encoder.bit(true, 128)?;
-        write_token(&mut encoder, nodes(kind, first + 2, large), END, false)?;
-    }
-    write_ends(&mut encoder, 2, 8)?;
+    write_sizes(&mut encoder, has_y2)?;
     encoder.finish()
+}
+
+fn expected_sizes(has_y2: bool) -> Tokens {
+    let mut expected = Tokens::new();
+    for (block, (size, _, _, _)) in expected.coefficients.iter_mut().zip(&SIZES) {
+        block[has_y2 as usize] = *size;
+        block[if has_y2 { 4 } else { 1 }] = size.wrapping_neg();
+    }
+    for end in expected.ends.iter_mut().take(16) {
+        *end = 2 + has_y2 as u8;
+    }
+    expected.above = [true, true, true, true, false, false, false, false, false];
+    expected.left = expected.above;
+    expected
+}
+
+/// The tokens of a macroblock next to blocks without tokens.
+fn read_back(text: &[u8], has_y2: bool) -> Tokens {
+    let mut decoder = Decoder::new(text);
+    let mut tokens = Tokens::new();
+    read_macroblock(&mut decoder, &counted_probabilities(), has_y2, &mut tokens);
+    tokens
 }
 
 #[test]
 fn each_size_is_read_back(rt: HostRuntime) -> Result<(), Fail> {
     for has_y2 in [false, true] {
         let text = sizes_text(rt.alloc(), has_y2)?;
-        let mut decoder = Decoder::new(&text);
-        let mut tokens = Tokens::new();
-        read_macroblock(&mut decoder, &counted_probabilities(), has_y2, &mut tokens);
-        let mut expected = Tokens::new();
-        for (block, (size, _, _, _)) in expected.coefficients.iter_mut().zip(&SIZES) {
-            block[has_y2 as usize] = *size;
-            block[if has_y2 { 4 } else { 1 }] = size.wrapping_neg();
-        }
-        for end in expected.ends.iter_mut().take(16) {
-            *end = 2 + has_y2 as u8;
-        }
-        expected.above = [true, true, true, true, false, false, false, false, false];
-        expected.left = expected.above;
-        assert_eq!(rt; tokens, expected);
+        assert!(rt;
+            read_back(&text, has_y2) == expected_sizes(has_y2),
+            "{has_y2}"
+        );
     }
     Ok(())
 }
 
-// Y2 has a 0 at all indices except the last, luma nothing, the last block of U one 0 and then 1,091
-// = 67 + 1,024, and the first block of V sixteen times 0.
-fn order_text(alloc: Global) -> Result<Vec<u8>, AllocError> {
-    let bands = [0, 1, 2, 3, 6, 4, 5, 6, 6, 6, 6, 6, 6, 6, 6, 7];
-    let mut encoder = Encoder::new(alloc);
-    for place in 0..15usize {
-        let context = if place == 0 { 2 } else { 0 };
-        let at = nodes(1, bands[place], context);
-        write_token(&mut encoder, at, 0, place > 0)?;
+/// A 0 at each index from 0 on, the first of them in a context.
+fn write_zeros(
+    encoder: &mut Encoder,
+    kind: u8,
+    context: u8,
+    count: usize,
+) -> Result<(), AllocError> {
+    for (place, band) in BANDS.iter().take(count).enumerate() {
+        let context = if place == 0 { context } else { 0 };
+        write_token(encoder, nodes(kind, *band, context), 0, place > 0)?;
     }
-    write_token(&mut encoder, nodes(1, 7, 0), 1, true)?;
+    Ok(())
+}
+
+/// The band of each index of a block (section 13.3).
+const BANDS: [u8; 16] = [0, 1, 2, 3, 6, 4, 5, 6, 6, 6, 6, 6, 6, 6, 6, 7];
+
+/// Y2 has a 0 at all indices except the last, and luma nothing.
+fn write_luma(encoder: &mut Encoder) -> Result<(), AllocError> {
+    write_zeros(encoder, 1, 2, 15)?;
+    write_token(encoder, nodes(1, 7, 0), 1, true)?;
     encoder.bit(true, 128)?;
     for _block in 0..16 {
-        write_token(&mut encoder, nodes(0, 1, 0), END, false)?;
+        write_token(encoder, nodes(0, 1, 0), END, false)?;
     }
-    write_token(&mut encoder, nodes(2, 0, 1), END, false)?;
-    write_ends(&mut encoder, 2, 2)?;
-    write_token(&mut encoder, nodes(2, 0, 0), 0, false)?;
-    write_token(&mut encoder, nodes(2, 1, 0), 10, true)?;
+    Ok(())
+}
+
+/// The last block of U has one 0 and then 1,091 = 67 + 1,024, and the first block of V sixteen times
+/// 0.
+fn write_chroma(encoder: &mut Encoder) -> Result<(), AllocError> {
+    write_token(encoder, nodes(2, 0, 1), END, false)?;
+    write_ends(encoder, 2, 2)?;
+    write_token(encoder, nodes(2, 0, 0), 0, false)?;
+    write_token(encoder, nodes(2, 1, 0), 10, true)?;
     encoder.bit(true, 254)?;
-    write_extra(&mut encoder, false, &CATEGORY_6[1..])?;
+    write_extra(encoder, false, &CATEGORY_6[1..])?;
     encoder.bit(false, 128)?;
-    write_token(&mut encoder, nodes(2, 2, 2), END, false)?;
-    for place in 0..16usize {
-        let context = if place == 0 { 1 } else { 0 };
-        let at = nodes(2, bands[place], context);
-        write_token(&mut encoder, at, 0, place > 0)?;
-    }
-    write_token(&mut encoder, nodes(2, 0, 1), END, false)?;
-    write_token(&mut encoder, nodes(2, 0, 2), END, false)?;
-    write_ends(&mut encoder, 2, 1)?;
+    write_token(encoder, nodes(2, 2, 2), END, false)?;
+    write_zeros(encoder, 2, 1, 16)?;
+    write_token(encoder, nodes(2, 0, 1), END, false)?;
+    write_token(encoder, nodes(2, 0, 2), END, false)?;
+    write_ends(encoder, 2, 1)
+}
+
+fn order_text(alloc: Global) -> Result<Vec<u8>, AllocError> {
+    let mut encoder = Encoder::new(alloc);
+    write_luma(&mut encoder)?;
+    write_chroma(&mut encoder)?;
     encoder.finish()
 }
 
