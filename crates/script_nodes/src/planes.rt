@@ -51,7 +51,8 @@ fn black(component: Component) -> u8
     }
 }
 
-/// A plane of the coded size of this component of a picture of this shown size.
+/// A plane of the coded size of this component of a picture of this shown size. It has no border, since
+/// nothing is predicted from it.
 fn blank(
     alloc: Global,
     component: Component,
@@ -63,10 +64,11 @@ fn blank(
     ensures { IfOk result (IsCodedPlane component width height) }
 {
     let side = block_side(component);
-    Plane::make(
+    Plane::make_bordered(
         alloc,
         side * width.div_ceil(16),
         side * height.div_ceil(16),
+        0,
         0,
     )
 }
