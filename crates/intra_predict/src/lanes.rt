@@ -24,7 +24,7 @@ pub fn sum_of<const N: usize>(samples: &[u8]) -> u16
 #[tactic(auto, using(crate::proofs::Rows::upper_row))]
 pub fn fill_rows<const N: usize>(line: Simd<u8, N>, out: &mut [u8], stride: usize)
     requires lanes { N ≤ 16 }
-    requires stride { (N ≤ stride) × (stride ≤ 16384) }
+    requires stride { (N ≤ stride) × (stride ≤ 16512) }
     requires room { (N - 1) * stride + N ≤ length out.old }
     ensures { IsBlockAmong (λ column row. slice_index line.entry column) N N stride out.old out.new }
 {
@@ -38,7 +38,7 @@ pub fn fill_rows<const N: usize>(line: Simd<u8, N>, out: &mut [u8], stride: usiz
 #[tactic(auto, using(crate::proofs::Rows::upper_row))]
 pub fn fill_columns<const N: usize>(left: Simd<u8, N>, out: &mut [u8], stride: usize)
     requires lanes { N ≤ 16 }
-    requires stride { (N ≤ stride) × (stride ≤ 16384) }
+    requires stride { (N ≤ stride) × (stride ≤ 16512) }
     requires room { (N - 1) * stride + N ≤ length out.old }
     ensures { IsBlockAmong (λ column row. slice_index left.entry row) N N stride out.old out.new }
 {
@@ -78,7 +78,7 @@ pub fn fill_gradients<const N: usize>(
     stride: usize,
 )
     requires lanes { N ≤ 16 }
-    requires stride { (N ≤ stride) × (stride ≤ 16384) }
+    requires stride { (N ≤ stride) × (stride ≤ 16512) }
     requires room { (N - 1) * stride + N ≤ length out.old }
     ensures { IsBlockAmong (λ column row. gradient_of (slice_index left.entry row) (slice_index above.entry column) corner) N N stride out.old out.new }
 {

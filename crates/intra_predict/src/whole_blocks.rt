@@ -32,7 +32,7 @@ pub fn whole(
 )
     requires above { ForSome above (λ samples. length samples.now ≡ side_of size) }
     requires left { ForSome left (λ samples. length samples.now ≡ side_of size) }
-    requires stride { (side_of size ≤ stride) × (stride ≤ 16384) }
+    requires stride { (side_of size ≤ stride) × (stride ≤ 16512) }
     requires room { (side_of size - 1) * stride + side_of size ≤ length out.old }
     ensures { IsBlockAmong (whole_sample mode (option_copied above.entry) (option_copied left.entry) corner) (side_of size) (side_of size) stride out.old out.new }
 {
@@ -55,7 +55,7 @@ fn predict<const N: usize>(
     requires lanes { (0 < N) × (N ≤ 16) }
     requires above { ForSome above (λ samples. length samples.now ≡ N) }
     requires left { ForSome left (λ samples. length samples.now ≡ N) }
-    requires stride { (N ≤ stride) × (stride ≤ 16384) }
+    requires stride { (N ≤ stride) × (stride ≤ 16512) }
     requires room { (N - 1) * stride + N ≤ length out.old }
     ensures { IsBlockAmong (whole_sample mode (option_copied above.entry) (option_copied left.entry) corner) N N stride out.old out.new }
 {

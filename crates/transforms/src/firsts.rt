@@ -57,7 +57,7 @@ fn move_rows<const N: usize>(
     stride: usize,
 )
     requires lanes { N ≤ 16 }
-    requires stride { (N ≤ stride) × (stride ≤ 16384) }
+    requires stride { (N ≤ stride) × (stride ≤ 16512) }
     requires room { 3 * stride + N ≤ length samples.old }
     ensures whole { length samples.new ≡ length samples.old }
     ensures each { (column row : ℕ) → column < N → row < 4 → slice_index samples.new (row * stride + column) ≡ min (slice_index samples.old (row * stride + column) + slice_index more.entry column) 255 - slice_index less.entry column }
@@ -74,7 +74,7 @@ fn move_rows<const N: usize>(
 /// 16 columns (RFC 6386, sections 14.3 and 14.5).
 #[inline]
 pub fn dct_add_four_firsts(firsts: [i16; 4], samples: &mut [u8], stride: usize)
-    requires stride { (16 ≤ stride) × (stride ≤ 16384) }
+    requires stride { (16 ≤ stride) × (stride ≤ 16512) }
     requires room { 3 * stride + 16 ≤ length samples.old }
     ensures { IsAdded (firsts_residual firsts) 16 stride samples.old samples.new }
 {
@@ -88,7 +88,7 @@ pub fn dct_add_four_firsts(firsts: [i16; 4], samples: &mut [u8], stride: usize)
 /// 8 columns (RFC 6386, sections 14.3 and 14.5).
 #[inline]
 pub fn dct_add_two_firsts(firsts: [i16; 2], samples: &mut [u8], stride: usize)
-    requires stride { (8 ≤ stride) × (stride ≤ 16384) }
+    requires stride { (8 ≤ stride) × (stride ≤ 16512) }
     requires room { 3 * stride + 8 ≤ length samples.old }
     ensures { IsAdded (firsts_residual firsts) 8 stride samples.old samples.new }
 {
