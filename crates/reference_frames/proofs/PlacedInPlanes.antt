@@ -58,7 +58,8 @@ crop_sample width height across items i j wide whole within below =
     let place : 0 + j * across + i ≡ j * across + i = omega arith in
     sample_of_rows items 0 across width height i j wide (omega (arith, whole)) below within ∙ ap (λ n. slice_index items n) place
 
-crop_length : (width height across : ℕ) (items : List ℕ) → width ≤ across → length items ≡ height * across → length (rows_of items 0 across width height) ≡ height * width
+-- the number of its samples
+pub crop_length : (width height across : ℕ) (items : List ℕ) → width ≤ across → length items ≡ height * across → length (rows_of items 0 across width height) ≡ height * width
 crop_length width height across items wide whole = length-rows_of items 0 across width height wide (omega (arith, whole))
 
 -- a square that was written into rows that are apart is a block that was written into the plane

@@ -1,12 +1,12 @@
 use Rattle.std.specs.Option.{option_copied}
-use Rattle.std.proofs.Common.{◌≡◌, ℕ, ◌+◌, ◌*◌, List, ap, ◌∙◌, arith}
+use Rattle.std.proofs.Common.{◌≡◌, ℕ, ◌+◌, ◌*◌, List, arith}
 use Rattle.pixel_planes.specs.Layout.{bordered_side}
 use Rattle.pixel_planes.specs.Samples.{Samples}
 use Rattle.reference_frames.specs.InterPrediction.{block_vector, chroma_sample}
 use Rattle.reference_frames.specs.Restored.{restored}
-use Rattle.reference_frames.specs.Unfiltered.{with_block}
+use Rattle.reference_frames.proofs.LentRows.{lent_block}
 use Rattle.reference_frames.proofs.Placed.{restored_placed}
-use Rattle.reference_frames.proofs.PlacedInPlanes.{plane_room, placed_block}
+use Rattle.reference_frames.proofs.PlacedInPlanes.{plane_room}
 use Rattle.reference_frames.proofs.inter.predict_chroma.Goals as goal
 
 pub chroma_samples-requires-clause-room : goal.chroma_samples-requires-clause-room
@@ -33,4 +33,4 @@ returns-clause-value c =
     let predicted = rw c.stride-across.ensures.value at c.chroma_samples.ensures in
     let added = rw c.stride-across.ensures.value at c.add_to_square.ensures in
     let is = restored_placed 8 c.args.first (option_copied c.args.residual) sample across x y rows c.chroma_samples.new.samples written predicted added in
-    placed_block p.width p.height across x y 8 whole rows written (omega arith) c.requires.within.0 c.requires.within.1 c.rows_mut-samples.ensures.len is ∙ ap (λ (q : Samples). with_block q x y 8 whole) c.rows_mut-samples.ensures.value
+    lent_block c.args.plane.now x y 8 whole rows written c.requires.within.0 c.requires.within.1 c.rows_mut-samples.ensures.value c.rows_mut-samples.ensures.len is

@@ -6,8 +6,9 @@ use Rattle.pixel_planes.specs.Samples.{Samples}
 use Rattle.reference_frames.specs.Restored.{restored}
 use Rattle.reference_frames.specs.Unfiltered.{with_block}
 use Rattle.reference_frames.proofs.Blocks.{side_part, sides_read}
+use Rattle.reference_frames.proofs.LentRows.{lent_block}
 use Rattle.reference_frames.proofs.Placed.{restored_placed}
-use Rattle.reference_frames.proofs.PlacedInPlanes.{plane_room, placed_block}
+use Rattle.reference_frames.proofs.PlacedInPlanes.{plane_room}
 use Rattle.reference_frames.proofs.prediction.predict_whole.Goals as goal
 
 pub predict_square-requires-clause-room : goal.predict_square-requires-clause-room
@@ -40,6 +41,4 @@ returns-clause-value c =
     let part = side_part c.side-side.result c.args.size _ c.side-side.ensures refl in
     let same = sides_read p c.side-side.result size c.args.place.mx c.args.place.my _ _ c.sample_corner-diagonal.result c.args.mode c.read_above.new.out c.read_left.new.out _ _
     c.side-side.ensures part part c.read_above.ensures c.read_left.ensures c.sample_corner-diagonal.ensures c.side_inside-above.ensures.value c.side_inside-left.ensures.value in
-    placed_block p.width p.height across x y size (block sample) rows written (omega arith) c.requires.within.0 c.requires.within.1 c.rows_mut-samples.ensures.len is
-    ∙ ap (λ (q : Samples). with_block q x y size (block sample)) c.rows_mut-samples.ensures.value
-    ∙ ap (λ (f : ℕ → ℕ → ℕ). with_block p x y size (block f)) same
+    lent_block c.args.plane.now x y size (block sample) rows written c.requires.within.0 c.requires.within.1 c.rows_mut-samples.ensures.value c.rows_mut-samples.ensures.len is ∙ ap (λ (f : ℕ → ℕ → ℕ). with_block p x y size (block f)) same

@@ -1,10 +1,10 @@
-use Rattle.std.proofs.Common.{◌≡◌, ℕ, ◌+◌, ◌*◌, ◌≤◌, List, ap, ◌∙◌, arith}
+use Rattle.std.proofs.Common.{◌≡◌, ℕ, ◌+◌, ◌*◌, ◌≤◌, List, arith}
 use Rattle.std.specs.Prelude.{slice_index}
-use Rattle.pixel_planes.specs.Layout.{bordered_side, cropped}
+use Rattle.pixel_planes.specs.Layout.{bordered_side}
 use Rattle.pixel_planes.specs.Samples.{Samples}
-use Rattle.reference_frames.specs.Unfiltered.{with_block}
 use Rattle.reference_frames.specs.WrittenBlocks.{block_rows_put}
-use Rattle.reference_frames.proofs.PlacedInPlanes.{put_placed, placed_block}
+use Rattle.reference_frames.proofs.LentRows.{lent_block}
+use Rattle.reference_frames.proofs.PlacedInPlanes.{put_placed}
 use Rattle.reference_frames.proofs.PutRows.{block_room}
 use Rattle.reference_frames.proofs.prediction.write_block.Goals as goal
 
@@ -28,6 +28,4 @@ returns-clause-value c =
     let is : c.write_rows.new.samples ≡ written = rw c.stride-across.ensures.value at c.write_rows.ensures in
     let wide : x + side ≤ across = omega (arith, c.requires.within.0) in
     let put = put_placed rows p.height across x y side sample wide c.requires.within.1 (omega (arith, c.rows_mut.ensures.len)) in
-    ap (cropped p.width p.height across) is
-    ∙ placed_block p.width p.height across x y side sample rows written (omega arith) c.requires.within.0 c.requires.within.1 c.rows_mut.ensures.len put
-    ∙ ap (λ (q : Samples). with_block q x y side sample) c.rows_mut.ensures.value
+    lent_block c.args.plane.now x y side sample rows c.write_rows.new.samples c.requires.within.0 c.requires.within.1 c.rows_mut.ensures.value c.rows_mut.ensures.len (rw is put)
