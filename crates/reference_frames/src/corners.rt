@@ -1,4 +1,5 @@
-/// The upper left corner of a block in the samples of a plane, whose rows start `across` samples apart.
+/// The upper left corner of a block in the samples of a plane, whose rows start `across` samples
+/// apart.
 #[derive(Clone, Copy)]
 pub(crate) struct Corner {
     pub(crate) across: usize,
