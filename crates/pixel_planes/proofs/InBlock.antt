@@ -1,15 +1,17 @@
 -- A plane in its block: the samples that the block shows, and its border.
 use Rattle.std.specs.Prelude.{slice_index, slice_range}
 use Rattle.std.specs.Simd.Lanes.{chunk, put_chunk}
-use Rattle.std.proofs.Common.{◌≡◌, ℕ, ◌+◌, ◌-◌, ◌*◌, ◌<◌, ◌≤◌, min, Bool, false, List, length, take, replicate, refl, ap, sym, subst, ◌∙◌, arith, ℤ, pos, negsuc, ◌+ℤ◌}
+use Rattle.std.proofs.Common.{◌≡◌, ℕ, ◌+◌, ◌-◌, ◌*◌, ◌<◌, ◌≤◌, min, Bool, false, List, length, take, replicate, refl, ap, sym, ◌∙◌, arith, ℤ, pos, negsuc, ◌+ℤ◌, inl, inr}
+use Rattle.std.proofs.lemmas.Bool.{cases_lt}
+use Rattle.std.proofs.lemmas.Nat.{mul-le}
 use Rattle.std.proofs.lemmas.Int.{ints}
 use Rattle.std.proofs.Math.Nat.{mul_comm, add-mul, two-mul, mul-le-mul_left, mul-le-mul_right}
-use Rattle.std.proofs.lemmas.List.{append-nil, take_all, length-replicate, take-replicate, drop-replicate, get_or-replicate, replicate-append-replicate}
+use Rattle.std.proofs.lemmas.List.{take_all, length-replicate, take-replicate, drop-replicate, get_or-replicate, replicate-append-replicate}
 use Rattle.std.proofs.lemmas.List.Edits.{length-between, get_or-between}
 use Rattle.std.proofs.lemmas.Simd.{length-chunk, get_or-chunk}
 use Rattle.pixel_planes.specs.Samples.{Samples, PlaneValue, out_of_date, IsWhole, row_of, sample_at, uniform}
 use Rattle.pixel_planes.specs.ReferenceSamples.{clamped_coordinate, reference_sample, IsSpan, IsWindow}
-use Rattle.pixel_planes.specs.Layout.{Layout, layout_of, shown_in, IsLaidOut, IsBordered, rows_of, bordered_row, bordered_side, flat_plane}
+use Rattle.pixel_planes.specs.Layout.{Layout, layout_of, shown_in, IsLaidOut, IsBordered, rows_of, bordered_row, bordered_side, flat_plane, apart_in}
 use Rattle.pixel_planes.proofs.Parts.{part_is, chunk-chunk, take-put_chunk}
 use Rattle.pixel_planes.proofs.BlockRows.{length-rows_of, chunk_of_rows, sample_of_rows, rows_at_front, same_rows, row_ends}
 use Rattle.pixel_planes.proofs.BorderedRows.{row_in_bordered, sample_in_bordered}
@@ -81,8 +83,13 @@ shown_of_bordered p border items whole b =
     same_rows items p.samples (border * stride + border) stride 0 p.width p.width p.height (λ y below. row_there p border items whole b y below) ∙ rows_at_front p.samples p.width p.height ∙ take_all (p.height * p.width) p.samples (omega (arith, whole.4, mul_comm p.width p.height))
 
 -- the shown samples of a packed block
-pub shown_of_packed : (items packed : List ℕ) (first stride width height : ℕ) → take (width * height) packed ≡ rows_of items first stride width height → rows_of packed 0 width width height ≡ rows_of items first stride width height
+shown_of_packed : (items packed : List ℕ) (first stride width height : ℕ) → take (width * height) packed ≡ rows_of items first stride width height → rows_of packed 0 width width height ≡ rows_of items first stride width height
 shown_of_packed items packed first stride width height value = rows_at_front packed width height ∙ ap (λ k. take k packed) (mul_comm height width) ∙ value
+
+-- the plane of a packed block
+pub joined : (width height border first stride : ℕ) (cur : Bool) (items packed : List ℕ) → take (width * height) packed ≡ rows_of items first stride width height → shown_value width height border 0 width false packed ≡ out_of_date (shown_value width height border first stride cur items)
+joined width height border first stride cur items packed value =
+    ap (λ (l : List ℕ). record { shown = record { width = width; height = height; samples = l }; border = border; is_current = false }) (shown_of_packed items packed first stride width height value)
 
 -- the block after a write to a packed block
 pub shown_of_written : (items ws : List ℕ) (at first stride width height : ℕ) → stride ≡ width → first ≡ 0 → rows_of (put_chunk at items ws) first stride width height ≡ put_chunk at (rows_of items first stride width height) ws
@@ -92,9 +99,6 @@ shown_of_written items ws at first stride width height flat front =
 -- a block of one value
 pub chunk-replicate : (i n m value : ℕ) → i + n ≤ m → chunk i n (replicate m value) ≡ replicate n value
 chunk-replicate i n m value fits = ap (take n) (drop-replicate i m value) ∙ take-replicate n (m - i) value (omega arith)
-
-pub shown_of_replicate : (m width height value : ℕ) → height * width ≤ m → rows_of (replicate m value) 0 width width height ≡ replicate (width * height) value
-shown_of_replicate m width height value fits = rows_at_front (replicate m value) width height ∙ take-replicate (height * width) m value fits ∙ ap (λ k. replicate k value) (mul_comm height width)
 
 -- a row of one value with its border
 pub bordered_replicate : (border width value : ℕ) → 0 < width → bordered_row border (replicate width value) ≡ replicate (bordered_side width border) value
@@ -115,34 +119,6 @@ bordered_of_replicate width height border value m wide high size =
           part_is (replicate m value) (row * stride) stride ∙ chunk-replicate (row * stride) stride m value (omega (arith, size, mul_comm stride (bordered_side height border), row_ends row (bordered_side height border) stride within)) ∙ sym (ap (bordered_row border) part ∙ bordered_replicate border width value wide);
     }
 
--- a plane whose border is up to date: its layout, and that its shown samples are unchanged
-pub record IsSettled (width height border first stride : ℕ) (items : List ℕ) (shown : Samples) : Type 0 where
-  pub laid_out : IsLaidOut (layout_of width height border first stride) items
-  pub has_border : IsBordered shown border items
-  pub same : shown_in (layout_of width height border first stride) items ≡ shown
-
--- a row with no border
-bare_row : (width height first stride : ℕ) (items : List ℕ) → stride ≡ width → IsLaidOut (layout_of width height 0 first stride) items → (row : ℕ) → row < bordered_side height 0 → slice_range items (row * bordered_side width 0) (row * bordered_side width 0 + bordered_side width 0) ≡ bordered_row 0 (row_of (shown_in (layout_of width height 0 first stride) items) (min (row - 0) (height - 1)))
-bare_row width height first stride items flat o row within =
-    let shown : Samples = shown_in (layout_of width height 0 first stride) items in
-    let front : first ≡ 0 = o.flat_at_front flat in
-    let held : min (row - 0) (height - 1) ≡ row = omega arith in
-    let side : bordered_side width 0 ≡ width = omega arith in
-    let below : row < height = omega arith in
-    let at : first + row * stride ≡ row * width = rw (flat, front) (omega arith) in
-    rw (held, side, append-nil) (rw (at) at (row_of_laid_out (layout_of width height 0 first stride) items row o below))
-
--- with no border there is nothing to do
-settled_bare : (width height first stride : ℕ) (items : List ℕ) → stride ≡ width → IsLaidOut (layout_of width height 0 first stride) items → IsSettled width height 0 first stride items (shown_in (layout_of width height 0 first stride) items)
-settled_bare width height first stride items flat o =
-    record { laid_out = o; has_border = record { rows = bare_row width height first stride items flat o }; same = refl }
-
-pub settled_unbordered : (width height border first stride : ℕ) (items : List ℕ) → border ≤ 0 → stride ≡ width → IsLaidOut (layout_of width height border first stride) items → IsSettled width height border first stride items (shown_in (layout_of width height border first stride) items)
-settled_unbordered width height border first stride items none flat o =
-    let e : 0 ≡ border = omega arith in
-    let P : ℕ → Type 0 = λ b. IsLaidOut (layout_of width height b first stride) items → IsSettled width height b first stride items (shown_in (layout_of width height b first stride) items) in
-    subst P e (settled_bare width height first stride items flat) o
-
 -- the shown rows fit in, between their borders
 spread_fits : (width height border : ℕ) → 0 < width → border * bordered_side width border + border + height * bordered_side width border ≤ bordered_side width border * bordered_side height border
 spread_fits width height border some =
@@ -154,26 +130,75 @@ spread_fits width height border some =
 no_border : (width border stride : ℕ) → bordered_side width border ≡ width → border * stride + border ≡ 0
 no_border width border stride same = let none : border ≡ 0 = omega arith in rw none (omega arith)
 
--- a block with its border
-pub settled_spread : (width height border first stride : ℕ) (items spread : List ℕ) → stride ≡ width → IsLaidOut (layout_of width height border first stride) items → IsBordered (flat_plane width height items) border spread → length spread ≡ length items → IsSettled width height border (border * bordered_side width border + border) (bordered_side width border) spread (shown_in (layout_of width height border first stride) items)
-settled_spread width height border first stride items spread flat o b len =
-    let front : first ≡ 0 = o.flat_at_front flat in
-    let shown : shown_in (layout_of width height border first stride) items ≡ flat_plane width height items = rw (flat, front) refl in
-    let whole : IsWhole (flat_plane width height items) = subst IsWhole shown (whole_of_laid_out (layout_of width height border first stride) items o) in
-    let there : rows_of spread (border * bordered_side width border + border) (bordered_side width border) width height ≡ rows_of items 0 width width height = shown_of_bordered (flat_plane width height items) border spread whole b in
+-- the rows inside the border
+pub apart_laid_out : (width height border : ℕ) (items : List ℕ) → (0 < width) × (width ≤ 16384) → (0 < height) × (height ≤ 16384) → border ≤ 64 → length items ≡ bordered_side width border * bordered_side height border → IsLaidOut (layout_of width height border (border * bordered_side width border + border) (bordered_side width border)) items
+apart_laid_out width height border items wide high small len =
     record {
-      laid_out = record {
-        wide = o.wide;
-        high = o.high;
-        border_small = o.border_small;
-        stride_small = (omega arith, omega (arith, o.wide, o.border_small));
-        room = len ∙ o.room;
-        rows_fit = omega (arith, len, o.room, spread_fits width height border o.wide.0);
-        flat_at_front = λ same. no_border width border (bordered_side width border) same;
-      };
-      has_border = subst (λ (s : Samples). IsBordered s border spread) (sym shown) b;
-      same = ap (λ (l : List ℕ). record { width = width; height = height; samples = l }) there ∙ sym shown;
+      wide = wide;
+      high = high;
+      border_small = small;
+      stride_small = (omega arith, omega (arith, wide, small));
+      room = len;
+      rows_fit = omega (arith, len, spread_fits width height border wide.0);
+      flat_at_front = λ same. no_border width border (bordered_side width border) same;
+      apart = λ more. (refl, refl);
     }
+
+flat_fits : (width height border : ℕ) → height * width ≤ bordered_side width border * bordered_side height border
+flat_fits width height border =
+    let le : height * width ≤ bordered_side height border * bordered_side width border = mul-le _ _ _ _ (omega arith) (omega arith) in
+    omega (arith, mul_comm (bordered_side width border) (bordered_side height border))
+
+-- the rows at the front of the block
+pub flat_laid_out : (width height border : ℕ) (items : List ℕ) → (0 < width) × (width ≤ 16384) → (0 < height) × (height ≤ 16384) → border ≤ 64 → length items ≡ bordered_side width border * bordered_side height border → IsLaidOut (layout_of width height border 0 width) items
+flat_laid_out width height border items wide high small len =
+    record { wide = wide; high = high; border_small = small; stride_small = (omega arith, omega (arith, wide)); room = len; rows_fit = omega (arith, len, flat_fits width height border); flat_at_front = λ same. refl; apart = λ more. absurd (omega (arith, more)) }
+
+-- rows that are not at the front, or have no border, are inside the border
+apart_of : (width height border first stride : ℕ) (items : List ℕ) → IsLaidOut (layout_of width height border first stride) items → (stride ≡ width → border ≤ 0) → (stride ≡ bordered_side width border) × (first ≡ border * bordered_side width border + border)
+apart_of width height border first stride items o bare =
+    elim (cases_lt width stride) [
+      | inl more ↦ o.apart more
+      | inr le ↦
+          let flat : stride ≡ width = omega (arith, o.stride_small.0, le) in
+          let same : bordered_side width border ≡ width = omega (arith, bare flat) in (flat ∙ sym same, o.flat_at_front flat ∙ sym (no_border width border (bordered_side width border) same))
+    ]
+
+-- what such a block shows
+pub shown_apart : (width height border first stride : ℕ) (items : List ℕ) → IsLaidOut (layout_of width height border first stride) items → (stride ≡ width → border ≤ 0) → shown_in (layout_of width height border first stride) items ≡ apart_in width height border items
+shown_apart width height border first stride items o bare =
+    let at = apart_of width height border first stride items o bare in
+    rw (at.0, at.1) refl
+
+-- what a block shows whose rows are at the front
+pub shown_flat : (width height border first stride : ℕ) (items : List ℕ) → IsLaidOut (layout_of width height border first stride) items → stride ≡ width → shown_in (layout_of width height border first stride) items ≡ flat_plane width height items
+shown_flat width height border first stride items o flat =
+    let front : first ≡ 0 = o.flat_at_front flat in
+    rw (flat, front) refl
+
+-- a block with the border of a plane shows that plane
+pub apart_is : (p : Samples) (border : ℕ) (items : List ℕ) → IsWhole p → IsBordered p border items → apart_in p.width p.height border items ≡ p
+apart_is p border items whole b = ap (λ (l : List ℕ). record { width = p.width; height = p.height; samples = l }) (shown_of_bordered p border items whole b)
+
+-- a plane whose border is up to date: its layout, and that its shown samples are unchanged
+pub record IsSettled (width height border : ℕ) (items : List ℕ) (shown : Samples) : Type 0 where
+  pub laid_out : IsLaidOut (layout_of width height border (border * bordered_side width border + border) (bordered_side width border)) items
+  pub has_border : IsBordered (apart_in width height border items) border items
+  pub same : apart_in width height border items ≡ shown
+
+-- a block whose border was filled
+pub settled : (width height border first stride : ℕ) (items filled : List ℕ) → IsLaidOut (layout_of width height border first stride) items → IsBordered (shown_in (layout_of width height border first stride) items) border filled → length filled ≡ length items → IsSettled width height border filled (shown_in (layout_of width height border first stride) items)
+settled width height border first stride items filled o b len =
+    let shown : Samples = shown_in (layout_of width height border first stride) items in
+    let same : apart_in width height border filled ≡ shown_in (layout_of width height border first stride) items = apart_is shown border filled (whole_of_laid_out (layout_of width height border first stride) items o) b in
+    record { laid_out = apart_laid_out width height border filled o.wide o.high o.border_small (len ∙ o.room); has_border = rw same b; same = same }
+
+-- a row inside the border
+pub row_of_apart : (width height border y : ℕ) (items : List ℕ) → (0 < width) × (width ≤ 16384) → (0 < height) × (height ≤ 16384) → border ≤ 64 → length items ≡ bordered_side width border * bordered_side height border → y < height → slice_range items ((border + y) * bordered_side width border + border) ((border + y) * bordered_side width border + border + width) ≡ row_of (apart_in width height border items) y
+row_of_apart width height border y items wide high small len below =
+    let stride : ℕ = bordered_side width border in
+    let at : (border + y) * bordered_side width border + border ≡ border * bordered_side width border + border + y * bordered_side width border = omega (arith, add-mul border y (bordered_side width border)) in
+    ap (λ k. slice_range items k (k + width)) at ∙ row_of_laid_out (layout_of width height border (border * stride + border) stride) items y (apart_laid_out width height border items wide high small len) below
 
 -- a shown row of a packed block
 pub row_of_packed : (l : Layout) (items : List ℕ) (y : ℕ) → IsLaidOut l items → l.stride ≡ l.width → y < l.height → slice_range items (y * l.width) (y * l.width + l.width) ≡ row_of (shown_in l items) y

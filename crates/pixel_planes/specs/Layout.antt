@@ -1,6 +1,7 @@
 -- The layout of the samples of a plane and of its border in one block of memory.
 use Rattle.std.specs.Prelude.{◌≡◌, ℕ, false, zero, suc, ◌+◌, ◌-◌, ◌*◌, ◌<◌, ◌≤◌, min, List, [], ◌++◌, length, replicate, slice_index, slice_range}
-use Rattle.pixel_planes.specs.Samples.{Samples, PlaneValue, row_of}
+use Rattle.std.specs.Simd.Lanes.{put_chunk}
+use Rattle.pixel_planes.specs.Samples.{Samples, PlaneValue, IsWhole, row_of}
 
 -- so many rows of `width` samples, the first of them starting at index `first` and each further one `stride` after the one above, concatenated
 unfoldable pub rows_of : List ℕ → ℕ → ℕ → ℕ → ℕ → List ℕ
@@ -47,16 +48,39 @@ cropped width height stride items = record { width = width; height = height; sam
 abbrev pub flat_plane : ℕ → ℕ → List ℕ → Samples
 flat_plane width height items = cropped width height width items
 
+-- the plane of these sides whose rows are inside its border in the block
+abbrev pub apart_in : ℕ → ℕ → ℕ → List ℕ → Samples
+apart_in width height border items = shown_in (layout_of width height border (border * bordered_side width border + border) (bordered_side width border)) items
+
+-- the first so many rows of the plane, each with the row from these samples written over it, in which the rows start `stride` apart
+unfoldable pub rows_written_over : Samples → ℕ → List ℕ → ℕ → List ℕ
+rows_written_over p stride items zero = []
+rows_written_over p stride items (suc n) = rows_written_over p stride items n ++ put_chunk 0 (row_of p n) (slice_range items (n * stride) (n * stride + p.width))
+
 -- the plane with all its rows written over, from samples in which they start as far apart as a row with its border is wide; its border is then out of date
 abbrev pub with_rows_written : PlaneValue → List ℕ → PlaneValue
-with_rows_written plane items = record plane { shown = cropped plane.shown.width plane.shown.height (bordered_side plane.shown.width plane.border) items; is_current = false }
+with_rows_written plane items = record plane { shown = record plane.shown { samples = rows_written_over plane.shown (bordered_side plane.shown.width plane.border) items plane.shown.height }; is_current = false }
+
+-- written over from as many samples as the rows take, the plane shows the rows of these samples
+abbrev pub WrittenRowsAreCropped : Type 0
+WrittenRowsAreCropped = (plane : PlaneValue) (items : List ℕ) → IsWhole plane.shown → length items ≡ plane.shown.height * bordered_side plane.shown.width plane.border → with_rows_written plane items ≡ record plane { shown = cropped plane.shown.width plane.shown.height (bordered_side plane.shown.width plane.border) items; is_current = false }
 
 -- the rows from the front of the block are now in it with their border
 abbrev pub HasBorderedRows : ℕ → ℕ → ℕ → List ℕ → List ℕ → Type 0
 HasBorderedRows width height border before items =
     (y : ℕ) → y < height → slice_range items ((border + y) * bordered_side width border) ((border + y) * bordered_side width border + bordered_side width border) ≡ bordered_row border (slice_range before (y * width) (y * width + width))
 
--- the sides are 1 to 16,384 and the border at most 64; the block has room for the plane with its border; the shown rows are in it, apart from each other, or one directly after the other at its front
+-- the rows are in the block as before, now with the border at both ends
+abbrev pub HasFilledEnds : ℕ → ℕ → ℕ → List ℕ → List ℕ → Type 0
+HasFilledEnds width height border before items =
+    (y : ℕ) → y < height → slice_range items ((border + y) * bordered_side width border) ((border + y) * bordered_side width border + bordered_side width border) ≡ bordered_row border (slice_range before ((border + y) * bordered_side width border + border) ((border + y) * bordered_side width border + border + width))
+
+-- the rows of the block are those in its middle as before, and above and below them the first and the last of them
+abbrev pub HasEdgesRepeated : ℕ → ℕ → ℕ → List ℕ → List ℕ → Type 0
+HasEdgesRepeated stride height border before items =
+    (row : ℕ) → row < bordered_side height border → slice_range items (row * stride) (row * stride + stride) ≡ slice_range before ((border + min (row - border) (height - 1)) * stride) ((border + min (row - border) (height - 1)) * stride + stride)
+
+-- the sides are 1 to 16,384 and the border at most 64; the block has room for the plane with its border; the shown rows are inside the border, or one directly after the other at the front of the block
 pub record IsLaidOut (l : Layout) (items : List ℕ) : Type 0 where
   pub wide : (0 < l.width) × (l.width ≤ 16384)
   pub high : (0 < l.height) × (l.height ≤ 16384)
@@ -65,3 +89,4 @@ pub record IsLaidOut (l : Layout) (items : List ℕ) : Type 0 where
   pub room : length items ≡ bordered_side l.width l.border * bordered_side l.height l.border
   pub rows_fit : l.first + l.height * l.stride ≤ length items
   pub flat_at_front : l.stride ≡ l.width → l.first ≡ 0
+  pub apart : l.width < l.stride → (l.stride ≡ bordered_side l.width l.border) × (l.first ≡ l.border * bordered_side l.width l.border + l.border)

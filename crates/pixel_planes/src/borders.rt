@@ -1,7 +1,7 @@
 //! Rows of samples that are apart from each other in a block, and rows with a border.
 ghost use Rattle.std.specs.Prelude.{◌≡◌, ◌+◌, ◌*◌, ◌<◌, ◌≤◌, length, is_some, IfSome, ℕ, pos, ◌+ℤ◌, slice_range, take};
 ghost use Rattle.pixel_planes.specs.ReferenceSamples.{clamped_coordinate, spans_within};
-ghost use Rattle.pixel_planes.specs.Layout.{rows_of, bordered_side, bordered_row, flat_plane, IsBordered, HasBorderedRows};
+ghost use Rattle.pixel_planes.specs.Layout.{rows_of, bordered_side, bordered_row, flat_plane, layout_of, shown_in, apart_in, IsLaidOut, IsBordered, HasBorderedRows, HasFilledEnds, HasEdgesRepeated};
 ghost use Rattle.std.specs.Simd.Lanes.{put_chunk};
 
 /// A coordinate clamped to a side of 1 to 16,384: 0 before it, its last index after it.
@@ -38,9 +38,22 @@ pub(crate) fn place(at: i64, count: usize, side: usize, border: usize) -> Option
     }
 }
 
+/// Moves the rows of a block to its front, one directly after the other, unless they are there.
+pub(crate) fn join(samples: &mut Vec<u8>, first: usize, stride: usize, width: usize, height: usize)
+    requires sides { (width ≤ stride) × (stride ≤ 16512) × (height ≤ 16384) }
+    requires front { stride ≡ width → first ≡ 0 }
+    requires room { first + height * stride ≤ length samples.old.items }
+    ensures value { take (width * height) samples.new.items ≡ rows_of samples.old.items first stride width height }
+    ensures len { length samples.new.items ≡ length samples.old.items }
+{
+    if stride != width {
+        pack(samples, first, stride, width, height);
+    }
+}
+
 /// Moves rows that are `stride` apart, starting at index `first`, to the front of the block, one
 /// directly after the other.
-pub(crate) fn pack(samples: &mut Vec<u8>, first: usize, stride: usize, width: usize, height: usize)
+fn pack(samples: &mut Vec<u8>, first: usize, stride: usize, width: usize, height: usize)
     requires sides { (width ≤ stride) × (stride ≤ 16512) × (height ≤ 16384) }
     requires room { first + height * stride ≤ length samples.old.items }
     ensures value { take (width * height) samples.new.items ≡ rows_of samples.old.items first stride width height }
@@ -52,9 +65,88 @@ pub(crate) fn pack(samples: &mut Vec<u8>, first: usize, stride: usize, width: us
     }
 }
 
+/// Moves the rows of a block, which are `stride` apart, to their positions inside the border, unless
+/// they are there.
+pub(crate) fn part(samples: &mut [u8], stride: usize, width: usize, height: usize, border: usize)
+    requires wide { (0 < width) × (width ≤ 16384) }
+    requires high { (0 < height) × (height ≤ 16384) }
+    requires border { border ≤ 64 }
+    requires room { length samples.old ≡ bordered_side width border * bordered_side height border }
+    ensures rows { (first : ℕ) → IsLaidOut (layout_of width height border first stride) samples.old → apart_in width height border samples.new ≡ shown_in (layout_of width height border first stride) samples.old }
+    ensures len { length samples.new ≡ length samples.old }
+{
+    if stride == width && border > 0 {
+        spread(samples, width, height, border);
+    }
+}
+
+/// Brings the border of a block up to date, whose rows are `stride` apart. They are then in their
+/// positions inside the border.
+pub(crate) fn surround(
+    samples: &mut [u8],
+    stride: usize,
+    width: usize,
+    height: usize,
+    border: usize,
+)
+    requires wide { (0 < width) × (width ≤ 16384) }
+    requires high { (0 < height) × (height ≤ 16384) }
+    requires border { border ≤ 64 }
+    requires room { length samples.old ≡ bordered_side width border * bordered_side height border }
+    ensures bordered { (first : ℕ) → IsLaidOut (layout_of width height border first stride) samples.old → IsBordered (shown_in (layout_of width height border first stride) samples.old) border samples.new }
+    ensures len { length samples.new ≡ length samples.old }
+{
+    if stride == width && border > 0 {
+        spread(samples, width, height, border);
+    } else {
+        fill(samples, width, height, border);
+    }
+}
+
+/// Fills the border around the rows of a block, which are in their positions inside it.
+fn fill(samples: &mut [u8], width: usize, height: usize, border: usize)
+    requires wide { (0 < width) × (width ≤ 16384) }
+    requires high { (0 < height) × (height ≤ 16384) }
+    requires border { border ≤ 64 }
+    requires room { length samples.old ≡ bordered_side width border * bordered_side height border }
+    ensures bordered { IsBordered (apart_in width height border samples.old) border samples.new }
+    ensures len { length samples.new ≡ length samples.old }
+{
+    fill_ends(samples, width, height, border);
+    repeat_edges(samples, width + 2 * border, height, border);
+}
+
+/// Fills the border at both ends of each row.
+fn fill_ends(samples: &mut [u8], width: usize, height: usize, border: usize)
+    requires wide { (0 < width) × (width ≤ 16384) }
+    requires high { (0 < height) × (height ≤ 16384) }
+    requires border { border ≤ 64 }
+    requires room { length samples.old ≡ bordered_side width border * bordered_side height border }
+    ensures rows { HasFilledEnds width height border samples.old samples.new }
+    ensures len { length samples.new ≡ length samples.old }
+{
+    let stride = width + 2 * border;
+    for y in 0..height {
+        let start = (border + y) * stride;
+        fill_row_ends(&mut samples[start..start + stride], width, border);
+    }
+}
+
+/// Fills the border at both ends of a row, which is between them.
+fn fill_row_ends(row: &mut [u8], width: usize, border: usize)
+    requires small { (0 < width) × (width ≤ 16384) × (border ≤ 64) }
+    requires room { length row.old ≡ bordered_side width border }
+    ensures { row.new ≡ bordered_row border (slice_range row.old border (border + width)) }
+{
+    let (left, rest) = row.split_at_mut(border);
+    let (middle, right) = rest.split_at_mut(width);
+    left.fill(middle[0]);
+    right.fill(middle[width - 1]);
+}
+
 /// Spreads the rows at the front of a block over it, each with its border, and repeats the first
 /// and the last one above and below them.
-pub(crate) fn spread(samples: &mut [u8], width: usize, height: usize, border: usize)
+fn spread(samples: &mut [u8], width: usize, height: usize, border: usize)
     requires wide { (0 < width) × (width ≤ 16384) }
     requires high { (0 < height) × (height ≤ 16384) }
     requires border { (0 < border) × (border ≤ 64) }
@@ -62,8 +154,19 @@ pub(crate) fn spread(samples: &mut [u8], width: usize, height: usize, border: us
     ensures bordered { IsBordered (flat_plane width height samples.old) border samples.new }
     ensures len { length samples.new ≡ length samples.old }
 {
-    let stride = width + 2 * border;
     spread_rows(samples, width, height, border);
+    repeat_edges(samples, width + 2 * border, height, border);
+}
+
+/// Repeats the first and the last one of the `height` rows in the middle of a block above and below
+/// them, as often as the border is wide.
+fn repeat_edges(samples: &mut [u8], stride: usize, height: usize, border: usize)
+    requires high { (0 < height) × (height ≤ 16384) }
+    requires small { (stride ≤ 16512) × (border ≤ 64) }
+    requires room { length samples.old ≡ stride * bordered_side height border }
+    ensures rows { HasEdgesRepeated stride height border samples.old samples.new }
+    ensures len { length samples.new ≡ length samples.old }
+{
     let (above, rest) = samples.split_at_mut(border * stride);
     let (rows, below) = rest.split_at_mut(height * stride);
     repeat_row(&rows[..stride], border, above);

@@ -2,7 +2,7 @@
 
 ghost use Rattle.pixel_planes.specs.Samples.{WritesOneRow};
 ghost use Rattle.pixel_planes.specs.ReferenceSamples.{GoesOnPastItsEdges, BorderOf16By16};
-ghost use Rattle.pixel_planes.specs.Layout.{RowsArePlaced};
+ghost use Rattle.pixel_planes.specs.Layout.{RowsArePlaced, WrittenRowsAreCropped};
 
 /// A row that is written has the samples written, and every other row is unchanged.
 pub fn row_write_is_local()
@@ -17,6 +17,11 @@ pub fn edges_go_on()
 /// The rows that a block shows are rows of it, a stride apart.
 pub fn rows_are_placed()
     ensures { RowsArePlaced }
+{}
+
+/// Once all its rows are written from enough samples, a plane shows those rows.
+pub fn written_rows_are_cropped()
+    ensures { WrittenRowsAreCropped }
 {}
 
 /// The spans of a plane of 16 by 16 samples with a border of 32.

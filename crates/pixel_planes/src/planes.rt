@@ -1,11 +1,12 @@
 ghost use Rattle.std.specs.Prelude.{◌≡◌, ◌+◌, ◌*◌, ◌<◌, ◌≤◌, ◌↔◌, length, is_some, IfOk, IfSome, IsTrue};
 ghost use Rattle.std.specs.Borrow.{sem};
-ghost use Rattle.pixel_planes.specs.Samples.{IsWhole, uniform, row_of, bordered, brought_up_to_date, out_of_date};
+ghost use Rattle.pixel_planes.specs.Samples.{IsWhole, uniform, row_of, bordered, brought_up_to_date};
 ghost use Rattle.pixel_planes.specs.ReferenceSamples.{reference_sample, is_within_border, IsSpan, IsWindow};
-ghost use Rattle.pixel_planes.specs.Lending.{LendsRow, LendsSamples};
+ghost use Rattle.pixel_planes.specs.Layout.{bordered_side, cropped};
+ghost use Rattle.pixel_planes.specs.Lending.{LendsRow, LendsRows, LendsSamples};
 
 use crate::NoMemory;
-use crate::borders::{held, pack, place, spread};
+use crate::borders::{held, join, part, place, surround};
 use std::alloc::Global;
 use std::marker::Model;
 
@@ -15,8 +16,9 @@ use std::marker::Model;
 /// samples wide and repeats the samples at the edges; it is up to date until samples are lent for
 /// writing.
 ///
-/// While the plane is written, its rows are one directly after the other at the front of the block.
-/// They are spread out in place when the border is brought up to date.
+/// The rows are inside the border from the start, so that nothing but the border is written when it
+/// is brought up to date. Only `samples_mut` and `row_mut` move them to the front of the block, one
+/// directly after the other; they are moved back by the next `rows_mut` or with the border.
 #[derive(Debug, Drop)]
 pub struct Plane {
     width: usize,
@@ -41,7 +43,7 @@ pub struct Window<'a> {
 }
 
 impl Model for Plane {
-    ghost use Rattle.std.specs.Prelude.{◌≡◌, false, IsTrue};
+    ghost use Rattle.std.specs.Prelude.{IsTrue};
     ghost use Rattle.pixel_planes.specs.Samples.{PlaneValue};
     ghost use Rattle.pixel_planes.specs.Layout.{layout_of, shown_in, IsLaidOut, IsBordered};
 
@@ -49,7 +51,7 @@ impl Model for Plane {
 
     ghost view = { λ p. record { shown = shown_in (layout_of p.width p.height p.border p.first p.stride) p.samples.items; border = p.border; is_current = p.is_current } };
 
-    ghost invariant = { λ p. IsLaidOut (layout_of p.width p.height p.border p.first p.stride) p.samples.items × (p.is_current ≡ false → p.stride ≡ p.width) × (IsTrue p.is_current → IsBordered (shown_in (layout_of p.width p.height p.border p.first p.stride) p.samples.items) p.border p.samples.items) };
+    ghost invariant = { λ p. IsLaidOut (layout_of p.width p.height p.border p.first p.stride) p.samples.items × (IsTrue p.is_current → IsBordered (shown_in (layout_of p.width p.height p.border p.first p.stride) p.samples.items) p.border p.samples.items) };
 }
 
 impl Plane {
@@ -82,13 +84,14 @@ impl Plane {
         requires border { border ≤ 64 }
         ensures { IfOk result (λ p. p ≡ bordered (uniform width height value) border) }
     {
-        let samples = vec![in alloc; value; (width + 2 * border) * (height + 2 * border)]?;
+        let stride = width + 2 * border;
+        let samples = vec![in alloc; value; stride * (height + 2 * border)]?;
         Ok(Plane {
             width,
             height,
             border,
-            first: 0,
-            stride: width,
+            first: border * stride + border,
+            stride,
             is_current: true,
             samples,
         })
@@ -124,6 +127,16 @@ impl Plane {
         ensures small { result ≤ 64 }
     {
         self.border
+    }
+
+    /// The distance from the start of a row to the start of the next one in `rows_mut`, in samples:
+    /// the width with the border on both sides, at most 16,512.
+    pub fn stride(&self) -> usize
+        ensures value { result ≡ bordered_side self.now.shown.width self.now.border }
+        ensures wide { self.now.shown.width ≤ result }
+        ensures small { result ≤ 16512 }
+    {
+        self.width + 2 * self.border
     }
 
     /// Whether the border repeats the current edges of the shown samples.
@@ -204,10 +217,41 @@ impl Plane {
         ensures value { result.now ≡ row_of self.old.shown y }
         ensures len { length result.now ≡ self.old.shown.width }
     {
-        self.open();
+        join(
+            &mut self.samples,
+            self.first,
+            self.stride,
+            self.width,
+            self.height,
+        );
+        self.first = 0;
+        self.stride = self.width;
+        self.is_current = false;
         let start = y * self.width;
         let end = start + self.width;
         self.samples.slice_mut(start..end)
+    }
+
+    /// All shown rows to be written: row `y` starts at index `y * stride`, and the samples between
+    /// two rows are the border's, which is out of date then.
+    pub fn rows_mut(&mut self) -> &mut [u8]
+        ensures* writes_back { sem 𝓛 (LendsRows self.entry result) }
+        ensures value { cropped self.old.shown.width self.old.shown.height (bordered_side self.old.shown.width self.old.border) result.now ≡ self.old.shown }
+        ensures len { length result.now ≡ self.old.shown.height * bordered_side self.old.shown.width self.old.border }
+    {
+        let stride = self.width + 2 * self.border;
+        part(
+            &mut self.samples,
+            self.stride,
+            self.width,
+            self.height,
+            self.border,
+        );
+        self.first = self.border * stride + self.border;
+        self.stride = stride;
+        self.is_current = false;
+        let end = self.first + self.height * stride;
+        self.samples.slice_mut(self.first..end)
     }
 
     /// All shown samples to be written, row by row from the top, each row directly after the one
@@ -219,7 +263,16 @@ impl Plane {
         ensures value { result.now ≡ self.old.shown.samples }
         ensures len { length result.now ≡ self.old.shown.width * self.old.shown.height }
     {
-        self.open();
+        join(
+            &mut self.samples,
+            self.first,
+            self.stride,
+            self.width,
+            self.height,
+        );
+        self.first = 0;
+        self.stride = self.width;
+        self.is_current = false;
         let end = self.width * self.height;
         self.samples.slice_mut(0..end)
     }
@@ -243,22 +296,29 @@ impl Plane {
     pub(crate) fn refill(&mut self)
         ensures { self.new ≡ brought_up_to_date self.old }
     {
-        if !self.is_current && self.border > 0 {
+        if !self.is_current {
             let stride = self.width + 2 * self.border;
-            spread(&mut self.samples, self.width, self.height, self.border);
+            surround(
+                &mut self.samples,
+                self.stride,
+                self.width,
+                self.height,
+                self.border,
+            );
             self.first = self.border * stride + self.border;
             self.stride = stride;
+            self.is_current = true;
         }
-        self.is_current = true;
     }
 
     /// Writes `value` over each sample. The border is then up to date, and no memory is taken.
     pub(crate) fn clear(&mut self, value: u8)
         ensures { self.new ≡ bordered (uniform self.old.shown.width self.old.shown.height value) self.old.border }
     {
+        let stride = self.width + 2 * self.border;
         self.samples.fill(value);
-        self.first = 0;
-        self.stride = self.width;
+        self.first = self.border * stride + self.border;
+        self.stride = stride;
         self.is_current = true;
     }
 
@@ -267,27 +327,9 @@ impl Plane {
     pub(crate) fn give_up_samples(&mut self)
         ensures { (self.new.shown.width ≡ self.old.shown.width) × (self.new.shown.height ≡ self.old.shown.height) }
     {
-        self.first = 0;
-        self.stride = self.width;
-        self.is_current = false;
-    }
-
-    /// Marks the border as out of date and moves the shown rows one directly after the other, to be
-    /// written.
-    fn open(&mut self)
-        ensures { self.new ≡ out_of_date self.old }
-    {
-        if self.stride != self.width {
-            pack(
-                &mut self.samples,
-                self.first,
-                self.stride,
-                self.width,
-                self.height,
-            );
-            self.first = 0;
-            self.stride = self.width;
-        }
+        let stride = self.width + 2 * self.border;
+        self.first = self.border * stride + self.border;
+        self.stride = stride;
         self.is_current = false;
     }
 }

@@ -17,4 +17,4 @@ returns-clause-samples c =
     let ex = simp to_z-of_z at c.in_ok-column.ensures.value in
     let ey = simp to_z-of_z at c.in_ok-row.ensures.value in
     let placed : IsPlaced (layout_of c.self.inside.width c.self.inside.height c.self.inside.border c.self.inside.first c.self.inside.stride) c.args.x c.args.y c.args.n 1 c.in_ok-column.column c.in_ok-row.row = record { across = ex; down = ey } in
-    rw (← c.self.view_is, c.deref.ensures.value) (span_is _ _ c.args.x c.args.y c.args.n c.in_ok-column.column c.in_ok-row.row c.self.invariant.0 (c.self.invariant.2 c.if-not-self.false) placed)
+    rw (← c.self.view_is, c.deref.ensures.value) (span_is _ _ c.args.x c.args.y c.args.n c.in_ok-column.column c.in_ok-row.row c.self.invariant.0 (c.self.invariant.1 c.if-not-self.false) placed)
