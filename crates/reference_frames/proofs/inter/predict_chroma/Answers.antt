@@ -1,5 +1,5 @@
 use Rattle.std.specs.Option.{option_copied}
-use Rattle.std.proofs.Common.{◌≡◌, ℕ, ◌+◌, ◌*◌, List, arith}
+use Rattle.std.proofs.Common.{ℕ, ◌*◌, List, arith}
 use Rattle.pixel_planes.specs.Layout.{bordered_side}
 use Rattle.pixel_planes.specs.Samples.{Samples}
 use Rattle.reference_frames.specs.InterPrediction.{block_vector, chroma_sample}

@@ -1,4 +1,4 @@
-use Rattle.std.proofs.Common.{◌≡◌, ◌∙◌, ℕ, ◌+◌, ◌*◌, List, refl, ap, arith}
+use Rattle.std.proofs.Common.{◌∙◌, ℕ, ◌*◌, List, refl, ap}
 use Rattle.std.specs.Option.{option_copied}
 use Rattle.intra_predict.specs.WholeSample.{side_of, whole_sample}
 use Rattle.pixel_planes.specs.Layout.{bordered_side}
