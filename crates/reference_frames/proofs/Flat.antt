@@ -17,7 +17,7 @@ use Rattle.reference_frames.proofs.Blocks.{part_length}
 -- ---- a span
 
 -- a row's length
-row_length : (p : Samples) (y : ℕ) → length p.samples ≡ p.width * p.height → y < p.height → length (row_of p y) ≡ p.width
+pub row_length : (p : Samples) (y : ℕ) → length p.samples ≡ p.width * p.height → y < p.height → length (row_of p y) ≡ p.width
 row_length p y whole below =
     let fits : y * p.width + p.width ≤ p.width * p.height = row_fits p.width p.height y below in
     part_length p.samples (y * p.width) p.width (omega arith)

@@ -15,6 +15,7 @@ pub mod Tagged
 pub mod Padded
 pub mod PutRows
 pub mod PlacedInPlanes
+pub mod LentRows
 pub mod Agree
 pub mod AgreeFrames
 pub mod MarkedPartitions

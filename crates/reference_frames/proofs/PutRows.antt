@@ -67,7 +67,7 @@ pub row_inside : (side stride n : ℕ) → n < side → n * stride + stride ≤ 
 row_inside side stride n below = grind (arith, mul-le-mul_right)
 
 -- a block that lies in a plane has room among its samples
-pub block_room : (x y side width height count : ℕ) → x + side ≤ width → y + side ≤ height → count ≡ width * height → y * width + x + side * width ≤ count + (width - side)
-block_room x y side width height count across down is =
-    let rows : (y + side) * width ≤ height * width = mul-le-mul_right width down in
-    rw is (omega (arith, rows, across))
+pub block_room : (x y side across height count : ℕ) → x + side ≤ across → y + side ≤ height → count ≡ height * across → y * across + x + side * across ≤ count + (across - side)
+block_room x y side across height count wide high is =
+    let rows : (y + side) * across ≤ height * across = mul-le-mul_right across high in
+    rw is (omega (arith, rows, wide))

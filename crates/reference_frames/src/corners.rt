@@ -1,4 +1,5 @@
-/// The upper left corner of a block in the samples of a plane, whose rows are `across` samples.
+/// The upper left corner of a block in the samples of a plane, whose rows start `across` samples
+/// apart.
 #[derive(Clone, Copy)]
 pub(crate) struct Corner {
     pub(crate) across: usize,
@@ -13,7 +14,7 @@ pub(crate) struct MacroblockPlace {
     pub(crate) my: usize,
 }
 
-/// The place of a macroblock in the samples of a plane, whose rows are `across` samples.
+/// The place of a macroblock in the samples of a plane, whose rows start `across` samples apart.
 #[derive(Clone, Copy)]
 pub(crate) struct MacroblockCorner {
     pub(crate) across: usize,

@@ -71,7 +71,7 @@ fn predict_square(
     corner: Corner,
 )
     requires side { (0 < side) × (side ≤ 16) }
-    requires small { (corner.across ≤ 16384) × (corner.row + side ≤ 16384) }
+    requires small { (corner.across ≤ 16512) × (corner.row + side ≤ 16384) }
     requires column { corner.column + side ≤ corner.across }
     requires room { (corner.row + side) * corner.across ≤ length samples.old }
     ensures { IsPlaced (λ i j. inter_sample kind from.now.shown (pos i) (pos j) vector.0 vector.1) corner.across side corner.column corner.row samples.old samples.new }
@@ -118,7 +118,7 @@ fn predict_quarter(
     corner: MacroblockCorner,
 )
     requires quarter { quarter < 4 }
-    requires small { (corner.across ≤ 16384) × (16 * corner.my + 16 ≤ 16384) }
+    requires small { (corner.across ≤ 16512) × (16 * corner.my + 16 ≤ 16384) }
     requires column { 16 * corner.mx + 16 ≤ corner.across }
     requires room { (16 * corner.my + 16) * corner.across ≤ length samples.old }
     ensures { IsPlaced (from_corner (16 * corner.mx) (16 * corner.my) (luma_sample kind from.now.shown corner.mx corner.my (λ n. slice_index_or vectors.now n zero_vector))) corner.across 8 (16 * corner.mx + 8 * (quarter % 2)) (16 * corner.my + 8 * (quarter / 2)) samples.old samples.new }
@@ -170,7 +170,7 @@ fn luma_samples(
     samples: &mut [u8],
     corner: MacroblockCorner,
 )
-    requires small { (corner.across ≤ 16384) × (16 * corner.my + 16 ≤ 16384) }
+    requires small { (corner.across ≤ 16512) × (16 * corner.my + 16 ≤ 16384) }
     requires column { 16 * corner.mx + 16 ≤ corner.across }
     requires room { (16 * corner.my + 16) * corner.across ≤ length samples.old }
     ensures { IsPlaced (from_corner (16 * corner.mx) (16 * corner.my) (luma_sample kind from.now.shown corner.mx corner.my (block_vector mode vectors.now))) corner.across 16 (16 * corner.mx) (16 * corner.my) samples.old samples.new }
@@ -257,7 +257,7 @@ fn chroma_samples(
     corner: MacroblockCorner,
 )
     requires whole { IsWholeVector motion.version motion.mode motion.vectors.now whole }
-    requires small { (corner.across ≤ 16384) × (8 * corner.my + 8 ≤ 16384) }
+    requires small { (corner.across ≤ 16512) × (8 * corner.my + 8 ≤ 16384) }
     requires column { 8 * corner.mx + 8 ≤ corner.across }
     requires room { (8 * corner.my + 8) * corner.across ≤ length samples.old }
     ensures { IsPlaced (from_corner (8 * corner.mx) (8 * corner.my) (chroma_sample motion.entry.version from.now.shown corner.mx corner.my (block_vector motion.entry.mode motion.entry.vectors.now))) corner.across 8 (8 * corner.mx) (8 * corner.my) samples.old samples.new }
@@ -315,18 +315,14 @@ fn predict_luma(
     ensures value { plane.new.shown ≡ with_block plane.old.shown (16 * place.mx) (16 * place.my) 16 (restored 16 0 (option_copied residual.entry) (luma_sample (kind_of motion.entry.version) from.now.shown place.mx place.my (block_vector motion.entry.mode motion.entry.vectors.now))) }
     ensures sides { SameSides plane.old.shown plane.new.shown }
 {
-    let width = plane.width();
-    let samples = plane.samples_mut();
+    let across = plane.stride();
+    let samples = plane.rows_mut();
     let kind = kind_of(motion.version);
     let MacroblockPlace { mx, my } = place;
-    let corner = MacroblockCorner {
-        across: width,
-        mx,
-        my,
-    };
+    let corner = MacroblockCorner { across, mx, my };
     luma_samples(from, kind, motion.mode, motion.vectors, samples, corner);
     let corner = Corner {
-        across: width,
+        across,
         column: 16 * mx,
         row: 16 * my,
     };
@@ -349,18 +345,14 @@ fn predict_chroma(
     ensures value { plane.new.shown ≡ with_block plane.old.shown (8 * place.mx) (8 * place.my) 8 (restored 8 first (option_copied residual.entry) (chroma_sample chroma.entry.motion.version from.now.shown place.mx place.my (block_vector chroma.entry.motion.mode chroma.entry.motion.vectors.now))) }
     ensures sides { SameSides plane.old.shown plane.new.shown }
 {
-    let width = plane.width();
-    let samples = plane.samples_mut();
+    let across = plane.stride();
+    let samples = plane.rows_mut();
     let MacroblockPlace { mx, my } = place;
-    let corner = MacroblockCorner {
-        across: width,
-        mx,
-        my,
-    };
+    let corner = MacroblockCorner { across, mx, my };
     let ChromaMotion { motion, whole } = chroma;
     chroma_samples(from, motion, whole, samples, corner);
     let corner = Corner {
-        across: width,
+        across,
         column: 8 * mx,
         row: 8 * my,
     };

@@ -177,7 +177,7 @@ impl Blocks {
     #[inline(always)]
     pub fn add(&self, k: usize, samples: &mut [u8], stride: usize)
         requires block { k < 24 }
-        requires wide { (4 ≤ stride) × (stride ≤ 16384) }
+        requires wide { (4 ≤ stride) × (stride ≤ 16512) }
         requires room { 3 * stride + 4 ≤ length samples.old }
         ensures { IsAdded (inverse_dct (slice_index_or self.now k [])) 4 stride samples.old samples.new }
     {

@@ -144,7 +144,7 @@ fn read_left(plane: &Plane, x: usize, y: usize, out: &mut [u8])
 #[inline(always)]
 fn write_rows(samples: &mut [u8], start: usize, stride: usize, side: usize, block: &[u8])
     requires wide { side ≤ stride }
-    requires small { (side ≤ 16) × (stride ≤ 16384) }
+    requires small { (side ≤ 16) × (stride ≤ 16512) }
     requires room { start + side * stride ≤ length samples.old + (stride - side) }
     requires whole { length block.now ≡ side * side }
     ensures { samples.new ≡ block_rows_put samples.old start stride side (λ column row. slice_index block.now (row * side + column)) side }
@@ -165,9 +165,9 @@ fn write_block(plane: &mut Plane, x: usize, y: usize, side: usize, block: &[u8])
     ensures value { plane.new.shown ≡ with_block plane.old.shown x y side (λ column row. slice_index block.now (row * side + column)) }
     ensures sides { SameSides plane.old.shown plane.new.shown }
 {
-    let width = plane.width();
-    let start = y * width + x;
-    write_rows(plane.samples_mut(), start, width, side, block);
+    let across = plane.stride();
+    let start = y * across + x;
+    write_rows(plane.rows_mut(), start, across, side, block);
 }
 
 /// Predicts a sub block of a macroblock from the samples around it by then, and adds its residual.
@@ -241,7 +241,7 @@ fn predict_square(
 )
     requires above { ForSome around.above (λ side. length side.now ≡ side_of size) }
     requires left { ForSome around.left (λ side. length side.now ≡ side_of size) }
-    requires small { (corner.across ≤ 16384) × (corner.row + side_of size ≤ 16384) }
+    requires small { (corner.across ≤ 16512) × (corner.row + side_of size ≤ 16384) }
     requires column { corner.column + side_of size ≤ corner.across }
     requires room { (corner.row + side_of size) * corner.across ≤ length samples.old }
     ensures { IsPlaced (from_corner corner.column corner.row (whole_sample mode (option_copied around.entry.above) (option_copied around.entry.left) around.entry.diagonal)) corner.across (side_of size) corner.column corner.row samples.old samples.new }
@@ -286,8 +286,8 @@ fn predict_whole(
         left,
         diagonal,
     };
-    let across = plane.width();
-    let samples = plane.samples_mut();
+    let across = plane.stride();
+    let samples = plane.rows_mut();
     let corner = Corner {
         across,
         column: x,

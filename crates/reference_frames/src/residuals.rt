@@ -18,7 +18,7 @@ use transforms::{dct_add_four_firsts, dct_add_two_firsts};
 #[inline(always)]
 fn add_at(blocks: &Blocks, k: usize, samples: &mut [u8], corner: Corner)
     requires block { k < 24 }
-    requires small { (corner.across ≤ 16384) × (corner.row + 4 ≤ 16384) }
+    requires small { (corner.across ≤ 16512) × (corner.row + 4 ≤ 16384) }
     requires column { corner.column + 4 ≤ corner.across }
     requires room { (corner.row + 4) * corner.across ≤ length samples.old }
     ensures { IsAddedAt (inverse_dct (slice_index_or blocks.now k [])) corner.across 4 corner.column corner.row samples.old samples.new }
@@ -32,7 +32,7 @@ fn add_at(blocks: &Blocks, k: usize, samples: &mut [u8], corner: Corner)
 #[inline(always)]
 fn add_each(blocks: &Blocks, k: usize, count: usize, samples: &mut [u8], corner: Corner)
     requires blocks { (count ≤ 4) × (k + count ≤ 24) }
-    requires small { (corner.across ≤ 16384) × (corner.row + 4 ≤ 16384) }
+    requires small { (corner.across ≤ 16512) × (corner.row + 4 ≤ 16384) }
     requires column { corner.column + 4 * count ≤ corner.across }
     requires room { (corner.row + 4) * corner.across ≤ length samples.old }
     ensures { IsAddedAt (blocks_residual blocks.now k) corner.across (4 * count) corner.column corner.row samples.old samples.new }
@@ -48,7 +48,7 @@ fn add_each(blocks: &Blocks, k: usize, count: usize, samples: &mut [u8], corner:
 #[inline(always)]
 fn add_four(blocks: &Blocks, k: usize, samples: &mut [u8], corner: Corner)
     requires blocks { k + 4 ≤ 24 }
-    requires small { (corner.across ≤ 16384) × (corner.row + 4 ≤ 16384) }
+    requires small { (corner.across ≤ 16512) × (corner.row + 4 ≤ 16384) }
     requires column { corner.column + 16 ≤ corner.across }
     requires room { (corner.row + 4) * corner.across ≤ length samples.old }
     ensures { IsAddedAt (blocks_residual blocks.now k) corner.across 16 corner.column corner.row samples.old samples.new }
@@ -66,7 +66,7 @@ fn add_four(blocks: &Blocks, k: usize, samples: &mut [u8], corner: Corner)
 #[inline(always)]
 fn add_two(blocks: &Blocks, k: usize, samples: &mut [u8], corner: Corner)
     requires blocks { k + 2 ≤ 24 }
-    requires small { (corner.across ≤ 16384) × (corner.row + 4 ≤ 16384) }
+    requires small { (corner.across ≤ 16512) × (corner.row + 4 ≤ 16384) }
     requires column { corner.column + 8 ≤ corner.across }
     requires room { (corner.row + 4) * corner.across ≤ length samples.old }
     ensures { IsAddedAt (blocks_residual blocks.now k) corner.across 8 corner.column corner.row samples.old samples.new }
@@ -84,7 +84,7 @@ fn add_two(blocks: &Blocks, k: usize, samples: &mut [u8], corner: Corner)
 #[inline(always)]
 fn add_row(blocks: &Blocks, k: usize, size: BlockSize, samples: &mut [u8], corner: Corner)
     requires blocks { k + side_of size / 4 ≤ 24 }
-    requires small { (corner.across ≤ 16384) × (corner.row + 4 ≤ 16384) }
+    requires small { (corner.across ≤ 16512) × (corner.row + 4 ≤ 16384) }
     requires column { corner.column + side_of size ≤ corner.across }
     requires room { (corner.row + 4) * corner.across ≤ length samples.old }
     ensures { IsAddedAt (blocks_residual blocks.now k) corner.across (side_of size) corner.column corner.row samples.old samples.new }
@@ -100,7 +100,7 @@ fn add_row(blocks: &Blocks, k: usize, size: BlockSize, samples: &mut [u8], corne
 #[inline(never)]
 fn add_blocks(blocks: &Blocks, first: usize, size: BlockSize, samples: &mut [u8], corner: Corner)
     requires first { first + side_of size / 4 * (side_of size / 4) ≤ 24 }
-    requires small { (corner.across ≤ 16384) × (corner.row + side_of size ≤ 16384) }
+    requires small { (corner.across ≤ 16512) × (corner.row + side_of size ≤ 16384) }
     requires column { corner.column + side_of size ≤ corner.across }
     requires room { (corner.row + side_of size) * corner.across ≤ length samples.old }
     ensures { IsPlaced (from_corner corner.column corner.row (restored (side_of size) first (Some blocks.now) (square_from samples.old corner.across corner.column corner.row))) corner.across (side_of size) corner.column corner.row samples.old samples.new }
@@ -124,7 +124,7 @@ pub fn add_to_square(
     corner: Corner,
 )
     requires first { first + side_of size / 4 * (side_of size / 4) ≤ 24 }
-    requires small { (corner.across ≤ 16384) × (corner.row + side_of size ≤ 16384) }
+    requires small { (corner.across ≤ 16512) × (corner.row + side_of size ≤ 16384) }
     requires column { corner.column + side_of size ≤ corner.across }
     requires room { (corner.row + side_of size) * corner.across ≤ length samples.old }
     ensures { IsPlaced (from_corner corner.column corner.row (restored (side_of size) first (option_copied residual.entry) (square_from samples.old corner.across corner.column corner.row))) corner.across (side_of size) corner.column corner.row samples.old samples.new }
