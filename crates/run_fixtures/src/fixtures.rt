@@ -121,3 +121,38 @@ pub fn y4m_of(
     }
     Ok(text)
 }
+
+/// The line of a Y4M text, and frames of one value a run of samples.
+pub type Frames = (&'static [u8], &'static [&'static [(usize, u8)]]);
+
+/// A run over a file of these packets, and what it must give: the replies, and the frames if these are
+/// compared.
+pub struct Run {
+    pub packets: &'static [&'static [u8]],
+    pub requests: &'static [u8],
+    pub replies: &'static [u8],
+    pub frames: Option<Frames>,
+}
+
+/// Whether a text is that of these frames, if these are compared.
+fn shows(alloc: Global, text: &[u8], frames: Option<Frames>) -> Result<bool, AllocError> {
+    let Some((line, frames)) = frames else {
+        return Ok(true);
+    };
+    let want = y4m_of(alloc, line, frames)?;
+    Ok(text == want.as_slice())
+}
+
+/// The replies of a run, or `frames differ` if its frames are others.
+pub fn replies_of(alloc: Global, run: &Run) -> Result<Vec<u8>, AllocError> {
+    let Ran {
+        frames,
+        replies,
+        ..
+    } = run_packets(alloc, run.packets, run.requests)?;
+    if shows(alloc, &frames, run.frames)? {
+        Ok(replies)
+    } else {
+        Vec::from_slice(alloc, b"frames differ")
+    }
+}

@@ -1,8 +1,9 @@
 //! What a session decodes again after edits, and what it caches.
 
+use crate::expected::expect_run;
 use frame_session::{Edit, Session};
 use pixel_planes::same;
-use run_fixtures::{HIDDEN, INTER, KEY, ivf_of, run_packets, run_with, y4m_of};
+use run_fixtures::{HIDDEN, INTER, KEY, Run, ivf_of, run_packets, run_with, y4m_of};
 use std::alloc::Global;
 use std::test::Fail;
 use stream_files::{Bytes, ivf_read};
@@ -13,28 +14,28 @@ const LINE: &[u8] = b"YUV4MPEG2 W16 H16 F30:1 Ip C420jpeg\n";
 // The states meet at packet 2.
 #[test]
 fn a_replacement_by_the_same(rt: HostRuntime) -> Result<(), Fail> {
-    let requests = b"frame 3\nstats\nreplace 1 110000\nframe 3\nstats\n";
-    let ran = run_packets(rt.alloc(), &[KEY, INTER, INTER, INTER], requests)?;
-    assert_eq!(rt;
-        ran.replies.as_slice(),
-        b"served 3\ndecoded 4\nok 4\nserved 3\ndecoded 6\n".as_slice()
-    );
-    let want = y4m_of(rt.alloc(), LINE, &[&[(384, 0x80)], &[(384, 0x80)]])?;
-    assert_eq!(rt; ran.frames.as_slice(), want.as_slice());
-    Ok(())
+    expect_run(&rt, rt.alloc(), &REPLACEMENT_BY_THE_SAME)
 }
+
+const REPLACEMENT_BY_THE_SAME: Run = Run {
+    packets: &[KEY, INTER, INTER, INTER],
+    requests: b"frame 3\nstats\nreplace 1 110000\nframe 3\nstats\n",
+    replies: b"served 3\ndecoded 4\nok 4\nserved 3\ndecoded 6\n",
+    frames: Some((LINE, &[&[(384, 0x80)], &[(384, 0x80)]])),
+};
 
 // A key packet is inserted, and after it the states converge.
 #[test]
 fn an_insertion_of_a_key_packet(rt: HostRuntime) -> Result<(), Fail> {
-    let requests = b"frame 2\ninsert 1 0 1000009D012A10001000\nframe 3\nstats\n";
-    let ran = run_packets(rt.alloc(), &[KEY, INTER, INTER], requests)?;
-    assert_eq!(rt;
-        ran.replies.as_slice(),
-        b"served 2\nok 4\nserved 3\ndecoded 5\n".as_slice()
-    );
-    Ok(())
+    expect_run(&rt, rt.alloc(), &INSERTION_OF_A_KEY_PACKET)
 }
+
+const INSERTION_OF_A_KEY_PACKET: Run = Run {
+    packets: &[KEY, INTER, INTER],
+    requests: b"frame 2\ninsert 1 0 1000009D012A10001000\nframe 3\nstats\n",
+    replies: b"served 2\nok 4\nserved 3\ndecoded 5\n",
+    frames: None,
+};
 
 // A cache of one state continues from it, or from the start.
 #[test]
@@ -63,27 +64,29 @@ fn a_move(rt: HostRuntime) -> Result<(), Fail> {
 
 #[test]
 fn a_deletion(rt: HostRuntime) -> Result<(), Fail> {
-    let requests = b"frame 3\ndelete 1\nframe 2\nstats\n";
-    let ran = run_packets(rt.alloc(), &[KEY, INTER, INTER, INTER], requests)?;
-    assert_eq!(rt;
-        ran.replies.as_slice(),
-        b"served 3\nok 3\nserved 2\ndecoded 5\n".as_slice()
-    );
-    Ok(())
+    expect_run(&rt, rt.alloc(), &DELETION)
 }
+
+const DELETION: Run = Run {
+    packets: &[KEY, INTER, INTER, INTER],
+    requests: b"frame 3\ndelete 1\nframe 2\nstats\n",
+    replies: b"served 3\nok 3\nserved 2\ndecoded 5\n",
+    frames: None,
+};
 
 // The cached outcome of a packet is not used for the same packet inserted again, with another id; a
 // refusal is not cached, and is reported with the current index of the packet.
 #[test]
 fn a_broken_packet_moves(rt: HostRuntime) -> Result<(), Fail> {
-    let requests = b"frame 2\ninsert 0 0 1000009D012A10001000\nframe 3\ndelete 2\nframe 2\nstats\n";
-    let ran = run_packets(rt.alloc(), &[KEY, &[0x11, 0], INTER], requests)?;
-    assert_eq!(rt;
-        ran.replies.as_slice(),
-        b"refused packet 1 ShortPacket\nok 4\nrefused packet 2 ShortPacket\nok 3\nserved 2\ndecoded 4\n".as_slice()
-    );
-    Ok(())
+    expect_run(&rt, rt.alloc(), &BROKEN_PACKET_MOVES)
 }
+
+const BROKEN_PACKET_MOVES: Run = Run {
+    packets: &[KEY, &[0x11, 0], INTER],
+    requests: b"frame 2\ninsert 0 0 1000009D012A10001000\nframe 3\ndelete 2\nframe 2\nstats\n",
+    replies: b"refused packet 1 ShortPacket\nok 4\nrefused packet 2 ShortPacket\nok 3\nserved 2\ndecoded 4\n",
+    frames: None,
+};
 
 // Packets of two clips of vpxenc, of 16 by 16 samples: a key packet of each and some after it.
 

@@ -1,6 +1,7 @@
 //! Packets of no bytes, which drop a frame: the last reference is shown again.
 
-use run_fixtures::{INTER, KEY, run_packets, y4m_of};
+use crate::expected::expect_run;
+use run_fixtures::{INTER, KEY, Run, run_packets, y4m_of};
 use std::test::Fail;
 
 const LINE: &[u8] = b"YUV4MPEG2 W16 H16 F30:1 Ip C420jpeg\n";
@@ -13,16 +14,15 @@ const GREY: &[(usize, u8)] = &[(384, 0x80)];
 // It is one step, and its state is cached like any other.
 #[test]
 fn a_dropped_frame_repeats_the_picture(rt: HostRuntime) -> Result<(), Fail> {
-    let requests = b"frame 1\nframe 2\nstats\nreplace 1 110000\nframe 2\nstats\nframe 1\nstats\n";
-    let ran = run_packets(rt.alloc(), &[KEY, &[], INTER], requests)?;
-    assert_eq!(rt;
-        ran.replies.as_slice(),
-        b"served 1\nserved 2\ndecoded 3\nok 3\nserved 2\ndecoded 5\nserved 1\ndecoded 5\n".as_slice()
-    );
-    let want = y4m_of(rt.alloc(), LINE, &[KEY_FRAME, GREY, GREY, GREY])?;
-    assert_eq!(rt; ran.frames.as_slice(), want.as_slice());
-    Ok(())
+    expect_run(&rt, rt.alloc(), &DROPPED_FRAME_REPEATS_THE_PICTURE)
 }
+
+const DROPPED_FRAME_REPEATS_THE_PICTURE: Run = Run {
+    packets: &[KEY, &[], INTER],
+    requests: b"frame 1\nframe 2\nstats\nreplace 1 110000\nframe 2\nstats\nframe 1\nstats\n",
+    replies: b"served 1\nserved 2\ndecoded 3\nok 3\nserved 2\ndecoded 5\nserved 1\ndecoded 5\n",
+    frames: Some((LINE, &[KEY_FRAME, GREY, GREY, GREY])),
+};
 
 #[test]
 fn a_dropped_frame_needs_a_state(rt: HostRuntime) -> Result<(), Fail> {

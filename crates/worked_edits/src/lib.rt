@@ -9,4 +9,6 @@ mod dropped;
 #[cfg(test)]
 mod edits;
 #[cfg(test)]
+mod expected;
+#[cfg(test)]
 mod sources;

@@ -1,9 +1,11 @@
 //! Several sources: `use`, `copy`, the script node `source K`, and one cache for all of them.
 
+use crate::edits::{expect_edit, expect_refused};
 use frame_header::Cause;
 use frame_session::{Edit, Refusal, RunFault, Session};
 use run_fixtures::{INTER, KEY, Ran, WIDE_KEY, ivf_of, run_sources, y4m_of};
 use std::alloc::Global;
+use std::process::Abort;
 use std::test::Fail;
 use stream_files::{IvfFault, ivf_read};
 use vp8_tables::Tables;
@@ -115,44 +117,53 @@ fn files_of_sources(rt: HostRuntime) -> Result<(), Fail> {
     Ok(())
 }
 
-// The calls of a session by themselves, with ample memory.
-#[test]
-fn a_session_has_sources(rt: HostRuntime) -> Result<(), Fail> {
-    let alloc = rt.alloc();
+/// A session over two files of one key packet.
+fn session_of_two(alloc: Global) -> Result<Session, Fail> {
     let text = ivf_of(alloc, &[KEY])?;
     let first = ivf_read(alloc, text.as_slice())?;
     let second = ivf_read(alloc, text.as_slice())?;
-    if first.packets.len() != 1 || second.packets.len() != 1 {
-        return Ok(assert!(rt; false, "one packet of each is read"));
-    }
     let files = vec![in alloc; first, second]?;
-    let mut session = Session::new(alloc, Tables::flat(), 4096, files)?;
-    assert_eq!(rt; session.choose(2), Err(Refusal::Source));
-    assert_eq!(rt; session.choose(1), Ok(1));
+    Ok(Session::new(alloc, Tables::flat(), 4096, files)?)
+}
+
+// The calls of a session by themselves, with ample memory.
+#[test]
+fn a_session_has_sources(rt: HostRuntime) -> Result<(), Fail> {
+    let mut session = session_of_two(rt.alloc())?;
+    expect_copied(&rt, &mut session);
+    expect_spliced(&rt, rt.alloc(), &mut session)
+}
+
+fn expect_copied<R: Abort>(rt: &R, session: &mut Session) {
+    assert!(rt; session.choose(2) == Err(Refusal::Source));
+    assert!(rt; session.choose(1) == Ok(1));
     let copy = Edit::Copy {
         source: 0,
         from: 0,
         at: 1,
     };
-    assert_eq!(rt; session.edit(copy), Ok(2));
-    assert_eq!(rt; session.count(), (2, 1));
-    assert_eq!(rt; session.edit(Edit::Delete { at: 0 }), Ok(1));
-    assert_eq!(rt; session.edit(Edit::Delete { at: 0 }), Ok(0));
-    assert_eq!(rt; session.set_script(b"source 1; splice 0 1"), Ok(0));
-    assert_eq!(rt; session.edit(Edit::Hold { at: 0 }), Err(Refusal::Size));
+    expect_edit(rt, session, copy, Ok(2), (2, 1));
+    expect_edit(rt, session, Edit::Delete { at: 0 }, Ok(1), (1, 1));
+    expect_edit(rt, session, Edit::Delete { at: 0 }, Ok(0), (0, 1));
+}
+
+fn expect_spliced<R: Abort>(rt: &R, alloc: Global, session: &mut Session) -> Result<(), Fail> {
+    assert!(rt; session.set_script(b"source 1; splice 0 1") == Ok(0));
+    let refused = Err(Refusal::Size);
+    expect_edit(rt, session, Edit::Hold { at: 0 }, refused, (0, 1));
     let bytes = stream_files::Bytes::from_slice(alloc, INTER)?;
     let insert = Edit::Insert {
         at: 0,
         stamp: 0,
         bytes,
     };
-    assert_eq!(rt; session.edit(insert), Ok(1));
+    expect_edit(rt, session, insert, Ok(1), (1, 2));
     let broken = Refusal::Packet {
         source: 1,
         place: 0,
         cause: Cause::NoKeyFrame,
     };
-    assert_eq!(rt; session.frame(1).err(), Some(broken));
+    expect_refused(rt, session, 1, broken);
     assert!(rt; session.frame(0).is_ok());
     Ok(())
 }

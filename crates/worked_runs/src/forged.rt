@@ -1,8 +1,9 @@
 //! Forged packets and saving in a session.
 
+use crate::expected::expect_run;
 use crate::files::{NEVER, Refusing};
 use frame_session::{Edit, Refusal, RunFault, Session, run};
-use run_fixtures::{HIDDEN, INTER, KEY, ivf_of, run_over, run_packets, y4m_of};
+use run_fixtures::{HIDDEN, INTER, KEY, Run, ivf_of, run_over, run_packets, y4m_of};
 use std::alloc::Global;
 use std::process::Abort;
 use std::test::Fail;
@@ -58,25 +59,27 @@ fn a_session_saves_its_file(rt: HostRuntime) -> Result<(), Fail> {
 
 #[test]
 fn a_hold_shows_the_last_frame(rt: HostRuntime) -> Result<(), Fail> {
-    let ran = run_packets(rt.alloc(), &[KEY], b"hold 1\nframe 1\n")?;
-    assert_eq!(rt; ran.replies.as_slice(), b"ok 2\nserved 1\n".as_slice());
-    let want = y4m_of(rt.alloc(), LINE, &[KEY_FRAME])?;
-    assert_eq!(rt; ran.frames.as_slice(), want.as_slice());
-    Ok(())
+    expect_run(&rt, rt.alloc(), &HOLD_SHOWS_THE_LAST_FRAME)
 }
+
+const HOLD_SHOWS_THE_LAST_FRAME: Run = Run {
+    packets: &[KEY],
+    requests: b"hold 1\nframe 1\n",
+    replies: b"ok 2\nserved 1\n",
+    frames: Some((LINE, &[KEY_FRAME])),
+};
 
 #[test]
 fn a_blank_frame_is_grey(rt: HostRuntime) -> Result<(), Fail> {
-    let requests = b"blank 1 16 16\nframe 1\nblank 3 0 0\nblank 0 0 16\ncount\n";
-    let ran = run_packets(rt.alloc(), &[KEY], requests)?;
-    assert_eq!(rt;
-        ran.replies.as_slice(),
-        b"ok 2\nserved 1\nrefused Place\nrefused Size\npackets 2 frames 2\n".as_slice()
-    );
-    let want = y4m_of(rt.alloc(), LINE, &[GREY])?;
-    assert_eq!(rt; ran.frames.as_slice(), want.as_slice());
-    Ok(())
+    expect_run(&rt, rt.alloc(), &BLANK_FRAME_IS_GREY)
 }
+
+const BLANK_FRAME_IS_GREY: Run = Run {
+    packets: &[KEY],
+    requests: b"blank 1 16 16\nframe 1\nblank 3 0 0\nblank 0 0 16\ncount\n",
+    replies: b"ok 2\nserved 1\nrefused Place\nrefused Size\npackets 2 frames 2\n",
+    frames: Some((LINE, &[GREY])),
+};
 
 #[test]
 fn a_stream_from_nothing(rt: HostRuntime) -> Result<(), Fail> {
@@ -174,42 +177,62 @@ fn a_saved_stream_serves_the_same(rt: HostRuntime) -> Result<(), Fail> {
     Ok(())
 }
 
+/// A session without packets.
+fn session_of_none(alloc: Global) -> Result<Session, Fail> {
+    let file = ivf_read(alloc, &EMPTY)?;
+    let files = vec![in alloc; file]?;
+    Ok(Session::new(alloc, Tables::flat(), 1, files)?)
+}
+
 // The calls by themselves, with ample memory: a body that always answers NoMemory fails here.
 #[test]
 fn a_session_forges_and_saves(rt: HostRuntime) -> Result<(), Fail> {
-    let alloc = rt.alloc();
-    let file = ivf_read(alloc, &EMPTY)?;
-    if file.packets.len() != 0 {
-        return Ok(assert!(rt; false, "no packet is read"));
-    }
-    let mut session = Session::new(alloc, Tables::flat(), 1, vec![in alloc; file]?)?;
+    let mut session = session_of_none(rt.alloc())?;
+    expect_forged(&rt, &mut session);
+    expect_saved(&rt, rt.alloc(), &session);
+    let picture = session.frame(1)?;
+    assert_eq!(rt; (picture.width(), picture.height()), (16, 32));
+    Ok(())
+}
+
+fn expect_forged<R: Abort>(rt: &R, session: &mut Session) {
     let blank = Edit::Blank {
         at: 0,
         width: 16,
         height: 32,
     };
-    assert_eq!(rt; session.edit(blank), Ok(1));
-    assert_eq!(rt; session.edit(Edit::Hold { at: 1 }), Ok(2));
-    assert_eq!(rt; session.edit(Edit::Hold { at: 3 }), Err(Refusal::Place));
-    assert_eq!(rt; session.edit(Edit::Hold { at: 0 }), Err(Refusal::Size));
+    assert!(rt; session.edit(blank) == Ok(1));
+    assert!(rt; session.edit(Edit::Hold { at: 1 }) == Ok(2));
+    assert!(rt; session.edit(Edit::Hold { at: 3 }) == Err(Refusal::Place));
+    assert!(rt; session.edit(Edit::Hold { at: 0 }) == Err(Refusal::Size));
+}
+
+/// Saves the packets, and then once for each call of the writer, which returns an error there.
+fn expect_saved<R: Abort>(rt: &R, alloc: Global, session: &Session) {
     let mut whole = Refusing::at(alloc, NEVER);
-    assert_eq!(rt; session.save(&mut whole), Ok(()));
+    assert!(rt; session.save(&mut whole) == Ok(()));
     for failing in 0..whole.calls {
-        let mut refusing = Refusing::at(alloc, failing);
-        assert_eq!(rt;
-            session.save(&mut refusing),
-            Err(WriteFault::Write),
-            "{failing}"
-        );
-        assert!(rt;
-            whole.taken.starts_with(refusing.taken.as_slice()),
-            "{failing}"
-        );
-        assert_eq!(rt; session.count(), (2, 2));
+        expect_begun(rt, alloc, session, &whole, failing);
     }
-    let picture = session.frame(1)?;
-    assert_eq!(rt; (picture.width(), picture.height()), (16, 32));
-    Ok(())
+}
+
+fn expect_begun<R: Abort>(
+    rt: &R,
+    alloc: Global,
+    session: &Session,
+    whole: &Refusing,
+    failing: u64,
+) {
+    let mut refusing = Refusing::at(alloc, failing);
+    assert!(rt;
+        session.save(&mut refusing) == Err(WriteFault::Write),
+        "{failing}"
+    );
+    assert!(rt;
+        whole.taken.starts_with(refusing.taken.as_slice()),
+        "{failing}"
+    );
+    assert!(rt; session.count() == (2, 2));
 }
 
 #[test]
