@@ -1,4 +1,4 @@
-ghost use Rattle.std.specs.Prelude.{◌<◌, ◌≤◌, length};
+ghost use Rattle.std.specs.Prelude.{◌≡◌, ◌<◌, ◌≤◌, length};
 
 use pixel_planes::{NoMemory, Picture, Plane, Planes};
 use std::alloc::Global;
@@ -25,12 +25,73 @@ fn numbered(alloc: Global, width: usize, height: usize, border: usize) -> Result
     Ok(plane)
 }
 
-/// A picture of one macroblock whose luma plane is numbered and has this border.
-fn numbered_picture(alloc: Global, border: usize) -> Result<Picture, NoMemory>
+/// How the samples of a plane are written.
+#[derive(Clone, Copy, Debug)]
+enum Way {
+    /// All of them, row directly after row.
+    Samples,
+    /// All of them, with the border's between the rows.
+    Rows,
+    /// The first way, and then row 1 by the second one.
+    SamplesThenRows,
+    /// The second way, and then row 1 alone.
+    RowsThenRow,
+}
+
+const WAYS: [Way; 4] = [
+    Way::Samples,
+    Way::Rows,
+    Way::SamplesThenRows,
+    Way::RowsThenRow,
+];
+
+/// Row 1 of a numbered plane of 16 by 16 samples.
+const SECOND: [u8; 16] = [
+    17, 18, 19, 20, 21, 22, 23, 24, 25, 26, 27, 28, 29, 30, 31, 32,
+];
+
+/// Writes 1, 2, 3 and so on over the first 16 samples of each row, and 255 over the others.
+fn number_rows(rows: &mut [u8], stride: usize)
+    requires { 0 < stride }
+{
+    rows.fill(255);
+    let mut number = 0u8;
+    for row in rows.chunks_exact_mut(stride) {
+        for sample in row.iter_mut().take(16) {
+            number = number.wrapping_add(1);
+            *sample = number;
+        }
+    }
+}
+
+/// Numbers a plane of 16 by 16 samples.
+fn write(plane: &mut Plane, way: Way)
+    requires { (plane.old.shown.width ≡ 16) × (plane.old.shown.height ≡ 16) }
+    ensures { (plane.new.shown.width ≡ 16) × (plane.new.shown.height ≡ 16) }
+{
+    let stride = plane.stride();
+    match way {
+        Way::Samples => number(plane.samples_mut()),
+        Way::Rows => number_rows(plane.rows_mut(), stride),
+        Way::SamplesThenRows => {
+            number(plane.samples_mut());
+            plane.samples_mut()[16..32].fill(0);
+            plane.rows_mut()[stride..stride + 16].copy_from_slice(&SECOND);
+        }
+        Way::RowsThenRow => {
+            number_rows(plane.rows_mut(), stride);
+            plane.rows_mut()[stride..stride + 16].fill(0);
+            plane.row_mut(1).copy_from_slice(&SECOND);
+        }
+    }
+}
+
+/// A picture of one macroblock whose luma plane is numbered in this way and has this border.
+fn numbered_picture(alloc: Global, border: usize, way: Way) -> Result<Picture, NoMemory>
     requires { border ≤ 64 }
 {
     let mut luma = Plane::make_bordered(alloc, 16, 16, 0, border)?;
-    number(luma.samples_mut());
+    write(&mut luma, way);
     let planes = Planes {
         luma,
         cb: Plane::make(alloc, 8, 8, 0)?,
@@ -102,18 +163,31 @@ fn spans_are_samples(plane: &Plane, border: usize) -> bool
     !is_within(plane, -side - 1, 0, 1) && !is_within(plane, -side, 0, 17 + 2 * border)
 }
 
+/// Whether rows, windows and spans of a plane are those of a numbered one.
+fn is_numbered(plane: &Plane, border: usize) -> bool
+    requires { border ≤ 64 }
+{
+    let last = [[236, 237, 238, 239, 240], [252, 253, 254, 255, 0]];
+    plane.height() == 16
+        && plane.row(1) == SECOND.as_slice()
+        && has_window(plane, 11, 14, last)
+        && spans_are_samples(plane, border)
+}
+
 #[test]
-fn spans_are_the_samples_at_each_border(rt: HostRuntime) -> Result<(), Fail> {
-    for border in [0, 1, 32, 64] {
-        let picture = numbered_picture(rt.alloc(), border)?;
-        assert!(rt; spans_are_samples(picture.luma(), border));
+fn samples_are_the_same_in_whatever_way_they_are_written(rt: HostRuntime) -> Result<(), Fail> {
+    for way in WAYS {
+        for border in [0, 1, 32, 64] {
+            let picture = numbered_picture(rt.alloc(), border, way)?;
+            assert!(rt; is_numbered(picture.luma(), border), "{way:?} {border}");
+        }
     }
     Ok(())
 }
 
 #[test]
 fn a_window_has_the_samples_of_its_rows(rt: HostRuntime) -> Result<(), Fail> {
-    let picture = numbered_picture(rt.alloc(), 32)?;
+    let picture = numbered_picture(rt.alloc(), 32, Way::Rows)?;
     let rows = [[1, 1, 2, 3, 4], [17, 17, 18, 19, 20]];
     assert!(rt; has_window(picture.luma(), -1, 0, rows));
     Ok(())
