@@ -68,7 +68,7 @@ build() {
     rm -f "$out/built" "$out/failed"
     : > "$log"
     began=$(date +%s)
-    say "building vp8serve for $cpu. Every crate is proved first, $(jobs) at a time: about 20 minutes on 4 idle processors."
+    say "building vp8serve for $cpu. Every crate is proved first, $(jobs) at a time: about half an hour on 4 idle processors."
     say "rt's output goes to $log"
     { (cd "$top" && rt all check --jobs "$(jobs)" 2>&1) || touch "$out/failed"; } | progress
     # Without requests the program that was built runs, and does nothing.
