@@ -11,4 +11,6 @@ pub mod ThreeEdges
 pub mod Transposed
 pub mod OwnLines
 pub mod Apart
+pub mod BlockSteps
 pub mod ApartBlocks
+pub mod Front

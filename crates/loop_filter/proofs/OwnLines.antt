@@ -11,7 +11,7 @@ use Rattle.loop_filter.proofs.RowsPut.{line_sets, earlier_row}
 use Rattle.loop_filter.proofs.EdgeFold.{samples_of, same_line, same_line_in, line_is_sets}
 
 -- samples that are set
-sets-length : (s : List ℕ) (at across : ℕ) (v : ℕ → ℕ) (m : ℕ) → length (line_sets s at across v m) ≡ length s
+pub sets-length : (s : List ℕ) (at across : ℕ) (v : ℕ → ℕ) (m : ℕ) → length (line_sets s at across v m) ≡ length s
 unfolding line_sets
 sets-length s at across v zero = refl
 sets-length s at across v (suc m) = length-set (line_sets s at across v m) (at + m * across) (v m) ∙ sets-length s at across v m
@@ -64,7 +64,7 @@ put-own s at across l some inside =
 abbrev pub AreApart : ℕ → ℕ → ℕ → ℕ → Type 0
 AreApart n start between across = (i j k l : ℕ) → i < j → j < n → k < 8 → l < 8 → start + i * between + k * across ≢ start + j * between + l * across
 
-edge-length : (f : Line → Line) (start between across : ℕ) (s : List ℕ) (n : ℕ) → length (lines_filtered f start between across s n) ≡ length s
+pub edge-length : (f : Line → Line) (start between across : ℕ) (s : List ℕ) (n : ℕ) → length (lines_filtered f start between across s n) ≡ length s
 unfolding lines_filtered
 edge-length f start between across s zero = refl
 edge-length f start between across s (suc n) =

@@ -1,11 +1,12 @@
 -- Filtering plane by plane is filtering macroblock by macroblock.
-use Rattle.std.proofs.Common.{◌≡◌, ℕ, zero, suc, ◌+◌, ◌*◌, ◌/◌, ◌%◌, ◌<◌, ◌≤◌, ◌==◌, Bool, true, false, List, Option, ap, refl, sym, ◌∙◌, arith}
+use Rattle.std.proofs.Common.{◌≡◌, ℕ, zero, suc, ◌+◌, ◌*◌, ◌/◌, ◌%◌, ◌<◌, ◌≤◌, ◌==◌, Bool, true, false, List, Option, ap, refl, sym, ◌∙◌, add-one, inl, inr, arith}
+use Rattle.std.proofs.lemmas.Bool.{cases_eq, eq-eqb, ne_eqb, cond-true, cond-false}
 use Rattle.std.proofs.lemmas.Nat.{div-mul-add, mod-mul-add}
 use Rattle.frame_header.specs.declared.header.Header.{Header}
 use Rattle.mode_parser.specs.declared.records.MbMode.{MbMode}
 use Rattle.pixel_planes.specs.PlaneSamples.{PlaneSamples}
 use Rattle.loop_filter.specs.Blocks.{luma, chroma}
-use Rattle.loop_filter.specs.Frames.{planes_filtered, row_filtered, rows_filtered, strength_at, columns_in, rows_in, filtered_planes}
+use Rattle.loop_filter.specs.Frames.{KeepSides, planes_filtered, planes_row_filtered, row_filtered, rows_filtered, strength_at, columns_in, rows_in, filtered_planes, filtered_row}
 use Rattle.loop_filter.specs.Laws.{macroblock_in_planes, macroblocks_in_planes}
 use Rattle.loop_filter.specs.declared.strengths.Strength.{Strength}
 
@@ -32,7 +33,7 @@ unfolding row_of_planes row_filtered
 more_of_row true strength columns my planes n = refl
 more_of_row false strength columns my planes n = refl
 
-none_of_frame : (is_simple : Bool) (strength : ℕ → Option Strength) (columns : ℕ) (planes : PlaneSamples) → planes_filtered is_simple strength columns 0 planes ≡ planes
+pub none_of_frame : (is_simple : Bool) (strength : ℕ → Option Strength) (columns : ℕ) (planes : PlaneSamples) → planes_filtered is_simple strength columns 0 planes ≡ planes
 unfolding rows_filtered
 none_of_frame true strength columns planes = refl
 none_of_frame false strength columns planes = refl
@@ -74,3 +75,28 @@ macroblock_by_macroblock header records flags planes some =
     let on : (header.filter.level == 0) ≡ false = grind arith in
     let places : rows_in planes * columns_in planes ≡ columns_in planes * rows_in planes = grind arith in
     rw on (down_frame header.filter.is_simple (strength_at header records flags) (columns_in planes) planes (rows_in planes) ∙ ap (λ n. macroblocks_in_planes header.filter.is_simple (strength_at header records flags) (columns_in planes) planes n) places)
+
+-- one row more of a frame that is filtered
+row_more : (is_simple : Bool) (strength : ℕ → Option Strength) (columns my : ℕ) (planes : PlaneSamples) → planes_row_filtered is_simple strength columns my (planes_filtered is_simple strength columns my planes) ≡ planes_filtered is_simple strength columns (my + 1) planes
+unfolding rows_filtered
+row_more true strength columns my planes = rw add-one refl
+row_more false strength columns my planes = rw add-one refl
+
+pub next_row : (header : Header) (records : List MbMode) (flags : List Bool) (my : ℕ) (start old new : PlaneSamples) → 0 < header.filter.level → KeepSides start old → old ≡ planes_filtered header.filter.is_simple (strength_at header records flags) (columns_in start) my start → new ≡ filtered_row header records flags my old
+    → new ≡ planes_filtered header.filter.is_simple (strength_at header records flags) (columns_in start) (my + 1) start
+unfolding filtered_row
+next_row header records flags my start old new some sides so_far here =
+    let on : (header.filter.level == 0) ≡ false = grind arith in
+    let columns : columns_in old ≡ columns_in start = ap (λ (n : ℕ). n / 16) sides.0 in
+    let row : new ≡ planes_row_filtered header.filter.is_simple (strength_at header records flags) (columns_in start) my old = rw (on, columns) at here in
+    row ∙ ap (planes_row_filtered header.filter.is_simple (strength_at header records flags) (columns_in start) my) so_far ∙ row_more header.filter.is_simple (strength_at header records flags) (columns_in start) my start
+
+-- and all of them
+pub all_rows : (header : Header) (records : List MbMode) (flags : List Bool) (rows : ℕ) (start new : PlaneSamples) → rows ≡ rows_in start → (0 < header.filter.level → new ≡ planes_filtered header.filter.is_simple (strength_at header records flags) (columns_in start) rows start) → (header.filter.level ≡ 0 → new ≡ start)
+    → new ≡ filtered_planes header records flags start
+unfolding filtered_planes
+all_rows header records flags rows start new all some none =
+    elim (cases_eq header.filter.level 0) [
+      | inl off ↦ none off ∙ sym (cond-true _ _ _ (eq-eqb header.filter.level 0 off))
+      | inr on ↦ some (omega (arith, on)) ∙ ap (λ n. planes_filtered header.filter.is_simple (strength_at header records flags) (columns_in start) n start) all ∙ sym (cond-false _ _ _ (ne_eqb header.filter.level 0 on))
+    ]

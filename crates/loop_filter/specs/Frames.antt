@@ -58,6 +58,10 @@ rows_filtered shape is_simple strength columns samples (suc my) = row_filtered s
 abbrev pub plane_filtered : Shape → Bool → (ℕ → Option Strength) → ℕ → ℕ → Samples → Samples
 plane_filtered shape is_simple strength columns rows plane = record plane { samples = rows_filtered shape is_simple strength columns plane.samples rows }
 
+-- and after row my of them alone
+abbrev pub plane_row_filtered : Shape → Bool → (ℕ → Option Strength) → ℕ → ℕ → Samples → Samples
+plane_row_filtered shape is_simple strength columns my plane = record plane { samples = row_filtered shape is_simple strength columns my plane.samples columns }
+
 -- the number of macroblocks in the planes of a picture, each way
 abbrev pub columns_in : PlaneSamples → ℕ
 columns_in planes = planes.luma.width / 16
@@ -91,3 +95,16 @@ unfoldable pub filtered_planes : Header → List MbMode → List Bool → PlaneS
 filtered_planes header records flags planes =
     if header.filter.level == 0 then planes
     else planes_filtered header.filter.is_simple (strength_at header records flags) (columns_in planes) (rows_in planes) planes
+
+-- the planes after row my of the macroblocks of such a frame is filtered
+abbrev pub planes_row_filtered : Bool → (ℕ → Option Strength) → ℕ → ℕ → PlaneSamples → PlaneSamples
+planes_row_filtered is_simple strength columns my planes = record {
+  luma = plane_row_filtered luma is_simple strength columns my planes.luma;
+  cb = if is_simple then planes.cb else plane_row_filtered chroma is_simple strength columns my planes.cb;
+  cr = if is_simple then planes.cr else plane_row_filtered chroma is_simple strength columns my planes.cr;
+}
+
+unfoldable pub filtered_row : Header → List MbMode → List Bool → ℕ → PlaneSamples → PlaneSamples
+filtered_row header records flags my planes =
+    if header.filter.level == 0 then planes
+    else planes_row_filtered header.filter.is_simple (strength_at header records flags) (columns_in planes) my planes

@@ -1,5 +1,5 @@
 -- Examples and statements that laws cite.
-use Rattle.std.specs.Prelude.{◌≡◌, ◌≢◌, ℕ, zero, suc, ◌+◌, ◌-◌, ◌*◌, ◌/◌, ◌%◌, ◌<◌, ◌≤◌, length, slice_index, Bool, false, if◌then◌else◌, List, [], ◌∷◌, pos, negsuc, Option, None, IfSome}
+use Rattle.std.specs.Prelude.{◌≡◌, ◌≢◌, ℕ, zero, suc, ◌+◌, ◌-◌, ◌*◌, ◌/◌, ◌%◌, ◌<◌, ◌≤◌, length, slice_index, Bool, false, if◌then◌else◌, List, [], ◌∷◌, ◌++◌, pos, negsuc, Option, None, IfSome}
 use Rattle.frame_header.specs.declared.context.FilterDeltas.{FilterDeltas}
 use Rattle.frame_header.specs.declared.context.Segments.{Segments}
 use Rattle.frame_header.specs.declared.header.Header.{Header}
@@ -14,7 +14,7 @@ use Rattle.loop_filter.specs.Edges.{line_in}
 use Rattle.loop_filter.specs.Blocks.{Shape, luma, chroma, column_edge, row_edge, filtered_by}
 use Rattle.loop_filter.specs.declared.blocks.Block.{Block}
 use Rattle.loop_filter.specs.declared.edge_limits.EdgeLimits.{EdgeLimits}
-use Rattle.loop_filter.specs.Frames.{HaveBlocks, block_at, strength_at, strength_of, columns_in, rows_in, filtered_planes}
+use Rattle.loop_filter.specs.Frames.{HaveBlocks, block_at, strength_at, strength_of, columns_in, rows_in, rows_filtered, filtered_planes}
 use Rattle.loop_filter.specs.declared.edge_limits.Limits.{Limits}
 use Rattle.loop_filter.specs.declared.strengths.Strength.{Strength}
 
@@ -67,6 +67,12 @@ abbrev pub GoesMacroblockByMacroblock : Type 0
 GoesMacroblockByMacroblock =
     (header : Header) (records : List MbMode) (flags : List Bool) (planes : PlaneSamples) → 0 < header.filter.level →
     filtered_planes header records flags planes ≡ macroblocks_in_planes header.filter.is_simple (strength_at header records flags) (columns_in planes) planes (columns_in planes * rows_in planes)
+
+-- the first n rows of macroblocks are filtered as if the plane ended there: no sample below them is read or changed, and there are as many as before
+abbrev pub FiltersRowsAlone : Shape → Type 0
+FiltersRowsAlone shape =
+    (is_simple : Bool) (strength : ℕ → Option Strength) (columns n : ℕ) (front rest : List ℕ) → length front ≡ n * (shape.side * (shape.side * columns)) →
+    (rows_filtered shape is_simple strength columns (front ++ rest) n ≡ rows_filtered shape is_simple strength columns front n ++ rest) × (length (rows_filtered shape is_simple strength columns front n) ≡ length front)
 
 -- the sides of planes of so many macroblocks determine their number
 abbrev pub SidesFixMacroblocks : Type 0

@@ -1,21 +1,34 @@
 -- The arguments of the loops of a frame's filter.
-use Rattle.std.specs.Prelude.{◌≡◌, ◌==◌, ℕ, false, ◌+◌, ◌*◌, ◌<◌, ◌≤◌, length, List, Option}
+use Rattle.std.specs.Prelude.{◌≡◌, ◌==◌, ◌-◌, ℕ, zero, suc, false, ◌+◌, ◌*◌, ◌<◌, ◌≤◌, length, List, Option}
+use Rattle.frame_header.specs.declared.header.Header.{Header}
+use Rattle.mode_parser.specs.declared.records.MbMode.{MbMode}
 use Rattle.pixel_planes.specs.Layout.{rows_of}
 use Rattle.pixel_planes.specs.Samples.{PlaneValue}
 use Rattle.loop_filter.specs.Blocks.{Shape, filtered_by}
-use Rattle.loop_filter.specs.Frames.{strength_at, row_filtered, rows_filtered}
+use Rattle.loop_filter.specs.Frames.{strength_at, row_filtered}
 use Rattle.loop_filter.specs.Strengths.{AreLimits}
 use Rattle.loop_filter.specs.declared.blocks.Block.{Block}
 use Rattle.loop_filter.specs.declared.frames.Macroblocks.{Macroblocks}
+use Rattle.loop_filter.specs.declared.frames.RowFilter.{RowFilter}
+use Rattle.loop_filter.specs.declared.frames.Rows.{Rows}
 use Rattle.loop_filter.specs.declared.strengths.Strength.{Strength}
 
--- each macroblock has a record and a flag, and there are 1 to 1,024 each way; the limits are those of the frame
+-- each macroblock has a record, and there are 1 to 1,024 each way; the limits are those of the frame
 pub record IsFrame (all : Macroblocks) : Type 0 where
   pub records : length all.records.now ≡ all.columns * all.rows
-  pub flags : length all.flags.now ≡ all.columns * all.rows
   pub limits : AreLimits all.header.now.filter.sharpness all.header.now.is_key all.limits.now
   pub some : (0 < all.columns) × (0 < all.rows)
   pub small : (all.columns ≤ 1024) × (all.rows ≤ 1024)
+
+-- each macroblock of row my and of the rows above it has a flag
+abbrev pub HasFlags : Macroblocks → ℕ → Type 0
+HasFlags all my = (my + 1) * all.columns ≤ length all.flags.now
+
+-- the filter of a frame with this header and these records
+pub record IsFilterOf (header : Header) (records : List MbMode) (filter : RowFilter) : Type 0 where
+  pub same_header : filter.header.now ≡ header
+  pub same_records : filter.records.now ≡ records
+  pub limits : AreLimits header.filter.sharpness header.is_key filter.limits
 
 -- so many samples are a plane with a block of this side for each macroblock, in rows `stride` apart
 abbrev pub IsPlane : ℕ → Macroblocks → ℕ → ℕ → Type 0
@@ -42,13 +55,19 @@ strengths all = strength_at all.header.now all.records.now all.flags.now
 abbrev pub macroblock_filtered : Shape → Macroblocks → ℕ → ℕ → ℕ → List ℕ → List ℕ
 macroblock_filtered shape all stride mx my samples = filtered_by shape all.header.now.filter.is_simple (strengths all (my * all.columns + mx)) (block_apart shape.side stride mx my) samples
 
--- the samples of a plane after one row of macroblocks, and after all
+-- the samples of a plane after the first n macroblocks of row my
 abbrev pub row_of_all : Shape → Macroblocks → ℕ → List ℕ → ℕ → List ℕ
 row_of_all shape all my samples n = row_filtered shape all.header.now.filter.is_simple (strengths all) all.columns my samples n
 
-abbrev pub rows_of_all : Shape → Macroblocks → List ℕ → ℕ → List ℕ
-rows_of_all shape all samples n = rows_filtered shape all.header.now.filter.is_simple (strengths all) all.columns samples n
+-- and after n rows of them, starting at row `from`
+unfoldable pub rows_of_all : Shape → Macroblocks → ℕ → List ℕ → ℕ → List ℕ
+rows_of_all shape all from samples zero = samples
+rows_of_all shape all from samples (suc n) = row_of_all shape all (from + n) (rows_of_all shape all from samples n) all.columns
 
--- a plane after all its macroblocks are filtered; its border is then out of date
-abbrev pub with_plane_filtered : Shape → Macroblocks → PlaneValue → PlaneValue
-with_plane_filtered shape all plane = record plane { shown = record plane.shown { samples = rows_of_all shape all plane.shown.samples all.rows }; is_current = false }
+-- these are rows of the frame, with flags of their macroblocks
+abbrev pub AreRows : Macroblocks → Rows → Type 0
+AreRows all rows = (rows.from ≤ rows.to) × (rows.to ≤ all.rows) × (rows.to * all.columns ≤ length all.flags.now)
+
+-- a plane after these rows of its macroblocks are filtered; its border is then out of date
+abbrev pub with_rows_filtered : Shape → Macroblocks → Rows → PlaneValue → PlaneValue
+with_rows_filtered shape all rows plane = record plane { shown = record plane.shown { samples = rows_of_all shape all rows.from plane.shown.samples (rows.to - rows.from) }; is_current = false }

@@ -9,7 +9,8 @@ ghost use Rattle.loop_filter.specs.Levels.{level_in, changed_level};
 ghost use Rattle.loop_filter.specs.Strengths.{limits_of};
 ghost use Rattle.loop_filter.specs.FourSamples.{simple_four};
 ghost use Rattle.loop_filter.specs.Lines.{inner_line, macroblock_line};
-ghost use Rattle.loop_filter.specs.Laws.{worked_deltas, worked_segments, limits_are, LeavesFramesOfLevel0, LeavesMacroblocksOfLevel0, LeavesInnerEdges, GoesMacroblockByMacroblock, SidesFixMacroblocks, ColumnEdgesChangeTheirLines, RowEdgesChangeTheirLines, edge_limits_are, line_of, worked_line, worked_step};
+ghost use Rattle.loop_filter.specs.Blocks.{luma, chroma};
+ghost use Rattle.loop_filter.specs.Laws.{worked_deltas, worked_segments, limits_are, LeavesFramesOfLevel0, LeavesMacroblocksOfLevel0, LeavesInnerEdges, GoesMacroblockByMacroblock, FiltersRowsAlone, SidesFixMacroblocks, ColumnEdgesChangeTheirLines, RowEdgesChangeTheirLines, edge_limits_are, line_of, worked_line, worked_step};
 
 /// Levels of 20 and 60 in segments, and changed by each reference and mode: of the intra modes only
 /// B has a change of its own. The sum of frame and segment is clamped before it is changed: 60 and
@@ -55,6 +56,13 @@ pub fn what_is_left()
 /// each in all three planes before the next (RFC 6386, section 15.1).
 pub fn filters_macroblock_by_macroblock()
     ensures { GoesMacroblockByMacroblock }
+{}
+
+/// The first rows of macroblocks of a plane are filtered without a look at the samples below them,
+/// which are left as they are.
+pub fn filters_rows_alone()
+    ensures luma { FiltersRowsAlone luma }
+    ensures chroma { FiltersRowsAlone chroma }
 {}
 
 /// `frame` derives the right number of macroblocks each way from the sides of the planes.

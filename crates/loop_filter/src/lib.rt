@@ -18,6 +18,6 @@ mod strengths;
 
 pub use edge_limits::Limits;
 pub use four_samples::simple;
-pub use frames::frame;
+pub use frames::{RowFilter, frame};
 pub use levels::level;
 pub use strengths::limits;

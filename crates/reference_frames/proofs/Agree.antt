@@ -50,17 +50,17 @@ block_more w h p q x y side sample sp sq wide high upper before =
 
 -- ---- the samples around a block
 
-mapped_same : (f g : ℕ → ℕ) (n : ℕ) → ((k : ℕ) → k < n → f k ≡ g k) → map f (range_with_len 0 n) ≡ map g (range_with_len 0 n)
+pub mapped_same : (f g : ℕ → ℕ) (n : ℕ) → ((k : ℕ) → k < n → f k ≡ g k) → map f (range_with_len 0 n) ≡ map g (range_with_len 0 n)
 mapped_same f g n each = fill_by_all g (map f (range_with_len 0 n)) n 0 (length-map-range_with_len f 0 n) (λ k less. get_or-map-range_with_len f 0 n k k 0 less (omega arith) ∙ each k less)
 
-above_same : (p q : Samples) (i y : ℕ) → ((y ≡ 0 → ⊥) → sample_at p i (y - 1) ≡ sample_at q i (y - 1)) → above p i y ≡ above q i y
+pub above_same : (p q : Samples) (i y : ℕ) → ((y ≡ 0 → ⊥) → sample_at p i (y - 1) ≡ sample_at q i (y - 1)) → above p i y ≡ above q i y
 above_same p q i y same =
     elim (cases_eq y 0) [
       | inl top ↦ above_edge p i y top ∙ sym (above_edge q i y top)
       | inr under ↦ cond-false _ _ _ (ne_eqb y 0 under) ∙ same under ∙ sym (cond-false _ _ _ (ne_eqb y 0 under))
     ]
 
-left_same : (p q : Samples) (x j : ℕ) → ((x ≡ 0 → ⊥) → sample_at p (x - 1) j ≡ sample_at q (x - 1) j) → left p x j ≡ left q x j
+pub left_same : (p q : Samples) (x j : ℕ) → ((x ≡ 0 → ⊥) → sample_at p (x - 1) j ≡ sample_at q (x - 1) j) → left p x j ≡ left q x j
 left_same p q x j same =
     elim (cases_eq x 0) [
       | inl edge ↦ left_edge p x j edge ∙ sym (left_edge q x j edge)

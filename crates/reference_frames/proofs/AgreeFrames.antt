@@ -95,7 +95,7 @@ empty_shape columns rows = record {
   cr = record { wide = refl; high = refl; whole = length-replicate (8 * columns * (8 * rows)) 0 };
 }
 
-same_three : (ps qs : PlaneSamples) → ps.luma ≡ qs.luma → ps.cb ≡ qs.cb → ps.cr ≡ qs.cr → ps ≡ qs
+pub same_three : (ps qs : PlaneSamples) → ps.luma ≡ qs.luma → ps.cb ≡ qs.cb → ps.cr ≡ qs.cr → ps ≡ qs
 same_three ps qs luma cb cr = ap (λ p. record { luma = p; cb = ps.cb; cr = ps.cr }) luma ∙ ap (λ p. record { luma = qs.luma; cb = p; cr = ps.cr }) cb ∙ ap (λ p. record { luma = qs.luma; cb = qs.cb; cr = p }) cr
 
 -- what the planes held before does not matter

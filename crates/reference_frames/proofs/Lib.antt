@@ -18,4 +18,7 @@ pub mod PlacedInPlanes
 pub mod LentRows
 pub mod Agree
 pub mod AgreeFrames
+pub mod FrontWritten
+pub mod FrontRows
+pub mod FilteredRows
 pub mod MarkedPartitions

@@ -10,6 +10,7 @@ use Rattle.frame_header.specs.declared.header.Header.{Header}
 use Rattle.transforms.specs.Factors.{factors_of}
 use Rattle.reference_frames.specs.FrameTokens.{TokenState, flag_at, flag_with, residual_at, residual_with, state_with, token_state, tokens_at}
 use Rattle.reference_frames.specs.Restored.{Residual}
+use Rattle.reference_frames.specs.Rows.{row_predicted}
 use Rattle.reference_frames.specs.declared.references.References.{References}
 use Rattle.frame_header.specs.declared.references.Reference.{Reference}
 use Rattle.intra_predict.specs.declared.modes.WholeMode.{WholeMode}
@@ -24,6 +25,14 @@ unfolding predicted_macroblocks
 predicted_more version references start old new columns mx my n modes residuals mode found so_far here place in_row =
     let column : n % columns ≡ mx = rw (← place) (mod-mul-add my columns mx in_row) in
     let row : n / columns ≡ my = rw (← place) (div-mul-add my columns mx in_row) in
+    rw (add-one, found, column, row, ← so_far) here
+
+-- one macroblock more of a row
+pub row_more : (version : ℕ) (references : Option References) (start old new : PlaneSamples) (columns mx my : ℕ) (modes : List MbMode) (residuals : ℕ → Residual) (mode : MbMode) → slice_get modes (my * columns + mx) ≡ Some mode → old ≡ row_predicted version references start columns my modes residuals mx → new ≡ predicted_macroblock version references old mx my mode (residuals (my * columns + mx)) → mx < columns → new ≡ row_predicted version references start columns my modes residuals (mx + 1)
+unfolding row_predicted
+row_more version references start old new columns mx my modes residuals mode found so_far here in_row =
+    let column : (my * columns + mx) % columns ≡ mx = mod-mul-add my columns mx in_row in
+    let row : (my * columns + mx) / columns ≡ my = div-mul-add my columns mx in_row in
     rw (add-one, found, column, row, ← so_far) here
 
 -- the state after one macroblock more, and the residual of that macroblock

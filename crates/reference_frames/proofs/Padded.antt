@@ -1,5 +1,5 @@
 -- A frame does not depend on where its token partitions are, only on their readers.
-use Rattle.std.proofs.Common.{◌≡◌, ℕ, zero, suc, ◌*◌, ◌==◌, ◌<◌, ◌≤◌, Bool, true, false, List, [], ◌∷◌, length, map, Option, Some, None, Result, Ok, Err, IfOk, IsOk, refl, sym, ap, ◌∙◌, arith, inl, inr, slice_get, if◌then◌else◌}
+use Rattle.std.proofs.Common.{◌≡◌, ℕ, zero, suc, ◌*◌, ◌==◌, ◌≤◌, Bool, true, false, List, [], ◌∷◌, length, map, Option, Result, Ok, Err, IfOk, IsOk, refl, sym, ap, ◌∙◌, arith, inl, inr, slice_get, if◌then◌else◌}
 use mathlib.Core.Path.{fun_ext}
 use Rattle.std.specs.Option.{option_map, option_map_or}
 use Rattle.std.specs.List.{range_with_len}
@@ -9,11 +9,10 @@ use Rattle.vp8_tables.specs.Tables.{TableEntries}
 use Rattle.bool_coder.specs.Reading.{Reading}
 use Rattle.frame_header.specs.Header.{header_of}
 use Rattle.frame_header.specs.Padding.{ends_empty, header_padded, one_longer, padded, readers_of, with_longer_last, with_zero}
-use Rattle.frame_header.specs.Tags.{has_key_tag, tag_of}
+use Rattle.frame_header.specs.Tags.{has_key_tag}
 use Rattle.frame_header.specs.declared.cause.Cause.{Cause}
 use Rattle.frame_header.specs.declared.context.Context.{Context}
 use Rattle.frame_header.specs.declared.header.Header.{Header}
-use Rattle.frame_header.specs.declared.places.Place.{Place}
 use Rattle.frame_header.specs.declared.tag_fields.Tag.{Tag}
 use Rattle.frame_header.proofs.PaddingLemmas.{header_of-zero, length-zero, readers_of-zero, tag_of-zero}
 use Rattle.frame_header.proofs.PartitionLemmas.{ends_has_tag, padding_keeps_headers}

@@ -18,3 +18,4 @@ pub mod PastEnds
 pub mod PastEndLaws
 pub mod StepLaws
 pub mod WrittenBlocks
+pub mod Rows

@@ -1,5 +1,5 @@
 -- What the bytes past an end count, as laws.
-use Rattle.std.specs.Prelude.{◌≡◌, ℕ, ◌+◌, ◌-◌, ◌*◌, ◌/◌, min, List, [], ◌∷◌, length}
+use Rattle.std.specs.Prelude.{◌≡◌, ℕ, ◌+◌, ◌-◌, ◌/◌, min, List, [], length}
 use Rattle.bool_coder.specs.Chains.{Chain, run}
 use Rattle.bool_coder.specs.Reader.{read, started}
 use Rattle.bool_coder.specs.Taken.{marked, past_end}

@@ -1,6 +1,6 @@
 -- How many bytes decoding reads past the end of each partition of a packet. Each partition is read once more with zero bytes
 -- and a mark after it (`marked` of bool_coder, law `marks_count_bits`): what its reader leaves of them says how far it was read.
-use Rattle.std.specs.Prelude.{ℕ, ◌+◌, ◌-◌, ◌*◌, ◌/◌, ◌==◌, min, if◌then◌else◌, List, [], map, length, replicate, slice_index_or, slice_range, Option, Some, None, Result, Ok, Err}
+use Rattle.std.specs.Prelude.{ℕ, ◌+◌, ◌-◌, ◌*◌, ◌/◌, ◌==◌, min, if◌then◌else◌, List, [], map, length, replicate, slice_index_or, slice_range, Option, Result, Ok, Err}
 use Rattle.std.specs.List.{range_with_len}
 use Rattle.std.specs.Option.{option_map}
 use Rattle.bool_coder.specs.Reader.{Reader, started}

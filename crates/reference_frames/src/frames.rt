@@ -1,11 +1,14 @@
-//! The picture of a frame: its macroblocks one after another, and then the loop filter.
+//! The picture of a frame: its macroblocks row after row, each filtered after the next is predicted.
 
 ghost use Rattle.std.specs.Prelude.{◌≡◌, ◌*◌, ◌+◌, ◌<◌, ◌≤◌, All, IfOk, None, length};
 ghost use Rattle.std.specs.Option.{option_copied};
+ghost use Rattle.loop_filter.specs.Frames.{filtered_planes};
+ghost use Rattle.loop_filter.specs.Macroblocks.{IsFilterOf};
 ghost use Rattle.pixel_planes.specs.Pictures.{macroblocks as macroblocks_of};
 ghost use Rattle.pixel_planes.specs.PlaneSamples.{AreWhole, shown_of};
 ghost use Rattle.reference_frames.specs.FrameTokens.{flags_of, residual_at};
 ghost use Rattle.reference_frames.specs.FrameTokenValue.{state_of};
+ghost use Rattle.reference_frames.specs.Rows.{DecodesRow};
 ghost use Rattle.reference_frames.specs.Steps.{decoded_picture};
 ghost use Rattle.reference_frames.specs.Unfiltered.{HaveRoomFor, SameShape, empty_planes, predicted_macroblocks};
 
@@ -13,6 +16,7 @@ use crate::frame_tokens::FrameTokens;
 use crate::prediction::{Sources, predict_macroblock};
 use crate::references::References;
 use frame_header::Header;
+use loop_filter::RowFilter;
 use mode_parser::{MbMode, Modes};
 use pixel_planes::{NoMemory, Picture, Planes};
 use std::alloc::Global;
@@ -25,41 +29,73 @@ struct Raster<'a> {
     modes: &'a [MbMode],
 }
 
-/// Predicts the macroblocks of a frame one after another, each by its record, and adds the residual
-/// of its tokens. Returns for each whether one of its blocks has a token.
-fn predict_macroblocks(
-    alloc: Global,
+/// A frame as its macroblocks are decoded: its header, the sources of prediction, and the macroblocks.
+#[derive(Clone, Copy)]
+struct Frame<'a> {
+    header: &'a Header<'a>,
+    sources: Sources<'a>,
+    raster: Raster<'a>,
+}
+
+/// Predicts row `my` of the macroblocks, each by its record, and adds the residual of its tokens.
+/// Appends for each whether one of its blocks has a token.
+fn predict_row(
+    frame: Frame,
+    my: usize,
     planes: &mut Planes,
-    sources: Sources,
-    header: &Header,
-    raster: Raster,
     tokens: &mut FrameTokens,
-) -> Result<Vec<bool>, NoMemory>
-    requires room { HaveRoomFor (shown_of planes.old) raster.columns raster.rows }
-    requires each { length raster.modes.now ≡ raster.columns * raster.rows }
+    flags: &mut Vec<bool>,
+) -> Result<(), NoMemory>
+    requires room { HaveRoomFor (shown_of planes.old) frame.raster.columns frame.raster.rows }
+    requires each { length frame.raster.modes.now ≡ frame.raster.columns * frame.raster.rows }
+    requires row { my < frame.raster.rows }
     requires some { 0 < length (state_of tokens.old).readers }
-    requires above { length (state_of tokens.old).above ≡ raster.columns }
-    ensures value { IfOk result (λ flags. shown_of planes.new ≡ predicted_macroblocks sources.entry.version (option_copied sources.entry.references) (shown_of planes.old) raster.entry.columns raster.entry.modes.now (residual_at header.now raster.entry.columns (state_of tokens.old) raster.entry.modes.now) (length raster.entry.modes.now)) }
-    ensures flags { IfOk result (λ flags. flags.items ≡ flags_of header.now raster.entry.columns (state_of tokens.old) raster.entry.modes.now) }
-    ensures count { IfOk result (λ flags. length flags.items ≡ length raster.entry.modes.now) }
-    ensures sides { IfOk result (λ flags. SameShape (shown_of planes.old) (shown_of planes.new)) }
+    requires above { length (state_of tokens.old).above ≡ frame.raster.columns }
+    ensures value { IfOk result (λ done. DecodesRow frame.entry.sources.version (option_copied frame.entry.sources.references) frame.entry.header.now frame.entry.raster.columns frame.entry.raster.modes.now my frame.entry.raster.columns (record { state = state_of tokens.old; flags = flags.old.items; planes = shown_of planes.old }) (record { state = state_of tokens.new; flags = flags.new.items; planes = shown_of planes.new })) }
+    ensures readers { IfOk result (λ done. length (state_of tokens.new).readers ≡ length (state_of tokens.old).readers) }
+    ensures above { IfOk result (λ done. length (state_of tokens.new).above ≡ length (state_of tokens.old).above) }
+    ensures sides { IfOk result (λ done. SameShape (shown_of planes.old) (shown_of planes.new)) }
 {
-    let Raster { columns, modes, .. } = raster;
-    let mut flags = Vec::with_capacity(alloc, modes.len())?;
-    let mut mx = 0;
-    let mut my = 0;
-    for mode in modes {
-        tokens.read(header, mx, my, mode);
+    let Raster { columns, modes, .. } = frame.raster;
+    for mx in 0..columns {
+        let mode = &modes[my * columns + mx];
+        tokens.read(frame.header, mx, my, mode);
         let residual = tokens.residual(mode);
-        predict_macroblock(planes, sources, mx, my, mode, residual);
+        predict_macroblock(planes, frame.sources, mx, my, mode, residual);
         flags.push(tokens.has_tokens)?;
-        mx += 1;
-        if mx == columns {
-            mx = 0;
-            my += 1;
+    }
+    Ok(())
+}
+
+/// Decodes the macroblocks of a frame, row after row. A row is filtered after the next one is
+/// predicted, which refers to its samples as they were before the filter.
+fn decode_rows(
+    alloc: Global,
+    frame: Frame,
+    filter: &RowFilter,
+    planes: &mut Planes,
+    tokens: &mut FrameTokens,
+) -> Result<(), NoMemory>
+    requires shape { AreWhole frame.raster.columns frame.raster.rows (shown_of planes.old) }
+    requires small { (0 < frame.raster.columns) × (0 < frame.raster.rows) × (frame.raster.columns ≤ 1024) × (frame.raster.rows ≤ 1024) }
+    requires each { length frame.raster.modes.now ≡ frame.raster.columns * frame.raster.rows }
+    requires filter { IsFilterOf frame.header.now frame.raster.modes.now filter.now }
+    requires some { 0 < length (state_of tokens.old).readers }
+    requires above { length (state_of tokens.old).above ≡ frame.raster.columns }
+    ensures value { IfOk result (λ done. shown_of planes.new ≡ filtered_planes frame.entry.header.now frame.entry.raster.modes.now (flags_of frame.entry.header.now frame.entry.raster.columns (state_of tokens.old) frame.entry.raster.modes.now) (predicted_macroblocks frame.entry.sources.version (option_copied frame.entry.sources.references) (shown_of planes.old) frame.entry.raster.columns frame.entry.raster.modes.now (residual_at frame.entry.header.now frame.entry.raster.columns (state_of tokens.old) frame.entry.raster.modes.now) (length frame.entry.raster.modes.now))) }
+    ensures sides { IfOk result (λ done. SameShape (shown_of planes.old) (shown_of planes.new)) }
+{
+    let rows = frame.raster.rows;
+    let mut flags = Vec::with_capacity(alloc, frame.raster.modes.len())?;
+    for my in 0..rows + 1 {
+        if my < rows {
+            predict_row(frame, my, planes, tokens, &mut flags)?;
+        }
+        if my > 0 {
+            filter.filter(&flags, planes, my - 1);
         }
     }
-    Ok(flags)
+    Ok(())
 }
 
 /// How many macroblocks cover a shown side of at most 16,383 samples.
@@ -82,8 +118,8 @@ pub(crate) struct Blank {
 
 /// Makes the picture of a frame in its blank planes from its packet, of which this is the header:
 /// each macroblock is predicted by its record, of which there is one for each in raster order, and
-/// the residual of its tokens is added to it (RFC 6386, sections 12 to 14 and 18). After the last
-/// of them the loop filter runs over the whole (section 15).
+/// the residual of its tokens is added to it (RFC 6386, sections 12 to 14 and 18). The result is
+/// that of the loop filter over the whole (section 15).
 ///
 /// `NoMemory` if memory for a plane's shared block, or for the state between macroblocks is refused.
 pub(crate) fn decoded_picture(
@@ -110,17 +146,20 @@ pub(crate) fn decoded_picture(
     } = blank;
     let columns = macroblocks(width);
     let rows = macroblocks(height);
-    let sources = Sources {
-        version: header.version,
-        references,
-    };
     let mut tokens = FrameTokens::new(alloc, packet, &header.partitions, columns)?;
-    let raster = Raster {
-        columns,
-        rows,
-        modes: modes.records(),
+    let frame = Frame {
+        header,
+        sources: Sources {
+            version: header.version,
+            references,
+        },
+        raster: Raster {
+            columns,
+            rows,
+            modes: modes.records(),
+        },
     };
-    let flags = predict_macroblocks(alloc, &mut planes, sources, header, raster, &mut tokens)?;
-    loop_filter::frame(header, modes, &flags, &mut planes);
+    let filter = RowFilter::new(header, modes);
+    decode_rows(alloc, frame, &filter, &mut planes, &mut tokens)?;
     Picture::share(alloc, planes, width, height)
 }

@@ -16,10 +16,6 @@ returns c =
     let columns = macroblocks c.args.blank.width in
     let start = tokens_start c.args.header.now.partitions.items c.args.packet.now columns in
     let from = from_planes c.args.header.now.version (option_copied c.args.references) columns (macroblocks c.args.blank.height) (shown_of c.args.blank.planes) c.args.modes.now.records (residual_at c.args.header.now columns start c.args.modes.now.records) (omega (arith, c.requires.wide.0)) c.requires.each c.requires.shape c.requires.empty in
-    let made : shown_of c.predict_macroblocks.new.planes ≡ unfiltered c.args.header.now.version (option_copied c.args.references) columns (macroblocks c.args.blank.height) c.args.modes.now.records (residual_at c.args.header.now columns start c.args.modes.now.records) =
-    rw (c.in_ok-flags.ensures.value, c.records.ensures, c.in_ok-tokens.ensures, c.deref.ensures.0, c.macroblocks-columns.ensures.value) from in
-    let flags : c.in_ok-flags.flags.items ≡ flags_of c.args.header.now columns start c.args.modes.now.records =
-    c.in_ok-flags.ensures.flags ∙ rw (c.records.ensures, c.in_ok-tokens.ensures, c.deref.ensures.0, c.macroblocks-columns.ensures.value) refl in
-    let filtered : shown_of c.frame.new.planes ≡ filtered_planes c.args.header.now c.args.modes.now.records (flags_of c.args.header.now columns start c.args.modes.now.records) (unfiltered c.args.header.now.version (option_copied c.args.references) columns (macroblocks c.args.blank.height) c.args.modes.now.records (residual_at c.args.header.now columns start c.args.modes.now.records)) =
-    c.frame.ensures.value ∙ rw (made, c.deref-2.ensures.value, flags) refl in
+    let filtered : shown_of c.decode_rows.new.planes ≡ filtered_planes c.args.header.now c.args.modes.now.records (flags_of c.args.header.now columns start c.args.modes.now.records) (unfiltered c.args.header.now.version (option_copied c.args.references) columns (macroblocks c.args.blank.height) c.args.modes.now.records (residual_at c.args.header.now columns start c.args.modes.now.records)) =
+    c.in_ok-decode_rows.ensures.value ∙ rw (c.records.ensures, c.in_ok-tokens.ensures, c.deref.ensures.0, c.macroblocks-columns.ensures.value, from) refl in
     IfOk-weaker c.share.result _ _ (λ p h. h ∙ ap (picture_of c.args.blank.width c.args.blank.height) filtered) c.share.ensures

@@ -1,4 +1,4 @@
-use Rattle.std.proofs.Common.{◌≡◌, List, length, map, ap, ◌∙◌, refl}
+use Rattle.std.proofs.Common.{◌≡◌, List, length, map, ap, ◌∙◌}
 use Rattle.std.proofs.lemmas.List.{length-map}
 use Rattle.frame_header.specs.declared.places.Place.{Place}
 use Rattle.bool_coder.specs.Reader.{Reader, started}

@@ -1,4 +1,4 @@
-use Rattle.std.proofs.Common.{◌≡◌, ◌+◌, ◌*◌, ◌<◌, ℕ, length, slice_get, Some, ap, sym, ◌∙◌, refl, arith}
+use Rattle.std.proofs.Common.{◌≡◌, length, slice_get, Some, ap, sym, ◌∙◌, refl, arith}
 use Rattle.std.proofs.lemmas.List.{length-set}
 use Rattle.std.proofs.lemmas.Option.{slice_get-get_or}
 use Rattle.mode_parser.specs.declared.records.MbMode.{MbMode}
