@@ -107,7 +107,7 @@ loop-my-preserved c =
             let whole : min (my + 1) rows - 1 + 1 ≡ min (my + 1) rows = omega (arith, c.requires.small.1) in
             let within : min (my + 1) rows * columns ≤ rows * columns = rw whole at (all (omega (arith, c.requires.small.1))) in
             rw (w.planes-is, ← count) (row_filtered header flag version references columns rows planes modes residuals shape (min (my + 1) rows) (my - 1) (min (my + 1) rows * columns) c.if-my-rows.flags.items (shown_of c.if-my-rows.planes) (shown_of w.filter.new.planes) same predicted read.same_flags
-                (upto (omega (arith, w.if-my-gt0.true, c.loop-my-test.true))) (omega (arith, within, c.requires.each)) here (λ level. ap shown_of (w.filter.ensures.unfiltered (rw c.requires.filter.same_header level))))
+            (upto (omega (arith, w.if-my-gt0.true, c.loop-my-test.true))) (omega (arith, within, c.requires.each)) here (λ level. ap shown_of (w.filter.ensures.unfiltered (rw c.requires.filter.same_header level))))
         | else-my-gt0 w ↦
             let count : my - 1 ≡ my + 1 - 1 = omega (arith, w.if-my-gt0.false) in
             rw (w.planes-is, ← count) predicted
