@@ -7,9 +7,10 @@ use std::io;
 use stream_files::{IvfFault, WriteFault};
 
 /// Why the program ends early: a call was refused a second time, or for another reason than memory.
-#[derive(Debug, Drop)]
+#[derive(Clone, Copy, Debug)]
 pub enum Fault {
-    Io(io::Error),
+    /// Standard output returns an error.
+    Io,
     Write(WriteFault),
     Stream(IvfFault),
     List(EditFault),
@@ -19,8 +20,8 @@ pub enum Fault {
 }
 
 impl From<io::Error> for Fault {
-    fn from(error: io::Error) -> Fault {
-        Fault::Io(error)
+    fn from(_: io::Error) -> Fault {
+        Fault::Io
     }
 }
 

@@ -1,5 +1,5 @@
-use packet_forge::{blank, hold};
-use pixel_planes::{Picture, Plane, same};
+use packet_forge::{ForgeFault, blank, hold};
+use pixel_planes::{NoMemory, Picture, Plane, same};
 use reference_frames::{State, step};
 use std::alloc::Global;
 use std::process::Abort;
@@ -7,7 +7,7 @@ use std::test::Fail;
 use vp8_tables::Tables;
 
 /// Tables whose update probabilities are all 255, and whose other entries are 128.
-fn tables(rt: &impl Abort, alloc: Global) -> Result<Tables, Fail> {
+fn tables(rt: &impl Abort, alloc: Global) -> Result<Tables, NoMemory> {
     let mut bytes = vec![in alloc; 128; 3012]?;
     bytes.as_mut_slice()[1056..2112].fill(255);
     Ok(Tables::read(&bytes).expect(rt, "3,012 bytes"))
@@ -65,10 +65,14 @@ fn sides_are_1_to_16383(rt: HostRuntime) {
 /// A key packet of 16 by 16 samples that reads 0 at every bit: its luma is 129 below row 3.
 const KEY: [u8; 10] = [0x10, 0, 0, 0x9D, 1, 0x2A, 16, 0, 16, 0];
 
-/// Whether each of the first 16 samples of the first 16 rows is 128; past an edge the sample at the edge
-/// repeats.
+/// Whether each of the first 16 samples of a row is 128; past an edge the sample at the edge repeats.
+fn is_grey_row(plane: &Plane, y: i64) -> bool {
+    (0..16).all(|x| plane.sample(x, y) == 128)
+}
+
+/// Whether the first 16 rows are.
 fn is_grey(plane: &Plane) -> bool {
-    (0..16).all(|y| (0..16).all(|x| plane.sample(x, y) == 128))
+    (0..16).all(|y| is_grey_row(plane, y))
 }
 
 /// Whether a picture is 128 in that square of each plane.
@@ -88,17 +92,16 @@ fn decoded_after(rt: &impl Abort, alloc: Global, state: &State, packet: &[u8]) -
     decoded.expect(rt, "a packet behind a state")
 }
 
-/// Forged packets of 16 by 16 samples, with those tables.
-fn packets(alloc: Global) -> Result<(Vec<u8>, Vec<u8>), Fail> {
-    let blank = blank(alloc, &Tables::flat(), 16, 16)?;
-    let hold = hold(alloc, &Tables::flat(), 16, 16)?;
-    Ok((blank, hold))
+/// A packet that was forged.
+fn forged(rt: &impl Abort, packet: Result<Vec<u8>, ForgeFault>) -> Vec<u8> {
+    packet.expect(rt, "a forged packet")
 }
 
 #[test]
-fn frames_are_grey_and_held(rt: HostRuntime) -> Result<(), Fail> {
+fn frames_are_grey_and_held(rt: HostRuntime) {
     let alloc = rt.alloc();
-    let (blank, hold) = packets(alloc)?;
+    let blank = forged(&rt, blank(alloc, &Tables::flat(), 16, 16));
+    let hold = forged(&rt, hold(alloc, &Tables::flat(), 16, 16));
     let (first, picture) = decoded(&rt, alloc, blank.as_slice());
     assert!(rt; is_grey_picture(&picture));
     let (_, held) = decoded_after(&rt, alloc, &first, hold.as_slice());
@@ -108,5 +111,4 @@ fn frames_are_grey_and_held(rt: HostRuntime) -> Result<(), Fail> {
     let (third, held) = decoded_after(&rt, alloc, &second, hold.as_slice());
     assert!(rt; same(&picture, &held));
     assert!(rt; same(&picture, &third.references().last));
-    Ok(())
 }
