@@ -94,10 +94,10 @@ fn add_chunk<T: Drop>(chunks: &mut Vec<VecDeque<T>>, alloc: Global) -> Result<()
 {
     let room = if chunks.is_empty() { 1 } else { CHUNK };
     let chunk = VecDeque::with_capacity(alloc, room)?;
-    match chunks.push(chunk) {
-        Ok(()) => Ok(()),
-        Err(_) => Err(AllocError),
-    }
+    let Ok(()) = chunks.push(chunk) else {
+        return Err(AllocError);
+    };
+    Ok(())
 }
 
 /// Removes the last chunk if it has no elements.

@@ -1,17 +1,18 @@
 -- Planes that are made row by row.
-use Rattle.std.specs.Prelude.{slice_index}
-use Rattle.std.proofs.Common.{◌≡◌, ℕ, ◌+◌, ◌*◌, ◌<◌, ◌≤◌, true, List, length, ap, ◌∙◌, arith, inl, inr}
+use Rattle.std.specs.Prelude.{slice_index, IfOk}
+use Rattle.std.proofs.Common.{◌≡◌, ℕ, ◌+◌, ◌*◌, ◌<◌, ◌≤◌, true, Result, Ok, Err, List, length, refl, ap, ◌∙◌, arith, inl, inr}
 use Rattle.std.proofs.lemmas.Bool.{cases_eq, leb-true}
 use Rattle.std.proofs.lemmas.List.{get_or-take}
 use Rattle.std.proofs.lemmas.Simd.{length-put_chunk}
 use Rattle.pixel_planes.specs.Samples.{PlaneValue, sample_at, row_of, with_row_written}
 use Rattle.pixel_planes.specs.Pictures.{PictureSamples, IsWholePicture, macroblocks, side_of, plane_of, shown_row_of}
+use Rattle.pixel_planes.specs.PlaneSamples.{picture_of}
 use Rattle.pixel_planes.specs.declared.pictures.Component.{Component}
 use Rattle.pixel_planes.specs.declared.pictures.Component.TheVariants.{Luma, Cb, Cr}
 use Rattle.pixel_planes.proofs.Rows.{written_row, kept_row}
 use Rattle.pixel_planes.proofs.InBlock.{sample_of_row}
 use Rattle.script_nodes.specs.declared.nodes.Area.{Area}
-use Rattle.script_nodes.specs.Shown.{shown_in, is_inside, place_of, cut_to, black, weighed, faded_to}
+use Rattle.script_nodes.specs.Shown.{Shows, shown_in, is_inside, place_of, cut_to, black, weighed, faded_to}
 use Rattle.script_nodes.specs.Rows.{IsFadedTo}
 use Rattle.script_nodes.specs.Planes.{block_side, IsCodedPlane, HasRows}
 use Rattle.script_nodes.proofs.Uses.{both}
@@ -74,3 +75,16 @@ row_faded p component weight dark y row out whole darks is long faded x less =
     ∙ ap (λ (l : List ℕ). weighed weight dark (slice_index l x)) is
     ∙ ap (λ (k : ℕ). weighed weight k (slice_index (shown_row_of p component y) x)) darks
     ∙ ap (weighed weight (black component)) (shown_at p component x y whole less)
+
+-- a picture of three planes, each with all its rows
+pub planes_shown : {E : Type 0} (made : Result PictureSamples E) (width height wide high : ℕ) (sample : Component → ℕ → ℕ → ℕ) (luma cb cr : PlaneValue)
+    → HasRows Luma wide high (sample Luma) (side_of Luma high) luma → HasRows Cb wide high (sample Cb) (side_of Cb high) cb → HasRows Cr wide high (sample Cr) (side_of Cr high) cr
+    → width ≡ wide → height ≡ high → IfOk made (λ p. p ≡ picture_of width height (record { luma = luma.shown; cb = cb.shown; cr = cr.shown }))
+    → IfOk made (λ p. Shows p (record { width = wide; height = high; sample = sample }))
+planes_shown (Ok p) width height wide high sample luma cb cr has_luma has_cb has_cr is_wide is_high is = rw (is, is_wide, is_high) (record { wide = refl; high = refl; each = each })
+  where
+    each : (component : Component) (x y : ℕ) → x < side_of component wide → y < side_of component high → sample_at (plane_of (picture_of wide high (record { luma = luma.shown; cb = cb.shown; cr = cr.shown })) component) x y ≡ sample component x y
+    each Luma = has_luma.each
+    each Cb = has_cb.each
+    each Cr = has_cr.each
+planes_shown (Err e) width height wide high sample luma cb cr has_luma has_cb has_cr is_wide is_high is = tt

@@ -62,18 +62,18 @@ first_alone : (v : ℤ) (xs : List ℤ) → xs ≡ v ∷ replicate 15 (pos 0) �
 first_alone v xs is = rw is refl
 
 -- the tokens of a block that has no coefficients before
-by_first : (probs : List ℕ) (kind context : ℕ) (r : Reader) → (tokens_from 16 probs kind 0 context false (replicate 16 (pos 0)) r).0.1 ≤ 1 → IsFirstAlone (tokens_from 16 probs kind 0 context false (replicate 16 (pos 0)) r).0.0
+by_first : (more : ℕ) (probs : List ℕ) (kind context : ℕ) (r : Reader) → (tokens_from (suc more) probs kind 0 context false (replicate 16 (pos 0)) r).0.1 ≤ 1 → IsFirstAlone (tokens_from (suc more) probs kind 0 context false (replicate 16 (pos 0)) r).0.0
 unfolding tokens_from
-by_first probs kind context r =
-    let later : (v : ℤ) (context : ℕ) (after_zero : Bool) (r : Reader) → (tokens_from 15 probs kind 1 context after_zero (v ∷ replicate 15 (pos 0)) r).0.1 ≤ 1 → IsFirstAlone (tokens_from 15 probs kind 1 context after_zero (v ∷ replicate 15 (pos 0)) r).0.0 = λ v context after_zero r few. first_alone v _ (same_by_end 15 probs kind 1 context after_zero (v ∷ replicate 15 (pos 0)) r some few) in
+by_first more probs kind context r =
+    let later : (v : ℤ) (context : ℕ) (after_zero : Bool) (r : Reader) → (tokens_from more probs kind 1 context after_zero (v ∷ replicate 15 (pos 0)) r).0.1 ≤ 1 → IsFirstAlone (tokens_from more probs kind 1 context after_zero (v ∷ replicate 15 (pos 0)) r).0.0 = λ v context after_zero r few. first_alone v _ (same_by_end more probs kind 1 context after_zero (v ∷ replicate 15 (pos 0)) r some few) in
     let t : ℕ × Reader = token (nodes_at probs kind 0 context) false r in
     let size : ℕ × Reader = size_of t.0 t.1 in
     let value : ℤ × Reader = signed_size size.0 size.1 in
-    let at_zero : Reading (List ℤ × ℕ) = tokens_from 15 probs kind 1 0 true (replicate 16 (pos 0)) in
-    by_token (λ q. q.0.1 ≤ 1 → IsFirstAlone q.0.0) (t.0 == end_of_block) (t.0 == 0) (give (replicate 16 (pos 0), 0)) at_zero (sized 15 probs kind 0 t.0 (replicate 16 (pos 0))) t.1 (λ few. refl) (later (pos 0) 0 true t.1) (later value.0 (min size.0 2) false value.1)
+    let at_zero : Reading (List ℤ × ℕ) = tokens_from more probs kind 1 0 true (replicate 16 (pos 0)) in
+    by_token (λ q. q.0.1 ≤ 1 → IsFirstAlone q.0.0) (t.0 == end_of_block) (t.0 == 0) (give (replicate 16 (pos 0), 0)) at_zero (sized more probs kind 0 t.0 (replicate 16 (pos 0))) t.1 (λ few. refl) (later (pos 0) 0 true t.1) (later value.0 (min size.0 2) false value.1)
 
 pub block_end : (first : ℕ) (probs : List ℕ) (kind context : ℕ) (coefficients : List ℤ) (r : Reader) → first ≤ 1 → coefficients ≡ replicate 16 (pos 0) → (tokens_from (16 - first) probs kind first context false coefficients r).0.1 ≤ 1 → IsFirstAlone (tokens_from (16 - first) probs kind first context false coefficients r).0.0
-block_end zero probs kind context coefficients r small none = rw none (by_first probs kind context r)
+block_end zero probs kind context coefficients r small none = rw none (by_first 15 probs kind context r)
 block_end (suc zero) probs kind context coefficients r small none = rw none (λ few. first_alone (pos 0) _ (same_by_end 15 probs kind 1 _ _ _ _ some few))
 block_end (suc (suc n)) probs kind context coefficients r small none = absurd (omega arith)
 
