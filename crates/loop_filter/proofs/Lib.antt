@@ -14,3 +14,4 @@ pub mod Apart
 pub mod BlockSteps
 pub mod ApartBlocks
 pub mod Front
+pub mod LevelLemmas
