@@ -31,6 +31,7 @@ fn read_short_size(reader: &mut Decoder, probabilities: &[u8; 19]) -> u16
 /// The size of a long component: bits 0 to 2, bits 9 to 4, and bit 3, which is 1, and not read, if
 /// no bit above it is set.
 #[inline]
+#[tactic(auto, unfolding(crate::specs::VectorReading::long_size, crate::specs::VectorReading::bits_at))]
 fn read_long_size(reader: &mut Decoder, probabilities: &[u8; 19]) -> u16
     ensures value { long_size probabilities.now reader.old ≡ (result, reader.new) }
     ensures small { result ≤ 1023 }
