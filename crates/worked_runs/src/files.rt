@@ -2,6 +2,7 @@ use frame_session::{RunFault, run};
 use run_fixtures::{INTER, KEY, ivf_of, run_over};
 use std::alloc::{AllocError, Global};
 use std::io::{self, ErrorKind, Write};
+use std::process::Abort;
 use std::test::Fail;
 use stream_files::IvfFault;
 use vp8_tables::Tables;
@@ -125,40 +126,58 @@ fn run_refused(
     Ok((ran.err(), frames, replies))
 }
 
+/// Checks what a whole run writes.
+fn expect_whole<R: Abort>(rt: &R, frames: &Refusing, replies: &Refusing) {
+    assert_eq!(rt; frames.taken.len(), 36 + 2 * 390);
+    assert_eq!(rt;
+        replies.taken.as_slice(),
+        b"served 0\npackets 2 frames 2\nserved 1\n".as_slice()
+    );
+}
+
+/// Checks that a run whose writers return errors at these calls writes the beginnings of these texts.
+fn expect_refused<R: Abort>(
+    rt: &R,
+    alloc: Global,
+    failing: (u64, u64),
+    frames: &Refusing,
+    replies: &Refusing,
+) -> Result<(), Fail> {
+    let (fault, begun, replied) = run_refused(alloc, failing.0, failing.1)?;
+    assert!(rt; fault == Some(RunFault::Write), "{failing:?}");
+    assert!(rt;
+        frames.taken.starts_with(begun.taken.as_slice()),
+        "{failing:?}"
+    );
+    assert!(rt;
+        replies.taken.starts_with(replied.taken.as_slice()),
+        "{failing:?}"
+    );
+    Ok(())
+}
+
+/// Refuses each call of a writer of frames, and then of replies, in turn.
+fn expect_each_refused<R: Abort>(
+    rt: &R,
+    alloc: Global,
+    frames: &Refusing,
+    replies: &Refusing,
+) -> Result<(), Fail> {
+    for failing in 0..frames.calls {
+        expect_refused(rt, alloc, (failing, NEVER), frames, replies)?;
+    }
+    for failing in 0..replies.calls {
+        expect_refused(rt, alloc, (NEVER, failing), frames, replies)?;
+    }
+    Ok(())
+}
+
 // Each call of a writer of frames, and of replies, refused in turn. What was written before is the
 // beginning of what a whole run writes.
 #[test]
 fn writers_that_refuse(rt: HostRuntime) -> Result<(), Fail> {
     let (fault, frames, replies) = run_refused(rt.alloc(), NEVER, NEVER)?;
     assert!(rt; fault.is_none());
-    assert_eq!(rt; frames.taken.len(), 36 + 2 * 390);
-    assert_eq!(rt;
-        replies.taken.as_slice(),
-        b"served 0\npackets 2 frames 2\nserved 1\n".as_slice()
-    );
-    for failing in 0..frames.calls {
-        let (fault, begun, replied) = run_refused(rt.alloc(), failing, NEVER)?;
-        assert_eq!(rt; fault, Some(RunFault::Write), "{failing}");
-        assert!(rt;
-            frames.taken.starts_with(begun.taken.as_slice()),
-            "{failing}"
-        );
-        assert!(rt;
-            replies.taken.starts_with(replied.taken.as_slice()),
-            "{failing}"
-        );
-    }
-    for failing in 0..replies.calls {
-        let (fault, begun, replied) = run_refused(rt.alloc(), NEVER, failing)?;
-        assert_eq!(rt; fault, Some(RunFault::Write), "{failing}");
-        assert!(rt;
-            frames.taken.starts_with(begun.taken.as_slice()),
-            "{failing}"
-        );
-        assert!(rt;
-            replies.taken.starts_with(replied.taken.as_slice()),
-            "{failing}"
-        );
-    }
-    Ok(())
+    expect_whole(&rt, &frames, &replies);
+    expect_each_refused(&rt, rt.alloc(), &frames, &replies)
 }

@@ -3,11 +3,11 @@
 use crate::expected::expect_run;
 use crate::files::{NEVER, Refusing};
 use frame_session::{Edit, Refusal, RunFault, Session, run};
-use run_fixtures::{HIDDEN, INTER, KEY, Run, ivf_of, run_over, run_packets, y4m_of};
+use run_fixtures::{HIDDEN, INTER, KEY, Ran, Run, ivf_of, run_over, run_packets, y4m_of};
 use std::alloc::Global;
 use std::process::Abort;
 use std::test::Fail;
-use stream_files::{EMPTY, Packet, WriteFault, ivf_read};
+use stream_files::{EMPTY, Ivf, Packet, WriteFault, ivf_read};
 use vp8_tables::Tables;
 
 const LINE: &[u8] = b"YUV4MPEG2 W16 H16 F30:1 Ip C420jpeg\n";
@@ -94,6 +94,19 @@ fn a_stream_from_nothing(rt: HostRuntime) -> Result<(), Fail> {
     Ok(())
 }
 
+/// Checks that a packet is another one with a byte 00 more, and has its time stamp.
+fn expect_longer<R: Abort + AllocGlobal>(
+    rt: &R,
+    packet: &Packet,
+    longer: &Packet,
+) -> Result<(), Fail> {
+    let mut want = Vec::from_slice(rt.alloc(), packet.bytes.as_slice())?;
+    want.push(0)?;
+    assert_eq!(rt; longer.bytes.as_slice(), want.as_slice());
+    assert_eq!(rt; longer.stamp, packet.stamp);
+    Ok(())
+}
+
 /// Checks that packets are those of another file, each with a byte 00 more, and have their time stamps.
 fn check_padded<R: Abort + AllocGlobal>(
     rt: &R,
@@ -102,27 +115,38 @@ fn check_padded<R: Abort + AllocGlobal>(
 ) -> Result<(), Fail> {
     assert_eq!(rt; padded.len(), plain.len());
     for (packet, longer) in plain.iter().zip(padded) {
-        let mut want = Vec::from_slice(rt.alloc(), packet.bytes.as_slice())?;
-        want.push(0)?;
-        assert_eq!(rt; longer.bytes.as_slice(), want.as_slice());
-        assert_eq!(rt; longer.stamp, packet.stamp);
+        expect_longer(rt, packet, longer)?;
     }
     Ok(())
+}
+
+/// The packets of a session, saved and read.
+fn plain_file(alloc: Global, session: &Session) -> Result<Ivf, Fail> {
+    let mut plain = Vec::new(alloc);
+    session.save(&mut plain)?;
+    Ok(ivf_read(alloc, plain.as_slice())?)
+}
+
+/// The same, saved padded.
+fn padded_file(alloc: Global, session: &Session) -> Result<Ivf, Fail> {
+    let mut padded = Vec::new(alloc);
+    session.save_padded(&mut padded)?;
+    Ok(ivf_read(alloc, padded.as_slice())?)
+}
+
+/// Checks that a session has two packets, and that each is padded.
+fn expect_padded<R: Abort + AllocGlobal>(rt: &R, session: &Session) -> Result<(), Fail> {
+    let plain = plain_file(rt.alloc(), session)?;
+    let padded = padded_file(rt.alloc(), session)?;
+    assert_eq!(rt; plain.packets.len(), 2);
+    check_padded(rt, plain.packets.as_slice(), padded.packets.as_slice())
 }
 
 // Forged packets have an empty last token partition.
 #[test]
 fn forged_packets_are_padded(rt: HostRuntime) -> Result<(), Fail> {
-    let alloc = rt.alloc();
-    let session = session_after(alloc, &EMPTY, b"blank 0 16 32\nhold 1\n")?;
-    let mut plain = Vec::new(alloc);
-    session.save(&mut plain)?;
-    let mut padded = Vec::new(alloc);
-    session.save_padded(&mut padded)?;
-    let plain = ivf_read(alloc, plain.as_slice())?;
-    let padded = ivf_read(alloc, padded.as_slice())?;
-    assert_eq!(rt; plain.packets.len(), 2);
-    check_padded(&rt, plain.packets.as_slice(), padded.packets.as_slice())
+    let session = session_after(rt.alloc(), &EMPTY, b"blank 0 16 32\nhold 1\n")?;
+    expect_padded(&rt, &session)
 }
 
 // A side above 16,383, or above 65,535, is not a size; the size after a key tag may be missing.
@@ -155,26 +179,45 @@ fn forged_packets_have_stamps(rt: HostRuntime) -> Result<(), Fail> {
     Ok(())
 }
 
-#[test]
-fn a_saved_stream_serves_the_same(rt: HostRuntime) -> Result<(), Fail> {
-    let alloc = rt.alloc();
-    let edits = b"hold 1\nblank 3 16 16\nhold 4\n";
-    let requests = b"count\nframe 0\nframe 1\nframe 2\nframe 3\nframe 4\n";
-    let file = ivf_of(alloc, &[KEY, HIDDEN, INTER])?;
-    let mut both = Vec::from_slice(alloc, edits.as_slice())?;
-    both.extend_from_slice(requests)?;
-    let edited = run_over(alloc, file.as_slice(), both.as_slice());
-    let saved = saved_by(alloc, file.as_slice(), edits)?;
-    let again = run_over(alloc, saved.as_slice(), requests);
-    assert_eq!(rt; again.spare, Ok(0));
-    assert_eq!(rt; again.frames.as_slice(), edited.frames.as_slice());
+const EDITS: &[u8] = b"hold 1\nblank 3 16 16\nhold 4\n";
+
+const REQUESTS: &[u8] = b"count\nframe 0\nframe 1\nframe 2\nframe 3\nframe 4\n";
+
+/// A run of edits and of requests over this file.
+fn run_edited(alloc: Global, file: &[u8]) -> Result<Ran, Fail> {
+    let mut both = Vec::from_slice(alloc, EDITS)?;
+    both.extend_from_slice(REQUESTS)?;
+    Ok(run_over(alloc, file, both.as_slice()))
+}
+
+/// A run of requests over what the edits leave of this file, saved.
+fn run_saved(alloc: Global, file: &[u8]) -> Result<Ran, Fail> {
+    let saved = saved_by(alloc, file, EDITS)?;
+    Ok(run_over(alloc, saved.as_slice(), REQUESTS))
+}
+
+fn expect_again<R: Abort>(rt: &R, alloc: Global, edited: &Ran, again: &Ran) -> Result<(), Fail> {
+    assert!(rt; again.spare == Ok(0));
+    assert!(rt; again.frames.as_slice() == edited.frames.as_slice());
     let want = y4m_of(alloc, LINE, &[KEY_FRAME, KEY_FRAME, GREY, GREY, GREY])?;
-    assert_eq!(rt; again.frames.as_slice(), want.as_slice());
+    assert!(rt; again.frames.as_slice() == want.as_slice());
     assert_eq!(rt;
         again.replies.as_slice(),
         b"packets 6 frames 5\nserved 0\nserved 1\nserved 2\nserved 3\nserved 4\n".as_slice()
     );
     Ok(())
+}
+
+fn expect_same<R: Abort>(rt: &R, alloc: Global, file: &[u8]) -> Result<(), Fail> {
+    let edited = run_edited(alloc, file)?;
+    let again = run_saved(alloc, file)?;
+    expect_again(rt, alloc, &edited, &again)
+}
+
+#[test]
+fn a_saved_stream_serves_the_same(rt: HostRuntime) -> Result<(), Fail> {
+    let file = ivf_of(rt.alloc(), &[KEY, HIDDEN, INTER])?;
+    expect_same(&rt, rt.alloc(), file.as_slice())
 }
 
 /// A session without packets.
