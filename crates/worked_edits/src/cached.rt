@@ -5,6 +5,7 @@ use frame_session::{Edit, Session};
 use pixel_planes::same;
 use run_fixtures::{HIDDEN, INTER, KEY, Run, ivf_of, run_packets, run_with, y4m_of};
 use std::alloc::Global;
+use std::process::Abort;
 use std::test::Fail;
 use stream_files::{Bytes, ivf_read};
 use vp8_tables::Tables;
@@ -278,34 +279,86 @@ fn answer_alike(one: &mut Session, other: &mut Session, n: u64) -> bool {
     }
 }
 
+/// Whether a session serves frame `n`.
+fn serves(session: &mut Session, n: u64) -> bool {
+    session.frame(n).is_ok()
+}
+
+/// Makes a random edit of a session and of its list.
+fn expect_edit<R: Abort>(
+    rt: &R,
+    alloc: Global,
+    dice: &mut Dice,
+    edited: &mut Session,
+    standing: &mut Vec<&'static [u8]>,
+) -> Result<(), Fail> {
+    let change = edit(alloc, dice, standing)?;
+    let made = edited.edit(change);
+    assert!(rt; made == Ok(standing.len() as u64), "{made:?}");
+    Ok(())
+}
+
+/// Asks for frame `n` of a session, and of one that begins with its packets. Whether it is served.
+fn expect_alike<R: Abort>(
+    rt: &R,
+    alloc: Global,
+    edited: &mut Session,
+    standing: &[&'static [u8]],
+    list: u16,
+    n: u64,
+) -> Result<bool, Fail> {
+    let mut alone = session(alloc, 1, standing)?;
+    assert!(rt;
+        answer_alike(edited, &mut alone, n),
+        "list {list}, frame {n}"
+    );
+    Ok(serves(&mut alone, n))
+}
+
+/// Makes a random edit, or asks for a random frame. Whether a frame is served.
+fn expect_step<R: Abort>(
+    rt: &R,
+    alloc: Global,
+    dice: &mut Dice,
+    edited: &mut Session,
+    standing: &mut Vec<&'static [u8]>,
+    list: u16,
+) -> Result<bool, Fail> {
+    if dice.below(2) == 0 {
+        expect_edit(rt, alloc, dice, edited, standing)?;
+        return Ok(false);
+    }
+    let n = dice.below(standing.len() + 1) as u64;
+    expect_alike(rt, alloc, edited, standing.as_slice(), list, n)
+}
+
+/// The packets that each list begins with.
+fn first_packets(alloc: Global) -> Result<Vec<&'static [u8]>, Fail> {
+    let mut standing = Vec::new(alloc);
+    standing.extend_from_slice(&[FIRST_KEY, FIRST_MOVE, FIRST_NEXT, FIRST_LAST, OTHER_MOVE])?;
+    Ok(standing)
+}
+
+/// Edits a list at random, and asks for its frames. The number of those that are served.
+fn expect_list<R: Abort>(rt: &R, alloc: Global, dice: &mut Dice, list: u16) -> Result<u32, Fail> {
+    let mut served: u32 = 0;
+    let mut standing = first_packets(alloc)?;
+    let mut edited = session(alloc, list % 8 + 1, standing.as_slice())?;
+    for _ in 0..24 {
+        let is_served = expect_step(rt, alloc, dice, &mut edited, &mut standing, list)?;
+        served = served.saturating_add(u32::from(is_served));
+    }
+    Ok(served)
+}
+
 // After every edit a session answers like one that begins with the current packets.
 #[test]
 fn random_lists(rt: HostRuntime) -> Result<(), Fail> {
-    let alloc = rt.alloc();
     let mut dice = Dice { state: 6386 };
     let mut served: u32 = 0;
     for list in 0..48 {
-        let mut standing = Vec::new(alloc);
-        standing.extend_from_slice(&[FIRST_KEY, FIRST_MOVE, FIRST_NEXT, FIRST_LAST, OTHER_MOVE])?;
-        let mut edited = session(alloc, list % 8 + 1, standing.as_slice())?;
-        for _ in 0..24 {
-            if dice.below(2) == 0 {
-                let made = edited.edit(edit(alloc, &mut dice, &mut standing)?);
-                assert_eq!(rt; made, Ok(standing.len() as u64));
-            } else {
-                let n = dice.below(standing.len() + 1) as u64;
-                let mut alone = session(alloc, 1, standing.as_slice())?;
-                assert!(rt;
-                    answer_alike(&mut edited, &mut alone, n),
-                    "list {}, frame {}",
-                    list,
-                    n
-                );
-                if alone.frame(n).is_ok() {
-                    served = served.saturating_add(1);
-                }
-            }
-        }
+        let more = expect_list(&rt, rt.alloc(), &mut dice, list)?;
+        served = served.saturating_add(more);
     }
     assert!(rt; served > 200, "{} frames", served);
     Ok(())

@@ -1,6 +1,7 @@
 use pixel_planes::{Picture, Plane, Planes};
 use std::alloc::{AllocError, Global};
 use std::io::{self, ErrorKind, Read};
+use std::process::Abort;
 use std::test::Fail;
 use stream_files::{
     EMPTY, Head, Ivf, IvfFault, MAX_PACKETS, ReadFault, WriteFault, ivf_packet, ivf_read,
@@ -31,21 +32,34 @@ impl Read for Dripping {
     }
 }
 
+/// The error of reading up to a limit.
+fn fault_of<S: Read>(alloc: Global, reader: &mut S, limit: usize) -> Option<ReadFault> {
+    read_all(alloc, reader, limit).err()
+}
+
+/// Reads up to a limit, and checks what is read.
+fn expect_read<R: Abort, S: Read>(
+    rt: &R,
+    alloc: Global,
+    reader: &mut S,
+    limit: usize,
+    want: &[u8],
+) -> Result<(), Fail> {
+    let all = read_all(alloc, reader, limit)?;
+    assert_eq!(rt; all.as_slice(), want);
+    Ok(())
+}
+
 #[test]
 fn reads_up_to_a_limit(rt: HostRuntime) -> Result<(), Fail> {
     let bytes = [1, 2, 3, 4, 5].as_slice();
     for limit in [5, 6, usize::MAX] {
         let mut reader = bytes;
-        assert_eq!(rt; read_all(rt.alloc(), &mut reader, limit)?.as_slice(), bytes);
+        expect_read(&rt, rt.alloc(), &mut reader, limit, bytes)?;
         assert_eq!(rt; reader.len(), 0);
     }
     let mut reader = bytes;
-    assert!(rt;
-        matches!(
-            read_all(rt.alloc(), &mut reader, 4),
-            Err(ReadFault::TooLong)
-        )
-    );
+    assert!(rt; fault_of(rt.alloc(), &mut reader, 4) == Some(ReadFault::TooLong));
     Ok(())
 }
 
@@ -54,26 +68,18 @@ fn reads_up_to_a_limit(rt: HostRuntime) -> Result<(), Fail> {
 fn reads_byte_by_byte(rt: HostRuntime) -> Result<(), Fail> {
     for failing in 1..=4 {
         let mut broken = Dripping { bytes: 3, failing };
-        assert_eq!(rt;
-            read_all(rt.alloc(), &mut broken, 5).err(),
-            Some(ReadFault::Read)
-        );
+        assert!(rt; fault_of(rt.alloc(), &mut broken, 5) == Some(ReadFault::Read));
     }
-    let mut whole = Dripping {
-        bytes: 3,
-        failing: 5,
-    };
-    let all = read_all(rt.alloc(), &mut whole, 5)?;
-    assert_eq!(rt; all.as_slice(), [7, 7, 7].as_slice());
     let mut endless = Dripping {
         bytes: u64::MAX,
         failing: u64::MAX,
     };
-    assert_eq!(rt;
-        read_all(rt.alloc(), &mut endless, 5).err(),
-        Some(ReadFault::TooLong)
-    );
-    Ok(())
+    assert!(rt; fault_of(rt.alloc(), &mut endless, 5) == Some(ReadFault::TooLong));
+    let mut whole = Dripping {
+        bytes: 3,
+        failing: 5,
+    };
+    expect_read(&rt, rt.alloc(), &mut whole, 5, &[7, 7, 7])
 }
 
 /// A header of 34 bytes, two packets and three bytes of a third record.
@@ -257,6 +263,16 @@ fn files_that_are_cut(rt: HostRuntime) {
     }
 }
 
+/// The counts of a file of this length whose bytes after the header are 0.
+fn counts_of_zeros(
+    alloc: Global,
+    length: usize,
+) -> Result<Result<(usize, u64), IvfFault>, AllocError> {
+    let mut text = Vec::from_slice(alloc, &EMPTY)?;
+    text.resize(length, 0)?;
+    Ok(counts(alloc, &text))
+}
+
 // The number of packets in a header may be any number. A record may not be longer than the file.
 #[test]
 fn the_largest_fields(rt: HostRuntime) -> Result<(), Fail> {
@@ -266,11 +282,10 @@ fn the_largest_fields(rt: HostRuntime) -> Result<(), Fail> {
     let mut sized = KEY_FILE;
     sized[32..36].copy_from_slice(&[0xFF; 4]);
     assert_eq!(rt; counts(rt.alloc(), &sized), Ok((0, 22)));
-    let mut many = Vec::from_slice(rt.alloc(), &EMPTY)?;
-    many.resize(32 + 12 * MAX_PACKETS, 0)?;
-    assert_eq!(rt; counts(rt.alloc(), &many), Ok((MAX_PACKETS, 0)));
-    many.resize(32 + 12 * MAX_PACKETS + 12, 0)?;
-    assert_eq!(rt; counts(rt.alloc(), &many), Err(IvfFault::TooMany));
+    let many = counts_of_zeros(rt.alloc(), 32 + 12 * MAX_PACKETS)?;
+    assert_eq!(rt; many, Ok((MAX_PACKETS, 0)));
+    let more = counts_of_zeros(rt.alloc(), 32 + 12 * MAX_PACKETS + 12)?;
+    assert_eq!(rt; more, Err(IvfFault::TooMany));
     Ok(())
 }
 

@@ -2,7 +2,7 @@ ghost use Rattle.std.specs.Prelude.{◌≡◌, ◌<◌, ◌≤◌};
 ghost use Rattle.pixel_planes.specs.Pictures.{shown_height};
 
 use pixel_planes::{Component, NoMemory, Picture, Plane, Planes, same};
-use script_nodes::{ApplyFault, CropOutside, Script, ScriptFault, Step, apply};
+use script_nodes::{ApplyFault, CropOutside, Script, ScriptFault, Step, Trace, apply};
 use std::alloc::Global;
 use std::process::Abort;
 use std::test::Fail;
@@ -169,70 +169,127 @@ const ORIGINS: &[Origin] = &[
 #[test]
 fn a_source_without_a_count_has_no_frames(rt: HostRuntime) -> Result<(), Fail> {
     let script = Script::parse(rt.alloc(), b"source 1; splice 1 0", 2)?;
+    expect_no_frames_without_a_count(&rt, &script);
+    Ok(())
+}
+
+fn expect_no_frames_without_a_count<R: Abort>(rt: &R, script: &Script) {
     assert_eq!(rt; script.length(&[3]), 3);
     assert_eq!(rt; script.length(&[]), 0);
-    assert_eq!(rt;
-        script.trace(&[3], 2).map(|found| (found.0, found.1)),
-        Some((0, 2))
-    );
+    assert!(rt; place_of(&script.trace(&[3], 2)) == Some((0, 2)));
     assert!(rt; script.trace(&[], 0).is_none());
-    Ok(())
+}
+
+/// The source and its frame of what was found for a frame of a script.
+fn place_of(found: &Option<(usize, u64, Trace)>) -> Option<(usize, u64)> {
+    match found {
+        None => None,
+        Some((source, frame, _)) => Some((*source, *frame)),
+    }
+}
+
+/// A frame of a source, and what a script does to it.
+struct Traced {
+    source: usize,
+    frame: u64,
+    steps: usize,
+    /// The step with this number fades it to this weight.
+    weight: (usize, u16),
+    /// The size that a picture of each size gets.
+    sizes: &'static [((u16, u16), Result<(u16, u16), CropOutside>)],
+}
+
+/// Checks what was found for a frame of a script.
+fn expect_traced<R: Abort>(rt: &R, found: &Option<(usize, u64, Trace)>, want: &Traced) {
+    assert!(rt; place_of(found) == Some((want.source, want.frame)));
+    match found {
+        None => {}
+        Some((_, _, trace)) => expect_trace(rt, trace, want),
+    }
+}
+
+fn expect_trace<R: Abort>(rt: &R, trace: &Trace, want: &Traced) {
+    let (number, weight) = want.weight;
+    assert_eq!(rt; trace.steps().len(), want.steps);
+    assert!(rt; trace.steps().get(number) == Some(&Step::Weigh(weight)));
+    for ((width, height), size) in want.sizes {
+        assert!(rt; trace.size(*width, *height) == *size, "{width} {height}");
+    }
 }
 
 #[test]
 fn crops_and_fades_another_source(rt: HostRuntime) -> Result<(), Fail> {
     let script = Script::parse(rt.alloc(), b"source 1; crop 1 2 4 6 8; fade 2 1 2 0 256", 2)?;
-    let (source, frame, trace) = script.trace(&[1, 3], 2).ok_or("no frame")?;
-    assert_eq!(rt; (source, frame), (1, 2));
-    assert_eq!(rt; trace.steps().len(), 2);
-    assert!(rt; trace.steps().get(1) == Some(&Step::Weigh(128)));
-    assert_eq!(rt; trace.size(8, 12), Ok((6, 8)));
-    assert_eq!(rt; trace.size(7, 12), Err(CropOutside));
+    expect_traced(&rt, &script.trace(&[1, 3], 2), &CROPPED_AND_FADED);
     Ok(())
 }
 
+const CROPPED_AND_FADED: Traced = Traced {
+    source: 1,
+    frame: 2,
+    steps: 2,
+    weight: (1, 128),
+    sizes: &[((8, 12), Ok((6, 8))), ((7, 12), Err(CropOutside))],
+};
+
 #[test]
 fn frames_come_from_their_source(rt: HostRuntime) -> Result<(), Fail> {
-    let text = b"trim 0 1 2; splice 1 0".as_slice();
-    for (frame, want) in [
-        (0, Some(1)),
-        (1, Some(2)),
-        (2, Some(0)),
-        (4, Some(2)),
-        (5, None),
-        (u64::MAX, None),
-    ] {
-        assert!(rt; frame_of(rt.alloc(), text, frame)? == want, "at {frame}");
+    expect_frames(&rt, b"trim 0 1 2; splice 1 0", FRAMES)
+}
+
+/// Frames of a script, each with its frame in the source.
+const FRAMES: &[(u64, Option<u64>)] = &[
+    (0, Some(1)),
+    (1, Some(2)),
+    (2, Some(0)),
+    (4, Some(2)),
+    (5, None),
+    (u64::MAX, None),
+];
+
+fn expect_frames<R: Abort + AllocGlobal>(
+    rt: &R,
+    text: &[u8],
+    frames: &[(u64, Option<u64>)],
+) -> Result<(), Fail> {
+    for (frame, want) in frames {
+        let found = frame_of(rt.alloc(), text, *frame)?;
+        assert!(rt; found == *want, "at {frame}");
     }
     Ok(())
 }
 
 #[test]
 fn traces_have_steps_and_sizes(rt: HostRuntime) -> Result<(), Fail> {
-    let script = Script::parse(
-        rt.alloc(),
-        b"crop 0 2 4 6 8; fade 1 1 2 0 256; crop 2 0 0 2 2",
-        1,
-    )?;
-    for (_, _, trace) in script.trace(&[3], 2) {
-        assert_eq!(rt; trace.steps().len(), 3);
-        assert!(rt; trace.steps().get(1) == Some(&Step::Weigh(128)));
-        assert_eq!(rt; trace.size(8, 12), Ok((2, 2)));
-        assert_eq!(rt; trace.size(7, 12), Err(CropOutside));
-    }
+    let text = b"crop 0 2 4 6 8; fade 1 1 2 0 256; crop 2 0 0 2 2";
+    let script = Script::parse(rt.alloc(), text, 1)?;
+    expect_traced(&rt, &script.trace(&[3], 2), &CROPPED_TWICE);
     Ok(())
 }
+
+const CROPPED_TWICE: Traced = Traced {
+    source: 0,
+    frame: 2,
+    steps: 3,
+    weight: (1, 128),
+    sizes: &[((8, 12), Ok((2, 2))), ((7, 12), Err(CropOutside))],
+};
 
 #[test]
 fn faded_frames_have_a_weight(rt: HostRuntime) -> Result<(), Fail> {
     let faded = Script::parse(rt.alloc(), b"trim 0 1 2; fade 1 0 2 256 0", 1)?;
-    for (source, frame, trace) in faded.trace(&[3], 0) {
-        assert_eq!(rt; (source, frame), (0, 1));
-        assert!(rt; trace.steps() == [Step::Weigh(256)].as_slice());
-    }
+    expect_traced(&rt, &faded.trace(&[3], 0), &FADED);
     assert_eq!(rt; Script::empty(rt.alloc()).length(&[3]), 3);
     Ok(())
 }
+
+const FADED: Traced = Traced {
+    source: 0,
+    frame: 1,
+    steps: 1,
+    weight: (0, 256),
+    sizes: &[],
+};
 
 /// Writes this number and those 7, 14 and so on above it, modulo 256.
 fn number(samples: &mut [u8], first: u8) {
@@ -317,11 +374,18 @@ fn is_half_of(picture: &Picture, other: &Picture) -> bool {
 #[test]
 fn fades_at_every_width(rt: HostRuntime) -> Result<(), Fail> {
     for width in 1..=40 {
-        let picture = numbered(rt.alloc(), width)?;
-        let faded = first_frame(rt.alloc(), b"fade 0 0 1 128 0", &picture)?;
-        assert!(rt; is_half_of(&faded, &picture), "at {width}");
+        assert!(rt; fades_at(rt.alloc(), width)?, "at {width}");
     }
     Ok(())
+}
+
+/// Whether a script fades a picture of this width to half its weight.
+fn fades_at(alloc: Global, width: u16) -> Result<bool, Fail>
+    requires { (0 < width) × (width ≤ 48) }
+{
+    let picture = numbered(alloc, width)?;
+    let faded = first_frame(alloc, b"fade 0 0 1 128 0", &picture)?;
+    Ok(is_half_of(&faded, &picture))
 }
 
 /// Whether a row of a component of a picture has these samples.
@@ -329,48 +393,114 @@ fn has_row(picture: &Picture, component: Component, y: usize, samples: &[u8]) ->
     y < row_count(picture, component) && picture.shown_row(component, y) == samples
 }
 
-#[test]
-fn fades_a_row(rt: HostRuntime) -> Result<(), Fail> {
-    let picture = numbered(rt.alloc(), 5)?;
-    let faded = first_frame(rt.alloc(), b"fade 0 3 9 128 0", &picture)?;
-    assert!(rt; has_row(&faded, Component::Luma, 0, &[8, 12, 15, 19, 22]));
-    assert!(rt; has_row(&faded, Component::Cb, 0, &[64, 68, 71]));
-    let black = first_frame(rt.alloc(), b"fade 0 1 9 0 256", &picture)?;
-    assert!(rt; has_row(&black, Component::Luma, 14, &[16, 16, 16, 16, 16]));
-    assert!(rt; has_row(&black, Component::Cr, 7, &[128, 128, 128]));
+/// A script's text, and the size and rows of its first frame.
+struct Shown {
+    text: &'static [u8],
+    size: (u16, u16),
+    /// The number of rows of the blue difference.
+    cb_rows: usize,
+    rows: &'static [(Component, usize, &'static [u8])],
+}
+
+/// Applies scripts to a picture of this width, and checks the size and rows of each first frame.
+fn expect_shown<R: Abort>(rt: &R, alloc: Global, width: u16, shown: &[Shown]) -> Result<(), Fail>
+    requires { (0 < width) × (width ≤ 48) }
+{
+    let picture = numbered(alloc, width)?;
+    for want in shown {
+        expect_frame(rt, alloc, &picture, want)?;
+    }
     Ok(())
 }
+
+fn expect_frame<R: Abort>(
+    rt: &R,
+    alloc: Global,
+    picture: &Picture,
+    want: &Shown,
+) -> Result<(), Fail> {
+    let made = first_frame(alloc, want.text, picture)?;
+    expect_rows(rt, &made, want);
+    Ok(())
+}
+
+fn expect_rows<R: Abort>(rt: &R, made: &Picture, want: &Shown) {
+    assert_eq!(rt; (made.width(), made.height()), want.size);
+    assert_eq!(rt; row_count(made, Component::Cb), want.cb_rows);
+    for (component, y, samples) in want.rows {
+        assert!(rt; has_row(made, *component, *y, samples), "{y} {samples:?}");
+    }
+}
+
+#[test]
+fn fades_a_row(rt: HostRuntime) -> Result<(), Fail> {
+    expect_shown(&rt, rt.alloc(), 5, FADED_ROWS)
+}
+
+const FADED_ROWS: &[Shown] = &[
+    Shown {
+        text: b"fade 0 3 9 128 0",
+        size: (5, 15),
+        cb_rows: 8,
+        rows: &[
+            (Component::Luma, 0, &[8, 12, 15, 19, 22]),
+            (Component::Cb, 0, &[64, 68, 71]),
+        ],
+    },
+    Shown {
+        text: b"fade 0 1 9 0 256",
+        size: (5, 15),
+        cb_rows: 8,
+        rows: &[
+            (Component::Luma, 14, &[16, 16, 16, 16, 16]),
+            (Component::Cr, 7, &[128, 128, 128]),
+        ],
+    },
+];
 
 #[test]
 fn crops_a_picture(rt: HostRuntime) -> Result<(), Fail> {
-    let picture = numbered(rt.alloc(), 16)?;
-    let cut = first_frame(rt.alloc(), b"crop 0 8 2 8 4", &picture)?;
-    assert_eq!(rt; (cut.width(), cut.height()), (8, 4));
-    assert!(rt; has_row(&cut, Component::Luma, 0, &[24, 31, 38, 45, 52, 59, 66, 73]));
-    assert!(rt;
-        has_row(
-            &cut,
+    expect_shown(&rt, rt.alloc(), 16, CROPPED)
+}
+
+const CROPPED: &[Shown] = &[Shown {
+    text: b"crop 0 8 2 8 4",
+    size: (8, 4),
+    cb_rows: 2,
+    rows: &[
+        (Component::Luma, 0, &[24, 31, 38, 45, 52, 59, 66, 73]),
+        (
             Component::Luma,
             3,
-            &[104, 111, 118, 125, 132, 139, 146, 153]
-        )
-    );
-    assert!(rt; has_row(&cut, Component::Cb, 0, &[84, 91, 98, 105]));
-    assert!(rt; has_row(&cut, Component::Cr, 1, &[141, 148, 155, 162]));
-    Ok(())
-}
+            &[104, 111, 118, 125, 132, 139, 146, 153],
+        ),
+        (Component::Cb, 0, &[84, 91, 98, 105]),
+        (Component::Cr, 1, &[141, 148, 155, 162]),
+    ],
+}];
 
 #[test]
 fn crops_twice_and_to_odd_sizes(rt: HostRuntime) -> Result<(), Fail> {
-    let picture = numbered(rt.alloc(), 16)?;
-    let twice = first_frame(rt.alloc(), b"crop 0 2 4 10 8; crop 1 2 2 3 3", &picture)?;
-    assert!(rt; has_row(&twice, Component::Luma, 2, &[156, 163, 170]));
-    let odd = first_frame(rt.alloc(), b"crop 0 2 4 3 3", &picture)?;
-    assert!(rt; has_row(&odd, Component::Luma, 2, &[174, 181, 188]));
-    assert!(rt; has_row(&odd, Component::Cb, 1, &[175, 182]));
-    assert_eq!(rt; row_count(&odd, Component::Cb), 2);
-    Ok(())
+    expect_shown(&rt, rt.alloc(), 16, ODD)
 }
+
+const ODD: &[Shown] = &[
+    Shown {
+        text: b"crop 0 2 4 10 8; crop 1 2 2 3 3",
+        size: (3, 3),
+        cb_rows: 2,
+        rows: &[(Component::Luma, 2, &[156, 163, 170])],
+    },
+    Shown {
+        text: b"crop 0 2 4 3 3",
+        size: (3, 3),
+        cb_rows: 2,
+        rows: &[
+            (Component::Luma, 2, &[174, 181, 188]),
+            (Component::Cb, 1, &[175, 182]),
+        ],
+    },
+];
 
 /// The name of the error of a script's first frame, or `picture`.
 fn made(alloc: Global, text: &[u8], picture: &Picture) -> Result<&'static str, Fail> {
@@ -381,10 +511,9 @@ fn made(alloc: Global, text: &[u8], picture: &Picture) -> Result<&'static str, F
 
 #[test]
 fn refuses_crops_outside(rt: HostRuntime) -> Result<(), Fail> {
-    let picture = numbered(rt.alloc(), 16)?;
-    expect_answers(&rt, &picture, OUTSIDE)?;
     assert!(rt; CropOutside.word() == "CropOutside");
-    Ok(())
+    let picture = numbered(rt.alloc(), 16)?;
+    expect_answers(&rt, &picture, OUTSIDE)
 }
 
 /// A script's text, and the name of the error of its first frame.
@@ -412,8 +541,13 @@ const OUTSIDE: &[Answer] = &[
 
 #[test]
 fn an_empty_trace_shares_the_picture(rt: HostRuntime) -> Result<(), Fail> {
-    let picture = numbered(rt.alloc(), 7)?;
-    let shared = first_frame(rt.alloc(), b"trim 0 0 9", &picture)?;
-    assert!(rt; same(&shared, &picture));
+    assert!(rt; shares(rt.alloc(), b"trim 0 0 9")?);
     Ok(())
+}
+
+/// Whether the first frame of a script is the picture that it is applied to.
+fn shares(alloc: Global, text: &[u8]) -> Result<bool, Fail> {
+    let picture = numbered(alloc, 7)?;
+    let shared = first_frame(alloc, text, &picture)?;
+    Ok(same(&shared, &picture))
 }

@@ -2,6 +2,7 @@ ghost use Rattle.std.specs.Prelude.{◌<◌, ◌≤◌, length};
 
 use pixel_planes::{Component, NoMemory, Picture, Plane, Planes, Spare, same};
 use std::alloc::Global;
+use std::process::Abort;
 use std::test::Fail;
 
 /// A picture of one macroblock, each component of one value.
@@ -69,29 +70,62 @@ fn is_same(alloc: Global, picture: &Picture, values: (u8, u8, u8)) -> Result<boo
     Ok(same(picture, &other))
 }
 
-#[test]
-fn pictures_are_the_same_in_every_component(rt: HostRuntime) -> Result<(), Fail> {
-    let alloc = rt.alloc();
-    let picture = one_macroblock(alloc, 1, 2, 3)?;
+/// Whether a picture equals itself, taken again.
+fn is_same_again(picture: &Picture) -> Result<bool, NoMemory> {
     let again = picture.again()?;
-    assert!(rt; same(&picture, &again) && is_same(alloc, &picture, (1, 2, 3))?);
+    Ok(same(picture, &again))
+}
+
+/// Checks that a picture equals one of values 1, 2 and 3, and none of the others.
+fn expect_same<R: Abort>(rt: &R, alloc: Global, picture: &Picture) -> Result<(), NoMemory> {
+    assert!(rt; is_same_again(picture)?);
+    assert!(rt; is_same(alloc, picture, (1, 2, 3))?);
     for values in OTHERS {
-        assert!(rt; !is_same(alloc, &picture, values)?);
+        assert!(rt; !is_same(alloc, picture, values)?);
     }
     Ok(())
 }
 
 #[test]
-fn pictures_of_two_shown_sizes_are_not_the_same(rt: HostRuntime) -> Result<(), Fail> {
-    let alloc = rt.alloc();
+fn pictures_are_the_same_in_every_component(rt: HostRuntime) -> Result<(), Fail> {
+    let picture = one_macroblock(rt.alloc(), 1, 2, 3)?;
+    Ok(expect_same(&rt, rt.alloc(), &picture)?)
+}
+
+/// A picture of one macroblock of values 1, 2 and 3, whose last column is not shown.
+fn narrow(alloc: Global) -> Result<Picture, NoMemory> {
     let planes = Planes {
         luma: Plane::make(alloc, 16, 16, 1)?,
         cb: Plane::make(alloc, 8, 8, 2)?,
         cr: Plane::make(alloc, 8, 8, 3)?,
     };
-    let narrow = Picture::share(alloc, planes, 15, 16)?;
-    assert!(rt; !is_same(alloc, &narrow, (1, 2, 3))?);
+    Picture::share(alloc, planes, 15, 16)
+}
+
+#[test]
+fn pictures_of_two_shown_sizes_are_not_the_same(rt: HostRuntime) -> Result<(), Fail> {
+    let narrow = narrow(rt.alloc())?;
+    assert!(rt; !is_same(rt.alloc(), &narrow, (1, 2, 3))?);
     Ok(())
+}
+
+/// Whether these planes are 0 and have these sides, with a border that is up to date.
+fn are_zeros(planes: &Planes, luma: &Plane, chroma: &Plane) -> bool {
+    planes.luma.same(luma)
+        && planes.cb.same(chroma)
+        && planes.cr.same(chroma)
+        && has_span(&planes.luma, -32, -32, &[0; 64])
+        && has_span(&planes.cb, -32, 39, &[0; 72])
+        && has_span(&planes.cr, 39, 39, &[0])
+}
+
+/// Whether planes are 0, with a border that is up to date, for this many macroblocks each way.
+fn are_zeros_of(planes: &Planes, alloc: Global, side: usize) -> Result<bool, NoMemory>
+    requires { (0 < side) × (side ≤ 1024) }
+{
+    let luma = Plane::make(alloc, 16 * side, 16 * side, 0)?;
+    let chroma = Plane::make(alloc, 8 * side, 8 * side, 0)?;
+    Ok(are_zeros(planes, &luma, &chroma))
 }
 
 /// Whether the spare planes, made again for this many macroblocks each way, have these sides and
@@ -100,16 +134,14 @@ fn makes_zeros(spare: &mut Spare, alloc: Global, side: usize) -> Result<bool, No
     requires { (0 < side) × (side ≤ 1024) }
 {
     let planes = spare.make_zero_planes(alloc, side, side)?;
-    let luma = Plane::make(alloc, 16 * side, 16 * side, 0)?;
-    let chroma = Plane::make(alloc, 8 * side, 8 * side, 0)?;
-    Ok(
-        planes.luma.same(&luma)
-            && planes.cb.same(&chroma)
-            && planes.cr.same(&chroma)
-            && has_span(&planes.luma, -32, -32, &[0; 64])
-            && has_span(&planes.cb, -32, 39, &[0; 72])
-            && has_span(&planes.cr, 39, 39, &[0]),
-    )
+    are_zeros_of(&planes, alloc, side)
+}
+
+/// Puts a picture to the spare planes.
+fn put_one(spare: &mut Spare, alloc: Global) -> Result<(), NoMemory> {
+    let picture = one_macroblock(alloc, 7, 8, 9)?;
+    spare.put(picture);
+    Ok(())
 }
 
 #[test]
@@ -118,20 +150,36 @@ fn spare_planes_are_made_again(rt: HostRuntime) -> Result<(), Fail> {
     let mut spare = Spare::new();
     assert!(rt; makes_zeros(&mut spare, alloc, 1)?);
     for side in [1, 1, 2, 1] {
-        spare.put(one_macroblock(alloc, 7, 8, 9)?);
+        put_one(&mut spare, alloc)?;
         assert!(rt; makes_zeros(&mut spare, alloc, side)?);
     }
     Ok(())
 }
 
-#[test]
-fn planes_of_a_shared_picture_are_no_spare_ones(rt: HostRuntime) -> Result<(), Fail> {
-    let alloc = rt.alloc();
+/// Spare planes to which a picture was put that is still shared.
+fn spare_of_shared(picture: &Picture) -> Result<Spare, NoMemory> {
     let mut spare = Spare::new();
-    let picture = one_macroblock(alloc, 7, 8, 9)?;
     spare.put(picture.again()?);
+    Ok(spare)
+}
+
+/// Planes taken from the spare ones, with other samples in row 0.
+fn written_planes(spare: &mut Spare, alloc: Global) -> Result<Planes, NoMemory> {
     let mut planes = spare.make_zero_planes(alloc, 1, 1)?;
     planes.luma.row_mut(0).fill(1);
-    assert!(rt; is_same(alloc, &picture, (7, 8, 9))?);
+    Ok(planes)
+}
+
+#[test]
+fn planes_of_a_shared_picture_are_no_spare_ones(rt: HostRuntime) -> Result<(), Fail> {
+    let picture = one_macroblock(rt.alloc(), 7, 8, 9)?;
+    assert!(rt; keeps_its_samples(rt.alloc(), &picture)?);
     Ok(())
+}
+
+/// Whether a picture keeps its samples if it is put to spare planes while it is shared.
+fn keeps_its_samples(alloc: Global, picture: &Picture) -> Result<bool, NoMemory> {
+    let mut spare = spare_of_shared(picture)?;
+    let _planes = written_planes(&mut spare, alloc)?;
+    is_same(alloc, picture, (7, 8, 9))
 }

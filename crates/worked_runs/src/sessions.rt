@@ -2,6 +2,8 @@ use frame_header::Cause;
 use frame_session::{Refusal, Session};
 use pixel_planes::{Component, Picture};
 use run_fixtures::{INTER, KEY, WIDE_KEY, ivf_of};
+use std::alloc::Global;
+use std::process::Abort;
 use std::test::Fail;
 use stream_files::ivf_read;
 use vp8_tables::Tables;
@@ -17,30 +19,53 @@ fn shows_key(picture: &Picture) -> bool {
         && picture.shown_row(Component::Cr, 0) == [0x80; 8].as_slice()
 }
 
+/// Whether a frame is that of the key packet, or its refusal.
+fn shown(session: &mut Session, number: u64) -> Result<bool, Refusal> {
+    let picture = session.frame(number)?;
+    Ok(shows_key(&picture))
+}
+
+/// A session over a file of these packets that keeps one state.
+fn session_of<R: Abort>(rt: &R, alloc: Global, packets: &[&[u8]]) -> Result<Session, Fail> {
+    let text = ivf_of(alloc, packets)?;
+    let file = ivf_read(alloc, text.as_slice())?;
+    assert_eq!(rt; file.packets.len(), packets.len());
+    let files = vec![in alloc; file]?;
+    Ok(Session::new(alloc, Tables::flat(), 1, files)?)
+}
+
+fn expect_frames<R: Abort>(rt: &R, session: &mut Session, frames: &[(u64, Result<bool, Refusal>)]) {
+    for (number, want) in frames {
+        assert!(rt; shown(session, *number) == *want, "frame {number}");
+    }
+    assert!(rt; session.spare() == 0);
+}
+
 // The calls of a session by themselves, with ample memory: a body that always answers NoMemory
 // fails here, as in each run.
 #[test]
 fn a_session_gives_pictures(rt: HostRuntime) -> Result<(), Fail> {
-    let text = ivf_of(rt.alloc(), &[INTER, KEY, &[0x11], WIDE_KEY])?;
-    let file = ivf_read(rt.alloc(), text.as_slice())?;
-    assert_eq!(rt; file.packets.len(), 4);
-    let mut session = Session::new(rt.alloc(), Tables::flat(), 1, vec![in rt.alloc(); file]?)?;
-    let broken = Refusal::Packet {
-        source: 0,
-        place: 0,
-        cause: Cause::NoKeyFrame,
-    };
-    assert_eq!(rt; session.frame(0).err(), Some(broken));
-    let picture = session.frame(1)?;
-    assert!(rt; shows_key(&picture));
-    let broken = Refusal::Packet {
-        source: 0,
-        place: 2,
-        cause: Cause::ShortPacket,
-    };
-    assert_eq!(rt; session.frame(2).err(), Some(broken));
-    assert_eq!(rt; session.frame(3).err(), Some(Refusal::SizeDiffers));
-    assert_eq!(rt; session.frame(4).err(), Some(Refusal::NoSuchFrame));
-    assert_eq!(rt; session.spare(), 0);
+    let mut session = session_of(&rt, rt.alloc(), &[INTER, KEY, &[0x11], WIDE_KEY])?;
+    expect_frames(&rt, &mut session, FRAMES);
     Ok(())
 }
+
+const FRAMES: &[(u64, Result<bool, Refusal>)] = &[
+    (0, Err(NO_KEY_FRAME)),
+    (1, Ok(true)),
+    (2, Err(SHORT_PACKET)),
+    (3, Err(Refusal::SizeDiffers)),
+    (4, Err(Refusal::NoSuchFrame)),
+];
+
+const NO_KEY_FRAME: Refusal = Refusal::Packet {
+    source: 0,
+    place: 0,
+    cause: Cause::NoKeyFrame,
+};
+
+const SHORT_PACKET: Refusal = Refusal::Packet {
+    source: 0,
+    place: 2,
+    cause: Cause::ShortPacket,
+};
