@@ -111,7 +111,9 @@ def partitions_of(packet):
 
 
 def padded(packet):
-    """A sound packet with zeros after each of its partitions."""
+    """A sound packet with zeros after each of its partitions: a dropped frame has none."""
+    if not packet:
+        return packet
     head, first, texts = partitions_of(packet)
     texts = [text + bytes(PADDING) for text in texts]
     first += bytes(PADDING)
@@ -122,6 +124,8 @@ def padded(packet):
 
 def begins_with_ff(packet):
     """Whether one of the partitions of a sound packet begins with the byte FF."""
+    if not packet:
+        return False
     _, first, texts = partitions_of(packet)
     return any(text[:1] == b"\xff" for text in [first, *texts])
 
