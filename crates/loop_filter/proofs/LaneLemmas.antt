@@ -1,11 +1,11 @@
 -- The result of each operation on lanes, in one lane.
 use Rattle.std.specs.Prelude.{min, max, replicate, slice_index}
-use Rattle.std.proofs.Common.{◌≡◌, ℕ, ◌+◌, ◌-◌, ◌*◌, ◌/◌, ◌%◌, ◌^◌, ◌<◌, ◌≤◌, Bool, true, false, cond, ltb, leb, eqb, List, [], ◌∷◌, map, length, refl, ap, subst, ◌∙◌, arith, w8, Fits}
+use Rattle.std.proofs.Common.{◌≡◌, ℕ, ◌+◌, ◌-◌, ◌*◌, ◌/◌, ◌%◌, ◌^◌, ◌<◌, ◌≤◌, Bool, true, false, cond, ltb, leb, eqb, List, [], ◌∷◌, map, length, refl, sym, ap, subst, ◌∙◌, arith, w8, Fits}
 use lib.Lanes.{Each1, zip2, sel_l}
 use Rattle.std.proofs.lemmas.Bool.Decides.{nat_tests}
 use Rattle.std.proofs.Math.Nat.{mul-le-mul_right}
 use Rattle.std.proofs.lemmas.Simd.{get_or-zip2, length-zip2, get_or-sel_l}
-use Rattle.std.proofs.lemmas.List.{get_or-replicate, get_or-map, length-map}
+use Rattle.std.proofs.lemmas.List.{get_or-replicate, get_or-map, length-map, length-replicate}
 use Rattle.loop_filter.specs.Lanes.{sum_of, either_of, share_of}
 
 -- two lists with equal heads and equal tails
@@ -44,30 +44,39 @@ greater_lanes (x ∷ xs) [] = refl
 greater_lanes (x ∷ xs) (y ∷ ys) = same_lanes _ _ _ _ (greater_lane x y) (greater_lanes xs ys)
 
 -- each of them, at its index
-lane2 : (f : ℕ → ℕ → ℕ) (xs ys : List ℕ) (i : ℕ) → length xs ≡ 16 → length ys ≡ 16 → i < 16 → slice_index (zip2 f xs ys) i ≡ f (slice_index xs i) (slice_index ys i)
-lane2 f xs ys i long long' less = get_or-zip2 f xs ys i 0 0 0 (omega (arith, long)) (omega (arith, long'))
+lane2 : (f : ℕ → ℕ → ℕ) (xs ys : List ℕ) (n i : ℕ) → length xs ≡ n → length ys ≡ n → i < n → slice_index (zip2 f xs ys) i ≡ f (slice_index xs i) (slice_index ys i)
+lane2 f xs ys n i long long' less = get_or-zip2 f xs ys i 0 0 0 (omega (arith, long)) (omega (arith, long'))
 
-pub sum_at : (xs ys : List ℕ) (i : ℕ) → (length xs ≡ 16) × Each1 (Fits w8) xs → length ys ≡ 16 → i < 16 → slice_index (zip2 (λ a b. (a + b) % 256) xs (sel_l (map (λ m. leb 128 m) (zip2 (λ b n. cond (ltb b n) 255 0) ys (map (λ a. 255 - a) xs))) ys (map (λ a. 255 - a) xs))) i ≡ sum_of (slice_index xs i) (slice_index ys i)
-sum_at xs ys i fits long less = ap (λ l. slice_index l i) (sum_lanes xs ys fits.1) ∙ lane2 sum_of xs ys i fits.0 long less
+pub sum_at : (xs ys : List ℕ) (n i : ℕ) → (length xs ≡ n) × Each1 (Fits w8) xs → length ys ≡ n → i < n → slice_index (zip2 (λ a b. (a + b) % 256) xs (sel_l (map (λ m. leb 128 m) (zip2 (λ b n. cond (ltb b n) 255 0) ys (map (λ a. 255 - a) xs))) ys (map (λ a. 255 - a) xs))) i ≡ sum_of (slice_index xs i) (slice_index ys i)
+sum_at xs ys n i fits long less = ap (λ l. slice_index l i) (sum_lanes xs ys fits.1) ∙ lane2 sum_of xs ys n i fits.0 long less
 
-pub rest_at : (xs ys : List ℕ) (i : ℕ) → (length xs ≡ 16) × Each1 (Fits w8) xs → (length ys ≡ 16) × Each1 (Fits w8) ys → i < 16 → slice_index (zip2 (λ a b. (a + (256 - b)) % 256) (sel_l (map (λ m. leb 128 m) (zip2 (λ a b. cond (ltb a b) 255 0) xs ys)) ys xs) ys) i ≡ slice_index xs i - slice_index ys i
-rest_at xs ys i fits fits' less = ap (λ l. slice_index l i) (rest_lanes xs ys fits.1 fits'.1) ∙ lane2 (λ a b. a - b) xs ys i fits.0 fits'.0 less
+pub rest_at : (xs ys : List ℕ) (n i : ℕ) → (length xs ≡ n) × Each1 (Fits w8) xs → (length ys ≡ n) × Each1 (Fits w8) ys → i < n → slice_index (zip2 (λ a b. (a + (256 - b)) % 256) (sel_l (map (λ m. leb 128 m) (zip2 (λ a b. cond (ltb a b) 255 0) xs ys)) ys xs) ys) i ≡ slice_index xs i - slice_index ys i
+rest_at xs ys n i fits fits' less = ap (λ l. slice_index l i) (rest_lanes xs ys fits.1 fits'.1) ∙ lane2 (λ a b. a - b) xs ys n i fits.0 fits'.0 less
 
-pub greater_at : (xs ys : List ℕ) (i : ℕ) → length xs ≡ 16 → length ys ≡ 16 → i < 16 → slice_index (sel_l (map (λ m. leb 128 m) (zip2 (λ a b. cond (ltb a b) 255 0) xs ys)) ys xs) i ≡ max (slice_index xs i) (slice_index ys i)
-greater_at xs ys i long long' less = ap (λ l. slice_index l i) (greater_lanes xs ys) ∙ lane2 max xs ys i long long' less
+pub greater_at : (xs ys : List ℕ) (n i : ℕ) → length xs ≡ n → length ys ≡ n → i < n → slice_index (sel_l (map (λ m. leb 128 m) (zip2 (λ a b. cond (ltb a b) 255 0) xs ys)) ys xs) i ≡ max (slice_index xs i) (slice_index ys i)
+greater_at xs ys n i long long' less = ap (λ l. slice_index l i) (greater_lanes xs ys) ∙ lane2 max xs ys n i long long' less
 
 -- a shift
-pub shifted_at : (n : ℕ) (xs : List ℕ) (i : ℕ) → length xs ≡ 16 → i < 16 → slice_index (zip2 (λ a b. a / 2 ^ b) xs (replicate 16 n)) i ≡ slice_index xs i / 2 ^ n
-shifted_at n xs i long less = lane2 (λ a b. a / 2 ^ b) xs (replicate 16 n) i long refl less ∙ ap (λ k. slice_index xs i / 2 ^ k) (get_or-replicate 16 i n 0 less)
+pub shifted_at : (by : ℕ) (xs : List ℕ) (n i : ℕ) → length xs ≡ n → i < n → slice_index (zip2 (λ a b. a / 2 ^ b) xs (replicate n by)) i ≡ slice_index xs i / 2 ^ by
+shifted_at by xs n i long less = lane2 (λ a b. a / 2 ^ b) xs (replicate n by) n i long (length-replicate {A = ℕ} n by) less ∙ ap (λ k. slice_index xs i / 2 ^ k) (get_or-replicate n i by 0 less)
 
 -- a choice by whether a lane is 0
-pub either_at : (ts xs ys : List ℕ) (i : ℕ) → length ts ≡ 16 → length xs ≡ 16 → length ys ≡ 16 → i < 16 → slice_index (sel_l (map (λ m. leb 128 m) (zip2 (λ a b. cond (eqb a b) 255 0) ts (replicate 16 0))) xs ys) i ≡ either_of (slice_index ts i) (slice_index xs i) (slice_index ys i)
-either_at ts xs ys i long long' long'' less =
-    let masks : List ℕ = zip2 (λ a b. cond (eqb a b) 255 0) ts (replicate 16 0) in
-    let sixteen : length masks ≡ 16 = length-zip2 _ ts (replicate 16 0) (omega (arith, long)) ∙ long in
-    let told : length (map (λ m. leb 128 m) masks) ≡ 16 = length-map masks (λ m. leb 128 m) ∙ sixteen in
-    get_or-sel_l (map (λ m. leb 128 m) masks) xs ys i 0 (omega (arith, told)) (omega (arith, long')) (omega (arith, long''))
-    ∙ ap (λ (b : Bool). cond b (slice_index xs i) (slice_index ys i)) (get_or-map (λ m. leb 128 m) masks i 0 false (omega (arith, sixteen)) ∙ ap (leb 128) (lane2 (λ a b. cond (eqb a b) 255 0) ts (replicate 16 0) i long refl less ∙ ap (λ n. cond (eqb (slice_index ts i) n) 255 0) (get_or-replicate 16 i 0 0 less)) ∙ mask_tells _)
+inside : (n i l : ℕ) → l ≡ n → i < n → i < l
+inside n i l same less = omega arith
+
+abbrev pub masks : List ℕ → ℕ → List ℕ
+masks ts n = zip2 (λ a b. cond (eqb a b) 255 0) ts (replicate n 0)
+
+masks_long : (ts : List ℕ) (n : ℕ) → length ts ≡ n → length (masks ts n) ≡ n
+masks_long ts n long = length-zip2 _ ts (replicate n 0) (long ∙ sym (length-replicate {A = ℕ} n 0)) ∙ long
+
+mask_at : (ts : List ℕ) (n i : ℕ) → length ts ≡ n → i < n → slice_index (masks ts n) i ≡ cond (eqb (slice_index ts i) 0) 255 0
+mask_at ts n i long less = lane2 (λ a b. cond (eqb a b) 255 0) ts (replicate n 0) n i long (length-replicate {A = ℕ} n 0) less ∙ ap (λ k. cond (eqb (slice_index ts i) k) 255 0) (get_or-replicate n i 0 0 less)
+
+pub either_at : (ts xs ys : List ℕ) (n i : ℕ) → length ts ≡ n → length xs ≡ n → length ys ≡ n → i < n → slice_index (sel_l (map (λ m. leb 128 m) (masks ts n)) xs ys) i ≡ either_of (slice_index ts i) (slice_index xs i) (slice_index ys i)
+either_at ts xs ys n i long long' long'' less =
+    get_or-sel_l (map (λ m. leb 128 m) (masks ts n)) xs ys i 0 (inside n i _ (length-map (masks ts n) (λ m. leb 128 m) ∙ masks_long ts n long) less) (inside n i _ long' less) (inside n i _ long'' less)
+    ∙ ap (λ (b : Bool). cond b (slice_index xs i) (slice_index ys i)) (get_or-map (λ m. leb 128 m) (masks ts n) i 0 false (inside n i _ (masks_long ts n long) less) ∙ ap (leb 128) (mask_at ts n i long less) ∙ mask_tells _)
 
 -- shares, in lanes of 16 bits
 abbrev pub nines : ℕ → List ℕ → List ℕ
@@ -122,18 +131,18 @@ share_fits : (k : ℕ) (xs : List ℕ) → k ≤ 27 → Each1 (Fits w8) xs → E
 share_fits k [] few fits = tt
 share_fits k (x ∷ xs) few fits = (record { fits = share_small k x few fits.0.fits }, share_fits k xs few fits.1)
 
--- of sixteen lanes
+-- of n lanes
 abbrev pub Shared : ℕ → List ℕ → List ℕ → Type 0
 Shared k xs ys = ys ≡ map (share_of k) xs
 
-pub far_shared : (xs : List ℕ) → (length xs ≡ 16) × Each1 (Fits w8) xs → Shared 9 xs (shifted 16 (far 16 xs))
-far_shared xs fits = subst (λ (n : ℕ). Shared 9 xs (shifted n (far n xs))) fits.0 (far_lanes xs fits.1)
+pub far_shared : (n : ℕ) (xs : List ℕ) → (length xs ≡ n) × Each1 (Fits w8) xs → Shared 9 xs (shifted n (far n xs))
+far_shared n xs fits = subst (λ (m : ℕ). Shared 9 xs (shifted m (far m xs))) fits.0 (far_lanes xs fits.1)
 
-pub middle_shared : (xs : List ℕ) → (length xs ≡ 16) × Each1 (Fits w8) xs → Shared 18 xs (shifted 16 (middle 16 xs))
-middle_shared xs fits = subst (λ (n : ℕ). Shared 18 xs (shifted n (middle n xs))) fits.0 (middle_lanes xs fits.1)
+pub middle_shared : (n : ℕ) (xs : List ℕ) → (length xs ≡ n) × Each1 (Fits w8) xs → Shared 18 xs (shifted n (middle n xs))
+middle_shared n xs fits = subst (λ (m : ℕ). Shared 18 xs (shifted m (middle m xs))) fits.0 (middle_lanes xs fits.1)
 
-pub near_shared : (xs : List ℕ) → (length xs ≡ 16) × Each1 (Fits w8) xs → Shared 27 xs (shifted 16 (near 16 xs))
-near_shared xs fits = subst (λ (n : ℕ). Shared 27 xs (shifted n (near n xs))) fits.0 (near_lanes xs fits.1)
+pub near_shared : (n : ℕ) (xs : List ℕ) → (length xs ≡ n) × Each1 (Fits w8) xs → Shared 27 xs (shifted n (near n xs))
+near_shared n xs fits = subst (λ (m : ℕ). Shared 27 xs (shifted m (near m xs))) fits.0 (near_lanes xs fits.1)
 
 same_map : (xs : List ℕ) → map (λ (a : ℕ). a) xs ≡ xs
 same_map [] = refl
@@ -142,5 +151,5 @@ same_map (x ∷ xs) = ap (λ (l : List ℕ). x ∷ l) (same_map xs)
 pub shares_fit : (k : ℕ) (xs ys : List ℕ) → k ≤ 27 → Each1 (Fits w8) xs → Shared k xs ys → Each1 (Fits w8) ys
 shares_fit k xs ys few fits is = rw is (share_fits k xs few fits)
 
-pub shares_at : (k : ℕ) (xs ys : List ℕ) (i : ℕ) → length xs ≡ 16 → Shared k xs ys → i < 16 → slice_index (map (λ (a : ℕ). a) ys) i ≡ share_of k (slice_index xs i)
-shares_at k xs ys i long is less = ap (λ l. slice_index l i) (same_map ys ∙ is) ∙ get_or-map (share_of k) xs i 0 0 (omega (arith, long))
+pub shares_at : (k : ℕ) (xs ys : List ℕ) (n i : ℕ) → length xs ≡ n → Shared k xs ys → i < n → slice_index (map (λ (a : ℕ). a) ys) i ≡ share_of k (slice_index xs i)
+shares_at k xs ys n i long is less = ap (λ l. slice_index l i) (same_map ys ∙ is) ∙ get_or-map (share_of k) xs i 0 0 (omega (arith, long))

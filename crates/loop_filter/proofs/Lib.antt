@@ -15,3 +15,4 @@ pub mod BlockSteps
 pub mod ApartBlocks
 pub mod Front
 pub mod LevelLemmas
+pub mod Joined

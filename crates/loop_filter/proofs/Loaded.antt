@@ -3,7 +3,7 @@ use Rattle.std.specs.Prelude.{slice_index}
 use Rattle.std.specs.Simd.Lanes.{put_chunk}
 use Rattle.std.proofs.Common.{◌≡◌, ℕ, suc, ◌+◌, ◌-◌, ◌*◌, ◌<◌, inl, inr, List, [], ◌∷◌, ◌++◌, refl, ap, subst, ◌∙◌, arith}
 use Rattle.std.proofs.lemmas.Bool.{cases_lt}
-use Rattle.loop_filter.specs.declared.kernels.Taps.{Taps}
+use Rattle.loop_filter.specs.declared.taps.Taps.{Taps}
 use Rattle.loop_filter.specs.Lines.{Line}
 use Rattle.loop_filter.specs.Edges.{line_in}
 use Rattle.loop_filter.specs.Lanes.{line_at, vector, vectors, column_of, row_of, eight_from, row_in_pairs, rows_put}

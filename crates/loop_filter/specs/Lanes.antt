@@ -1,21 +1,22 @@
--- The filters in numbers of 8 bits, as the sixteen lanes store them: a number that may be below 0 has an offset added, as a sample has 128.
+-- The filters in numbers of 8 bits, as lanes store them: a number that may be below 0 has an offset added, as a sample has 128.
 use Rattle.std.specs.Prelude.{◌≡◌, ℕ, ◌+◌, ◌-◌, ◌*◌, ◌/◌, ◌<◌, min, max, zero, suc, if◌then◌else◌, nat_eq, List, [], ◌∷◌, ◌++◌, map, slice_index, slice_index_or}
 use Rattle.std.specs.Simd.Lanes.{put_chunk}
 use Rattle.std.specs.Int.{abs_diff}
 use Rattle.loop_filter.specs.Lines.{Line}
 use Rattle.loop_filter.specs.declared.edge_limits.EdgeLimits.{EdgeLimits}
-use Rattle.loop_filter.specs.declared.kernels.Taps.{Taps}
+use Rattle.loop_filter.specs.declared.kernels.WideTaps.{WideTaps}
+use Rattle.loop_filter.specs.declared.taps.Taps.{Taps}
 
--- each of the sixteen lanes of a result is f of that lane of one vector, or of two
+-- each of the thirty-two lanes of a result is f of that lane of one vector, or of two
 abbrev pub Each : (ℕ → ℕ) → List ℕ → List ℕ → Type 0
-Each f a result = (i : ℕ) → i < 16 → slice_index result i ≡ f (slice_index a i)
+Each f a result = (i : ℕ) → i < 32 → slice_index result i ≡ f (slice_index a i)
 
 abbrev pub Each2 : (ℕ → ℕ → ℕ) → List ℕ → List ℕ → List ℕ → Type 0
-Each2 f a b result = (i : ℕ) → i < 16 → slice_index result i ≡ f (slice_index a i) (slice_index b i)
+Each2 f a b result = (i : ℕ) → i < 32 → slice_index result i ≡ f (slice_index a i) (slice_index b i)
 
 -- each lane has 8 bits
 abbrev pub AreSamples : List ℕ → Type 0
-AreSamples a = (i : ℕ) → i < 16 → slice_index a i < 256
+AreSamples a = (i : ℕ) → i < 32 → slice_index a i < 256
 
 -- the sum of two numbers, clamped to 255
 abbrev pub sum_of : ℕ → ℕ → ℕ
@@ -68,9 +69,21 @@ roughness_of limits l = sum_of (step_over_of limits.edge l.p1 l.p0 l.q0 l.q1) (m
 abbrev pub either_of : ℕ → ℕ → ℕ → ℕ
 either_of test none other = if nat_eq test 0 then none else other
 
--- line i of the sixteen
+-- line i of sixteen, and of thirty-two
 abbrev pub line_at : Taps → ℕ → Line
 line_at t i = record {
+  p3 = slice_index t.p3 i;
+  p2 = slice_index t.p2 i;
+  p1 = slice_index t.p1 i;
+  p0 = slice_index t.p0 i;
+  q0 = slice_index t.q0 i;
+  q1 = slice_index t.q1 i;
+  q2 = slice_index t.q2 i;
+  q3 = slice_index t.q3 i;
+}
+
+abbrev pub wide_line_at : WideTaps → ℕ → Line
+wide_line_at t i = record {
   p3 = slice_index t.p3 i;
   p2 = slice_index t.p2 i;
   p1 = slice_index t.p1 i;

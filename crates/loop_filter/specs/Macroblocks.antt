@@ -1,5 +1,5 @@
 -- The arguments of the loops of a frame's filter.
-use Rattle.std.specs.Prelude.{◌≡◌, ◌==◌, ◌-◌, ℕ, zero, suc, false, ◌+◌, ◌*◌, ◌<◌, ◌≤◌, length, List, Option}
+use Rattle.std.specs.Prelude.{◌≡◌, ◌==◌, ℕ, false, ◌+◌, ◌*◌, ◌<◌, ◌≤◌, length, List, Option}
 use Rattle.frame_header.specs.declared.header.Header.{Header}
 use Rattle.mode_parser.specs.declared.records.MbMode.{MbMode}
 use Rattle.pixel_planes.specs.Layout.{rows_of}
@@ -10,7 +10,7 @@ use Rattle.loop_filter.specs.Strengths.{AreLimits}
 use Rattle.loop_filter.specs.declared.blocks.Block.{Block}
 use Rattle.loop_filter.specs.declared.frames.Macroblocks.{Macroblocks}
 use Rattle.loop_filter.specs.declared.frames.RowFilter.{RowFilter}
-use Rattle.loop_filter.specs.declared.frames.Rows.{Rows}
+use Rattle.loop_filter.specs.declared.macroblocks.Macroblock.{Macroblock}
 use Rattle.loop_filter.specs.declared.strengths.Strength.{Strength}
 
 -- each macroblock has a record, and there are 1 to 1,024 each way; the limits are those of the frame
@@ -47,6 +47,10 @@ block_apart side stride mx my = record {
   is_topmost = my == 0;
 }
 
+-- the position of the blocks of a macroblock in the chroma planes
+abbrev pub chroma_block : Macroblock → Block
+chroma_block at = record { start = at.chroma; stride = at.chroma_stride; is_leftmost = at.luma.is_leftmost; is_topmost = at.luma.is_topmost }
+
 -- how each macroblock is filtered
 abbrev pub strengths : Macroblocks → ℕ → Option Strength
 strengths all = strength_at all.header.now all.records.now all.flags.now
@@ -59,15 +63,6 @@ macroblock_filtered shape all stride mx my samples = filtered_by shape all.heade
 abbrev pub row_of_all : Shape → Macroblocks → ℕ → List ℕ → ℕ → List ℕ
 row_of_all shape all my samples n = row_filtered shape all.header.now.filter.is_simple (strengths all) all.columns my samples n
 
--- and after n rows of them, starting at row `from`
-unfoldable pub rows_of_all : Shape → Macroblocks → ℕ → List ℕ → ℕ → List ℕ
-rows_of_all shape all from samples zero = samples
-rows_of_all shape all from samples (suc n) = row_of_all shape all (from + n) (rows_of_all shape all from samples n) all.columns
-
--- these are rows of the frame, with flags of their macroblocks
-abbrev pub AreRows : Macroblocks → Rows → Type 0
-AreRows all rows = (rows.from ≤ rows.to) × (rows.to ≤ all.rows) × (rows.to * all.columns ≤ length all.flags.now)
-
--- a plane after these rows of its macroblocks are filtered; its border is then out of date
-abbrev pub with_rows_filtered : Shape → Macroblocks → Rows → PlaneValue → PlaneValue
-with_rows_filtered shape all rows plane = record plane { shown = record plane.shown { samples = rows_of_all shape all rows.from plane.shown.samples (rows.to - rows.from) }; is_current = false }
+-- a plane after row my of its macroblocks is filtered; its border is then out of date
+abbrev pub with_row_filtered : Shape → Macroblocks → ℕ → PlaneValue → PlaneValue
+with_row_filtered shape all my plane = record plane { shown = record plane.shown { samples = row_of_all shape all my plane.shown.samples all.columns }; is_current = false }

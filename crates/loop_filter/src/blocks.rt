@@ -1,10 +1,10 @@
-//! A macroblock's block in luma.
+//! A macroblock's block in luma, by the simple filter (RFC 6386, section 15.2).
 
-ghost use Rattle.std.specs.Prelude.{◌≡◌, ◌+◌, ◌*◌, ◌<◌, ◌≤◌, length};
+ghost use Rattle.std.specs.Prelude.{◌≡◌, ◌+◌, ◌*◌, ◌<◌, ◌≤◌, true, length};
 ghost use Rattle.loop_filter.specs.Lines.{filtered_line};
-ghost use Rattle.loop_filter.specs.Blocks.{IsInside, HasSmallLimits, outer_limits, inner_limits, outer_filter, inner_filter, luma, column_edge, column_edges, row_edge, left_edge, inner_columns, top_edge, inner_rows, block_filtered};
+ghost use Rattle.loop_filter.specs.Blocks.{IsInside, HasSmallLimits, outer_limits, inner_limits, luma, column_edge, row_edge, left_edge, inner_columns, top_edge, inner_rows, block_filtered};
+ghost use Rattle.loop_filter.specs.declared.edge_limits.EdgeFilter.TheVariants.{Simple};
 
-use crate::columns_inner::filter_inner_columns;
 use crate::edge_limits::{EdgeFilter, EdgeLimits, Limits};
 use crate::edges::{filter_columns, filter_rows};
 use crate::strengths::Strength;
@@ -46,93 +46,51 @@ pub(crate) fn inner_limits(limits: Limits) -> EdgeLimits
     }
 }
 
-/// The filter of edges between macroblocks.
-#[inline]
-pub(crate) fn outer_filter(is_simple: bool) -> EdgeFilter
-    ensures { result ≡ outer_filter is_simple }
-{
-    if is_simple {
-        EdgeFilter::Simple
-    } else {
-        EdgeFilter::Macroblock
-    }
-}
-
-/// The filter of edges inside a macroblock.
-#[inline]
-pub(crate) fn inner_filter(is_simple: bool) -> EdgeFilter
-    ensures { result ≡ inner_filter is_simple }
-{
-    if is_simple {
-        EdgeFilter::Simple
-    } else {
-        EdgeFilter::Inner
-    }
-}
-
 /// Filters the edge before column `x` of a block.
 #[tactic(auto, unfolding(crate::specs::Blocks::column_edge))]
 #[inline]
-fn filter_column(filter: EdgeFilter, limits: EdgeLimits, samples: &mut [u8], block: Block, x: usize)
+fn filter_column(limits: EdgeLimits, samples: &mut [u8], block: Block, x: usize)
     requires limit { limits.edge < 255 }
     requires wide { 16 ≤ block.stride }
     requires left { 4 ≤ block.start + x }
     requires room { block.start + x + 15 * block.stride + 4 ≤ length samples.old }
-    ensures { samples.new ≡ column_edge (filtered_line filter limits) 16 block x samples.old }
+    ensures { samples.new ≡ column_edge (filtered_line Simple limits) 16 block x samples.old }
 {
-    filter_columns(filter, limits, samples, block.start + x - 4, block.stride);
+    let start = block.start + x - 4;
+    filter_columns(EdgeFilter::Simple, limits, samples, start, block.stride);
 }
 
 /// Filters the edge before row `y` of a block.
 #[tactic(auto, unfolding(crate::specs::Blocks::row_edge))]
 #[inline]
-fn filter_row(filter: EdgeFilter, limits: EdgeLimits, samples: &mut [u8], block: Block, y: usize)
+fn filter_row(limits: EdgeLimits, samples: &mut [u8], block: Block, y: usize)
     requires limit { limits.edge < 255 }
     requires wide { 16 ≤ block.stride }
     requires above { 4 * block.stride ≤ block.start + y * block.stride }
     requires room { block.start + y * block.stride + 3 * block.stride + 16 ≤ length samples.old }
-    ensures { samples.new ≡ row_edge (filtered_line filter limits) 16 block y samples.old }
+    ensures { samples.new ≡ row_edge (filtered_line Simple limits) 16 block y samples.old }
 {
     let start = block.start + y * block.stride - 4 * block.stride;
-    filter_rows(filter, limits, samples, start, block.stride);
+    filter_rows(EdgeFilter::Simple, limits, samples, start, block.stride);
 }
 
 /// Filters the left edge of a block.
 #[tactic(auto, unfolding(crate::specs::Blocks::left_edge))]
 #[inline]
-fn filter_left(filter: EdgeFilter, limits: EdgeLimits, samples: &mut [u8], block: Block)
+fn filter_left(limits: EdgeLimits, samples: &mut [u8], block: Block)
     requires limit { limits.edge < 255 }
     requires inside { IsInside 16 block (length samples.old) }
-    ensures { samples.new ≡ left_edge (filtered_line filter limits) 16 block samples.old }
+    ensures { samples.new ≡ left_edge (filtered_line Simple limits) 16 block samples.old }
 {
     if !block.is_leftmost {
-        filter_column(filter, limits, samples, block, 0);
-    }
-}
-
-/// Filters the vertical edges before columns 4, 8 and 12 of a block; with the normal filter all
-/// three in one pass over the block.
-#[inline]
-fn filter_three_columns(filter: EdgeFilter, limits: EdgeLimits, samples: &mut [u8], block: Block)
-    requires limit { limits.edge < 255 }
-    requires inside { IsInside 16 block (length samples.old) }
-    ensures { samples.new ≡ column_edges (filtered_line filter limits) 16 block luma.inner samples.old }
-{
-    match filter {
-        EdgeFilter::Inner => filter_inner_columns(limits, samples, block.start, block.stride),
-        _ => {
-            filter_column(filter, limits, samples, block, 4);
-            filter_column(filter, limits, samples, block, 8);
-            filter_column(filter, limits, samples, block, 12);
-        }
+        filter_column(limits, samples, block, 0);
     }
 }
 
 /// Filters the vertical edges inside a block.
-#[inline]
 #[tactic(auto, unfolding(crate::specs::Blocks::inner_columns))]
+#[inline]
 fn filter_columns_inside(
-    filter: EdgeFilter,
     limits: EdgeLimits,
     has_inner_edges: bool,
     samples: &mut [u8],
@@ -140,60 +98,55 @@ fn filter_columns_inside(
 )
     requires limit { limits.edge < 255 }
     requires inside { IsInside 16 block (length samples.old) }
-    ensures { samples.new ≡ inner_columns (filtered_line filter limits) luma has_inner_edges block samples.old }
+    ensures { samples.new ≡ inner_columns (filtered_line Simple limits) luma has_inner_edges block samples.old }
 {
     if has_inner_edges {
-        filter_three_columns(filter, limits, samples, block);
+        filter_column(limits, samples, block, 4);
+        filter_column(limits, samples, block, 8);
+        filter_column(limits, samples, block, 12);
     }
 }
 
 /// Filters the top edge of a block.
 #[tactic(auto, unfolding(crate::specs::Blocks::top_edge))]
 #[inline]
-fn filter_top(filter: EdgeFilter, limits: EdgeLimits, samples: &mut [u8], block: Block)
+fn filter_top(limits: EdgeLimits, samples: &mut [u8], block: Block)
     requires limit { limits.edge < 255 }
     requires inside { IsInside 16 block (length samples.old) }
-    ensures { samples.new ≡ top_edge (filtered_line filter limits) 16 block samples.old }
+    ensures { samples.new ≡ top_edge (filtered_line Simple limits) 16 block samples.old }
 {
     if !block.is_topmost {
-        filter_row(filter, limits, samples, block, 0);
+        filter_row(limits, samples, block, 0);
     }
 }
 
 /// Filters the horizontal edges inside a block.
 #[tactic(auto, unfolding(crate::specs::Blocks::inner_rows))]
 #[inline]
-fn filter_inner_rows(
-    filter: EdgeFilter,
-    limits: EdgeLimits,
-    has_inner_edges: bool,
-    samples: &mut [u8],
-    block: Block,
-)
+fn filter_rows_inside(limits: EdgeLimits, has_inner_edges: bool, samples: &mut [u8], block: Block)
     requires limit { limits.edge < 255 }
     requires inside { IsInside 16 block (length samples.old) }
-    ensures { samples.new ≡ inner_rows (filtered_line filter limits) luma has_inner_edges block samples.old }
+    ensures { samples.new ≡ inner_rows (filtered_line Simple limits) luma has_inner_edges block samples.old }
 {
     if has_inner_edges {
-        filter_row(filter, limits, samples, block, 4);
-        filter_row(filter, limits, samples, block, 8);
-        filter_row(filter, limits, samples, block, 12);
+        filter_row(limits, samples, block, 4);
+        filter_row(limits, samples, block, 8);
+        filter_row(limits, samples, block, 12);
     }
 }
 
-/// Filters a macroblock's block.
+/// Filters a macroblock's block in luma by the simple filter, which leaves chroma unchanged.
 #[inline]
-pub(crate) fn filter_block(is_simple: bool, strength: Strength, samples: &mut [u8], block: Block)
+pub(crate) fn filter_block(strength: Strength, samples: &mut [u8], block: Block)
     requires small { HasSmallLimits strength }
     requires inside { IsInside 16 block (length samples.old) }
-    ensures { samples.new ≡ block_filtered luma is_simple strength block samples.old }
+    ensures { samples.new ≡ block_filtered luma true strength block samples.old }
 {
-    let (outer, inner) = (outer_filter(is_simple), inner_filter(is_simple));
-    let outer_limits = outer_limits(strength.limits);
-    let inner_limits = inner_limits(strength.limits);
+    let outer = outer_limits(strength.limits);
+    let inner = inner_limits(strength.limits);
     let has_inner_edges = strength.has_inner_edges;
-    filter_left(outer, outer_limits, samples, block);
-    filter_columns_inside(inner, inner_limits, has_inner_edges, samples, block);
-    filter_top(outer, outer_limits, samples, block);
-    filter_inner_rows(inner, inner_limits, has_inner_edges, samples, block);
+    filter_left(outer, samples, block);
+    filter_columns_inside(inner, has_inner_edges, samples, block);
+    filter_top(outer, samples, block);
+    filter_rows_inside(inner, has_inner_edges, samples, block);
 }

@@ -5,7 +5,7 @@ ghost use Rattle.std.specs.Simd.Lanes.{put_chunk};
 ghost use Rattle.loop_filter.specs.Edges.{line_in};
 ghost use Rattle.loop_filter.specs.Lanes.{line_at, column_of, row_of, eight_from, row_in_pairs, rows_put};
 
-use crate::kernels::Taps;
+use crate::taps::Taps;
 use std::simd::prelude::*;
 use std::simd::{u8x8, u8x16};
 

@@ -1,5 +1,5 @@
-//! The three edges between columns inside a block of 16 by 16 samples, which is transposed once for
-//! all of them.
+//! The edges between columns inside a macroblock: three in luma, whose block is transposed once for
+//! all of them, and one in each chroma plane, which is filtered with the first of luma.
 
 ghost use Rattle.std.specs.Prelude.{◌≡◌, ℕ, ◌+◌, ◌*◌, ◌<◌, ◌≤◌, ◌++◌, length, slice_index};
 ghost use Rattle.std.specs.Simd.Lanes.{put_chunk};
@@ -8,9 +8,11 @@ ghost use Rattle.loop_filter.specs.Edges.{line_in, lines_filtered};
 ghost use Rattle.loop_filter.specs.Lanes.{line_at, vectors, row_of, eight_from, rows_put, left_filtered, right_filtered};
 
 use crate::columns::{columns, row_pairs};
-use crate::edge_limits::EdgeLimits;
-use crate::kernels::{Taps, inner};
+use crate::edge_limits::{EdgeFilter, EdgeLimits};
+use crate::joined_edges::Starts;
 use crate::lanes::{load, store};
+use crate::pairs::{load_columns, store_columns};
+use crate::taps::{Taps, filter_alone, filter_both};
 use std::simd::prelude::*;
 use std::simd::u8x16;
 
@@ -62,14 +64,16 @@ fn load_block(samples: &[u8], start: usize, stride: usize) -> (Taps, Taps)
     (left, right)
 }
 
-/// Filters sixteen rows across the three edges, one edge after another.
+/// Filters sixteen rows of luma across the three edges, one edge after another, and sixteen of
+/// chroma across their edge.
 #[inline(always)]
-fn filter_block(limits: EdgeLimits, left: Taps, right: Taps) -> (Taps, Taps)
+fn filter_block(limits: EdgeLimits, left: Taps, right: Taps, chroma: Taps) -> (Taps, Taps, Taps)
     requires limit { limits.edge < 255 }
     ensures left { (i : ℕ) → i < 16 → line_at result.0 i ≡ left_filtered (inner_line limits) (line_at left i) (line_at right i) }
     ensures right { (i : ℕ) → i < 16 → line_at result.1 i ≡ right_filtered (inner_line limits) (line_at left i) (line_at right i) }
+    ensures chroma { (i : ℕ) → i < 16 → line_at result.2 i ≡ inner_line limits (line_at chroma i) }
 {
-    let first = inner(limits, left);
+    let (first, chroma) = filter_both(EdgeFilter::Inner, limits, left, chroma);
     let across_second = Taps {
         p3: first.q0,
         p2: first.q1,
@@ -80,7 +84,7 @@ fn filter_block(limits: EdgeLimits, left: Taps, right: Taps) -> (Taps, Taps)
         q2: right.p1,
         q3: right.p0,
     };
-    let middle = inner(limits, across_second);
+    let middle = filter_alone(EdgeFilter::Inner, limits, across_second);
     let across_third = Taps {
         p3: middle.q0,
         p2: middle.q1,
@@ -88,7 +92,7 @@ fn filter_block(limits: EdgeLimits, left: Taps, right: Taps) -> (Taps, Taps)
         p0: middle.q3,
         ..right
     };
-    let last = inner(limits, across_third);
+    let last = filter_alone(EdgeFilter::Inner, limits, across_third);
     let left = Taps {
         q0: middle.p3,
         q1: middle.p2,
@@ -96,7 +100,7 @@ fn filter_block(limits: EdgeLimits, left: Taps, right: Taps) -> (Taps, Taps)
         q3: middle.p0,
         ..first
     };
-    (left, last)
+    (left, last, chroma)
 }
 
 /// Stores two rows of sixteen samples, the second `stride` samples after the first: each vector
@@ -140,18 +144,30 @@ fn store_block(left: Taps, right: Taps, samples: &mut [u8], start: usize, stride
     store_two(samples, start + 14 * stride, stride, l14, r14);
 }
 
-/// Filters the 16 rows across the three edges between columns inside a block of 16 by 16 samples,
-/// from left to right.
+/// Filters the rows across the edges between columns inside a macroblock: 16 rows of luma across
+/// three edges, from left to right, and 8 of each chroma plane across one.
 ///
-/// The block begins at `start`; rows are `stride` samples apart.
+/// The blocks begin at the starts.
 #[inline]
-pub fn filter_inner_columns(limits: EdgeLimits, samples: &mut [u8], start: usize, stride: usize)
+pub fn filter_inner_columns(
+    limits: EdgeLimits,
+    y: &mut [u8],
+    u: &mut [u8],
+    v: &mut [u8],
+    at: Starts,
+)
     requires limit { limits.edge < 255 }
-    requires wide { 16 ≤ stride }
-    requires room { start + 15 * stride + 16 ≤ length samples.old }
-    ensures { samples.new ≡ lines_filtered (inner_line limits) (start + 8) stride 1 (lines_filtered (inner_line limits) (start + 4) stride 1 (lines_filtered (inner_line limits) start stride 1 samples.old 16) 16) 16 }
+    requires wide { (16 ≤ at.luma_stride) × (8 ≤ at.chroma_stride) }
+    requires room_y { at.luma + 15 * at.luma_stride + 16 ≤ length y.old }
+    requires room_u { at.chroma + 7 * at.chroma_stride + 8 ≤ length u.old }
+    requires room_v { at.chroma + 7 * at.chroma_stride + 8 ≤ length v.old }
+    ensures y { y.new ≡ lines_filtered (inner_line limits) (at.luma + 8) at.luma_stride 1 (lines_filtered (inner_line limits) (at.luma + 4) at.luma_stride 1 (lines_filtered (inner_line limits) at.luma at.luma_stride 1 y.old 16) 16) 16 }
+    ensures u { u.new ≡ lines_filtered (inner_line limits) at.chroma at.chroma_stride 1 u.old 8 }
+    ensures v { v.new ≡ lines_filtered (inner_line limits) at.chroma at.chroma_stride 1 v.old 8 }
 {
-    let (left, right) = load_block(samples, start, stride);
-    let (left, right) = filter_block(limits, left, right);
-    store_block(left, right, samples, start, stride);
+    let (left, right) = load_block(y, at.luma, at.luma_stride);
+    let chroma = load_columns(u, v, at.chroma, at.chroma_stride);
+    let (left, right, chroma) = filter_block(limits, left, right, chroma);
+    store_block(left, right, y, at.luma, at.luma_stride);
+    store_columns(chroma, u, v, at.chroma, at.chroma_stride);
 }

@@ -1,18 +1,18 @@
-//! Edges of sixteen lines.
+//! Edges of sixteen lines, in luma.
 
 ghost use Rattle.std.specs.Prelude.{◌≡◌, ℕ, ◌+◌, ◌*◌, ◌<◌, ◌≤◌, length};
 ghost use Rattle.loop_filter.specs.Lines.{filtered_line};
 ghost use Rattle.loop_filter.specs.Edges.{line_in, lines_filtered};
-ghost use Rattle.loop_filter.specs.Lanes.{line_at, vector, rows_put};
+ghost use Rattle.loop_filter.specs.Lanes.{line_at, vector, vectors, row_of, rows_put};
 
 use crate::columns::{load_lines, row_pairs, store_lines};
 use crate::edge_limits::{EdgeFilter, EdgeLimits};
-use crate::kernels::{Taps, filter as filtered};
 use crate::lanes::{load, store};
+use crate::taps::{Taps, filter_alone};
 
 /// Loads sixteen columns of eight samples, in rows `stride` samples apart.
 #[inline(always)]
-fn load_rows(samples: &[u8], start: usize, stride: usize) -> Taps
+pub fn load_rows(samples: &[u8], start: usize, stride: usize) -> Taps
     requires room { start + 7 * stride + 16 ≤ length samples.now }
     ensures { (i : ℕ) → i < 16 → line_at result i ≡ line_in samples.now (start + i) stride }
 {
@@ -30,7 +30,7 @@ fn load_rows(samples: &[u8], start: usize, stride: usize) -> Taps
 
 /// Stores sixteen columns of eight samples, in rows `stride` samples apart.
 #[inline(always)]
-fn store_rows(taps: Taps, samples: &mut [u8], start: usize, stride: usize)
+pub fn store_rows(taps: Taps, samples: &mut [u8], start: usize, stride: usize)
     requires room { start + 7 * stride + 16 ≤ length samples.old }
     ensures value { samples.new ≡ rows_put samples.old start stride (vector taps) 8 }
     ensures whole { (k : ℕ) → k < 8 → length (vector taps k) ≡ 16 }
@@ -43,6 +43,28 @@ fn store_rows(taps: Taps, samples: &mut [u8], start: usize, stride: usize)
     store(samples, start + 5 * stride, taps.q1);
     store(samples, start + 6 * stride, taps.q2);
     store(samples, start + 7 * stride, taps.q3);
+}
+
+/// Loads sixteen rows of eight samples, each `stride` samples after the one before it.
+#[inline(always)]
+pub fn load_columns(samples: &[u8], start: usize, stride: usize) -> Taps
+    requires room { start + 15 * stride + 8 ≤ length samples.now }
+    ensures { (i : ℕ) → i < 16 → line_at result i ≡ line_in samples.now (start + i * stride) 1 }
+{
+    load_lines(samples, samples, start, start + 8 * stride, stride)
+}
+
+/// Stores sixteen rows of eight samples, each `stride` samples after the one before it.
+#[inline(always)]
+pub fn store_columns(taps: Taps, samples: &mut [u8], start: usize, stride: usize)
+    requires room { start + 15 * stride + 8 ≤ length samples.old }
+    ensures { samples.new ≡ rows_put samples.old start stride (λ i. row_of i (vectors taps)) 16 }
+{
+    let (r0, r2, r4, r6, r8, r10, r12, r14) = row_pairs(
+        taps.p3, taps.p2, taps.p1, taps.p0, taps.q0, taps.q1, taps.q2, taps.q3,
+    );
+    store_lines(samples, start, stride, r0, r2, r4, r6);
+    store_lines(samples, start + 8 * stride, stride, r8, r10, r12, r14);
 }
 
 /// Filters the 16 columns across an edge between rows.
@@ -62,7 +84,7 @@ pub fn filter_rows(
     ensures { samples.new ≡ lines_filtered (filtered_line filter limits) start 1 stride samples.old 16 }
 {
     let taps = load_rows(samples, start, stride);
-    let changed = filtered(filter, limits, taps);
+    let changed = filter_alone(filter, limits, taps);
     store_rows(changed, samples, start, stride);
 }
 
@@ -83,12 +105,7 @@ pub fn filter_columns(
     requires room { start + 15 * stride + 8 ≤ length samples.old }
     ensures { samples.new ≡ lines_filtered (filtered_line filter limits) start stride 1 samples.old 16 }
 {
-    let lower = start + 8 * stride;
-    let taps = load_lines(samples, samples, start, lower, stride);
-    let t = filtered(filter, limits, taps);
-    let (r0, r2, r4, r6, r8, r10, r12, r14) = row_pairs(
-        t.p3, t.p2, t.p1, t.p0, t.q0, t.q1, t.q2, t.q3,
-    );
-    store_lines(samples, start, stride, r0, r2, r4, r6);
-    store_lines(samples, lower, stride, r8, r10, r12, r14);
+    let taps = load_columns(samples, start, stride);
+    let changed = filter_alone(filter, limits, taps);
+    store_columns(changed, samples, start, stride);
 }

@@ -6,11 +6,11 @@ ghost use Rattle.pixel_planes.specs.PlaneSamples.{shown_of};
 ghost use Rattle.loop_filter.specs.Blocks.{HasSmallLimits, luma, chroma};
 ghost use Rattle.loop_filter.specs.Frames.{HaveBlocks, KeepSides, HasOldBorder, columns_in, rows_in, filtered_planes, filtered_row};
 ghost use Rattle.loop_filter.specs.Strengths.{AreLimits};
-ghost use Rattle.loop_filter.specs.Macroblocks.{IsFrame, IsFilterOf, IsPlane, HasFlags, AreRows, plane_in, block_apart, strengths, macroblock_filtered, row_of_all, rows_of_all, with_rows_filtered};
+ghost use Rattle.loop_filter.specs.Macroblocks.{IsFrame, IsFilterOf, IsPlane, HasFlags, chroma_block, plane_in, block_apart, strengths, macroblock_filtered, row_of_all, with_row_filtered};
 
 use crate::blocks::{Block, filter_block};
-use crate::chroma_blocks::filter_blocks;
 use crate::edge_limits::Limits;
+use crate::macroblocks::{Macroblock, filter_macroblock};
 use crate::strengths::{Strength, limits_of_levels, strength_for};
 use frame_header::Header;
 use mode_parser::{MbMode, Modes};
@@ -62,10 +62,11 @@ fn block_at(side: usize, stride: usize, mx: usize, my: usize) -> Block
     }
 }
 
-/// Filters the luma of the macroblock in column `mx` of row `my`.
+/// Filters the luma of the macroblock in column `mx` of row `my` by the simple filter.
 #[inline]
 #[tactic(auto, unfolding(crate::specs::Blocks::filtered_by))]
 fn filter_luma_block(all: Macroblocks, samples: &mut [u8], stride: usize, mx: usize, my: usize)
+    requires simple { all.header.now.filter.is_simple ≡ true }
     requires frame { IsFrame all }
     requires plane { IsPlane 16 all stride (length samples.old) }
     requires place { (mx < all.columns) × (my < all.rows) }
@@ -74,37 +75,13 @@ fn filter_luma_block(all: Macroblocks, samples: &mut [u8], stride: usize, mx: us
 {
     if let Some(strength) = strength_at(all, my * all.columns + mx) {
         let block = block_at(16, stride, mx, my);
-        filter_block(all.header.filter.is_simple, strength, samples, block);
+        filter_block(strength, samples, block);
     }
 }
 
-/// Filters the chroma of the macroblock in column `mx` of row `my`.
-#[inline]
-#[tactic(auto, unfolding(crate::specs::Blocks::filtered_by))]
-fn filter_chroma_block(
-    all: Macroblocks,
-    cb: &mut [u8],
-    cr: &mut [u8],
-    stride: usize,
-    mx: usize,
-    my: usize,
-)
-    requires frame { IsFrame all }
-    requires cb { IsPlane 8 all stride (length cb.old) }
-    requires cr { IsPlane 8 all stride (length cr.old) }
-    requires place { (mx < all.columns) × (my < all.rows) }
-    requires flags { HasFlags all my }
-    ensures cb { cb.new ≡ macroblock_filtered chroma all.entry stride mx my cb.old }
-    ensures cr { cr.new ≡ macroblock_filtered chroma all.entry stride mx my cr.old }
-{
-    if let Some(strength) = strength_at(all, my * all.columns + mx) {
-        let block = block_at(8, stride, mx, my);
-        filter_blocks(all.header.filter.is_simple, strength, cb, cr, block);
-    }
-}
-
-/// Filters the luma of a row of macroblocks.
+/// Filters the luma of a row of macroblocks by the simple filter.
 fn filter_luma_row(all: Macroblocks, samples: &mut [u8], stride: usize, my: usize)
+    requires simple { all.header.now.filter.is_simple ≡ true }
     requires frame { IsFrame all }
     requires plane { IsPlane 16 all stride (length samples.old) }
     requires place { my < all.rows }
@@ -116,93 +93,147 @@ fn filter_luma_row(all: Macroblocks, samples: &mut [u8], stride: usize, my: usiz
     }
 }
 
-/// Filters the chroma of a row of macroblocks.
-fn filter_chroma_row(all: Macroblocks, cb: &mut [u8], cr: &mut [u8], stride: usize, my: usize)
-    requires frame { IsFrame all }
-    requires cb { IsPlane 8 all stride (length cb.old) }
-    requires cr { IsPlane 8 all stride (length cr.old) }
-    requires place { my < all.rows }
-    requires flags { HasFlags all my }
-    ensures cb { plane_in chroma all.entry stride cb.new ≡ row_of_all chroma all.entry my (plane_in chroma all.entry stride cb.old) all.entry.columns }
-    ensures cr { plane_in chroma all.entry stride cr.new ≡ row_of_all chroma all.entry my (plane_in chroma all.entry stride cr.old) all.entry.columns }
-{
-    for mx in 0..all.columns {
-        filter_chroma_block(all, cb, cr, stride, mx, my);
-    }
-}
-
-/// Rows of macroblocks, starting at `from` and up to `to`.
-#[derive(Clone, Copy)]
-struct Rows {
-    from: usize,
-    to: usize,
-}
-
-/// Filters the luma of these rows of macroblocks, in rows `stride` samples apart.
-fn filter_luma(all: Macroblocks, samples: &mut [u8], stride: usize, rows: Rows)
-    requires frame { IsFrame all }
-    requires plane { IsPlane 16 all stride (length samples.old) }
-    requires rows { AreRows all rows }
-    ensures { plane_in luma all.entry stride samples.new ≡ rows_of_all luma all.entry rows.from (plane_in luma all.entry stride samples.old) (rows.to - rows.from) }
-{
-    for my in rows.from..rows.to {
-        filter_luma_row(all, samples, stride, my);
-    }
-}
-
-/// Filters the chroma of these rows of macroblocks, in rows `stride` samples apart.
-fn filter_chroma(all: Macroblocks, cb: &mut [u8], cr: &mut [u8], stride: usize, rows: Rows)
-    requires frame { IsFrame all }
-    requires cb { IsPlane 8 all stride (length cb.old) }
-    requires cr { IsPlane 8 all stride (length cr.old) }
-    requires rows { AreRows all rows }
-    ensures cb { plane_in chroma all.entry stride cb.new ≡ rows_of_all chroma all.entry rows.from (plane_in chroma all.entry stride cb.old) (rows.to - rows.from) }
-    ensures cr { plane_in chroma all.entry stride cr.new ≡ rows_of_all chroma all.entry rows.from (plane_in chroma all.entry stride cr.old) (rows.to - rows.from) }
-{
-    for my in rows.from..rows.to {
-        filter_chroma_row(all, cb, cr, stride, my);
-    }
-}
-
-/// Filters these rows of macroblocks in the luma plane.
-fn filter_luma_plane(all: Macroblocks, plane: &mut Plane, rows: Rows)
+/// Filters a row of macroblocks in the luma plane by the simple filter.
+fn filter_luma_plane(all: Macroblocks, plane: &mut Plane, my: usize)
+    requires simple { all.header.now.filter.is_simple ≡ true }
     requires frame { IsFrame all }
     requires blocks { HasBlocks plane.old.shown 16 all.columns all.rows }
-    requires rows { AreRows all rows }
-    ensures { plane.new ≡ with_rows_filtered luma all.entry rows plane.old }
+    requires place { my < all.rows }
+    requires flags { HasFlags all my }
+    ensures { plane.new ≡ with_row_filtered luma all.entry my plane.old }
 {
     let stride = plane.stride();
-    filter_luma(all, plane.rows_mut(), stride, rows);
+    filter_luma_row(all, plane.rows_mut(), stride, my);
 }
 
-/// Filters these rows of macroblocks in the chroma planes.
-fn filter_chroma_planes(all: Macroblocks, cb: &mut Plane, cr: &mut Plane, rows: Rows)
-    requires frame { IsFrame all }
-    requires cb { HasBlocks cb.old.shown 8 all.columns all.rows }
-    requires cr { HasBlocks cr.old.shown 8 all.columns all.rows }
-    requires rows { AreRows all rows }
-    ensures cb { cb.new ≡ with_rows_filtered chroma all.entry rows cb.old }
-    ensures cr { cr.new ≡ with_rows_filtered chroma all.entry rows cr.old }
+/// The distance of rows in luma, and in both chroma planes, in samples.
+#[derive(Clone, Copy)]
+struct Strides {
+    luma: usize,
+    chroma: usize,
+}
+
+/// The position of the blocks of the macroblock in column `mx` of row `my`.
+#[inline]
+fn macroblock_at(strides: Strides, mx: usize, my: usize) -> Macroblock
+    requires luma { strides.luma ≤ 16512 }
+    requires chroma { strides.chroma ≤ 16512 }
+    requires place { (mx ≤ 1024) × (my ≤ 1024) }
+    ensures luma { result.luma ≡ block_apart 16 strides.luma mx my }
+    ensures chroma { chroma_block result ≡ block_apart 8 strides.chroma mx my }
 {
-    let stride = cb.stride();
-    if cr.stride() == stride {
-        filter_chroma(all, cb.rows_mut(), cr.rows_mut(), stride, rows);
-    } else {
-        filter_flat_chroma(all, cb, cr, rows);
+    let chroma = block_at(8, strides.chroma, mx, my);
+    Macroblock {
+        luma: block_at(16, strides.luma, mx, my),
+        chroma: chroma.start,
+        chroma_stride: chroma.stride,
     }
 }
 
-/// Filters these rows of macroblocks in chroma planes whose borders differ in width.
-fn filter_flat_chroma(all: Macroblocks, cb: &mut Plane, cr: &mut Plane, rows: Rows)
+/// The samples of a macroblock: column `mx` of row `my`.
+#[derive(Clone, Copy)]
+struct Place {
+    mx: usize,
+    my: usize,
+}
+
+/// Filters the macroblock at a place by the normal filter.
+#[inline]
+#[tactic(auto, unfolding(crate::specs::Blocks::filtered_by))]
+fn filter_blocks(
+    all: Macroblocks,
+    y: &mut [u8],
+    cb: &mut [u8],
+    cr: &mut [u8],
+    strides: Strides,
+    at: Place,
+)
+    requires normal { all.header.now.filter.is_simple ≡ false }
     requires frame { IsFrame all }
+    requires y { IsPlane 16 all strides.luma (length y.old) }
+    requires cb { IsPlane 8 all strides.chroma (length cb.old) }
+    requires cr { IsPlane 8 all strides.chroma (length cr.old) }
+    requires place { (at.mx < all.columns) × (at.my < all.rows) }
+    requires flags { HasFlags all at.my }
+    ensures y { y.new ≡ macroblock_filtered luma all.entry strides.luma at.mx at.my y.old }
+    ensures cb { cb.new ≡ macroblock_filtered chroma all.entry strides.chroma at.mx at.my cb.old }
+    ensures cr { cr.new ≡ macroblock_filtered chroma all.entry strides.chroma at.mx at.my cr.old }
+{
+    if let Some(strength) = strength_at(all, at.my * all.columns + at.mx) {
+        let blocks = macroblock_at(strides, at.mx, at.my);
+        filter_macroblock(strength, y, cb, cr, blocks);
+    }
+}
+
+/// Filters a row of macroblocks by the normal filter.
+fn filter_row(
+    all: Macroblocks,
+    y: &mut [u8],
+    cb: &mut [u8],
+    cr: &mut [u8],
+    strides: Strides,
+    my: usize,
+)
+    requires normal { all.header.now.filter.is_simple ≡ false }
+    requires frame { IsFrame all }
+    requires y { IsPlane 16 all strides.luma (length y.old) }
+    requires cb { IsPlane 8 all strides.chroma (length cb.old) }
+    requires cr { IsPlane 8 all strides.chroma (length cr.old) }
+    requires place { my < all.rows }
+    requires flags { HasFlags all my }
+    ensures y { plane_in luma all.entry strides.luma y.new ≡ row_of_all luma all.entry my (plane_in luma all.entry strides.luma y.old) all.entry.columns }
+    ensures cb { plane_in chroma all.entry strides.chroma cb.new ≡ row_of_all chroma all.entry my (plane_in chroma all.entry strides.chroma cb.old) all.entry.columns }
+    ensures cr { plane_in chroma all.entry strides.chroma cr.new ≡ row_of_all chroma all.entry my (plane_in chroma all.entry strides.chroma cr.old) all.entry.columns }
+{
+    for mx in 0..all.columns {
+        filter_blocks(all, y, cb, cr, strides, Place { mx, my });
+    }
+}
+
+/// Filters a row of macroblocks in all three planes by the normal filter.
+fn filter_all_planes(all: Macroblocks, y: &mut Plane, cb: &mut Plane, cr: &mut Plane, my: usize)
+    requires normal { all.header.now.filter.is_simple ≡ false }
+    requires frame { IsFrame all }
+    requires y { HasBlocks y.old.shown 16 all.columns all.rows }
     requires cb { HasBlocks cb.old.shown 8 all.columns all.rows }
     requires cr { HasBlocks cr.old.shown 8 all.columns all.rows }
-    requires rows { AreRows all rows }
-    ensures cb { cb.new ≡ with_rows_filtered chroma all.entry rows cb.old }
-    ensures cr { cr.new ≡ with_rows_filtered chroma all.entry rows cr.old }
+    requires place { my < all.rows }
+    requires flags { HasFlags all my }
+    ensures y { y.new ≡ with_row_filtered luma all.entry my y.old }
+    ensures cb { cb.new ≡ with_row_filtered chroma all.entry my cb.old }
+    ensures cr { cr.new ≡ with_row_filtered chroma all.entry my cr.old }
 {
-    let width = cb.width();
-    filter_chroma(all, cb.samples_mut(), cr.samples_mut(), width, rows);
+    let strides = Strides {
+        luma: y.stride(),
+        chroma: cb.stride(),
+    };
+    if cr.stride() == strides.chroma {
+        let (y, cb, cr) = (y.rows_mut(), cb.rows_mut(), cr.rows_mut());
+        filter_row(all, y, cb, cr, strides, my);
+    } else {
+        filter_flat_chroma(all, y, cb, cr, my);
+    }
+}
+
+/// Filters a row of macroblocks in planes of which those of chroma have borders of other widths.
+fn filter_flat_chroma(all: Macroblocks, y: &mut Plane, cb: &mut Plane, cr: &mut Plane, my: usize)
+    requires normal { all.header.now.filter.is_simple ≡ false }
+    requires frame { IsFrame all }
+    requires y { HasBlocks y.old.shown 16 all.columns all.rows }
+    requires cb { HasBlocks cb.old.shown 8 all.columns all.rows }
+    requires cr { HasBlocks cr.old.shown 8 all.columns all.rows }
+    requires place { my < all.rows }
+    requires flags { HasFlags all my }
+    ensures y { y.new ≡ with_row_filtered luma all.entry my y.old }
+    ensures cb { cb.new ≡ with_row_filtered chroma all.entry my cb.old }
+    ensures cr { cr.new ≡ with_row_filtered chroma all.entry my cr.old }
+{
+    let strides = Strides {
+        luma: y.stride(),
+        chroma: cb.width(),
+    };
+    let (y, cb, cr) = (y.rows_mut(), cb.samples_mut(), cr.samples_mut());
+    filter_row(all, y, cb, cr, strides, my);
 }
 
 /// The loop filter of a frame whose macroblocks are filtered one row after another (RFC 6386,
@@ -235,7 +266,7 @@ impl<'a> RowFilter<'a> {
     /// reads and writes no sample below the row. If the level of the frame is 0 the planes are
     /// unchanged, and with the simple filter chroma is; the border of a filtered plane is out of
     /// date.
-    #[tactic(auto, using(crate::proofs::Folds::one_row), unfolding(crate::specs::Frames::filtered_row))]
+    #[tactic(auto, unfolding(crate::specs::Frames::filtered_row))]
     pub fn filter(&self, flags: &[bool], planes: &mut Planes, my: usize)
         requires filter { AreLimits self.now.header.now.filter.sharpness self.now.header.now.is_key self.now.limits }
         requires blocks { HaveBlocks (shown_of planes.old) (columns_in (shown_of planes.old)) (rows_in (shown_of planes.old)) }
@@ -260,13 +291,10 @@ impl<'a> RowFilter<'a> {
             rows: planes.luma.height() / 16,
             limits: &self.limits,
         };
-        let row = Rows {
-            from: my,
-            to: my + 1,
-        };
-        filter_luma_plane(all, &mut planes.luma, row);
-        if !self.header.filter.is_simple {
-            filter_chroma_planes(all, &mut planes.cb, &mut planes.cr, row);
+        if self.header.filter.is_simple {
+            filter_luma_plane(all, &mut planes.luma, my);
+        } else {
+            filter_all_planes(all, &mut planes.luma, &mut planes.cb, &mut planes.cr, my);
         }
     }
 }

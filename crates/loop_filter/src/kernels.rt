@@ -1,34 +1,34 @@
-//! The filters, each over sixteen lines at once (RFC 6386, sections 15.2 and 15.3).
+//! The filters, each over thirty-two lines at once (RFC 6386, sections 15.2 and 15.3).
 
 ghost use Rattle.std.specs.Prelude.{◌≡◌, ℕ, ◌+◌, ◌<◌, slice_index};
 ghost use Rattle.loop_filter.specs.Lines.{simple_line, inner_line, macroblock_line, filtered_line};
-ghost use Rattle.loop_filter.specs.Lanes.{line_at, roughness_of};
+ghost use Rattle.loop_filter.specs.Lanes.{wide_line_at, roughness_of};
 
 use crate::edge_limits::{EdgeFilter, EdgeLimits};
 use crate::lanes::{
     all, difference, eighths_after, either, greater, halves, less, lowered, more, raised, shares,
     shortfall, side, step_over, variance_over,
 };
-use std::simd::u8x16;
+use std::simd::u8x32;
 
-/// Sixteen lines of samples across an edge, each line in a lane: `p0` and `q0` are at the edge.
+/// Thirty-two lines of samples across an edge, each line in a lane: `p0` and `q0` are at the edge.
 #[derive(Clone, Copy)]
-pub struct Taps {
-    pub p3: u8x16,
-    pub p2: u8x16,
-    pub p1: u8x16,
-    pub p0: u8x16,
-    pub q0: u8x16,
-    pub q1: u8x16,
-    pub q2: u8x16,
-    pub q3: u8x16,
+pub struct WideTaps {
+    pub p3: u8x32,
+    pub p2: u8x32,
+    pub p1: u8x32,
+    pub p0: u8x32,
+    pub q0: u8x32,
+    pub q1: u8x32,
+    pub q2: u8x32,
+    pub q3: u8x32,
 }
 
-/// Filters sixteen lines by the filter of their edge.
+/// Filters thirty-two lines by the filter of their edge.
 #[inline(always)]
-pub fn filter(filter: EdgeFilter, limits: EdgeLimits, taps: Taps) -> Taps
+pub fn filter(filter: EdgeFilter, limits: EdgeLimits, taps: WideTaps) -> WideTaps
     requires limit { limits.edge < 255 }
-    ensures { (i : ℕ) → i < 16 → line_at result i ≡ filtered_line filter limits (line_at taps i) }
+    ensures { (i : ℕ) → i < 32 → wide_line_at result i ≡ filtered_line filter limits (wide_line_at taps i) }
 {
     match filter {
         EdgeFilter::Simple => simple(limits.edge, taps),
@@ -37,11 +37,11 @@ pub fn filter(filter: EdgeFilter, limits: EdgeLimits, taps: Taps) -> Taps
     }
 }
 
-/// Filters sixteen lines by the simple filter.
+/// Filters thirty-two lines by the simple filter.
 #[inline(always)]
-fn simple(limit: u8, taps: Taps) -> Taps
+fn simple(limit: u8, taps: WideTaps) -> WideTaps
     requires limit { limit < 255 }
-    ensures { (i : ℕ) → i < 16 → line_at result i ≡ simple_line limit (line_at taps i) }
+    ensures { (i : ℕ) → i < 32 → wide_line_at result i ≡ simple_line limit (wide_line_at taps i) }
 {
     let (p1, p0, q0, q1) = (taps.p1, taps.p0, taps.q0, taps.q1);
     let over = step_over(limit, p1, p0, q0, q1);
@@ -51,18 +51,18 @@ fn simple(limit: u8, taps: Taps) -> Taps
     let number = either(over, full, none);
     let up = eighths_after(3, number);
     let down = eighths_after(4, number);
-    Taps {
+    WideTaps {
         p0: raised(16, p0, up),
         q0: lowered(16, q0, down),
         ..taps
     }
 }
 
-/// The excess over the limits of a normal filter in sixteen lines: 0 in a line that is filtered.
+/// The excess over the limits of a normal filter in thirty-two lines: 0 in a line that is filtered.
 #[inline(always)]
 #[tactic(auto, unfolding(crate::specs::Lanes::roughness_of))]
-fn roughness(limits: EdgeLimits, taps: Taps) -> u8x16
-    ensures { (i : ℕ) → i < 16 → slice_index result i ≡ roughness_of limits (line_at taps i) }
+fn roughness(limits: EdgeLimits, taps: WideTaps) -> u8x32
+    ensures { (i : ℕ) → i < 32 → slice_index result i ≡ roughness_of limits (wide_line_at taps i) }
 {
     let (p3, p2, p1, p0) = (taps.p3, taps.p2, taps.p1, taps.p0);
     let (q3, q2, q1, q0) = (taps.q3, taps.q2, taps.q1, taps.q0);
@@ -75,11 +75,11 @@ fn roughness(limits: EdgeLimits, taps: Taps) -> u8x16
     more(step, sides_over)
 }
 
-/// Filters sixteen lines by the normal filter of an edge between blocks of one macroblock.
+/// Filters thirty-two lines by the normal filter of an edge between blocks of one macroblock.
 #[inline(always)]
-pub fn inner(limits: EdgeLimits, taps: Taps) -> Taps
+pub fn inner(limits: EdgeLimits, taps: WideTaps) -> WideTaps
     requires limit { limits.edge < 255 }
-    ensures { (i : ℕ) → i < 16 → line_at result i ≡ inner_line limits (line_at taps i) }
+    ensures { (i : ℕ) → i < 32 → wide_line_at result i ≡ inner_line limits (wide_line_at taps i) }
 {
     let (p1, p0, q0, q1) = (taps.p1, taps.p0, taps.q0, taps.q1);
     let rough = roughness(limits, taps);
@@ -94,7 +94,7 @@ pub fn inner(limits: EdgeLimits, taps: Taps) -> Taps
     let half = halves(down);
     let stay = all(8);
     let outer_move = either(high_edge_variance, half, stay);
-    Taps {
+    WideTaps {
         p1: raised(8, p1, outer_move),
         p0: raised(16, p0, up),
         q0: lowered(16, q0, down),
@@ -103,14 +103,14 @@ pub fn inner(limits: EdgeLimits, taps: Taps) -> Taps
     }
 }
 
-/// Filters sixteen lines by the normal filter of an edge between macroblocks.
+/// Filters thirty-two lines by the normal filter of an edge between macroblocks.
 ///
 /// A line is moved either by an eighth or by shares, and the other number is 0 at its offset: `p0`
 /// and `q0` are moved by the sum of both, at the sum of their offsets.
 #[inline(always)]
-fn macroblock(limits: EdgeLimits, taps: Taps) -> Taps
+fn macroblock(limits: EdgeLimits, taps: WideTaps) -> WideTaps
     requires limit { limits.edge < 255 }
-    ensures { (i : ℕ) → i < 16 → line_at result i ≡ macroblock_line limits (line_at taps i) }
+    ensures { (i : ℕ) → i < 32 → wide_line_at result i ≡ macroblock_line limits (wide_line_at taps i) }
 {
     let (p2, p1, p0) = (taps.p2, taps.p1, taps.p0);
     let (q2, q1, q0) = (taps.q2, taps.q1, taps.q0);
@@ -127,7 +127,7 @@ fn macroblock(limits: EdgeLimits, taps: Taps) -> Taps
     let (far, middle, near) = shares(wide);
     let p0_move = more(near, up);
     let q0_move = more(near, down);
-    Taps {
+    WideTaps {
         p2: raised(9, p2, far),
         p1: raised(18, p1, middle),
         p0: raised(43, p0, p0_move),

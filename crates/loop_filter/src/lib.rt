@@ -2,19 +2,21 @@
 #![tactic(auto)]
 
 mod blocks;
-mod chroma_blocks;
 mod columns;
 mod columns_inner;
 mod edge_limits;
 mod edges;
 mod four_samples;
 mod frames;
+mod joined_edges;
 mod kernels;
 mod lanes;
 pub mod laws;
 mod levels;
+mod macroblocks;
 mod pairs;
 mod strengths;
+mod taps;
 
 pub use edge_limits::Limits;
 pub use four_samples::simple;

@@ -1,14 +1,13 @@
-//! Edges of the two chroma planes, which are filtered together: eight lines of each.
+//! Lines of the two chroma planes, eight of each: in vectors those of one plane are followed by those
+//! of the other.
 
 ghost use Rattle.std.specs.Prelude.{◌≡◌, ℕ, ◌+◌, ◌*◌, ◌<◌, ◌≤◌, length, slice_index};
 ghost use Rattle.std.specs.Simd.Lanes.{put_chunk};
-ghost use Rattle.loop_filter.specs.Lines.{filtered_line};
-ghost use Rattle.loop_filter.specs.Edges.{line_in, lines_filtered};
-ghost use Rattle.loop_filter.specs.Lanes.{line_at, vector, eight_from, rows_put};
+ghost use Rattle.loop_filter.specs.Edges.{line_in};
+ghost use Rattle.loop_filter.specs.Lanes.{line_at, vector, vectors, row_of, eight_from, rows_put};
 
 use crate::columns::{load_lines, row_pairs, store_lines};
-use crate::edge_limits::{EdgeFilter, EdgeLimits};
-use crate::kernels::{Taps, filter as filtered};
+use crate::taps::Taps;
 use std::simd::prelude::*;
 use std::simd::{u8x8, u8x16};
 
@@ -48,7 +47,7 @@ fn store_both(u: &mut [u8], v: &mut [u8], at: usize, row: u8x16)
 
 /// Loads eight columns of eight samples from each plane, in rows `stride` samples apart.
 #[inline(always)]
-fn load_rows(u: &[u8], v: &[u8], start: usize, stride: usize) -> Taps
+pub fn load_rows(u: &[u8], v: &[u8], start: usize, stride: usize) -> Taps
     requires room_u { start + 7 * stride + 8 ≤ length u.now }
     requires room_v { start + 7 * stride + 8 ≤ length v.now }
     ensures u { (i : ℕ) → i < 8 → line_at result i ≡ line_in u.now (start + i) stride }
@@ -68,7 +67,7 @@ fn load_rows(u: &[u8], v: &[u8], start: usize, stride: usize) -> Taps
 
 /// Stores eight columns of eight samples into each plane, in rows `stride` samples apart.
 #[inline(always)]
-fn store_rows(taps: Taps, u: &mut [u8], v: &mut [u8], start: usize, stride: usize)
+pub fn store_rows(taps: Taps, u: &mut [u8], v: &mut [u8], start: usize, stride: usize)
     requires room_u { start + 7 * stride + 8 ≤ length u.old }
     requires room_v { start + 7 * stride + 8 ≤ length v.old }
     ensures u { u.new ≡ rows_put u.old start stride (λ k. eight_from 0 (vector taps k)) 8 }
@@ -84,54 +83,27 @@ fn store_rows(taps: Taps, u: &mut [u8], v: &mut [u8], start: usize, stride: usiz
     store_both(u, v, start + 7 * stride, taps.q3);
 }
 
-/// Filters the eight columns across an edge between rows in each of two planes.
-///
-/// The first column begins at `start`, four rows above the edge; rows are `stride` samples apart.
-#[inline]
-pub fn filter_row_pairs(
-    filter: EdgeFilter,
-    limits: EdgeLimits,
-    u: &mut [u8],
-    v: &mut [u8],
-    start: usize,
-    stride: usize,
-)
-    requires limit { limits.edge < 255 }
-    requires wide { 8 ≤ stride }
-    requires room_u { start + 7 * stride + 8 ≤ length u.old }
-    requires room_v { start + 7 * stride + 8 ≤ length v.old }
-    ensures u { u.new ≡ lines_filtered (filtered_line filter limits) start 1 stride u.old 8 }
-    ensures v { v.new ≡ lines_filtered (filtered_line filter limits) start 1 stride v.old 8 }
+/// Loads eight rows of eight samples from each plane, each `stride` samples after the one before it.
+#[inline(always)]
+pub fn load_columns(u: &[u8], v: &[u8], start: usize, stride: usize) -> Taps
+    requires room_u { start + 7 * stride + 8 ≤ length u.now }
+    requires room_v { start + 7 * stride + 8 ≤ length v.now }
+    ensures u { (i : ℕ) → i < 8 → line_at result i ≡ line_in u.now (start + i * stride) 1 }
+    ensures v { (i : ℕ) → i < 8 → line_at result (8 + i) ≡ line_in v.now (start + i * stride) 1 }
 {
-    let taps = load_rows(u, v, start, stride);
-    let changed = filtered(filter, limits, taps);
-    store_rows(changed, u, v, start, stride);
+    load_lines(u, v, start, start, stride)
 }
 
-/// Filters the eight rows across an edge between columns in each of two planes.
-///
-/// The first row begins at `start`, four columns to the left of the edge; rows are `stride` samples
-/// apart.
-#[inline]
-pub fn filter_column_pairs(
-    filter: EdgeFilter,
-    limits: EdgeLimits,
-    u: &mut [u8],
-    v: &mut [u8],
-    start: usize,
-    stride: usize,
-)
-    requires limit { limits.edge < 255 }
-    requires wide { 8 ≤ stride }
+/// Stores eight rows of eight samples into each plane, each `stride` samples after the one before it.
+#[inline(always)]
+pub fn store_columns(taps: Taps, u: &mut [u8], v: &mut [u8], start: usize, stride: usize)
     requires room_u { start + 7 * stride + 8 ≤ length u.old }
     requires room_v { start + 7 * stride + 8 ≤ length v.old }
-    ensures u { u.new ≡ lines_filtered (filtered_line filter limits) start stride 1 u.old 8 }
-    ensures v { v.new ≡ lines_filtered (filtered_line filter limits) start stride 1 v.old 8 }
+    ensures u { u.new ≡ rows_put u.old start stride (λ i. row_of i (vectors taps)) 8 }
+    ensures v { v.new ≡ rows_put v.old start stride (λ i. row_of (8 + i) (vectors taps)) 8 }
 {
-    let taps = load_lines(u, v, start, start, stride);
-    let t = filtered(filter, limits, taps);
     let (u0, u2, u4, u6, v0, v2, v4, v6) = row_pairs(
-        t.p3, t.p2, t.p1, t.p0, t.q0, t.q1, t.q2, t.q3,
+        taps.p3, taps.p2, taps.p1, taps.p0, taps.q0, taps.q1, taps.q2, taps.q3,
     );
     store_lines(u, start, stride, u0, u2, u4, u6);
     store_lines(v, start, stride, v0, v2, v4, v6);

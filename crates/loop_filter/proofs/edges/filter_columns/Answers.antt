@@ -1,25 +1,11 @@
-use Rattle.std.proofs.Common.{ℕ, List, ◌+◌, ◌*◌, ap, ◌∙◌}
+use Rattle.std.proofs.Common.{ap, ◌∙◌}
 use Rattle.loop_filter.specs.Lines.{filtered_line}
-use Rattle.loop_filter.specs.Lanes.{eight_from, row_of, rows_put, vectors}
+use Rattle.loop_filter.specs.Lanes.{row_of, vectors}
 use Rattle.loop_filter.proofs.EdgeFold.{samples_of, columns_edge}
-use Rattle.loop_filter.proofs.Loaded.{paired_rows, both_eights}
-use Rattle.loop_filter.proofs.RowsPut.{same_rows, rows_put_on}
 use Rattle.loop_filter.proofs.edges.filter_columns.Goals as goal
 
 pub returns : goal.returns
 returns c =
     let f = filtered_line c.args.filter c.args.limits in
-    let t = c.filter-t.result in
-    let s = c.args.samples.now in
-    let start = c.args.start in
-    let stride = c.args.stride in
-    let r = c.row_pairs.result in
-    let e = c.row_pairs.ensures in
-    let row : ℕ → List ℕ = λ (i : ℕ). row_of i (vectors t) in
-    let upper = paired_rows row r.0 r.1 r.2 r.3 (ap (eight_from 0) e.r0) (ap (eight_from 8) e.r0) (ap (eight_from 0) e.r2) (ap (eight_from 8) e.r2) (ap (eight_from 0) e.r4) (ap (eight_from 8) e.r4) (ap (eight_from 0) e.r6) (ap (eight_from 8) e.r6) in
-    let lower = paired_rows (λ i. row (8 + i)) r.4 r.5 r.6 r.7 (ap (eight_from 0) e.r8) (ap (eight_from 8) e.r8) (ap (eight_from 0) e.r10) (ap (eight_from 8) e.r10) (ap (eight_from 0) e.r12) (ap (eight_from 8) e.r12) (ap (eight_from 0) e.r14) (ap (eight_from 8) e.r14) in
-    c.store_lines-2.ensures
-    ∙ same_rows c.store_lines.new.samples (start + 8 * stride) stride _ (λ i. row (8 + i)) 8 lower
-    ∙ ap (λ (l : List ℕ). rows_put l (start + 8 * stride) stride (λ i. row (8 + i)) 8) (c.store_lines.ensures ∙ same_rows s start stride _ row 8 upper)
-    ∙ rows_put_on s start stride row 8 8
-    ∙ columns_edge f s start stride 16 row c.requires.wide (λ i less. ap samples_of (c.filter-t.ensures i less ∙ ap f (both_eights c.load_lines-taps.result s start stride c.load_lines-taps.ensures.a c.load_lines-taps.ensures.b i less)))
+    c.store_columns.ensures
+    ∙ columns_edge f c.args.samples.now c.args.start c.args.stride 16 (λ i. row_of i (vectors c.filter_alone-changed.result)) c.requires.wide (λ i less. ap samples_of (c.filter_alone-changed.ensures i less ∙ ap f (c.load_columns-taps.ensures i less)))

@@ -1,6 +1,6 @@
 use Rattle.std.specs.Prelude.{slice_index}
 use Rattle.std.proofs.Common.{arith}
-use Rattle.loop_filter.specs.Lanes.{line_at}
+use Rattle.loop_filter.specs.Lanes.{wide_line_at}
 use Rattle.loop_filter.proofs.OneLine.{inner_lane}
 use Rattle.loop_filter.proofs.Scalars.{eighth_small}
 use Rattle.loop_filter.proofs.kernels.inner.Goals as goal
@@ -28,5 +28,5 @@ returns c = λ i less.
       c.variance_over-high_edge_variance.ensures i less,
       c.roughness-rough.ensures i less,
     )
-    (inner_lane c.args.limits (line_at c.args.taps i) c.requires.limit
+    (inner_lane c.args.limits (wide_line_at c.args.taps i) c.requires.limit
     (record { p1 = c.raised.ensures.samples i less; p0 = c.raised-2.ensures.samples i less; q0 = c.lowered.ensures.samples i less; q1 = c.lowered-2.ensures.samples i less }))

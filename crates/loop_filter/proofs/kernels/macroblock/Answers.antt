@@ -1,4 +1,4 @@
-use Rattle.loop_filter.specs.Lanes.{line_at}
+use Rattle.loop_filter.specs.Lanes.{wide_line_at}
 use Rattle.loop_filter.proofs.OneLine.{macroblock_lane}
 use Rattle.loop_filter.proofs.kernels.macroblock.Goals as goal
 
@@ -27,7 +27,7 @@ returns c = λ i less.
       c.variance_over-high_edge_variance.ensures i less,
       c.roughness-rough.ensures i less,
     )
-    (macroblock_lane c.args.limits (line_at c.args.taps i) c.requires.limit
+    (macroblock_lane c.args.limits (wide_line_at c.args.taps i) c.requires.limit
     (record {
       near = record { p1 = c.raised-2.ensures.samples i less; p0 = c.raised-3.ensures.samples i less; q0 = c.lowered.ensures.samples i less; q1 = c.lowered-2.ensures.samples i less };
       p2 = c.raised.ensures.samples i less;

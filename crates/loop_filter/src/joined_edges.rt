@@ -1,0 +1,75 @@
+//! Edges of all three planes, filtered at once: sixteen lines of luma and eight of each chroma plane.
+
+ghost use Rattle.std.specs.Prelude.{◌≡◌, ◌+◌, ◌*◌, ◌<◌, ◌≤◌, length};
+ghost use Rattle.loop_filter.specs.Lines.{filtered_line};
+ghost use Rattle.loop_filter.specs.Edges.{lines_filtered};
+
+use crate::edge_limits::{EdgeFilter, EdgeLimits};
+use crate::taps::filter_both;
+use crate::{edges, pairs};
+
+/// Where the first line of an edge begins, in luma and in each chroma plane, and the distance of
+/// their rows, in samples.
+#[derive(Clone, Copy)]
+pub struct Starts {
+    pub luma: usize,
+    pub luma_stride: usize,
+    pub chroma: usize,
+    pub chroma_stride: usize,
+}
+
+/// Filters the columns across an edge between rows: 16 in luma and 8 in each chroma plane.
+///
+/// The first column of each plane begins four rows above the edge.
+#[inline]
+pub fn filter_joined_rows(
+    filter: EdgeFilter,
+    limits: EdgeLimits,
+    y: &mut [u8],
+    u: &mut [u8],
+    v: &mut [u8],
+    at: Starts,
+)
+    requires limit { limits.edge < 255 }
+    requires wide { (16 ≤ at.luma_stride) × (8 ≤ at.chroma_stride) }
+    requires room_y { at.luma + 7 * at.luma_stride + 16 ≤ length y.old }
+    requires room_u { at.chroma + 7 * at.chroma_stride + 8 ≤ length u.old }
+    requires room_v { at.chroma + 7 * at.chroma_stride + 8 ≤ length v.old }
+    ensures y { y.new ≡ lines_filtered (filtered_line filter limits) at.luma 1 at.luma_stride y.old 16 }
+    ensures u { u.new ≡ lines_filtered (filtered_line filter limits) at.chroma 1 at.chroma_stride u.old 8 }
+    ensures v { v.new ≡ lines_filtered (filtered_line filter limits) at.chroma 1 at.chroma_stride v.old 8 }
+{
+    let luma = edges::load_rows(y, at.luma, at.luma_stride);
+    let chroma = pairs::load_rows(u, v, at.chroma, at.chroma_stride);
+    let (luma, chroma) = filter_both(filter, limits, luma, chroma);
+    edges::store_rows(luma, y, at.luma, at.luma_stride);
+    pairs::store_rows(chroma, u, v, at.chroma, at.chroma_stride);
+}
+
+/// Filters the rows across an edge between columns: 16 in luma and 8 in each chroma plane.
+///
+/// The first row of each plane begins four columns to the left of the edge.
+#[inline]
+pub fn filter_joined_columns(
+    filter: EdgeFilter,
+    limits: EdgeLimits,
+    y: &mut [u8],
+    u: &mut [u8],
+    v: &mut [u8],
+    at: Starts,
+)
+    requires limit { limits.edge < 255 }
+    requires wide { (8 ≤ at.luma_stride) × (8 ≤ at.chroma_stride) }
+    requires room_y { at.luma + 15 * at.luma_stride + 8 ≤ length y.old }
+    requires room_u { at.chroma + 7 * at.chroma_stride + 8 ≤ length u.old }
+    requires room_v { at.chroma + 7 * at.chroma_stride + 8 ≤ length v.old }
+    ensures y { y.new ≡ lines_filtered (filtered_line filter limits) at.luma at.luma_stride 1 y.old 16 }
+    ensures u { u.new ≡ lines_filtered (filtered_line filter limits) at.chroma at.chroma_stride 1 u.old 8 }
+    ensures v { v.new ≡ lines_filtered (filtered_line filter limits) at.chroma at.chroma_stride 1 v.old 8 }
+{
+    let luma = edges::load_columns(y, at.luma, at.luma_stride);
+    let chroma = pairs::load_columns(u, v, at.chroma, at.chroma_stride);
+    let (luma, chroma) = filter_both(filter, limits, luma, chroma);
+    edges::store_columns(luma, y, at.luma, at.luma_stride);
+    pairs::store_columns(chroma, u, v, at.chroma, at.chroma_stride);
+}
