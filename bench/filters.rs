@@ -13,15 +13,14 @@ const BLOCKS: usize = 14;
 macro_rules! proved {
     ($($name:ident)*) => {
         unsafe extern "C" {
-            $(fn $name(edge: u8, interior: u8, variance: u8, u: *mut u8, v: *mut u8, start: usize, stride: usize);)*
+            $(fn $name(edge: u8, interior: u8, variance: u8, y: *mut u8, u: *mut u8, v: *mut u8, start: usize, stride: usize);)*
         }
     };
 }
 
 proved! {
-    proved_macroblock_rows proved_macroblock_columns proved_inner_rows proved_inner_columns proved_simple_rows
-    proved_simple_columns proved_inner_columns_at_once proved_macroblock_row_pairs proved_macroblock_column_pairs
-    proved_inner_row_pairs proved_inner_column_pairs
+    proved_inner_rows proved_simple_rows proved_simple_columns proved_inner_columns proved_joined_macroblock_rows
+    proved_joined_macroblock_columns proved_joined_inner_rows
 }
 
 /// libvpx's limits: pointers to sixteen equal bytes each.
@@ -34,18 +33,11 @@ struct Limits {
 }
 
 unsafe extern "C" {
-    fn vp8_mbloop_filter_horizontal_edge_sse2(y: *mut u8, stride: i32, edge: *const u8, interior: *const u8, variance: *const u8);
-    fn vp8_mbloop_filter_vertical_edge_sse2(y: *mut u8, stride: i32, edge: *const u8, interior: *const u8, variance: *const u8);
     fn vp8_loop_filter_bh_y_sse2(y: *mut u8, stride: i32, edge: *const u8, interior: *const u8, variance: *const u8, count: i32);
-    fn vp8_loop_filter_bv_y_sse2(y: *mut u8, stride: i32, edge: *const u8, interior: *const u8, variance: *const u8, count: i32);
     fn vp8_loop_filter_simple_horizontal_edge_sse2(y: *mut u8, stride: i32, edge: *const u8);
     fn vp8_loop_filter_simple_vertical_edge_sse2(y: *mut u8, stride: i32, edge: *const u8);
     fn vp8_loop_filter_simple_horizontal_edge_c(y: *mut u8, stride: i32, edge: *const u8);
     fn vp8_loop_filter_simple_vertical_edge_c(y: *mut u8, stride: i32, edge: *const u8);
-    fn vp8_mbloop_filter_horizontal_edge_uv_sse2(u: *mut u8, stride: i32, edge: *const u8, interior: *const u8, variance: *const u8, v: *mut u8);
-    fn vp8_mbloop_filter_vertical_edge_uv_sse2(u: *mut u8, stride: i32, edge: *const u8, interior: *const u8, variance: *const u8, v: *mut u8);
-    fn vp8_loop_filter_horizontal_edge_uv_sse2(u: *mut u8, stride: i32, edge: *const u8, interior: *const u8, variance: *const u8, v: *mut u8);
-    fn vp8_loop_filter_vertical_edge_uv_sse2(u: *mut u8, stride: i32, edge: *const u8, interior: *const u8, variance: *const u8, v: *mut u8);
 }
 
 macro_rules! of_macroblock {
@@ -90,9 +82,10 @@ impl EdgeLimits {
 #[derive(Clone, PartialEq)]
 struct Plane([u8; 65536]);
 
-/// The two planes of which an edge of chroma is filtered; luma has the first alone.
+/// Luma and the two chroma planes, all of one size.
 #[derive(Clone, PartialEq)]
-struct Pair {
+struct Planes {
+    y: Box<Plane>,
     u: Box<Plane>,
     v: Box<Plane>,
 }
@@ -110,15 +103,15 @@ fn plane(seed: u32, noise: u32) -> Box<Plane> {
     plane
 }
 
-fn pair(seed: u32, noise: u32) -> Pair {
-    Pair { u: plane(seed, noise), v: plane(seed + 99, noise) }
+fn planes(seed: u32, noise: u32) -> Planes {
+    Planes { y: plane(seed, noise), u: plane(seed + 99, noise), v: plane(seed + 198, noise) }
 }
 
-/// Makes a way to filter one edge of each macroblock that has others all round it.
+/// Makes a way to filter edges of each macroblock that has others all round it.
 macro_rules! pass {
-    (|$limits:ident, $u:ident, $v:ident, $at:ident| $call:expr) => {
-        |$limits: &EdgeLimits, planes: &mut Pair| {
-            let ($u, $v) = (planes.u.0.as_mut_ptr(), planes.v.0.as_mut_ptr());
+    (|$limits:ident, $y:ident, $u:ident, $v:ident, $at:ident| $call:expr) => {
+        |$limits: &EdgeLimits, planes: &mut Planes| {
+            let ($y, $u, $v) = (planes.y.0.as_mut_ptr(), planes.u.0.as_mut_ptr(), planes.v.0.as_mut_ptr());
             for row in 1..=BLOCKS {
                 for column in 1..=BLOCKS {
                     let $at = 16 * (row * STRIDE + column);
@@ -132,39 +125,33 @@ macro_rules! pass {
 
 macro_rules! proved_pass {
     ($name:ident, $before:expr) => {
-        pass!(|limits, u, v, at| $name(limits.edge.0[0], limits.interior.0[0], limits.variance.0[0], u, v, at - $before, STRIDE))
+        pass!(|limits, y, u, v, at| $name(limits.edge.0[0], limits.interior.0[0], limits.variance.0[0], y, u, v, at - $before, STRIDE))
     };
 }
 
 macro_rules! luma_pass {
     ($name:ident $(, $more:expr)*) => {
-        pass!(|limits, u, _v, at| $name(u.add(at), STRIDE as i32, limits.edge.0.as_ptr(), limits.interior.0.as_ptr(), limits.variance.0.as_ptr() $(, $more)*))
+        pass!(|limits, y, _u, _v, at| $name(y.add(at), STRIDE as i32, limits.edge.0.as_ptr(), limits.interior.0.as_ptr(), limits.variance.0.as_ptr() $(, $more)*))
     };
 }
 
 macro_rules! simple_pass {
     ($name:ident) => {
-        pass!(|limits, u, _v, at| $name(u.add(at), STRIDE as i32, limits.edge.0.as_ptr()))
+        pass!(|limits, y, _u, _v, at| $name(y.add(at), STRIDE as i32, limits.edge.0.as_ptr()))
     };
 }
 
-macro_rules! chroma_pass {
-    ($name:ident, $behind:expr) => {
-        pass!(|limits, u, v, at| $name(
-            u.add(at + $behind),
-            STRIDE as i32,
-            limits.edge.0.as_ptr(),
-            limits.interior.0.as_ptr(),
-            limits.variance.0.as_ptr(),
-            v.add(at + $behind)
-        ))
+/// libvpx's calls for the edges of a macroblock in all planes.
+macro_rules! all_planes_pass {
+    ($name:ident) => {
+        pass!(|limits, y, u, v, at| $name(y.add(at), u.add(at), v.add(at), STRIDE as i32, STRIDE as i32, &limits.of_libvpx()))
     };
 }
 
 macro_rules! plain_luma_pass {
     ($name:ident) => {
-        pass!(|limits, u, _v, at| $name(
-            u.add(at),
+        pass!(|limits, y, _u, _v, at| $name(
+            y.add(at),
             std::ptr::null_mut(),
             std::ptr::null_mut(),
             STRIDE as i32,
@@ -174,16 +161,28 @@ macro_rules! plain_luma_pass {
     };
 }
 
-/// Three edges one after another, by calls for one.
+/// Three edges of luma one after another, by calls for one.
 macro_rules! three_passes {
     ($name:ident, $step:expr) => {
-        pass!(|limits, u, v, at| for edge in 0..3 {
-            $name(limits.edge.0[0], limits.interior.0[0], limits.variance.0[0], u, v, at + edge * $step, STRIDE)
+        pass!(|limits, y, u, v, at| for edge in 0..3 {
+            $name(limits.edge.0[0], limits.interior.0[0], limits.variance.0[0], y, u, v, at + edge * $step, STRIDE)
         })
     };
 }
 
-type Pass = Box<dyn Fn(&EdgeLimits, &mut Pair)>;
+/// The three inner edges between rows of luma, the first together with those of chroma.
+macro_rules! inner_rows_pass {
+    () => {
+        pass!(|limits, y, u, v, at| {
+            let (edge, interior, variance) = (limits.edge.0[0], limits.interior.0[0], limits.variance.0[0]);
+            proved_joined_inner_rows(edge, interior, variance, y, u, v, at, STRIDE);
+            proved_inner_rows(edge, interior, variance, y, u, v, at + 4 * STRIDE, STRIDE);
+            proved_inner_rows(edge, interior, variance, y, u, v, at + 8 * STRIDE, STRIDE)
+        })
+    };
+}
+
+type Pass = Box<dyn Fn(&EdgeLimits, &mut Planes)>;
 
 struct Case {
     name: &'static str,
@@ -203,77 +202,53 @@ fn cases() -> Vec<Case> {
     const ROWS: usize = 4 * STRIDE;
     vec![
         case!(
-            "macroblock, rows",
+            "all planes, macroblock, rows",
             1,
-            proved_pass!(proved_macroblock_rows, ROWS),
-            luma_pass!(vp8_mbloop_filter_horizontal_edge_sse2),
-            plain_luma_pass!(vp8_loop_filter_mbh_c)
+            proved_pass!(proved_joined_macroblock_rows, ROWS),
+            all_planes_pass!(vp8_loop_filter_mbh_sse2),
+            all_planes_pass!(vp8_loop_filter_mbh_c)
         ),
         case!(
-            "macroblock, columns",
+            "all planes, macroblock, columns",
             1,
-            proved_pass!(proved_macroblock_columns, 4),
-            luma_pass!(vp8_mbloop_filter_vertical_edge_sse2),
-            plain_luma_pass!(vp8_loop_filter_mbv_c)
+            proved_pass!(proved_joined_macroblock_columns, 4),
+            all_planes_pass!(vp8_loop_filter_mbv_sse2),
+            all_planes_pass!(vp8_loop_filter_mbv_c)
         ),
         case!(
-            "inner, rows",
+            "all planes, inner rows",
+            1,
+            inner_rows_pass!(),
+            all_planes_pass!(vp8_loop_filter_bh_sse2),
+            all_planes_pass!(vp8_loop_filter_bh_c)
+        ),
+        case!(
+            "all planes, inner columns",
+            1,
+            proved_pass!(proved_inner_columns, 0),
+            all_planes_pass!(vp8_loop_filter_bv_sse2),
+            all_planes_pass!(vp8_loop_filter_bv_c)
+        ),
+        case!(
+            "luma, inner rows",
             3,
             three_passes!(proved_inner_rows, ROWS),
             luma_pass!(vp8_loop_filter_bh_y_sse2, 2),
             plain_luma_pass!(vp8_loop_filter_bh_c)
         ),
         case!(
-            "inner, columns, three at once",
-            3,
-            proved_pass!(proved_inner_columns_at_once, 0),
-            luma_pass!(vp8_loop_filter_bv_y_sse2, 2),
-            plain_luma_pass!(vp8_loop_filter_bv_c)
-        ),
-        case!(
-            "inner, columns, one by one",
-            3,
-            three_passes!(proved_inner_columns, 4),
-            luma_pass!(vp8_loop_filter_bv_y_sse2, 2),
-            plain_luma_pass!(vp8_loop_filter_bv_c)
-        ),
-        case!(
-            "simple, rows",
+            "luma, simple, rows",
             1,
             proved_pass!(proved_simple_rows, ROWS),
             simple_pass!(vp8_loop_filter_simple_horizontal_edge_sse2),
             simple_pass!(vp8_loop_filter_simple_horizontal_edge_c)
         ),
         case!(
-            "simple, columns",
+            "luma, simple, columns",
             1,
             proved_pass!(proved_simple_columns, 4),
             simple_pass!(vp8_loop_filter_simple_vertical_edge_sse2),
             simple_pass!(vp8_loop_filter_simple_vertical_edge_c)
-        ),
-        case!(
-            "chroma, macroblock, rows",
-            1,
-            proved_pass!(proved_macroblock_row_pairs, ROWS),
-            chroma_pass!(vp8_mbloop_filter_horizontal_edge_uv_sse2, 0)
-        ),
-        case!(
-            "chroma, macroblock, columns",
-            1,
-            proved_pass!(proved_macroblock_column_pairs, 4),
-            chroma_pass!(vp8_mbloop_filter_vertical_edge_uv_sse2, 0)
-        ),
-        case!(
-            "chroma, inner, rows",
-            1,
-            proved_pass!(proved_inner_row_pairs, 0),
-            chroma_pass!(vp8_loop_filter_horizontal_edge_uv_sse2, ROWS)
-        ),
-        case!(
-            "chroma, inner, columns",
-            1,
-            proved_pass!(proved_inner_column_pairs, 0),
-            chroma_pass!(vp8_loop_filter_vertical_edge_uv_sse2, 4)
         ),
     ]
 }
@@ -283,7 +258,7 @@ fn compare(case: &Case) {
     for seed in 0..60 {
         let interior = (seed * 11 % 63 + 1) as u8;
         let limits = EdgeLimits::new((seed * 37 % 194) as u8, interior, (seed % 4) as u8);
-        let start = pair(seed, u32::from(interior) + 3);
+        let start = planes(seed, u32::from(interior) + 3);
         let behind = |way: &Pass| {
             let mut planes = start.clone();
             way(&limits, &mut planes);
@@ -297,7 +272,7 @@ fn compare(case: &Case) {
 }
 
 /// The time of an edge in nanoseconds.
-fn time(case: &Case, way: &Pass, planes: &mut Pair) -> f64 {
+fn time(case: &Case, way: &Pass, planes: &mut Planes) -> f64 {
     let limits = EdgeLimits::new(60, 12, 1);
     let start = Instant::now();
     for _ in 0..ROUNDS {
@@ -307,10 +282,10 @@ fn time(case: &Case, way: &Pass, planes: &mut Pair) -> f64 {
 }
 
 fn edges() {
-    println!("{:32}{:>8}  of libvpx", "ns an edge", "proved");
+    println!("{:32}{:>8}  of libvpx", "ns an edge, or the edges of all planes", "proved");
     for case in cases() {
         compare(&case);
-        let mut planes = pair(5, 9);
+        let mut planes = planes(5, 9);
         let mut best = vec![f64::MAX; case.ways.len()];
         for _ in 0..RUNS {
             for (best, way) in best.iter_mut().zip(&case.ways) {

@@ -15,7 +15,7 @@ done
 grep -E '^(vp8_tables|bool_coder|intra_predict|frame_header|mode_parser|pixel_planes|loop_filter):' "$here/../crates.txt" > "$room/crates.txt"
 echo 'edge_times staticlib: loop_filter' >> "$room/crates.txt"
 echo 'filter_times: vp8_tables bool_coder frame_header mode_parser pixel_planes loop_filter' >> "$room/crates.txt"
-sed -i -E 's/^mod (columns_inner|edge_limits|edges|pairs);/pub mod \1;/' "$room/crates/loop_filter/src/lib.rt"
+sed -i -E 's/^mod (columns_inner|edge_limits|edges|joined_edges);/pub mod \1;/' "$room/crates/loop_filter/src/lib.rt"
 
 # One exported function for each kind of edge: its name and its call.
 exported() {
@@ -26,6 +26,7 @@ pub extern "C" fn $1(
     edge: u8,
     interior: u8,
     variance: u8,
+    y: &mut [u8; 65536],
     u: &mut [u8; 65536],
     v: &mut [u8; 65536],
     start: usize,
@@ -33,6 +34,7 @@ pub extern "C" fn $1(
 ) {
     if edge < 255 && stride >= 16 && stride <= 256 && start <= 61424 {
         let limits = EdgeLimits { edge, interior, variance };
+        let at = Starts { luma: start, luma_stride: stride, chroma: start, chroma_stride: stride };
         $2;
     }
 }
@@ -46,18 +48,18 @@ END
 use loop_filter::columns_inner::filter_inner_columns;
 use loop_filter::edge_limits::{EdgeFilter, EdgeLimits};
 use loop_filter::edges::{filter_columns, filter_rows};
-use loop_filter::pairs::{filter_column_pairs, filter_row_pairs};
+use loop_filter::joined_edges::{Starts, filter_joined_columns, filter_joined_rows};
 END
-    for filter in Macroblock Inner Simple; do
-        name=$(echo "$filter" | tr MIS mis)
-        exported "proved_${name}_rows" "filter_rows(EdgeFilter::$filter, limits, u, start, stride)"
-        exported "proved_${name}_columns" "filter_columns(EdgeFilter::$filter, limits, u, start, stride)"
+    for filter in Inner Simple; do
+        name=$(echo "$filter" | tr IS is)
+        exported "proved_${name}_rows" "filter_rows(EdgeFilter::$filter, limits, y, start, stride)"
     done
-    exported proved_inner_columns_at_once "filter_inner_columns(limits, u, start, stride)"
+    exported proved_simple_columns "filter_columns(EdgeFilter::Simple, limits, y, start, stride)"
+    exported proved_inner_columns "filter_inner_columns(limits, y, u, v, at)"
     for filter in Macroblock Inner; do
         name=$(echo "$filter" | tr MI mi)
-        exported "proved_${name}_row_pairs" "filter_row_pairs(EdgeFilter::$filter, limits, u, v, start, stride)"
-        exported "proved_${name}_column_pairs" "filter_column_pairs(EdgeFilter::$filter, limits, u, v, start, stride)"
+        exported "proved_joined_${name}_rows" "filter_joined_rows(EdgeFilter::$filter, limits, y, u, v, at)"
+        exported "proved_joined_${name}_columns" "filter_joined_columns(EdgeFilter::$filter, limits, y, u, v, at)"
     done
 } > "$room/crates/edge_times/src/lib.rt"
 cp "$here/filters.rt.txt" "$room/crates/filter_times/src/main.rt"

@@ -1,5 +1,5 @@
 use Rattle.std.specs.Prelude.{min}
-use Rattle.std.proofs.Common.{◌≡◌, ◌⊎◌, ℕ, zero, suc, ◌+◌, ◌-◌, ◌*◌, ◌<◌, ◌≤◌, inl, inr, Bool, length, refl, ap, sym, ◌∙◌, zero-mul, rules, arith}
+use Rattle.std.proofs.Common.{◌≡◌, ◌⊎◌, ℕ, zero, suc, ◌+◌, ◌-◌, ◌*◌, ◌<◌, ◌≤◌, inl, inr, Bool, refl, ap, ◌∙◌, zero-mul, rules, arith}
 use Rattle.std.specs.Option.{option_copied}
 use Rattle.pixel_planes.specs.PlaneSamples.{shown_of}
 use Rattle.loop_filter.specs.Frames.{filtered_row}
