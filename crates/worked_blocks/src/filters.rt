@@ -1,3 +1,5 @@
+ghost use Rattle.std.specs.Prelude.{◌≤◌};
+
 use frame_header::{Filter, FilterDeltas, Header, Reference, Segments, read_header};
 use intra_predict::{SubMode, WholeMode};
 use loop_filter::{Limits, frame, level, limits, simple};
@@ -171,15 +173,20 @@ fn header_of(rt: &impl Abort, is_key: bool, filter: Filter) -> Header<'static> {
     header
 }
 
-/// The totals of the planes of a filtered frame.
-fn filtered(rt: &impl Abort, alloc: Global, case: &Case) -> Result<[u32; 3], Fail> {
+/// The widths of the borders of the three planes.
+type Borders = (usize, usize, usize);
+
+/// The totals of the planes of a filtered frame with these borders, each at most 64.
+fn filtered(rt: &impl Abort, alloc: Global, case: &Case, borders: Borders) -> Result<[u32; 3], Fail>
+    requires { (borders.0 ≤ 64) × (borders.1 ≤ 64) × (borders.2 ≤ 64) }
+{
     let filter = filter_of(case.is_simple, case.level, case.sharpness);
     let header = header_of(rt, case.is_key, filter);
     let modes = read_modes(alloc, &Tables::flat(), &header, 3, 2, Some(&[0; 6]))?;
     let mut planes = Planes {
-        luma: Plane::make(alloc, 48, 32, 0)?,
-        cb: Plane::make(alloc, 24, 16, 0)?,
-        cr: Plane::make(alloc, 24, 16, 0)?,
+        luma: Plane::make_bordered(alloc, 48, 32, 0, borders.0)?,
+        cb: Plane::make_bordered(alloc, 24, 16, 0, borders.1)?,
+        cr: Plane::make_bordered(alloc, 24, 16, 0, borders.2)?,
     };
     fill(planes.luma.samples_mut(), 1, case.least, case.count);
     fill(planes.cb.samples_mut(), 2, case.least, case.count);
@@ -189,9 +196,16 @@ fn filtered(rt: &impl Abort, alloc: Global, case: &Case) -> Result<[u32; 3], Fai
     Ok([total(&planes.luma), total(&planes.cb), total(&planes.cr)])
 }
 
-fn expect_totals(rt: &impl Abort, alloc: Global, cases: &[Case]) -> Result<(), Fail> {
+fn expect_totals(
+    rt: &impl Abort,
+    alloc: Global,
+    cases: &[Case],
+    borders: Borders,
+) -> Result<(), Fail>
+    requires { (borders.0 ≤ 64) × (borders.1 ≤ 64) × (borders.2 ≤ 64) }
+{
     for case in cases {
-        let totals = filtered(rt, alloc, case)?;
+        let totals = filtered(rt, alloc, case, borders)?;
         assert!(rt; totals == case.totals, "{} {}", case.level, case.sharpness);
     }
     Ok(())
@@ -199,7 +213,13 @@ fn expect_totals(rt: &impl Abort, alloc: Global, cases: &[Case]) -> Result<(), F
 
 #[test]
 fn frames_are_as_filtered_line_by_line(rt: HostRuntime) -> Result<(), Fail> {
-    expect_totals(&rt, rt.alloc(), CASES)
+    expect_totals(&rt, rt.alloc(), CASES, (32, 32, 32))
+}
+
+#[test]
+fn frames_with_borders_of_other_widths(rt: HostRuntime) -> Result<(), Fail> {
+    expect_totals(&rt, rt.alloc(), CASES, (0, 16, 16))?;
+    expect_totals(&rt, rt.alloc(), CASES, (32, 8, 64))
 }
 
 /// The totals are those that compare/filters.py prints, a plain program of RFC 6386, section 15: each
