@@ -95,13 +95,23 @@ def partition_count(reader, is_key):
 
 
 def partitions_of(packet):
-    """A sound packet's parts: what stands before its first partition, the first partition and the token partitions."""
+    """A sound packet's parts: what stands before its first partition, the first partition and the token partitions.
+
+    None for a dropped frame, and for a broken packet that no reply names: one that is not shown, with no frame after it up to
+    the next key packet.
+    """
+    if len(packet) < 3:
+        return None
     tag = struct.unpack("<I", packet[:3] + b"\0")[0]
     start = 3 if tag & 1 else 10
     end = start + (tag >> 5)
+    if end > len(packet):
+        return None
     first = packet[start:end]
     count = partition_count(Reader(first), not tag & 1)
     place = end + 3 * (count - 1)
+    if place > len(packet):
+        return None
     texts = []
     for at in range(end, place, 3):
         size = struct.unpack("<I", packet[at : at + 3] + b"\0")[0]
@@ -111,10 +121,11 @@ def partitions_of(packet):
 
 
 def padded(packet):
-    """A sound packet with zeros after each of its partitions: a dropped frame has none."""
-    if not packet:
+    """A packet with zeros after each of its partitions, if it has any."""
+    parts = partitions_of(packet)
+    if parts is None:
         return packet
-    head, first, texts = partitions_of(packet)
+    head, first, texts = parts
     texts = [text + bytes(PADDING) for text in texts]
     first += bytes(PADDING)
     sizes = b"".join(struct.pack("<I", len(text))[:3] for text in texts[:-1])
@@ -124,10 +135,8 @@ def padded(packet):
 
 def begins_with_ff(packet):
     """Whether one of the partitions of a sound packet begins with the byte FF."""
-    if not packet:
-        return False
-    _, first, texts = partitions_of(packet)
-    return any(text[:1] == b"\xff" for text in [first, *texts])
+    parts = partitions_of(packet)
+    return parts is not None and any(text[:1] == b"\xff" for text in [parts[1], *parts[2]])
 
 
 def is_shown(packet):

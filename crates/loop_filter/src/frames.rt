@@ -130,7 +130,7 @@ fn macroblock_at(strides: Strides, mx: usize, my: usize) -> Macroblock
     }
 }
 
-/// The samples of a macroblock: column `mx` of row `my`.
+/// A macroblock, by its column and its row.
 #[derive(Clone, Copy)]
 struct Place {
     mx: usize,
@@ -215,7 +215,7 @@ fn filter_all_planes(all: Macroblocks, y: &mut Plane, cb: &mut Plane, cr: &mut P
     }
 }
 
-/// Filters a row of macroblocks in planes of which those of chroma have borders of other widths.
+/// Filters a row of macroblocks in planes of which the two of chroma have borders of different widths.
 fn filter_flat_chroma(all: Macroblocks, y: &mut Plane, cb: &mut Plane, cr: &mut Plane, my: usize)
     requires normal { all.header.now.filter.is_simple ≡ false }
     requires frame { IsFrame all }
