@@ -29,6 +29,39 @@ pub fn copy<const N: usize>(rows: Rows, strip: Strip, out: &mut [u8])
     }
 }
 
+/// Predicts `N` columns of a block by both filters: across over five more rows, then down.
+#[inline(always)]
+fn across_then_down<const N: usize, const M: usize>(
+    rows: Rows,
+    filters: Filters,
+    strip: Strip,
+    out: &mut [u8],
+)
+    requires lanes { (0 < N) × (N ≤ 16) × (M ≡ 21 * N) }
+    requires height { (0 < strip.height) × (strip.height ≤ 16) }
+    requires strides { (rows.start ≤ 16) × (rows.stride ≤ 65536) × (strip.stride ≤ 65536) }
+    requires room { (strip.height + 4) * rows.stride + (rows.start + N + 5) ≤ length rows.samples.now }
+    requires out { (strip.height - 1) * strip.stride + (strip.first + N) ≤ length out.old }
+    requires inside { strip.first + N ≤ strip.stride }
+    requires across { IsTaps filters.across }
+    requires down { IsTaps filters.down }
+    ensures { IsStrip (λ column row. tapped_twice filters.across filters.down rows.entry.samples.now rows.entry.stride (rows.entry.start + column) row) strip.first N strip.height strip.stride out.old out.new }
+{
+    let mut middle = [0; M];
+    let between = Strip {
+        first: 0,
+        height: strip.height + 5,
+        stride: N,
+    };
+    pass::<N>(rows, 1, filters.across, between, &mut middle);
+    let rows = Rows {
+        samples: &middle,
+        start: 0,
+        stride: N,
+    };
+    pass::<N>(rows, N, filters.down, strip, out);
+}
+
 /// Predicts `N` columns of a block: a strip of `out`.
 ///
 /// `samples` are the window that the taps read: it begins two columns and two rows before the
@@ -53,7 +86,7 @@ pub fn strip<const N: usize, const M: usize>(
     ensures samples { Predicts filters.across filters.down samples.now stride strip.first N strip.height strip.stride out.old out.new }
 {
     let Filters { across, down } = filters;
-    let Strip { first, height, .. } = strip;
+    let first = strip.first;
     match (across.are_whole(), down.are_whole()) {
         (true, true) => {
             let start = 2 * stride + first + 2;
@@ -83,24 +116,12 @@ pub fn strip<const N: usize, const M: usize>(
             pass::<N>(rows, stride, down, strip, out);
         }
         (false, false) => {
-            let mut middle = [0; M];
             let rows = Rows {
                 samples,
                 start: first,
                 stride,
             };
-            let between = Strip {
-                first: 0,
-                height: height + 5,
-                stride: N,
-            };
-            pass::<N>(rows, 1, across, between, &mut middle);
-            let rows = Rows {
-                samples: &middle,
-                start: 0,
-                stride: N,
-            };
-            pass::<N>(rows, N, down, strip, out);
+            across_then_down::<N, M>(rows, filters, strip, out);
         }
     }
 }

@@ -15,16 +15,16 @@ use Rattle.loop_filter.specs.declared.blocks.Block.{Block}
 use Rattle.loop_filter.specs.declared.strengths.Strength.{Strength}
 
 -- whether a macroblock of this mode is split into blocks with modes or vectors of their own (`B_PRED` and `SPLITMV` in RFC 6386)
-abbrev pub is_parted : YMode → Bool
-is_parted (Whole mode) = false
-is_parted B = true
-is_parted (Inter reference mode) = is_split mode
+abbrev pub has_subblock_modes : YMode → Bool
+has_subblock_modes (Whole mode) = false
+has_subblock_modes B = true
+has_subblock_modes (Inter reference mode) = is_split mode
 
 -- the filter limits of a macroblock, by its record and whether one of its blocks has a token: none at level 0; its inner edges are skipped if it is neither split so nor has a token
 unfoldable pub strength_of : Header → MbMode → Bool → Option Strength
 strength_of header mode has_tokens =
     if level_of header mode == 0 then None
-    else Some (record { limits = limits_of (level_of header mode) header.filter.sharpness header.is_key; has_inner_edges = is_parted mode.y_mode || has_tokens })
+    else Some (record { limits = limits_of (level_of header mode) header.filter.sharpness header.is_key; has_inner_edges = has_subblock_modes mode.y_mode || has_tokens })
 
 -- and of the macroblock at an index of the frame, if it has a record
 abbrev pub strength_by : Header → Option MbMode → Bool → Option Strength

@@ -12,7 +12,7 @@ use crate::edge_limits::{EdgeFilter, EdgeLimits};
 use crate::joined_edges::Starts;
 use crate::lanes::{load, store};
 use crate::pairs::{load_columns, store_columns};
-use crate::taps::{Taps, filter_alone, filter_both};
+use crate::taps::{Taps, filter_sixteen, filter_both};
 use std::simd::prelude::*;
 use std::simd::u8x16;
 
@@ -84,7 +84,7 @@ fn filter_block(limits: EdgeLimits, left: Taps, right: Taps, chroma: Taps) -> (T
         q2: right.p1,
         q3: right.p0,
     };
-    let middle = filter_alone(EdgeFilter::Inner, limits, across_second);
+    let middle = filter_sixteen(EdgeFilter::Inner, limits, across_second);
     let across_third = Taps {
         p3: middle.q0,
         p2: middle.q1,
@@ -92,7 +92,7 @@ fn filter_block(limits: EdgeLimits, left: Taps, right: Taps, chroma: Taps) -> (T
         p0: middle.q3,
         ..right
     };
-    let last = filter_alone(EdgeFilter::Inner, limits, across_third);
+    let last = filter_sixteen(EdgeFilter::Inner, limits, across_third);
     let left = Taps {
         q0: middle.p3,
         q1: middle.p2,

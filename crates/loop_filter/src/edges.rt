@@ -8,7 +8,7 @@ ghost use Rattle.loop_filter.specs.Lanes.{line_at, vector, vectors, row_of, rows
 use crate::columns::{load_lines, row_pairs, store_lines};
 use crate::edge_limits::{EdgeFilter, EdgeLimits};
 use crate::lanes::{load, store};
-use crate::taps::{Taps, filter_alone};
+use crate::taps::{Taps, filter_sixteen};
 
 /// Loads sixteen columns of eight samples, in rows `stride` samples apart.
 #[inline(always)]
@@ -84,7 +84,7 @@ pub fn filter_rows(
     ensures { samples.new ≡ lines_filtered (filtered_line filter limits) start 1 stride samples.old 16 }
 {
     let taps = load_rows(samples, start, stride);
-    let changed = filter_alone(filter, limits, taps);
+    let changed = filter_sixteen(filter, limits, taps);
     store_rows(changed, samples, start, stride);
 }
 
@@ -106,6 +106,6 @@ pub fn filter_columns(
     ensures { samples.new ≡ lines_filtered (filtered_line filter limits) start stride 1 samples.old 16 }
 {
     let taps = load_columns(samples, start, stride);
-    let changed = filter_alone(filter, limits, taps);
+    let changed = filter_sixteen(filter, limits, taps);
     store_columns(changed, samples, start, stride);
 }

@@ -1,4 +1,4 @@
-//! Edges of all three planes, filtered at once: sixteen lines of luma and eight of each chroma plane.
+//! Edges of all three planes, filtered together: sixteen lines of luma and eight of each chroma plane.
 
 ghost use Rattle.std.specs.Prelude.{◌≡◌, ◌+◌, ◌*◌, ◌<◌, ◌≤◌, length};
 ghost use Rattle.loop_filter.specs.Lines.{filtered_line};

@@ -1,4 +1,4 @@
-//! The filters, each over thirty-two lines at once (RFC 6386, sections 15.2 and 15.3).
+//! The filters, each over thirty-two lines together (RFC 6386, sections 15.2 and 15.3).
 
 ghost use Rattle.std.specs.Prelude.{◌≡◌, ℕ, ◌+◌, ◌<◌, slice_index};
 ghost use Rattle.loop_filter.specs.Lines.{simple_line, inner_line, macroblock_line, filtered_line};

@@ -1,7 +1,7 @@
 ghost use Rattle.std.specs.Prelude.{◌≡◌, ◌≤◌, IfSome};
 ghost use Rattle.loop_filter.specs.Blocks.{HasSmallLimits};
 ghost use Rattle.loop_filter.specs.Strengths.{AreLimits, interior_limit, variance_threshold, limits_of};
-ghost use Rattle.loop_filter.specs.Frames.{is_parted, strength_of};
+ghost use Rattle.loop_filter.specs.Frames.{has_subblock_modes, strength_of};
 
 use crate::edge_limits::Limits;
 use crate::levels::level;
@@ -87,8 +87,8 @@ pub(crate) fn limits_of_levels(sharpness: u8, is_key: bool) -> [Limits; 64]
 }
 
 /// Whether a macroblock is split into blocks with modes or vectors of their own.
-fn is_parted(mode: YMode) -> bool
-    ensures { result ≡ is_parted mode }
+fn has_subblock_modes(mode: YMode) -> bool
+    ensures { result ≡ has_subblock_modes mode }
 {
     match mode {
         YMode::Whole(_) => false,
@@ -118,6 +118,6 @@ pub(crate) fn strength_for(
     }
     Some(Strength {
         limits: limits[usize::from(level)],
-        has_inner_edges: is_parted(mode.y_mode) || has_tokens,
+        has_inner_edges: has_subblock_modes(mode.y_mode) || has_tokens,
     })
 }

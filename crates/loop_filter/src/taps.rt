@@ -1,4 +1,4 @@
-//! Sixteen lines across an edge, filtered alone or sixteen and sixteen at once.
+//! Sixteen lines across an edge, filtered in one call, or two times sixteen in one call.
 
 ghost use Rattle.std.specs.Prelude.{◌≡◌, ℕ, ◌+◌, ◌<◌, slice_index};
 ghost use Rattle.loop_filter.specs.Lines.{filtered_line};
@@ -39,7 +39,7 @@ fn joined(a: u8x16, b: u8x16) -> u8x32
 
 /// The first sixteen lanes, and the other sixteen.
 #[inline(always)]
-fn parted(row: u8x32) -> (u8x16, u8x16)
+fn split(row: u8x32) -> (u8x16, u8x16)
     ensures first { (i : ℕ) → i < 16 → slice_index result.0 i ≡ slice_index row i }
     ensures second { (i : ℕ) → i < 16 → slice_index result.1 i ≡ slice_index row (16 + i) }
 {
@@ -66,18 +66,18 @@ fn joined_lines(a: Taps, b: Taps) -> WideTaps
 
 /// The first sixteen lines, and the other sixteen.
 #[inline(always)]
-fn parted_lines(lines: WideTaps) -> (Taps, Taps)
+fn split_lines(lines: WideTaps) -> (Taps, Taps)
     ensures first { (i : ℕ) → i < 16 → line_at result.0 i ≡ wide_line_at lines i }
     ensures second { (i : ℕ) → i < 16 → line_at result.1 i ≡ wide_line_at lines (16 + i) }
 {
-    let (a3, b3) = parted(lines.p3);
-    let (a2, b2) = parted(lines.p2);
-    let (a1, b1) = parted(lines.p1);
-    let (a0, b0) = parted(lines.p0);
-    let (c0, d0) = parted(lines.q0);
-    let (c1, d1) = parted(lines.q1);
-    let (c2, d2) = parted(lines.q2);
-    let (c3, d3) = parted(lines.q3);
+    let (a3, b3) = split(lines.p3);
+    let (a2, b2) = split(lines.p2);
+    let (a1, b1) = split(lines.p1);
+    let (a0, b0) = split(lines.p0);
+    let (c0, d0) = split(lines.q0);
+    let (c1, d1) = split(lines.q1);
+    let (c2, d2) = split(lines.q2);
+    let (c3, d3) = split(lines.q3);
     let first = Taps {
         p3: a3,
         p2: a2,
@@ -110,12 +110,12 @@ pub fn filter_both(filter: EdgeFilter, limits: EdgeLimits, a: Taps, b: Taps) -> 
 {
     let lines = joined_lines(a, b);
     let changed = filter_wide(filter, limits, lines);
-    parted_lines(changed)
+    split_lines(changed)
 }
 
 /// Filters sixteen lines by the filter of their edge.
 #[inline(always)]
-pub fn filter_alone(filter: EdgeFilter, limits: EdgeLimits, taps: Taps) -> Taps
+pub fn filter_sixteen(filter: EdgeFilter, limits: EdgeLimits, taps: Taps) -> Taps
     requires limit { limits.edge < 255 }
     ensures { (i : ℕ) → i < 16 → line_at result i ≡ filtered_line filter limits (line_at taps i) }
 {

@@ -1,6 +1,6 @@
 use Rattle.std.proofs.Common.{◌+◌, refl}
 use Rattle.inter_predict.specs.Kernels.{IsStrip, tapped_twice}
-use Rattle.inter_predict.proofs.Twice.{same_strip, copied, across_alone, down_alone, across_then_down}
+use Rattle.inter_predict.proofs.Twice.{same_strip, copied, across_alone, down_alone}
 use Rattle.inter_predict.proofs.Predicted.{strip_predicts}
 use Rattle.inter_predict.proofs.strips.strip.Goals as goal
 
@@ -31,7 +31,4 @@ returns-in-false-true g c =
 pub returns-in-false-false : goal.returns-in-false-false
 returns-in-false-false g c =
     let xs = c.args.samples.now in
-    let strip : IsStrip (λ column row. tapped_twice c.args.filters.across c.args.filters.down xs c.args.stride (c.args.strip.first + column) row) c.args.strip.first g.row.N c.args.strip.height c.args.strip.stride c.args.out.now c.pass-in-false-false-2.new.out =
-    same_strip _ (λ column row. tapped_twice c.args.filters.across c.args.filters.down xs c.args.stride (c.args.strip.first + column) row) c.args.strip.first g.row.N c.args.strip.height c.args.strip.stride c.args.out.now c.pass-in-false-false-2.new.out c.pass-in-false-false-2.ensures.taps
-    (λ column row inside below. across_then_down c.args.filters.across c.args.filters.down xs c.pass-in-false-false.new.out _ c.args.stride c.args.strip.first g.row.N c.args.strip.height column row c.pass-in-false-false.ensures.taps inside below) in
-    record { taps = strip; samples = strip_predicts c.args.filters.across c.args.filters.down xs c.args.stride c.args.strip.first g.row.N c.args.strip.height c.args.strip.stride c.args.out.now c.pass-in-false-false-2.new.out strip }
+    record { taps = c.across_then_down.ensures; samples = strip_predicts c.args.filters.across c.args.filters.down xs c.args.stride c.args.strip.first g.row.N c.args.strip.height c.args.strip.stride c.args.out.now c.across_then_down.new.out c.across_then_down.ensures }

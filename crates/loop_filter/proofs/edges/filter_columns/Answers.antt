@@ -8,4 +8,4 @@ pub returns : goal.returns
 returns c =
     let f = filtered_line c.args.filter c.args.limits in
     c.store_columns.ensures
-    ∙ columns_edge f c.args.samples.now c.args.start c.args.stride 16 (λ i. row_of i (vectors c.filter_alone-changed.result)) c.requires.wide (λ i less. ap samples_of (c.filter_alone-changed.ensures i less ∙ ap f (c.load_columns-taps.ensures i less)))
+    ∙ columns_edge f c.args.samples.now c.args.start c.args.stride 16 (λ i. row_of i (vectors c.filter_sixteen-changed.result)) c.requires.wide (λ i less. ap samples_of (c.filter_sixteen-changed.ensures i less ∙ ap f (c.load_columns-taps.ensures i less)))

@@ -10,5 +10,5 @@ pub returns : goal.returns
 returns c =
     let f = filtered_line c.args.filter c.args.limits in
     c.store_rows.ensures.value
-    ∙ rows_edge f c.args.samples.now c.args.start c.args.stride 16 (vector c.filter_alone-changed.result) c.requires.wide c.store_rows.ensures.whole
-    (λ i k less below. lane_of_vector c.filter_alone-changed.result i k below ∙ ap (λ l. slice_index (samples_of l) k) (c.filter_alone-changed.ensures i less ∙ ap f (c.load_rows-taps.ensures i less)))
+    ∙ rows_edge f c.args.samples.now c.args.start c.args.stride 16 (vector c.filter_sixteen-changed.result) c.requires.wide c.store_rows.ensures.whole
+    (λ i k less below. lane_of_vector c.filter_sixteen-changed.result i k below ∙ ap (λ l. slice_index (samples_of l) k) (c.filter_sixteen-changed.ensures i less ∙ ap f (c.load_rows-taps.ensures i less)))

@@ -1,7 +1,7 @@
 use Rattle.std.specs.Prelude.{slice_index}
 use Rattle.std.proofs.Common.{◌≡◌, ◌+◌, ap, ◌∙◌, arith}
 use Rattle.loop_filter.proofs.Joined.{lanes_from}
-use Rattle.loop_filter.proofs.taps.parted.Goals as goal
+use Rattle.loop_filter.proofs.taps.split.Goals as goal
 
 pub returns-clause-first : goal.returns-clause-first
 returns-clause-first c = λ i less.
