@@ -12,7 +12,7 @@ use crate::edge_limits::{EdgeFilter, EdgeLimits};
 use crate::joined_edges::Starts;
 use crate::lanes::{load, store};
 use crate::pairs::{load_columns, store_columns};
-use crate::taps::{Taps, filter_sixteen, filter_both};
+use crate::taps::{Taps, filter_both, filter_sixteen};
 use std::simd::prelude::*;
 use std::simd::u8x16;
 
