@@ -1,83 +1,148 @@
--- Filters of adjacent samples.
+-- Lanes of 16 bits: products of samples with taps, and sums of these.
 use Rattle.std.specs.Prelude.{min, replicate, slice_index}
-use Rattle.std.specs.List.{range_with_len}
-use Rattle.std.proofs.Common.{◌≡◌, ℕ, ◌+◌, ◌-◌, ◌<◌, ◌≤◌, ◌*◌, ◌/◌, ◌%◌, List, [], ◌∷◌, map, get_or, length, refl, ap, subst, ◌∙◌, arith}
-use lib.Lanes.{zip2, chunk}
+use Rattle.std.proofs.Common.{◌≡◌, ℕ, ◌+◌, ◌-◌, ◌<◌, ◌≤◌, ◌*◌, ◌/◌, ◌%◌, List, map, length, refl, ap, subst, sym, ◌∙◌, arith}
+use lib.Lanes.{zip2}
 use Rattle.std.proofs.Math.Nat.{mul-le-mul_right}
-use Rattle.std.proofs.lemmas.List.FromFn.{fill_by_all, length-range_with_len, get_or-map-range_with_len}
-use Rattle.std.proofs.lemmas.Simd.{length-chunk, get_or-chunk}
+use Rattle.std.proofs.lemmas.List.{get_or-replicate, get_or-map, length-replicate}
+use Rattle.std.proofs.lemmas.Simd.{length-zip2, get_or-zip2}
 use Rattle.inter_predict.specs.declared.taps.Taps.{Taps}
 use Rattle.inter_predict.specs.Kernels.{IsTaps, tapped, tapped_at}
 
--- lanes of 16 bits: products with a tap, and sums of these
+-- products with a tap, and sums
 abbrev pub times : ℕ → List ℕ → ℕ → List ℕ
-times n xs tap = zip2 (λ a b. a * b % 65536) (map (λ (a : ℕ). a) xs) (replicate n tap)
+times n xs tap = zip2 (λ a b. a * b % 65536) xs (replicate n tap)
 
 abbrev pub plus : List ℕ → List ℕ → List ℕ
 plus xs ys = zip2 (λ a b. (a + b) % 65536) xs ys
 
--- the kernel's result for six vectors
-abbrev pub lanes_of : ℕ → Taps → List ℕ → List ℕ → List ℕ → List ℕ → List ℕ → List ℕ → List ℕ
-lanes_of n t as1 bs cs ds es fs =
-    map (λ lane. min (lane / 128) 255)
-    (zip2 (λ a b. a - b)
-    (plus (plus (plus (plus (times n as1 t.a) (times n cs t.c)) (times n ds t.d)) (times n fs t.f)) (replicate n 64))
-    (plus (times n bs t.b) (times n es t.e)))
+-- so many lanes, each the value of a function of its index
+pub record IsLanes (n : ℕ) (at : ℕ → ℕ) (xs : List ℕ) : Type 0 where
+  pub long : length xs ≡ n
+  pub each : (lane : ℕ) → lane < n → slice_index xs lane ≡ at lane
 
--- one lane of it
-abbrev pub lane_of : Taps → (ℕ → ℕ) → ℕ
-lane_of t s =
-    min (((((((s 0 * t.a % 65536 + s 2 * t.c % 65536) % 65536 + s 3 * t.d % 65536) % 65536 + s 5 * t.f % 65536) % 65536 + 64) % 65536
-    - (s 1 * t.b % 65536 + s 4 * t.e % 65536) % 65536) / 128)) 255
+splat : (n value : ℕ) → IsLanes n (λ lane. value) (replicate n value)
+splat n value = record { long = length-replicate n value; each = λ lane less. get_or-replicate n lane value 0 less }
+
+-- what is done to each lane
+combined : (f : ℕ → ℕ → ℕ) (n : ℕ) (at at' : ℕ → ℕ) (xs ys : List ℕ) → IsLanes n at xs → IsLanes n at' ys → IsLanes n (λ lane. f (at lane) (at' lane)) (zip2 f xs ys)
+combined f n at at' xs ys left right = record {
+  long = length-zip2 f xs ys (left.long ∙ sym right.long) ∙ left.long;
+  each = λ lane less. get_or-zip2 f xs ys lane 0 0 0 (rw left.long less) (rw right.long less) ∙ rw (left.each lane less, right.each lane less) refl;
+}
+
+-- the same lanes by another function
+same : (n : ℕ) (at at' : ℕ → ℕ) (xs : List ℕ) → IsLanes n at xs → ((lane : ℕ) → lane < n → at lane ≡ at' lane) → IsLanes n at' xs
+same n at at' xs lanes is = record { long = lanes.long; each = λ lane less. lanes.each lane less ∙ is lane less }
 
 -- a product of a sample and a tap
-product : (x tap bound : ℕ) → x < 256 → tap ≤ bound → bound ≤ 160 → (x * tap % 65536 ≡ x * tap) × (x * tap ≤ 255 * tap)
-product x tap bound small le few =
-    let times255 : x * tap ≤ 255 * tap = mul-le-mul_right tap (omega arith) in
-    (omega arith, times255)
+product : (x tap : ℕ) → x < 256 → x * tap ≤ 255 * tap
+product x tap small = mul-le-mul_right tap (omega arith)
 
--- nothing is lost in 16 bits
-lane_is : (t : Taps) (s : ℕ → ℕ) → IsTaps t → ((k : ℕ) → s k < 256) → lane_of t s ≡ tapped t s
+-- products with a tap, if all fit 16 bits
+multiplied : (n tap : ℕ) (at : ℕ → ℕ) (xs : List ℕ) → IsLanes n at xs → tap ≤ 160 → ((lane : ℕ) → lane < n → at lane < 256) → IsLanes n (λ lane. at lane * tap) (times n xs tap)
+multiplied n tap at xs lanes few bytes =
+    same n _ _ (times n xs tap) (combined (λ a b. a * b % 65536) n at (λ lane. tap) xs (replicate n tap) lanes (splat n tap))
+    (λ lane less. let small = product (at lane) tap (bytes lane less) in omega arith)
+
+-- sums, if all fit 16 bits
+summed : (n : ℕ) (at at' : ℕ → ℕ) (xs ys : List ℕ) → IsLanes n at xs → IsLanes n at' ys → ((lane : ℕ) → lane < n → at lane + at' lane < 65536) → IsLanes n (λ lane. at lane + at' lane) (plus xs ys)
+summed n at at' xs ys left right fits = same n _ _ (plus xs ys) (combined (λ a b. (a + b) % 65536) n at at' xs ys left right) (λ lane less. let small = fits lane less in omega arith)
+
+-- the lanes of a list
+own : (n : ℕ) (xs : List ℕ) → length xs ≡ n → IsLanes n (slice_index xs) xs
+own n xs long = record { long = long; each = λ lane less. refl }
+
+-- the products that a filter adds, and 64
+pub added_lanes : (n : ℕ) (t : Taps) (as1 cs ds fs : List ℕ) → IsTaps t → length as1 ≡ n → length cs ≡ n → length ds ≡ n → length fs ≡ n
+    → ((lane : ℕ) → lane < n → (slice_index as1 lane < 256) × (slice_index cs lane < 256) × (slice_index ds lane < 256) × (slice_index fs lane < 256)) → (lane : ℕ) → lane < n
+    → slice_index (plus (plus (plus (plus (times n as1 t.a) (times n cs t.c)) (times n ds t.d)) (times n fs t.f)) (replicate n 64)) lane
+    ≡ slice_index as1 lane * t.a + slice_index cs lane * t.c + slice_index ds lane * t.d + slice_index fs lane * t.f + 64
+added_lanes n t as1 cs ds fs small a c d f bytes =
+    let bound : (lane : ℕ) → lane < n → slice_index as1 lane * t.a + slice_index cs lane * t.c + slice_index ds lane * t.d + slice_index fs lane * t.f ≤ 255 * 160 = λ lane less.
+    let pa = product (slice_index as1 lane) t.a (bytes lane less).0 in
+    let pc = product (slice_index cs lane) t.c (bytes lane less).1 in
+    let pd = product (slice_index ds lane) t.d (bytes lane less).2 in
+    let pf = product (slice_index fs lane) t.f (bytes lane less).3 in
+    omega (arith, small.added) in
+    let ma = multiplied n t.a _ as1 (own n as1 a) (omega (arith, small.added)) (λ lane less. (bytes lane less).0) in
+    let mc = multiplied n t.c _ cs (own n cs c) (omega (arith, small.added)) (λ lane less. (bytes lane less).1) in
+    let md = multiplied n t.d _ ds (own n ds d) (omega (arith, small.added)) (λ lane less. (bytes lane less).2) in
+    let mf = multiplied n t.f _ fs (own n fs f) (omega (arith, small.added)) (λ lane less. (bytes lane less).3) in
+    let two = summed n _ _ _ _ ma mc (λ lane less. let b = bound lane less in omega arith) in
+    let three = summed n _ _ _ _ two md (λ lane less. let b = bound lane less in omega arith) in
+    let four = summed n _ _ _ _ three mf (λ lane less. let b = bound lane less in omega arith) in
+    let all = summed n _ _ _ _ four (splat n 64) (λ lane less. let b = bound lane less in omega arith) in
+    all.each
+
+-- the products that it subtracts
+pub taken_lanes : (n : ℕ) (t : Taps) (bs es : List ℕ) → IsTaps t → length bs ≡ n → length es ≡ n → ((lane : ℕ) → lane < n → (slice_index bs lane < 256) × (slice_index es lane < 256)) → (lane : ℕ) → lane < n
+    → slice_index (plus (times n bs t.b) (times n es t.e)) lane ≡ slice_index bs lane * t.b + slice_index es lane * t.e
+taken_lanes n t bs es small b e bytes =
+    let mb = multiplied n t.b _ bs (own n bs b) (omega (arith, small.taken)) (λ lane less. (bytes lane less).0) in
+    let me = multiplied n t.e _ es (own n es e) (omega (arith, small.taken)) (λ lane less. (bytes lane less).1) in
+    let all = summed n _ _ _ _ mb me (λ lane less.
+    let pb = product (slice_index bs lane) t.b (bytes lane less).0 in
+    let pe = product (slice_index es lane) t.e (bytes lane less).1 in
+    omega (arith, small.taken)) in
+    all.each
+
+-- the samples for both sums
+pub whole_lanes : (n : ℕ) (added taken : List ℕ) → length added ≡ n → length taken ≡ n → (lane : ℕ) → lane < n
+    → slice_index (map (λ (lane : ℕ). min (lane / 128) 255) (zip2 (λ a b. a - b) added taken)) lane ≡ min ((slice_index added lane - slice_index taken lane) / 128) 255
+whole_lanes n added taken long long' lane less =
+    let all = combined (λ a b. a - b) n _ _ added taken (own n added long) (own n taken long') in
+    get_or-map (λ (lane : ℕ). min (lane / 128) 255) (zip2 (λ a b. a - b) added taken) lane 0 0 (rw all.long less) ∙ ap (λ (value : ℕ). min (value / 128) 255) (all.each lane less)
+
+-- the sample that a filter returns, by one lane of both sums
+pub tapped_lane : (t : Taps) (s : ℕ → ℕ) (a b c d e f added taken : ℕ) → a ≡ s 0 → b ≡ s 1 → c ≡ s 2 → d ≡ s 3 → e ≡ s 4 → f ≡ s 5
+    → added ≡ a * t.a + c * t.c + d * t.d + f * t.f + 64 → taken ≡ b * t.b + e * t.e → min ((added - taken) / 128) 255 ≡ tapped t s
 unfolding tapped
-lane_is t s small bytes =
-    let a = product (s 0) t.a 160 (bytes 0) (omega (arith, small.added)) (omega arith) in
-    let b = product (s 1) t.b 160 (bytes 1) (omega (arith, small.taken)) (omega arith) in
-    let c = product (s 2) t.c 160 (bytes 2) (omega (arith, small.added)) (omega arith) in
-    let d = product (s 3) t.d 160 (bytes 3) (omega (arith, small.added)) (omega arith) in
-    let e = product (s 4) t.e 160 (bytes 4) (omega (arith, small.taken)) (omega arith) in
-    let f = product (s 5) t.f 160 (bytes 5) (omega (arith, small.added)) (omega arith) in
-    let sum2 : (s 0 * t.a + s 2 * t.c) % 65536 ≡ s 0 * t.a + s 2 * t.c = omega (arith, small.added) in
-    let sum3 : (s 0 * t.a + s 2 * t.c + s 3 * t.d) % 65536 ≡ s 0 * t.a + s 2 * t.c + s 3 * t.d = omega (arith, small.added) in
-    let sum4 : (s 0 * t.a + s 2 * t.c + s 3 * t.d + s 5 * t.f) % 65536 ≡ s 0 * t.a + s 2 * t.c + s 3 * t.d + s 5 * t.f = omega (arith, small.added) in
-    let sum5 : (s 0 * t.a + s 2 * t.c + s 3 * t.d + s 5 * t.f + 64) % 65536 ≡ s 0 * t.a + s 2 * t.c + s 3 * t.d + s 5 * t.f + 64 = omega (arith, small.added) in
-    let taken : (s 1 * t.b + s 4 * t.e) % 65536 ≡ s 1 * t.b + s 4 * t.e = omega (arith, small.taken) in
-    rw (a.0, b.0, c.0, d.0, e.0, f.0, sum2, sum3, sum4, sum5, taken) refl
+tapped_lane t s a b c d e f added taken at0 at1 at2 at3 at4 at5 sum less = rw (sum, less, at0, at1, at2, at3, at4, at5) refl
 
--- six vectors by a function of lane
-kernel_lanes : (t : Taps) (at : ℕ → ℕ → ℕ) (vs : List ℕ) → lanes_of (length vs) t (map (λ v. at v 0) vs) (map (λ v. at v 1) vs) (map (λ v. at v 2) vs) (map (λ v. at v 3) vs) (map (λ v. at v 4) vs) (map (λ v. at v 5) vs) ≡ map (λ v. lane_of t (at v)) vs
-kernel_lanes t at [] = refl
-kernel_lanes t at (v ∷ vs) = ap (λ (l : List ℕ). lane_of t (at v) ∷ l) (kernel_lanes t at vs)
+-- lanes with the samples of a row that begins at `start`
+pub record IsLine (n : ℕ) (xs : List ℕ) (start : ℕ) (line : List ℕ) : Type 0 where
+  pub value : (lane : ℕ) → lane < n → slice_index line lane ≡ slice_index xs (start + lane)
+  pub bytes : (lane : ℕ) → lane < n → slice_index line lane < 256
 
--- a load is a map over lanes
-loaded : (n at start off : ℕ) (xs : List ℕ) → at + n ≤ length xs → start + off ≡ at → chunk at n xs ≡ map (λ v. get_or xs (start + v + off) 0) (range_with_len 0 n)
-loaded n at start off xs room same =
-    fill_by_all (λ v. get_or xs (start + v + off) 0) (chunk at n xs) n 0 (length-chunk at n xs room)
-    (λ k less. get_or-chunk at n xs k 0 less ∙ ap (λ i. get_or xs i 0) (let e : at + k ≡ start + k + off = omega arith in e))
+moved : (n : ℕ) (xs : List ℕ) (start start' : ℕ) (line : List ℕ) → start ≡ start' → IsLine n xs start line → IsLine n xs start' line
+moved n xs start start' line same is = record { value = λ lane less. is.value lane less ∙ ap (λ (s : ℕ). slice_index xs (s + lane)) same; bytes = is.bytes }
 
--- the kernel over six loads, lane by lane
-pub tapped_lanes : (n : ℕ) (t : Taps) (xs : List ℕ) (start step : ℕ) → IsTaps t → ((k : ℕ) → get_or xs k 0 < 256) → start + 5 * step + n ≤ length xs → (lane : ℕ) → lane < n
-    → slice_index (lanes_of n t (chunk start n xs) (chunk (start + step) n xs) (chunk (start + 2 * step) n xs) (chunk (start + 3 * step) n xs) (chunk (start + 4 * step) n xs) (chunk (start + 5 * step) n xs)) lane
-    ≡ tapped_at t xs step (start + lane)
-tapped_lanes n t xs start step small bytes room lane less =
-    let at : ℕ → ℕ → ℕ = λ (v k : ℕ). get_or xs (start + v + k * step) 0 in
-    let vs : List ℕ = range_with_len 0 n in
-    let a = loaded n start start (0 * step) xs (omega arith) (omega arith) in
-    let b = loaded n (start + step) start (1 * step) xs (omega arith) (omega arith) in
-    let c = loaded n (start + 2 * step) start (2 * step) xs (omega arith) refl in
-    let d = loaded n (start + 3 * step) start (3 * step) xs (omega arith) refl in
-    let e = loaded n (start + 4 * step) start (4 * step) xs (omega arith) refl in
-    let f = loaded n (start + 5 * step) start (5 * step) xs (omega arith) refl in
-    let all : lanes_of n t (map (λ v. at v 0) vs) (map (λ v. at v 1) vs) (map (λ v. at v 2) vs) (map (λ v. at v 3) vs) (map (λ v. at v 4) vs) (map (λ v. at v 5) vs) ≡ map (λ v. lane_of t (at v)) vs =
-    let P : ℕ → Type 0 = λ (m : ℕ). lanes_of m t (map (λ v. at v 0) vs) (map (λ v. at v 1) vs) (map (λ v. at v 2) vs) (map (λ v. at v 3) vs) (map (λ v. at v 4) vs) (map (λ v. at v 5) vs) ≡ map (λ v. lane_of t (at v)) vs in
-    subst P (length-range_with_len 0 n) (kernel_lanes t at vs) in
-    rw (a, b, c, d, e, f) (ap (λ l. slice_index l lane) all ∙ get_or-map-range_with_len (λ v. lane_of t (at v)) 0 n lane lane 0 less (omega arith) ∙ lane_is t (at lane) small (λ k. bytes (start + lane + k * step)))
+-- five rows, `stride` samples apart
+pub record AreLines (n : ℕ) (xs : List ℕ) (start stride : ℕ) (a b c d e : List ℕ) : Type 0 where
+  pub first : IsLine n xs start a
+  pub second : IsLine n xs (start + stride) b
+  pub third : IsLine n xs (start + 2 * stride) c
+  pub fourth : IsLine n xs (start + 3 * stride) d
+  pub fifth : IsLine n xs (start + 4 * stride) e
+
+-- the first five rows
+pub first_lines : (n : ℕ) (xs : List ℕ) (start stride : ℕ) (a b c d e : List ℕ) → AreLines n xs start stride a b c d e → AreLines n xs (start + 0 * stride) stride a b c d e
+first_lines n xs start stride a b c d e lines = let same : start ≡ start + 0 * stride = omega arith in subst (λ (s : ℕ). AreLines n xs s stride a b c d e) same lines
+
+-- the five rows after the first
+pub next_lines : (n : ℕ) (xs : List ℕ) (start row stride : ℕ) (a b c d e f : List ℕ) → AreLines n xs (start + row * stride) stride a b c d e → IsLine n xs (start + (row + 5) * stride) f → AreLines n xs (start + (row + 1) * stride) stride b c d e f
+next_lines n xs start row stride a b c d e f lines sixth =
+    let further : (row + 1) * stride ≡ row * stride + stride = grind arith in
+    let furthest : (row + 5) * stride ≡ row * stride + 5 * stride = grind arith in
+    record {
+      first = moved n xs _ _ b (omega arith) lines.second;
+      second = moved n xs _ _ c (omega arith) lines.third;
+      third = moved n xs _ _ d (omega arith) lines.fourth;
+      fourth = moved n xs _ _ e (omega arith) lines.fifth;
+      fifth = moved n xs _ _ f (omega arith) sixth;
+    }
+
+-- a filter down, by one lane of its sums
+pub tapped_down : (n : ℕ) (t : Taps) (xs : List ℕ) (start row stride : ℕ) (a b c d e f : List ℕ) → AreLines n xs (start + row * stride) stride a b c d e → IsLine n xs (start + (row + 5) * stride) f → (added taken lane : ℕ) → lane < n
+    → added ≡ slice_index a lane * t.a + slice_index c lane * t.c + slice_index d lane * t.d + slice_index f lane * t.f + 64 → taken ≡ slice_index b lane * t.b + slice_index e lane * t.e
+    → min ((added - taken) / 128) 255 ≡ tapped_at t xs stride (start + row * stride + lane)
+tapped_down n t xs start row stride a b c d e f lines sixth added taken lane less sum rest =
+    let furthest : (row + 5) * stride ≡ row * stride + 5 * stride = grind arith in
+    tapped_lane t (λ k. slice_index xs (start + row * stride + lane + k * stride)) _ _ _ _ _ _ added taken
+    (lines.first.value lane less ∙ ap (slice_index xs) (omega arith))
+    (lines.second.value lane less ∙ ap (slice_index xs) (omega arith))
+    (lines.third.value lane less ∙ ap (slice_index xs) (omega arith))
+    (lines.fourth.value lane less ∙ ap (slice_index xs) (omega arith))
+    (lines.fifth.value lane less ∙ ap (slice_index xs) (omega arith))
+    (sixth.value lane less ∙ ap (slice_index xs) (omega (arith, furthest)))
+    sum rest

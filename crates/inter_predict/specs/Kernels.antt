@@ -4,6 +4,8 @@ use Rattle.pixel_planes.specs.Samples.{Samples}
 use Rattle.pixel_planes.specs.ReferenceSamples.{IsWindow}
 use Rattle.inter_predict.specs.InterSample.{between, fraction, predicted, whole_part}
 use Rattle.inter_predict.specs.declared.kinds.Kind.{Kind}
+use Rattle.inter_predict.specs.declared.passes.Direction.{Direction}
+use Rattle.inter_predict.specs.declared.passes.Direction.TheVariants.{Across, Down}
 use Rattle.inter_predict.specs.declared.taps.Taps.{Taps}
 
 -- six numbers as taps
@@ -27,6 +29,11 @@ IsNear place = (neg_ℤ (pos 4294967296) ≤ℤ place) × (place ≤ℤ pos 4294
 -- a coordinate as far as prediction reaches: past every side of a plane
 abbrev pub IsReached : ℤ → Type 0
 IsReached place = (neg_ℤ (pos 1099511627776) ≤ℤ place) × (place ≤ℤ pos 1099511627776)
+
+-- the distance of the samples that taps read: those of a row are next to each other, those of a column `stride` apart
+abbrev pub step_in : Direction → ℕ → ℕ
+step_in Across stride = 1
+step_in Down stride = stride
 
 -- the sample that taps return for six samples `step` apart
 abbrev pub tapped_at : Taps → List ℕ → ℕ → ℕ → ℕ

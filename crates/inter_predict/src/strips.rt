@@ -1,7 +1,7 @@
 ghost use Rattle.std.specs.Prelude.{◌≡◌, ℕ, ◌+◌, ◌-◌, ◌*◌, ◌<◌, ◌≤◌, length, slice_index};
 ghost use Rattle.inter_predict.specs.Kernels.{IsTaps, IsStrip, Predicts, tapped_twice};
 
-use crate::passes::pass;
+use crate::passes::{Direction, pass};
 use crate::rows::{Rows, Strip};
 use crate::taps::Filters;
 use std::simd::Simd;
@@ -53,13 +53,19 @@ fn across_then_down<const N: usize, const M: usize>(
         height: strip.height + 5,
         stride: N,
     };
-    pass::<N>(rows, 1, filters.across, between, &mut middle);
+    pass::<N>(
+        rows,
+        Direction::Across,
+        filters.across,
+        between,
+        &mut middle,
+    );
     let rows = Rows {
         samples: &middle,
         start: 0,
         stride: N,
     };
-    pass::<N>(rows, N, filters.down, strip, out);
+    pass::<N>(rows, Direction::Down, filters.down, strip, out);
 }
 
 /// Predicts `N` columns of a block: a strip of `out`.
@@ -104,7 +110,7 @@ pub fn strip<const N: usize, const M: usize>(
                 start,
                 stride,
             };
-            pass::<N>(rows, 1, across, strip, out);
+            pass::<N>(rows, Direction::Across, across, strip, out);
         }
         (true, false) => {
             let start = first + 2;
@@ -113,7 +119,7 @@ pub fn strip<const N: usize, const M: usize>(
                 start,
                 stride,
             };
-            pass::<N>(rows, stride, down, strip, out);
+            pass::<N>(rows, Direction::Down, down, strip, out);
         }
         (false, false) => {
             let rows = Rows {
