@@ -21,7 +21,7 @@ def library():
 
 
 def verdicts(packets):
-    """For each packet `ok`, `corrupt` or `failed`, in one decoder that goes on after each error."""
+    """For each packet `ok`, `corrupt` or `failed`, in one decoder that continues after each error."""
     vpx = library()
     room = ctypes.create_string_buffer(1024)
     if vpx.vpx_codec_dec_init_ver(room, vpx.vpx_codec_vp8_dx(), None, 0, ABI):
