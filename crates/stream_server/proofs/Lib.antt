@@ -1,3 +1,2 @@
 pub mod Flushed
 pub mod Ended
-pub mod SourcesRead

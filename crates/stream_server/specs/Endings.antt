@@ -1,6 +1,5 @@
 -- The results of the parts of a run.
 use Rattle.std.specs.Prelude.{◌≡◌, ◌≢◌, ◌⊎◌, Bool, false, ℕ, ◌<◌, ◌==◌, List, [], ◌∷◌, ◌++◌, length, Contains, Option, Some, IfSome, IsSome, codes, if◌then◌else◌}
-use Rattle.std.specs.List.{AllZip}
 use Rattle.std.specs.Fmt.{decimal}
 use Rattle.std.specs.Io.KnownBytes.{Keeps}
 use Rattle.vp8_tables.specs.Rfc.{rfc_entries}
@@ -15,45 +14,9 @@ use Rattle.frame_session.specs.Live.{CutsOff}
 use Rattle.frame_session.specs.Sessions.{Now, start}
 use Rattle.frame_session.specs.declared.live.LiveFault.{LiveFault}
 use Rattle.frame_session.specs.declared.live.LiveFault.TheVariants as lives
-use Rattle.frame_session.specs.declared.serving.RunFault.{RunFault}
-use Rattle.frame_session.specs.declared.serving.RunFault.TheVariants as runs
-use Rattle.stream_server.specs.declared.fault.Fault.{Fault}
-use Rattle.stream_server.specs.declared.fault.Fault.TheVariants.{CommandLine, NamedTwice, CannotRead, TooLong, Tables, Input, CannotWrite, NoMemory}
-
--- the most bytes that a file may have
-abbrev pub limit : ℕ
-limit = 1073741824
-
--- why the bytes of a reader with this name, which has these bytes left, were not read
-abbrev pub IsReadFault : List ℕ → Option (List ℕ) → Fault → Type 0
-IsReadFault name left (CannotRead path) = path.now ≡ name
-IsReadFault name left (TooLong path) = (path.now ≡ name) × IfSome left (λ bytes. limit < length bytes)
-IsReadFault name left NoMemory = Unit {0}
-IsReadFault name left _ = ⊥
-
--- the bytes of the files with these names, one for each: a file that is not named has the bytes `unnamed`
-abbrev pub AreNamed : (unnamed : List ℕ) → (names sources : List (List ℕ)) → Type 0
-AreNamed unnamed names sources = AllZip (λ name bytes. name ≡ codes "-" → bytes ≡ unnamed) names sources
-
--- why one of the files with these names was not read
-abbrev pub AreUnread : List (List ℕ) → Fault → Type 0
-AreUnread names (CannotRead path) = Contains names path.now
-AreUnread names (TooLong path) = Contains names path.now
-AreUnread names NoMemory = Unit {0}
-AreUnread names _ = ⊥
-
--- why the bytes of a text are not tables
-abbrev pub IsTableFault : List ℕ → Fault → Type 0
-IsTableFault bytes Tables = length bytes ≢ 3012
-IsTableFault bytes _ = ⊥
-
--- why the tables were not read from the file with this name: without a name nothing is read
-abbrev pub IsTablesFault : Option (List ℕ) → Fault → Type 0
-IsTablesFault named (CannotRead path) = named ≡ Some path.now
-IsTablesFault named (TooLong path) = named ≡ Some path.now
-IsTablesFault named Tables = IsSome named
-IsTablesFault named NoMemory = Unit {0}
-IsTablesFault named _ = ⊥
+use Rattle.command_lines.specs.Readings.{AreNamed, IsUnread}
+use Rattle.command_lines.specs.declared.fault.Fault.{Fault}
+use Rattle.command_lines.specs.declared.fault.Fault.TheVariants.{CommandLine, NamedTwice, CannotRead, TooLong, Tables, Input, CannotWrite, NoMemory}
 
 -- why the packets were not saved
 abbrev pub IsSaveFault : Fault → Type 0
@@ -101,18 +64,6 @@ IsRefused sources replies replies' NoMemory = Keeps replies replies'
 IsRefused sources replies replies' CannotWrite = Unit {0}
 IsRefused sources replies replies' _ = ⊥
 
--- a file with this name could not be read: the tables' or a source's, and then no byte of the requests was read, or the requests'
-abbrev pub IsUnread : (tables : Option (List ℕ)) → (sources : List (List ℕ)) → (requests : List ℕ) → (left left' : Option (List ℕ)) → List ℕ → Type 0
-IsUnread tables sources requests left left' name = ((tables ≡ Some name ⊎ Contains sources name) × (left' ≡ left)) ⊎ (requests ≡ name)
-
--- why a file was not read: the tables, a source or the requests
-abbrev pub IsInputFault : (tables : Option (List ℕ)) → (sources : List (List ℕ)) → (requests : List ℕ) → (left left' : Option (List ℕ)) → Fault → Type 0
-IsInputFault tables sources requests left left' (CannotRead path) = IsUnread tables sources requests left left' path.now
-IsInputFault tables sources requests left left' (TooLong path) = IsUnread tables sources requests left left' path.now
-IsInputFault tables sources requests left left' Tables = IsSome tables × (left' ≡ left)
-IsInputFault tables sources requests left left' NoMemory = Unit {0}
-IsInputFault tables sources requests left left' _ = ⊥
-
 -- why the program exits without an answer to all requests, in the order of its parts: a reading error comes before the first reply, a reading error of
 -- the tables or a source before the first byte of the requests is read, and an error in a source's bytes before the first reply
 abbrev pub IsEnded : (unnamed : List ℕ) → (tables : Option (List ℕ)) → (names : List (List ℕ)) → (requests : List ℕ) → (left left' replies replies' : Option (List ℕ)) → Fault → Type 0
@@ -125,12 +76,6 @@ IsEnded unnamed tables names requests left left' replies replies' (Input source 
     (sources : List (List ℕ)) × AreNamed unnamed names sources × SourceRefuses sources source fault × Keeps replies replies'
 IsEnded unnamed tables names requests left left' replies replies' CannotWrite = Unit {0}
 IsEnded unnamed tables names requests left left' replies replies' NoMemory = Unit {0}
-
--- a run's error as the program's
-abbrev pub reported_as : RunFault → Fault
-reported_as (runs.Ivf source fault) = Input source fault
-reported_as runs.Write = CannotWrite
-reported_as runs.NoMemory = NoMemory
 
 -- Requests that are answered as they come. `given` is what their reader gives, if it is known.
 

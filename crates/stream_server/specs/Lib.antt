@@ -1,4 +1,1 @@
 pub mod Endings
-pub mod Statuses
-pub mod Capacities
-pub mod CommandLines

@@ -2,17 +2,8 @@
 //! replies out.
 #![tactic(auto)]
 
-mod explain;
-mod fault;
-mod files;
-mod help;
 mod live;
-mod messages;
 mod program;
-mod sources;
-mod words;
 
-pub use fault::Fault;
-pub use files::{Argument, SameFile};
-pub use program::{run_to, serve, tell};
-pub use words::given;
+pub use command_lines::{Argument, Fault, SameFile, given, tell};
+pub use program::{run_to, serve};

@@ -1,14 +1,11 @@
 // Requests that are answered as they come.
 ghost use Rattle.std.specs.Prelude.{◌≡◌, ◌≤◌, ℕ, IfErr, IfOk, List, OnOk, Option, is_some, length, option_map};
 ghost use Rattle.frame_session.specs.Answers.{texts_of};
-ghost use Rattle.stream_server.specs.CommandLines.{source_names};
+ghost use Rattle.command_lines.specs.CommandLines.{source_names};
 ghost use Rattle.stream_server.specs.Endings.{IsInput, IsLiveEnded, IsLiveFault, IsLiveRefused, IsLiveReplied, IsServed, reported_live};
 
-use crate::fault::Fault;
-use crate::messages::Messages;
 use crate::program::{BYTES_AT_ONCE, end, save_to_path};
-use crate::sources::{read_sources, read_tables, slices_of};
-use crate::words::{Accepted, NO_FILE};
+use command_lines::{Accepted, Fault, Messages, NO_FILE, read_sources, read_tables, slices_of};
 use frame_session::{LiveFault, Session, Settings, run_live_observed};
 use std::fs::File;
 use std::io::{self, BufRead, BufReader, BufWriter, Read, Write};

@@ -1,23 +1,19 @@
 // The program over a reader and two writers.
-ghost use Rattle.std.specs.Prelude.{◌≡◌, ◌≢◌, ◌≤◌, ◌∷◌, [], ℕ, IfOk, IfErr, IfSome, List, OnOk, Option, Err, codes, false, is_some, length, map, option_map};
+ghost use Rattle.std.specs.Prelude.{◌≡◌, ◌≤◌, [], ℕ, IfOk, IfErr, List, OnOk, Option, is_some, length, map, option_map};
 ghost use Rattle.std.specs.Io.Buffered.{writer_buffer, writer_contents};
 ghost use Rattle.std.specs.Io.KnownBytes.{Appends};
-ghost use Rattle.clap.specs.Values.{kind_of};
 ghost use Rattle.frame_session.specs.Answers.{Means, texts_of};
 ghost use Rattle.frame_session.specs.Sessions.{Now};
-ghost use Rattle.vp8_tables.specs.Rfc.{rfc_entries};
-ghost use Rattle.stream_server.specs.CommandLines.{source_names};
-ghost use Rattle.stream_server.specs.Endings.{AreNamed, IsEnded, IsInputFault, IsRefused, IsReplied, IsRunFault, IsSaveFault, IsServed, saved_text, spare_text};
-ghost use Rattle.stream_server.specs.Statuses.{exit_status, status_of};
+ghost use Rattle.command_lines.specs.CommandLines.{source_names};
+ghost use Rattle.command_lines.specs.Readings.{AreNamed};
+ghost use Rattle.command_lines.specs.Statuses.{exit_status};
+ghost use Rattle.stream_server.specs.Endings.{IsEnded, IsRefused, IsReplied, IsRunFault, IsSaveFault, IsServed, saved_text, spare_text};
 
-use crate::explain::{explain_fault, explain_spare, is_asked};
-use crate::fault::Fault;
-use crate::files::Argument;
 use crate::live::answer_live;
-use crate::messages::Messages;
-use crate::sources::{read_requests, read_sources, read_tables, slices_of};
-use crate::words::{self, Accepted, NO_FILE, Words};
-use clap::error::ErrorKind;
+use command_lines::{
+    Accepted, Argument, Fault, Inputs, Messages, NO_FILE, Words, explain_fault, explain_spare,
+    help_or_fault, is_asked, parse, read_inputs, slices_of, tell,
+};
 use frame_session::{Observer, Session, Settings, run_observed};
 use std::alloc::Global;
 use std::convert::AsStr;
@@ -25,36 +21,9 @@ use std::fs::File;
 use std::io::{self, BufWriter, Read, Write};
 use std::rt::Files;
 use stream_files::EMPTY;
-use vp8_tables::Tables;
 
 /// The number of bytes of frames or packets that are buffered.
 pub const BYTES_AT_ONCE: usize = 65_536;
-
-/// Shows an error to the user, and returns its exit status. If `errors` refuses the
-/// text, only the status reports it.
-pub fn tell<E: Write>(fault: Fault<'_>, errors: &mut E) -> u8
-    ensures { result ≡ status_of fault.entry }
-{
-    let _ = writeln!(errors, "vp8serve: {fault}");
-    fault.status()
-}
-
-/// Answers arguments that could not be parsed: help or the version, if that was asked for.
-fn help_or_fault<O: Write>(error: clap::Error, output: &mut O) -> Result<(), Fault<'static>>
-    ensures help { kind_of error ≡ ErrorKind.DisplayHelp → IfErr result (λ fault. fault ≡ Fault.CannotWrite) }
-    ensures version { kind_of error ≡ ErrorKind.DisplayVersion → IfErr result (λ fault. fault ≡ Fault.CannotWrite) }
-    ensures memory { kind_of error ≡ ErrorKind.OutOfMemory → result ≡ Err Fault.NoMemory }
-    ensures mistake { kind_of error ≢ ErrorKind.DisplayHelp → kind_of error ≢ ErrorKind.DisplayVersion → kind_of error ≢ ErrorKind.OutOfMemory → result ≡ Err Fault.CommandLine }
-{
-    match error.kind() {
-        ErrorKind::DisplayHelp | ErrorKind::DisplayVersion => {
-            write!(output, "{error}").map_err(|_| Fault::CannotWrite)?;
-            output.flush().map_err(|_| Fault::CannotWrite)
-        }
-        ErrorKind::OutOfMemory => Err(Fault::NoMemory),
-        _ => Err(Fault::CommandLine),
-    }
-}
 
 /// Runs the requests over the files of the sources, 1 to 8, and flushes both writers. Returns the session after the last
 /// request.
@@ -194,38 +163,6 @@ pub fn end<E: Write>(
     }
 }
 
-/// What is read before the first request is answered.
-#[derive(Drop)]
-struct Inputs {
-    tables: Tables,
-    /// The bytes of each source.
-    sources: Vec<Vec<u8>>,
-    requests: Vec<u8>,
-}
-
-/// Reads the files of an accepted command line: the tables, the sources in their order, the requests.
-#[tactic(auto, using(crate::proofs::Ended::tables_unread, crate::proofs::Ended::sources_unread, crate::proofs::Ended::requests_unread))]
-fn read_inputs<'a, R: Files + AllocGlobal, I: Read>(
-    rt: &R,
-    line: &Accepted<'a>,
-    input: &mut I,
-) -> Result<Inputs, Fault<'a>>
-    ensures rfc { is_some line.now.words.tables ≡ false → IfOk result (λ inputs. inputs.tables ≡ rfc_entries) }
-    ensures named { IfOk result (λ inputs. AreNamed EMPTY (source_names line.now) (map (λ bytes. bytes.items) inputs.sources.items)) }
-    ensures input { line.now.words.requests.now ≡ codes "-" → IfOk result (λ inputs. IfSome (I.remaining input.old) (λ left. inputs.requests.items ≡ left)) }
-    ensures fault { IfErr result (IsInputFault (option_map (λ path. path.now) line.now.words.tables) (source_names line.now) line.now.words.requests.now (I.remaining input.old) (I.remaining input.new)) }
-{
-    let words = line.words;
-    let tables = read_tables(rt, words.tables)?;
-    let sources = read_sources(rt, words.stream, line.more.as_slice())?;
-    let requests = read_requests(rt, words.requests, input)?;
-    Ok(Inputs {
-        tables,
-        sources,
-        requests,
-    })
-}
-
 /// Answers the requests over what was read, and saves the packets of source 0 if that is asked for.
 #[tactic(auto, using(crate::proofs::Ended::run_ended, crate::proofs::Ended::save_ended))]
 fn answer_inputs<R: Files + AllocGlobal, O: Write, E: Write>(
@@ -291,7 +228,7 @@ fn answer_line<'a, R: Files + AllocGlobal, S: AsStr, I: Read, O: Write, E: Write
     output: &mut O,
     messages: &mut Messages<'_, E>,
 ) -> Result<(), Fault<'a>> {
-    match words::parse(rt.alloc(), words) {
+    match parse(rt.alloc(), words) {
         Ok(words) => {
             let line = words.accept(rt.alloc())?;
             if line.words.is_live {

@@ -3,11 +3,11 @@ ghost use Rattle.std.specs.Prelude.{◌≡◌, ◌+◌, ◌∷◌, IfOk, IfErr, 
 ghost use Rattle.frame_session.specs.Answers.{texts_of};
 ghost use Rattle.vp8_tables.specs.Rfc.{rfc_entries};
 ghost use Rattle.vp8_tables.specs.Tables.{entries_of};
-ghost use Rattle.stream_server.specs.CommandLines.{names_of};
-ghost use Rattle.stream_server.specs.Endings.{AreNamed, AreUnread, IsReadFault, IsTableFault, IsTablesFault};
+ghost use Rattle.command_lines.specs.CommandLines.{names_of, source_names};
+ghost use Rattle.command_lines.specs.Readings.{AreNamed, AreUnread, IsInputFault, IsReadFault, IsTableFault, IsTablesFault};
 
 use crate::fault::Fault;
-use crate::words::NO_FILE;
+use crate::words::{Accepted, NO_FILE};
 use std::alloc::Global;
 use std::fs::File;
 use std::io::Read;
@@ -128,4 +128,36 @@ pub fn read_requests<'a, R: Files + AllocGlobal, I: Read>(
     } else {
         read_file(rt, path)
     }
+}
+
+/// What is read before the first request is answered.
+#[derive(Drop)]
+pub struct Inputs {
+    pub tables: Tables,
+    /// The bytes of each source.
+    pub sources: Vec<Vec<u8>>,
+    pub requests: Vec<u8>,
+}
+
+/// Reads the files of an accepted command line: the tables, the sources in their order, the requests.
+#[tactic(auto, using(crate::proofs::Unread::tables_unread, crate::proofs::Unread::sources_unread, crate::proofs::Unread::requests_unread))]
+pub fn read_inputs<'a, R: Files + AllocGlobal, I: Read>(
+    rt: &R,
+    line: &Accepted<'a>,
+    input: &mut I,
+) -> Result<Inputs, Fault<'a>>
+    ensures rfc { is_some line.now.words.tables ≡ false → IfOk result (λ inputs. inputs.tables ≡ rfc_entries) }
+    ensures named { IfOk result (λ inputs. AreNamed EMPTY (source_names line.now) (map (λ bytes. bytes.items) inputs.sources.items)) }
+    ensures input { line.now.words.requests.now ≡ codes "-" → IfOk result (λ inputs. IfSome (I.remaining input.old) (λ left. inputs.requests.items ≡ left)) }
+    ensures fault { IfErr result (IsInputFault (option_map (λ path. path.now) line.now.words.tables) (source_names line.now) line.now.words.requests.now (I.remaining input.old) (I.remaining input.new)) }
+{
+    let words = line.words;
+    let tables = read_tables(rt, words.tables)?;
+    let sources = read_sources(rt, words.stream, line.more.as_slice())?;
+    let requests = read_requests(rt, words.requests, input)?;
+    Ok(Inputs {
+        tables,
+        sources,
+        requests,
+    })
 }

@@ -1,11 +1,11 @@
 // The errors that end the program early.
 ghost use Rattle.std.specs.Prelude.{◌≡◌, ◌≤◌};
-ghost use Rattle.stream_server.specs.Endings.{reported_as};
-ghost use Rattle.stream_server.specs.Statuses.{status_of};
+ghost use Rattle.command_lines.specs.Statuses.{reported_as, status_of};
 
 use crate::files::SameFile;
 use frame_session::RunFault;
 use std::fmt;
+use std::io::Write;
 use stream_files::IvfFault;
 use thiserror::Error;
 
@@ -75,4 +75,13 @@ impl From<RunFault> for Fault<'_> {
             RunFault::NoMemory => Fault::NoMemory,
         }
     }
+}
+
+/// Shows an error to the user, and returns its exit status. If `errors` refuses the
+/// text, only the status reports it.
+pub fn tell<E: Write>(fault: Fault<'_>, errors: &mut E) -> u8
+    ensures { result ≡ status_of fault.entry }
+{
+    let _ = writeln!(errors, "vp8serve: {fault}");
+    fault.status()
 }

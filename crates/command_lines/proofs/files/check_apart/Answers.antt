@@ -2,8 +2,8 @@ use Rattle.std.proofs.Common.{◌≢◌, ◌∙◌, All, Some, get_or, map, opti
 use Rattle.std.proofs.lemmas.Bool.{false≢true}
 use Rattle.std.proofs.lemmas.List.{map_more, take_all}
 use Rattle.std.proofs.lemmas.List.Elements.{All-push}
-use Rattle.stream_server.specs.CommandLines.{named_file}
-use Rattle.stream_server.proofs.files.check_apart.Goals as goal
+use Rattle.command_lines.specs.CommandLines.{named_file}
+use Rattle.command_lines.proofs.files.check_apart.Goals as goal
 
 pub loop-other-preserved : goal.loop-other-preserved
 loop-other-preserved c =

@@ -1,10 +1,10 @@
 use Rattle.std.proofs.Common.{None, ◌+◌, ◌∙◌, [], ◌∷◌, ap, map, rules, subst, sym, take}
 use Rattle.std.proofs.lemmas.List.{map-append}
 use Rattle.stream_files.specs.declared.ivf.TheConstants.{EMPTY}
-use Rattle.stream_server.specs.CommandLines.{names_of}
-use Rattle.stream_server.specs.Endings.{AreNamed}
-use Rattle.stream_server.proofs.SourcesRead.{named_at, named_more, source_unread}
-use Rattle.stream_server.proofs.sources.read_sources.Goals as goal
+use Rattle.command_lines.specs.CommandLines.{names_of}
+use Rattle.command_lines.specs.Readings.{AreNamed}
+use Rattle.command_lines.proofs.SourcesRead.{named_at, named_more, source_unread}
+use Rattle.command_lines.proofs.sources.read_sources.Goals as goal
 
 pub loop-path-preserved : goal.loop-path-preserved
 loop-path-preserved g c =

@@ -3,15 +3,15 @@ use Rattle.std.specs.Prelude.{◌≡◌, ◌≢◌, ◌⊎◌, ℕ, ◌<◌, ◌
 use Rattle.std.specs.Cmp.Lexicographic.{pointwise}
 use Rattle.std.specs.Borrow.{Bor}
 use Rattle.std.specs.List.{slice_split, starts_with}
-use Rattle.stream_server.specs.Capacities.{capacity_given}
-use Rattle.stream_server.specs.declared.files.Argument.{Argument}
-use Rattle.stream_server.specs.declared.files.Argument.TheVariants.{In, Sources, Requests, Out, Tables, Save}
-use Rattle.stream_server.specs.declared.files.Named.{Named}
-use Rattle.stream_server.specs.declared.files.SameFile.{SameFile}
-use Rattle.stream_server.specs.declared.fault.Fault.{Fault}
-use Rattle.stream_server.specs.declared.fault.Fault.TheVariants as faults
-use Rattle.stream_server.specs.declared.words.Accepted.{Accepted}
-use Rattle.stream_server.specs.declared.words.Words.{Words}
+use Rattle.command_lines.specs.Capacities.{capacity_given}
+use Rattle.command_lines.specs.declared.files.Argument.{Argument}
+use Rattle.command_lines.specs.declared.files.Argument.TheVariants.{In, Sources, Requests, Out, Tables, Save}
+use Rattle.command_lines.specs.declared.files.Named.{Named}
+use Rattle.command_lines.specs.declared.files.SameFile.{SameFile}
+use Rattle.command_lines.specs.declared.fault.Fault.{Fault}
+use Rattle.command_lines.specs.declared.fault.Fault.TheVariants as faults
+use Rattle.command_lines.specs.declared.words.Accepted.{Accepted}
+use Rattle.command_lines.specs.declared.words.Words.{Words}
 
 abbrev pub names_of : List (Bor (List ℕ)) → List (List ℕ)
 names_of paths = map (λ path. path.now) paths

@@ -4,10 +4,10 @@ use Rattle.std.specs.Prelude.{Contains, codes, slice_index_or}
 use Rattle.std.specs.Borrow.{Bor}
 use Rattle.std.proofs.lemmas.List.{map_more}
 use Rattle.std.proofs.lemmas.List.Elements.{AllZip-push}
-use Rattle.stream_server.specs.CommandLines.{names_of}
-use Rattle.stream_server.specs.Endings.{AreNamed, AreUnread, IsReadFault}
-use Rattle.stream_server.specs.declared.fault.Fault.{Fault}
-use Rattle.stream_server.specs.declared.fault.Fault.TheVariants.{CommandLine, NamedTwice, CannotRead, TooLong, Tables, Input, CannotWrite, NoMemory}
+use Rattle.command_lines.specs.CommandLines.{names_of}
+use Rattle.command_lines.specs.Readings.{AreNamed, AreUnread, IsReadFault}
+use Rattle.command_lines.specs.declared.fault.Fault.{Fault}
+use Rattle.command_lines.specs.declared.fault.Fault.TheVariants.{CommandLine, NamedTwice, CannotRead, TooLong, Tables, Input, CannotWrite, NoMemory}
 
 -- the bytes of one more source
 pub named_more : (unnamed first : List ℕ) (more : List (Bor (List ℕ))) (n : ℕ) (d : Bor (List ℕ)) (sources : List (List ℕ)) (bytes : List ℕ) → n < length more → AreNamed unnamed (first ∷ names_of (take n more)) sources → ((slice_index_or more n d).now ≡ codes "-" → bytes ≡ unnamed) → AreNamed unnamed (first ∷ names_of (take (n + 1) more)) (sources ++ bytes ∷ [])

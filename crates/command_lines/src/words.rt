@@ -2,8 +2,8 @@
 ghost use Rattle.std.specs.Prelude.{◌≡◌, ◌≤◌, ◌==◌, IfErr, IfOk, IfSome, OnOk, None, codes, length, option_map};
 ghost use Rattle.std.specs.List.{slice_split};
 ghost use Rattle.clap.specs.Matches.{first_value, found_of};
-ghost use Rattle.stream_server.specs.Capacities.{capacity_given};
-ghost use Rattle.stream_server.specs.CommandLines.{AreNoPaths, ArePaths, IsAccepted, IsMistake, names_of, pads_nothing, paths_in};
+ghost use Rattle.command_lines.specs.Capacities.{capacity_given};
+ghost use Rattle.command_lines.specs.CommandLines.{AreNoPaths, ArePaths, IsAccepted, IsMistake, names_of, pads_nothing, paths_in};
 
 use crate::fault::Fault;
 use crate::files::check_files;

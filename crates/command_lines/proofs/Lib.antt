@@ -1,0 +1,2 @@
+pub mod SourcesRead
+pub mod Unread

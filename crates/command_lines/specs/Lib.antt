@@ -1,0 +1,4 @@
+pub mod Capacities
+pub mod CommandLines
+pub mod Readings
+pub mod Statuses

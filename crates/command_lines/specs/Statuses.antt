@@ -1,0 +1,28 @@
+-- The program's errors and exit statuses.
+use Rattle.std.specs.Prelude.{ℕ, Result, Ok, Err}
+use Rattle.frame_session.specs.declared.serving.RunFault.{RunFault}
+use Rattle.frame_session.specs.declared.serving.RunFault.TheVariants as runs
+use Rattle.command_lines.specs.declared.fault.Fault.{Fault}
+use Rattle.command_lines.specs.declared.fault.Fault.TheVariants.{CommandLine, NamedTwice, CannotRead, TooLong, Tables, Input, CannotWrite, NoMemory}
+
+-- a mistake on the command line has status 2, every other error 1
+abbrev pub status_of : Fault → ℕ
+status_of CommandLine = 2
+status_of (NamedTwice same) = 2
+status_of (CannotRead path) = 1
+status_of (TooLong path) = 1
+status_of Tables = 1
+status_of (Input source fault) = 1
+status_of CannotWrite = 1
+status_of NoMemory = 1
+
+-- the status that the program exits with: 0 without an error
+abbrev pub exit_status : {A : Type 0} → Result A Fault → ℕ
+exit_status (Ok a) = 0
+exit_status (Err fault) = status_of fault
+
+-- a run's error as the program's
+abbrev pub reported_as : RunFault → Fault
+reported_as (runs.Ivf source fault) = Input source fault
+reported_as runs.Write = CannotWrite
+reported_as runs.NoMemory = NoMemory
