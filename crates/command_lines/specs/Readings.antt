@@ -2,7 +2,7 @@
 use Rattle.std.specs.Prelude.{◌≡◌, ◌≢◌, ◌⊎◌, ℕ, ◌<◌, List, length, Contains, Option, Some, IfSome, IsSome, codes}
 use Rattle.std.specs.List.{AllZip}
 use Rattle.command_lines.specs.declared.fault.Fault.{Fault}
-use Rattle.command_lines.specs.declared.fault.Fault.TheVariants.{CommandLine, NamedTwice, CannotRead, TooLong, Tables, Input, CannotWrite, NoMemory}
+use Rattle.command_lines.specs.declared.fault.Fault.TheVariants.{CannotRead, TooLong, Tables, NoMemory}
 
 -- the most bytes that a file may have
 abbrev pub limit : ℕ

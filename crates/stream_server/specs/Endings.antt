@@ -1,5 +1,5 @@
 -- The results of the parts of a run.
-use Rattle.std.specs.Prelude.{◌≡◌, ◌≢◌, ◌⊎◌, Bool, false, ℕ, ◌<◌, ◌==◌, List, [], ◌∷◌, ◌++◌, length, Contains, Option, Some, IfSome, IsSome, codes, if◌then◌else◌}
+use Rattle.std.specs.Prelude.{◌≡◌, ◌⊎◌, Bool, false, ℕ, ◌==◌, List, [], ◌∷◌, ◌++◌, Option, IfSome, IsSome, codes, if◌then◌else◌}
 use Rattle.std.specs.Fmt.{decimal}
 use Rattle.std.specs.Io.KnownBytes.{Keeps}
 use Rattle.vp8_tables.specs.Rfc.{rfc_entries}

@@ -1,4 +1,5 @@
-//! Worked blocks: inverse transforms, intra prediction, inter prediction and the loop filter, sample by sample.
+//! Worked planes and blocks, sample by sample: rows, borders and windows of planes, pictures that share them, spare planes;
+//! inverse transforms, intra prediction, inter prediction and the loop filter.
 #![tactic(auto)]
 
 #[cfg(test)]
@@ -7,5 +8,9 @@ mod filters;
 mod inter;
 #[cfg(test)]
 mod intra;
+#[cfg(test)]
+mod pictures;
+#[cfg(test)]
+mod planes;
 #[cfg(test)]
 mod residuals;

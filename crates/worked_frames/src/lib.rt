@@ -1,7 +1,15 @@
-//! Worked request lists for frames: modes, vectors, residuals and filters. Each is run whole and its frames are
-//! compared with the bytes that it must give.
+//! Worked request lists for frames, edits and cached states: modes, vectors, residuals and filters; edits of all kinds, and
+//! the states that are cached after them. Each is run whole and compared with the bytes that it must give.
 #![tactic(auto)]
 
+#[cfg(test)]
+mod cached;
+#[cfg(test)]
+mod dropped;
+#[cfg(test)]
+mod edits;
+#[cfg(test)]
+mod expected;
 #[cfg(test)]
 mod filters;
 #[cfg(test)]
@@ -12,3 +20,5 @@ mod inter;
 mod modes;
 #[cfg(test)]
 mod residuals;
+#[cfg(test)]
+mod sources;
