@@ -21,14 +21,21 @@ const STREAM: [u8; 99] = [
     3, 0, 0, 0, 3, 0, 0, 0, 0, 0, 0, 0, 0x11, 0, 0,
 ];
 
+/// The packets of an IVF file.
+fn read(alloc: Global, bytes: &[u8]) -> Result<Ivf, IvfFault>
+    ensures few { IfOk result (λ file. length file.packets ≤ 1048576) }
+{
+    match ivf_read(alloc, bytes) {
+        Err(IvfFault::NoMemory) => ivf_read(alloc, bytes),
+        read => read,
+    }
+}
+
 /// The packets of the stream.
 pub fn stream(alloc: Global) -> Result<Ivf, IvfFault>
     ensures few { IfOk result (λ file. length file.packets ≤ 1048576) }
 {
-    match ivf_read(alloc, &STREAM) {
-        Err(IvfFault::NoMemory) => ivf_read(alloc, &STREAM),
-        read => read,
-    }
+    read(alloc, &STREAM)
 }
 
 /// A copy of some bytes.

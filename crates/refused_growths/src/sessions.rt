@@ -41,20 +41,27 @@ fn frame(session: &mut Session, n: u64) -> Result<Picture, Refusal> {
     }
 }
 
-/// The state after the key packet, and its picture.
-fn key_state(alloc: Global) -> Result<(State, Picture), StepFault> {
-    match step(alloc, &Tables::rfc(), None, KEY) {
-        Err(StepFault::NoMemory) => step(alloc, &Tables::rfc(), None, KEY),
+/// The state after a packet, and its picture.
+fn step_over(
+    alloc: Global,
+    tables: &Tables,
+    state: Option<&State>,
+    packet: &[u8],
+) -> Result<(State, Picture), StepFault> {
+    match step(alloc, tables, state, packet) {
+        Err(StepFault::NoMemory) => step(alloc, tables, state, packet),
         answer => answer,
     }
 }
 
+/// The state after the key packet, and its picture.
+fn key_state(alloc: Global) -> Result<(State, Picture), StepFault> {
+    step_over(alloc, &Tables::rfc(), None, KEY)
+}
+
 /// The state after a packet with no key tag, and its picture.
 fn stepped(alloc: Global, state: &State) -> Result<(State, Picture), StepFault> {
-    match step(alloc, &Tables::rfc(), Some(state), INTER) {
-        Err(StepFault::NoMemory) => step(alloc, &Tables::rfc(), Some(state), INTER),
-        answer => answer,
-    }
+    step_over(alloc, &Tables::rfc(), Some(state), INTER)
 }
 
 /// Prints the number of packets and of frames.

@@ -14,25 +14,33 @@ const SHOWN: &[u8] = &[0x11, 0, 0];
 
 const HIDDEN: &[u8] = &[0x01, 0, 0];
 
+/// A packet of these bytes.
+fn packet_of(alloc: Global, stamp: u64, bytes: &[u8]) -> Result<Packet, NoMemory> {
+    let bytes = Bytes::from_slice(alloc, bytes)?;
+    Ok(Packet { stamp, bytes })
+}
+
 fn packets_of(alloc: Global, rows: &[(u64, &[u8])]) -> Result<Packets, NoMemory> {
     let mut packets = Vec::new(alloc);
     for (stamp, bytes) in rows {
-        packets.push(Packet {
-            stamp: *stamp,
-            bytes: Bytes::from_slice(alloc, bytes)?,
-        })?;
+        packets.push(packet_of(alloc, *stamp, bytes)?)?;
     }
     Ok(Packets::new(packets))
+}
+
+/// A packet of no bytes.
+fn empty_packet(alloc: Global) -> Packet {
+    Packet {
+        stamp: 0,
+        bytes: Bytes::new(Vec::new(alloc)),
+    }
 }
 
 /// `count` packets of no bytes.
 fn empty_packets(alloc: Global, count: usize) -> Result<Packets, NoMemory> {
     let mut packets = Vec::with_capacity(alloc, count)?;
     for _ in 0..count {
-        packets.push(Packet {
-            stamp: 0,
-            bytes: Bytes::new(Vec::new(alloc)),
-        })?;
+        packets.push(empty_packet(alloc))?;
     }
     Ok(Packets::new(packets))
 }

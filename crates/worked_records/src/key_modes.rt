@@ -147,19 +147,32 @@ fn write_pairs(encoder: &mut Encoder, pairs: &[(bool, u8)]) -> Result<(), AllocE
     Ok(())
 }
 
-/// A header whose fields are 0, except a probability of skipping of 200 if requested.
-fn write_header(encoder: &mut Encoder, tables: &Tables, skips: bool) -> Result<(), AllocError> {
-    for _field in 0..29 {
-        encoder.bit(false, 128)?;
-    }
-    for prob in tables.updates() {
+/// Writes 0 at each of these probabilities.
+fn write_zeros(encoder: &mut Encoder, probabilities: &[u8]) -> Result<(), AllocError> {
+    for prob in probabilities {
         encoder.bit(false, *prob)?;
     }
-    encoder.bit(skips, 128)?;
+    Ok(())
+}
+
+/// Writes bits at even odds.
+fn write_bits(encoder: &mut Encoder, bits: &[bool]) -> Result<(), AllocError> {
+    for bit in bits {
+        encoder.bit(*bit, 128)?;
+    }
+    Ok(())
+}
+
+/// A header whose fields are 0, except a probability of skipping of 200 if requested.
+fn write_header(encoder: &mut Encoder, tables: &Tables, skips: bool) -> Result<(), AllocError> {
+    write_zeros(encoder, &[128; 29])?;
+    write_zeros(encoder, tables.updates().as_slice())?;
+    write_bits(encoder, &[skips])?;
     if skips {
-        for bit in [true, true, false, false, true, false, false, false] {
-            encoder.bit(bit, 128)?;
-        }
+        write_bits(
+            encoder,
+            &[true, true, false, false, true, false, false, false],
+        )?;
     }
     Ok(())
 }

@@ -6,11 +6,16 @@ use std::process::Abort;
 use std::test::Fail;
 use vp8_tables::Tables;
 
+/// The tables whose entries are these bytes.
+fn tables_of(rt: &impl Abort, bytes: &[u8]) -> Tables {
+    Tables::read(bytes).expect(rt, "3,012 bytes")
+}
+
 /// Tables whose update probabilities are all 255, and whose other entries are 128.
 fn tables(rt: &impl Abort, alloc: Global) -> Result<Tables, NoMemory> {
     let mut bytes = vec![in alloc; 128; 3012]?;
     bytes.as_mut_slice()[1056..2112].fill(255);
-    Ok(Tables::read(&bytes).expect(rt, "3,012 bytes"))
+    Ok(tables_of(rt, bytes.as_slice()))
 }
 
 // The pairs as encoded by a separate encoder, written in Python after RFC 6386, section 7.3.
@@ -72,7 +77,12 @@ fn is_grey_row(plane: &Plane, y: i64) -> bool {
 
 /// Whether the first 16 rows are.
 fn is_grey(plane: &Plane) -> bool {
-    (0..16).all(|y| is_grey_row(plane, y))
+    for y in 0..16 {
+        if !is_grey_row(plane, y) {
+            return false;
+        }
+    }
+    true
 }
 
 /// Whether a picture is 128 in that square of each plane.

@@ -9,10 +9,15 @@ use vp8_tables::Tables;
 /// A key packet of 16 by 16 samples that reads 0 at every bit.
 const KEY: [u8; 10] = [0x10, 0, 0, 0x9D, 1, 0x2A, 0x10, 0, 0x10, 0];
 
+/// The state after a packet that is decoded from none.
+fn state_after(rt: &impl Abort, alloc: Global, packet: &[u8]) -> State {
+    let decoded = step(alloc, &Tables::flat(), None, packet);
+    decoded.expect(rt, "a key packet").0
+}
+
 /// The state after the key packet.
 fn key_state(rt: &impl Abort, alloc: Global) -> State {
-    let decoded = step(alloc, &Tables::flat(), None, &KEY);
-    decoded.expect(rt, "a key packet").0
+    state_after(rt, alloc, &KEY)
 }
 
 /// A packet with no key tag whose fields are 0 up to its quantizers, and continue with these
@@ -57,11 +62,15 @@ fn references_change_alone(rt: HostRuntime) -> Result<(), Fail> {
     Ok(())
 }
 
-/// A key packet of this width and 16 rows that reads 0 at every bit.
-fn wide_key(width: u8) -> [u8; 10] {
-    let mut packet = KEY;
+/// A packet with another width below 256.
+fn widened(mut packet: [u8; 10], width: u8) -> [u8; 10] {
     packet[6] = width;
     packet
+}
+
+/// A key packet of this width and 16 rows that reads 0 at every bit.
+fn wide_key(width: u8) -> [u8; 10] {
+    widened(KEY, width)
 }
 
 /// Steps a packet with the spare planes and with fresh ones, and returns whether both give the
