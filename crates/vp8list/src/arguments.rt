@@ -112,33 +112,47 @@ pub fn given<R: Env + AllocGlobal>(rt: &R) -> Result<Vec<String>, Fault<'static>
     words.collect(rt.alloc()).map_err(|_| Fault::NoMemory)
 }
 
-/// The program's arguments.
-fn command<'a>(alloc: Global) -> Result<Command<'a>, AllocError> {
-    let stream = Arg::new(alloc, "IN").required(true).help("IVF file");
-    let tables = Arg::new(alloc, "tables")
+/// The argument that has a place.
+fn stream<'a>(alloc: Global) -> Arg<'a> {
+    Arg::new(alloc, "IN").required(true).help("IVF file")
+}
+
+/// The option for the file of the long tables.
+fn tables_option<'a>(alloc: Global) -> Arg<'a> {
+    Arg::new(alloc, "tables")
         .long("tables")
         .value_name("FILE")
-        .help("3012 bytes to use instead of RFC 6386's long tables");
-    let hash = Arg::new(alloc, "hash")
-        .long("hash")
+        .help("3012 bytes to use instead of RFC 6386's long tables")
+}
+
+/// An option that has no value.
+fn flag<'a>(alloc: Global, id: &'a str, help: &'a str) -> Arg<'a> {
+    Arg::new(alloc, id)
+        .long(id)
         .action(ArgAction::SetTrue)
-        .help("The MD5 of each frame, as ffmpeg's framemd5");
-    let json = Arg::new(alloc, "json")
-        .long("json")
-        .action(ArgAction::SetTrue)
-        .help("A JSON object a packet");
-    let check = Arg::new(alloc, "check")
-        .long("check")
-        .action(ArgAction::SetTrue)
-        .help("Report what is wrong with the stream instead");
-    Command::new(alloc, "vp8list")
+        .help(help)
+}
+
+/// Adds the options that ask for something else than the list.
+fn with_outputs<'a>(alloc: Global, command: Command<'a>) -> Result<Command<'a>, AllocError> {
+    command
+        .arg(flag(alloc, "hash", "The MD5 of each frame, as ffmpeg's framemd5"))?
+        .arg(flag(alloc, "json", "A JSON object a packet"))?
+        .arg(flag(
+            alloc,
+            "check",
+            "Report what is wrong with the stream instead",
+        ))
+}
+
+/// The program's arguments.
+fn command<'a>(alloc: Global) -> Result<Command<'a>, AllocError> {
+    let command = Command::new(alloc, "vp8list")
         .version(VERSION)
         .about(ABOUT)
-        .arg(stream)?
-        .arg(tables)?
-        .arg(hash)?
-        .arg(json)?
-        .arg(check)
+        .arg(stream(alloc))?
+        .arg(tables_option(alloc))?;
+    with_outputs(alloc, command)
 }
 
 /// The output that the options ask for; `None` if there is more than one of them.
