@@ -161,9 +161,14 @@ pub fn given<R: Env + AllocGlobal>(rt: &R) -> Result<Vec<String>, Fault<'static>
     words.collect(rt.alloc()).map_err(|_| Fault::NoMemory)
 }
 
-/// An optional argument.
+/// A positional argument, with its value if it is not given.
+fn positional<'a>(alloc: Global, id: &'a str, value: &'a str, help: &'a str) -> Arg<'a> {
+    Arg::new(alloc, id).default_value(value).help(help)
+}
+
+/// A positional argument that names no file if it is not given.
 fn optional<'a>(alloc: Global, id: &'a str, help: &'a str) -> Arg<'a> {
-    Arg::new(alloc, id).default_value(NO_FILE).help(help)
+    positional(alloc, id, NO_FILE, help)
 }
 
 /// An option that has a value.
