@@ -21,12 +21,19 @@ const STREAM: [u8; 99] = [
     3, 0, 0, 0, 3, 0, 0, 0, 0, 0, 0, 0, 0x11, 0, 0,
 ];
 
+/// The packets of an IVF file, in one attempt.
+fn try_read(alloc: Global, bytes: &[u8]) -> Result<Ivf, IvfFault>
+    ensures few { IfOk result (λ file. length file.packets ≤ 1048576) }
+{
+    ivf_read(alloc, bytes)
+}
+
 /// The packets of an IVF file.
 fn read(alloc: Global, bytes: &[u8]) -> Result<Ivf, IvfFault>
     ensures few { IfOk result (λ file. length file.packets ≤ 1048576) }
 {
-    match ivf_read(alloc, bytes) {
-        Err(IvfFault::NoMemory) => ivf_read(alloc, bytes),
+    match try_read(alloc, bytes) {
+        Err(IvfFault::NoMemory) => try_read(alloc, bytes),
         read => read,
     }
 }
