@@ -34,6 +34,15 @@ pub record ArePaths (paths : List (List ℕ)) : Type 0 where
 abbrev pub AreNoPaths : List (List ℕ) → Type 0
 AreNoPaths paths = (7 < length paths) ⊎ Contains paths []
 
+-- the name of an argument in help
+abbrev pub argument_name : Argument → List ℕ
+argument_name In = codes "IN"
+argument_name Sources = codes "--sources"
+argument_name Requests = codes "REQUESTS"
+argument_name Out = codes "OUT"
+argument_name Tables = codes "--tables"
+argument_name Save = codes "--save"
+
 -- an argument, and the path of the file that it names, if it names one
 abbrev pub NamedFile : Type 0
 NamedFile = Argument × Option (List ℕ)

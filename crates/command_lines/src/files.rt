@@ -1,6 +1,6 @@
 // The files that the command line names: a file that is written is not named twice.
 ghost use Rattle.std.specs.Prelude.{◌≡◌, ◌↔◌, IfErr, IfOk, IsTrue, OnOk, Some, map, option_map};
-ghost use Rattle.command_lines.specs.CommandLines.{AreApart, IsApart, IsFileFault, IsNamedTwice, IsSameFile, file_of, is_device, named_file, names_of, out_file, read_files, saved_file};
+ghost use Rattle.command_lines.specs.CommandLines.{AreApart, argument_name, IsApart, IsFileFault, IsNamedTwice, IsSameFile, file_of, is_device, named_file, names_of, out_file, read_files, saved_file};
 
 use crate::fault::Fault;
 use crate::words::{NO_FILE, Words};
@@ -20,7 +20,9 @@ pub enum Argument {
 
 impl Argument {
     /// The name that help gives it.
-    pub fn name(self) -> &'static str {
+    pub fn name(self) -> &'static str
+        ensures { result.now ≡ argument_name self }
+    {
         match self {
             Argument::In => "IN",
             Argument::Sources => "--sources",

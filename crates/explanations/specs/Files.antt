@@ -1,5 +1,5 @@
 -- Why a file is not read as a stream, and the record that the end of a file cuts off.
-use Rattle.std.specs.Prelude.{◌≡◌, ◌+◌, ℕ, Bool, nat_le, if◌then◌else◌, List, ◌∷◌, [], length, take, drop, Option, Some, None, codes}
+use Rattle.std.specs.Prelude.{◌≡◌, ◌+◌, ℕ, Bool, nat_le, if◌then◌else◌, List, ◌∷◌, [], length, take, Some, None}
 use Rattle.std.specs.Str.{bytes_eq}
 use Rattle.byteorder.specs.Endian.{little_number}
 use Rattle.stream_files.specs.Ivf.{HasRecord, Records, body, header_length}

@@ -3,7 +3,8 @@ use Rattle.std.specs.Prelude.{ℕ, ◌%◌, ◌==◌, nat_eq, if◌then◌else�
 use Rattle.std.specs.List.{starts_with}
 use Rattle.std.specs.Option.{option_or}
 use Rattle.std.specs.Str.{bytes_eq}
-use Rattle.frame_session.specs.Words.{bytes_of, number_of, words_of}
+use Rattle.text_words.specs.Words.{number_of, words_of}
+use Rattle.request_lines.specs.HexWords.{bytes_of}
 use Rattle.explanations.specs.Words.{shown_word}
 use Rattle.explanations.specs.declared.lines.Kind.{Kind}
 use Rattle.explanations.specs.declared.lines.Kind.TheVariants.{Number, Bytes, Text}

@@ -4,11 +4,11 @@ use Rattle.std.specs.Fmt.{decimal}
 use Rattle.frame_header.specs.declared.cause.Cause.{Cause}
 use Rattle.frame_header.specs.declared.cause.Cause.TheVariants as causes
 use Rattle.frame_session.specs.Replies.{source_text}
-use Rattle.frame_session.specs.Words.{words_of}
+use Rattle.text_words.specs.Words.{words_of}
 use Rattle.frame_session.specs.declared.refusal.Refusal.{Refusal}
 use Rattle.frame_session.specs.declared.refusal.Refusal.TheVariants as refusals
 use Rattle.explanations.specs.Words.{shown_word}
-use Rattle.explanations.specs.Lines.{form_of, reason_of}
+use Rattle.explanations.specs.Lines.{reason_of}
 
 -- why a packet of this many bytes is too short, if their number is known: a tag has 3 bytes, a key frame's header 10 (RFC 6386, section 9.1)
 abbrev pub short_text : Option ℕ → List ℕ

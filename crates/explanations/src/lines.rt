@@ -1,13 +1,14 @@
 // Why a line is not a request.
 ghost use Rattle.std.specs.Prelude.{◌≡◌, ◌++◌, List, OnOk, codes, map, option_map};
 ghost use Rattle.std.specs.Io.KnownBytes.{Appends};
-ghost use Rattle.frame_session.specs.Words.{words_of};
+ghost use Rattle.text_words.specs.Words.{words_of};
 ghost use Rattle.explanations.specs.Words.{shown_word};
 ghost use Rattle.explanations.specs.Lines.{form_of, misfit, misfits, reason_of, reason_text};
 
 use crate::words::{write_text, write_word};
-use frame_session::{Hex, next_word, number};
+use request_lines::Hex;
 use std::io::{self, Write};
+use text_words::{next_word, number};
 
 /// What a word of a request is.
 #[derive(Clone, Copy)]

@@ -3,15 +3,16 @@ ghost use Rattle.std.specs.Prelude.{◌≡◌, ◌++◌, ◌∷◌, [], OnOk, co
 ghost use Rattle.std.specs.Fmt.{decimal};
 ghost use Rattle.std.specs.Io.KnownBytes.{Appends};
 ghost use Rattle.frame_session.specs.Replies.{source_text};
-ghost use Rattle.frame_session.specs.Words.{words_of};
+ghost use Rattle.text_words.specs.Words.{words_of};
 ghost use Rattle.explanations.specs.Lines.{reason_of, reason_text};
 ghost use Rattle.explanations.specs.Refusals.{cause_reason, command_text, explained, refusal_reason, short_text, why_text};
 
 use crate::lines::{Reason, line_reason, write_reason};
 use crate::words::{write_text, write_word};
 use frame_header::Cause;
-use frame_session::{Refusal, next_word};
+use frame_session::Refusal;
 use std::io::{self, Write};
+use text_words::next_word;
 
 /// Writes why a packet of this many bytes is too short.
 fn write_short<W: Write>(w: &mut W, count: Option<usize>) -> io::Result<()>

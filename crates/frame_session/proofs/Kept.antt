@@ -1,8 +1,8 @@
 -- Parts of the state that answers leave unchanged.
 use Rattle.std.proofs.Common.{◌≡◌, ℕ, ◌≤◌, Bool, true, false, cond, List, [], ◌∷◌, Result, Ok, Err, sym, ap, ◌∙◌, arith}
 use Rattle.script_nodes.specs.Shown.{Shown}
-use Rattle.frame_session.specs.declared.lines.Line.{Line}
-use Rattle.frame_session.specs.declared.lines.Line.TheVariants.{Silent, Unknown, Frame, Use, Insert, Replace, Delete, Move, Copy, Blank, Hold, Script, Count, Stats}
+use Rattle.request_lines.specs.declared.lines.Line.{Line}
+use Rattle.request_lines.specs.declared.lines.Line.TheVariants.{Silent, Unknown, Frame, Use, Insert, Replace, Delete, Move, Copy, Blank, Hold, Script, Count, Stats}
 use Rattle.frame_session.specs.declared.edit.Edit.{Edit}
 use Rattle.frame_session.specs.declared.edit.Edit.TheVariants as edits
 use Rattle.frame_session.specs.declared.refusal.Refusal.{Refusal}

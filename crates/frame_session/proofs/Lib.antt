@@ -1,12 +1,9 @@
-pub mod Splits
-pub mod Numbers
 pub mod Given
 pub mod Texts
 pub mod Served
 pub mod Forging
 pub mod Determined
 pub mod Answered
-pub mod HexWords
 pub mod Kept
 pub mod Stores
 pub mod Sound

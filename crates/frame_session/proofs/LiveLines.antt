@@ -1,5 +1,5 @@
 -- The lines of a text that is read line by line.
-use Rattle.std.proofs.Common.{◌≡◌, ◌⊎◌, inl, inr, ℕ, suc, ◌+◌, ◌-◌, ◌<◌, ◌≤◌, ◌==◌, ◌&&◌, Bool, true, false, cond, nat_lt, lt-ltb, eqb-true, Option, All, List, [], ◌∷◌, ◌++◌, map, length, take, drop, get_or, append_assoc, append-nil, length-append, length-take-le, get_or-take, ne_eqb, eq-eqb, refl, sym, ap, ◌∙◌, subst, arith, take_all}
+use Rattle.std.proofs.Common.{◌≡◌, inl, inr, ℕ, ◌+◌, ◌-◌, ◌<◌, ◌≤◌, ◌==◌, ◌&&◌, Bool, true, false, cond, nat_lt, lt-ltb, eqb-true, Option, All, List, [], ◌∷◌, ◌++◌, map, length, take, get_or, append_assoc, append-nil, length-append, length-take-le, ne_eqb, eq-eqb, refl, sym, ap, ◌∙◌, subst, arith, take_all}
 use Rattle.std.proofs.lemmas.Bool.{false≢true}
 use Rattle.std.proofs.lemmas.List.{get_or-append-add, map-append, take_more}
 use Rattle.std.proofs.Math.Seq.{get_or-append_seam}
@@ -9,10 +9,9 @@ use Rattle.std.specs.List.{slice_split, onto_first}
 use Rattle.std.specs.Str.Lines.{lines, lines_of_parts, strip_carriage_return}
 use Rattle.std.specs.Io.{IsEmptyOrEndsWith}
 use Rattle.std.specs.Io.BufRead.{ends_with_byte}
-use Rattle.frame_session.specs.declared.lines.Line.{Line}
 use Rattle.frame_session.specs.Answers.{requests_of}
-use Rattle.frame_session.specs.Requests.{asked_by}
-use Rattle.frame_session.specs.Live.{HasNoNewline, HasShortLines, longest_line}
+use Rattle.request_lines.specs.Requests.{asked_by}
+use Rattle.frame_session.specs.Live.{HasShortLines, longest_line}
 use Rattle.frame_session.specs.LiveSteps.{IsLineRead, IsShort, MayFollow}
 
 -- a list with a first element is not empty

@@ -1,20 +1,19 @@
 -- A live run, line after line.
-use Rattle.std.proofs.Common.{◌≡◌, ◌⊎◌, inl, inr, ℕ, suc, ◌+◌, ◌<◌, ◌≤◌, Bool, true, false, All, List, [], ◌∷◌, ◌++◌, map, Option, Some, None, IfSome, OnSome, Result, Ok, Err, length, append_assoc, append-nil, length-append, refl, sym, ap, ◌∙◌, subst, arith}
+use Rattle.std.proofs.Common.{◌≡◌, ℕ, ◌≤◌, Bool, true, false, List, [], ◌∷◌, ◌++◌, Option, Some, None, IfSome, OnSome, length, append_assoc, append-nil, length-append, refl, sym, ap, ◌∙◌, subst, arith}
 use Rattle.std.proofs.lemmas.List.{length-map}
 use Rattle.std.proofs.lemmas.List.Elements.{All-nil}
 use Rattle.std.proofs.lemmas.Grind.{flat_map-append}
-use Rattle.std.specs.Io.{IsEmptyOrEndsWith}
 use Rattle.std.specs.Io.BufRead.{ends_with_byte}
 use Rattle.std.specs.Io.KnownBytes.{Appends, Consumes, IsAtEnd}
 use Rattle.std.specs.Str.Lines.{lines}
-use Rattle.std.proofs.KnownBytes.{Appends-nil, Appends-trans, Consumes-nil, Consumes-trans}
-use Rattle.frame_session.specs.declared.lines.Line.{Line}
+use Rattle.std.proofs.KnownBytes.{Appends-trans, Consumes-nil, Consumes-trans}
+use Rattle.request_lines.specs.declared.lines.Line.{Line}
 use Rattle.frame_session.specs.declared.live.LiveFault.{LiveFault}
 use Rattle.frame_session.specs.declared.live.LiveFault.TheVariants as faults
-use Rattle.frame_session.specs.Requests.{asked_by}
+use Rattle.request_lines.specs.Requests.{asked_by}
 use Rattle.frame_session.specs.Sessions.{Now}
-use Rattle.frame_session.specs.Answers.{Answer, Answers, Run, Runs, Serves, Stops, WritesFrameFirst, frames_of, replies_of, requests_of}
-use Rattle.frame_session.specs.Live.{CutsOff, HasNoNewline, IsCutOff, LiveEnds, LiveRefuses, longest_line}
+use Rattle.frame_session.specs.Answers.{Answer, Run, Runs, Stops, frames_of, replies_of, requests_of}
+use Rattle.frame_session.specs.Live.{CutsOff, IsCutOff, LiveEnds, LiveRefuses, longest_line}
 use Rattle.frame_session.specs.LiveSteps.{IsLineRead, MayFollow, RunsText}
 use Rattle.frame_session.proofs.Served.{runs_none}
 use Rattle.frame_session.proofs.LiveReads.{at_end}

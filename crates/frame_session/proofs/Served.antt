@@ -7,12 +7,12 @@ use Rattle.std.proofs.KnownBytes.{Appends-nil, Appends-trans}
 use Rattle.pixel_planes.specs.Pictures.{PictureSamples}
 use Rattle.stream_files.specs.Y4m.{frame_text}
 use Rattle.stream_files.specs.declared.ivf.Head.{Head}
-use Rattle.frame_session.specs.declared.lines.Line.{Line}
-use Rattle.frame_session.specs.declared.lines.Line.TheVariants.{Silent, Unknown, Frame, Use, Insert, Replace, Delete, Move, Copy, Blank, Hold, Script, Count, Stats}
+use Rattle.request_lines.specs.declared.lines.Line.{Line}
+use Rattle.request_lines.specs.declared.lines.Line.TheVariants.{Silent, Unknown, Frame, Use, Insert, Replace, Delete, Move, Copy, Blank, Hold, Script, Count, Stats}
 use Rattle.frame_session.specs.declared.edit.Edit.TheVariants as edits
 use Rattle.frame_session.specs.declared.refusal.Refusal.{Refusal}
 use Rattle.frame_session.specs.declared.refusal.Refusal.TheVariants as refusals
-use Rattle.frame_session.specs.Requests.{asked_by}
+use Rattle.request_lines.specs.Requests.{asked_by}
 use Rattle.frame_session.specs.IsOrNoMemory.{IsOrNoMemory, IsFrameOrNoMemory}
 use Rattle.frame_session.specs.Edits.{EditAnswers}
 use Rattle.frame_session.specs.Replies.{refused_line, edit_line, count_line, served_line, stats_line}

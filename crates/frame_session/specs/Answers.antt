@@ -11,15 +11,15 @@ use Rattle.stream_files.specs.declared.ivf.Ivf.{Ivf}
 use Rattle.stream_files.specs.declared.ivf.IvfFault.{IvfFault}
 use Rattle.stream_files.specs.Ivf.{IsIvf, IvfRefuses}
 use Rattle.stream_files.specs.Y4m.{y4m_line}
-use Rattle.frame_session.specs.declared.lines.Line.{Line}
-use Rattle.frame_session.specs.declared.lines.Line.TheVariants as requests
+use Rattle.request_lines.specs.declared.lines.Line.{Line}
+use Rattle.request_lines.specs.declared.lines.Line.TheVariants as requests
 use Rattle.frame_session.specs.declared.edit.Edit.{Edit}
 use Rattle.frame_session.specs.declared.edit.Edit.TheVariants as edits
 use Rattle.frame_session.specs.declared.refusal.Refusal.{Refusal}
 use Rattle.frame_session.specs.declared.refusal.Refusal.TheVariants as refusals
 use Rattle.frame_session.specs.declared.serving.RunFault.{RunFault}
 use Rattle.frame_session.specs.declared.serving.RunFault.TheVariants as faults
-use Rattle.frame_session.specs.Requests.{asked_by}
+use Rattle.request_lines.specs.Requests.{asked_by}
 use Rattle.frame_session.specs.IsOrNoMemory.{IsOrNoMemory}
 use Rattle.frame_session.specs.Frames.{shown_text}
 use Rattle.frame_session.specs.Replies.{refused_line, served_line, edit_line, count_line, stats_line}

@@ -2,8 +2,6 @@ pub mod IsOrNoMemory
 pub mod Edits
 pub mod Scripts
 pub mod Frames
-pub mod Words
-pub mod Requests
 pub mod Replies
 pub mod Sessions
 pub mod Cached

@@ -3,10 +3,8 @@
 ghost use Rattle.std.specs.Prelude.{◌≡◌, [], ◌∷◌, codes, Ok, Err};
 ghost use Rattle.packet_edits.specs.Laws.{packet, three};
 ghost use Rattle.frame_session.specs.declared.edit.Edit.TheVariants as edits;
-ghost use Rattle.frame_session.specs.declared.lines.Line.TheVariants as requests;
 ghost use Rattle.frame_session.specs.declared.refusal.Refusal.TheVariants as refusals;
 ghost use Rattle.frame_session.specs.Edits.{edited, edit_of, stamp_before};
-ghost use Rattle.frame_session.specs.Requests.{asked_by};
 ghost use Rattle.frame_session.specs.Laws.{AnswersAreOne, AnswersExist, RefusedLinesChangeNothing, StepsNeverFall};
 
 use vp8_tables::Tables;
@@ -54,26 +52,4 @@ pub fn worked_edits(tables: &Tables)
     ensures no_side { edit_of tables.now [] three (edits.Blank 3 0 16) ≡ Err refusals.Size }
     ensures wide_side { edit_of tables.now [] three (edits.Blank 0 16 16384) ≡ Err refusals.Size }
     ensures no_key { edit_of tables.now [] three (edits.Hold 3) ≡ Err refusals.Size }
-{}
-
-/// The requests of worked lines.
-#[tactic(auto, unfolding(hex::specs::Hex::decode_pairs))]
-pub fn worked_lines()
-    ensures insert { asked_by (codes "insert 1 2 0aF9") ≡ requests.Insert 1 2 (10 ∷ 249 ∷ []) }
-    ensures replace { asked_by (codes "  replace  3  - ") ≡ requests.Replace 3 [] }
-    ensures delete { asked_by (codes "delete 18446744073709551615") ≡ requests.Delete 18446744073709551615 }
-    ensures move_up { asked_by (codes "move 0 2") ≡ requests.Move 0 2 }
-    ensures choose { asked_by (codes "use 1") ≡ requests.Use 1 }
-    ensures copy { asked_by (codes "copy 0 1 2") ≡ requests.Copy 0 1 2 }
-    ensures copy_without_index { asked_by (codes "copy 0 1") ≡ requests.Unknown }
-    ensures blank { asked_by (codes "blank 0 16 9") ≡ requests.Blank 0 16 9 }
-    ensures hold { asked_by (codes "hold 1") ≡ requests.Hold 1 }
-    ensures no_height { asked_by (codes "blank 0 16") ≡ requests.Unknown }
-    ensures count { asked_by (codes "count") ≡ requests.Count }
-    ensures stats { asked_by (codes "stats") ≡ requests.Stats }
-    ensures script { asked_by (codes "script trim 0 1 2; splice 1 0") ≡ requests.Script (codes " trim 0 1 2; splice 1 0") }
-    ensures no_script { asked_by (codes "script  ") ≡ requests.Unknown }
-    ensures odd { asked_by (codes "insert 0 0 1") ≡ requests.Unknown }
-    ensures wide { asked_by (codes "delete 18446744073709551616") ≡ requests.Unknown }
-    ensures long { asked_by (codes "delete 000000000000000000001") ≡ requests.Unknown }
 {}

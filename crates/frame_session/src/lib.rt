@@ -4,23 +4,18 @@
 
 mod edit;
 mod forged;
-mod hex_text;
 mod keeping;
 pub mod laws;
-mod lines;
 mod live;
 mod observer;
 mod refusal;
 mod replies;
-mod script_text;
 mod serving;
 mod session;
 mod settings;
 mod size;
 
 pub use edit::Edit;
-pub use hex_text::Hex;
-pub use lines::{next_word, number};
 pub use live::{LiveFault, run_live, run_live_observed};
 pub use observer::{Observer, Unobserved};
 pub use refusal::Refusal;

@@ -6,7 +6,6 @@ ghost use Rattle.frame_session.specs.Answers.{texts_of};
 ghost use Rattle.frame_session.specs.Live.{LiveEnds, LiveMeans, LiveStops, reported_live};
 ghost use Rattle.frame_session.specs.LiveSteps.{IsShort, ReadsLine, ReadsPart, RunsText};
 
-use crate::lines::length_before;
 use crate::observer::{Observer, Unobserved};
 use crate::serving::{Flushing, RunFault, read_sources, serve_all};
 use crate::session::Session;
@@ -14,6 +13,7 @@ use crate::settings::Settings;
 use std::alloc::Global;
 use std::io::{self, BufRead, ErrorKind, Write};
 use stream_files::IvfFault;
+use text_words::length_before;
 use thiserror::Error;
 use vp8_tables::Tables;
 

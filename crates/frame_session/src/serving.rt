@@ -9,13 +9,13 @@ ghost use Rattle.frame_session.specs.Told.{Tells};
 ghost use Rattle.frame_session.specs.Answers.{AreIvfs, IsSourceRefused, Leaves, Means, RunRefuses, RunStops, Runs, Serves, Stops, WritesFrameFirst, opening, requests_of, texts_of};
 
 use crate::edit::Edit;
-use crate::lines::{Line, next_line, read_line};
 use crate::observer::{Observer, Unobserved};
 use crate::refusal::Refusal;
 use crate::replies::{write_count, write_edited, write_refused, write_served, write_stats};
 use crate::session::Session;
 use crate::settings::Settings;
 use pixel_planes::Picture;
+use request_lines::{Line, next_line, read_line};
 use std::alloc::Global;
 use std::io::Write;
 use stream_files::{Head, Ivf, IvfFault, WriteFault, ivf_read, y4m_frame, y4m_header};

@@ -14,13 +14,13 @@ ghost use Rattle.frame_session.specs.Edits.{EditAnswers};
 ghost use Rattle.frame_session.specs.declared.edit.Edit.TheVariants.{Insert, Replace};
 
 use crate::edit::Edit;
-use crate::hex_text::Hex;
 use crate::keeping::{edit_cached, list_is_well_formed, picture_at};
 use crate::refusal::Refusal;
 use crate::size::Size;
 use arrayvec::ArrayVec;
 use packet_edits::Store;
 use pixel_planes::{NoMemory, Picture};
+use request_lines::Hex;
 use script_nodes::{Script, apply};
 use state_cache::Cache;
 use std::alloc::Global;

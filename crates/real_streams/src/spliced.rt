@@ -18,8 +18,8 @@ fn copies(alloc: Global, end: usize, packets: usize) -> Result<Vec<u8>, Fault> {
     Ok(text)
 }
 
-/// The number of frames of three clips.
-fn count_all(alloc: Global, clips: [&[u8]; 3]) -> Result<usize, Fault> {
+/// The number of frames of some clips.
+fn count_all(alloc: Global, clips: &[&[u8]]) -> Result<usize, Fault> {
     let mut all: usize = 0;
     for clip in clips {
         all = all.saturating_add(count_of(alloc, clip)?.1);
@@ -37,7 +37,7 @@ pub fn report_spliced<O: Write>(
     clips: [&[u8]; 3],
     output: &mut O,
 ) -> Result<(), Fault> {
-    let count = count_all(alloc, clips)?;
+    let count = count_all(alloc, &clips)?;
     let in_order = requests(alloc, SPLICE, count, true)?;
     let text = served(alloc, 8, &clips, in_order.as_slice())?;
     let frames = FrameTexts::new(text.as_slice(), count).ok_or(Fault::Frames)?;

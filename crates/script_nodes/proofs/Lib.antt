@@ -1,5 +1,3 @@
-pub mod Splits
-pub mod Numbers
 pub mod Ramps
 pub mod Built
 pub mod TextParts

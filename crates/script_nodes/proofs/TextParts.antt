@@ -3,7 +3,7 @@ use Rattle.std.proofs.Common.{◌≡◌, ℕ, ◌+◌, ◌-◌, ◌<◌, ◌≤�
 use Rattle.std.proofs.lemmas.List.{take_all, drop-drop}
 use Rattle.std.proofs.lemmas.List.Splits.{slice_split_first}
 use Rattle.std.specs.List.{slice_split, position_or_len, before_first, after_first}
-use Rattle.script_nodes.proofs.Splits.{split_whole}
+use Rattle.text_words.proofs.Splits.{split_whole}
 
 -- the last part, as the code cuts it off
 pub cut_last : (p : ℕ → Bool) (text part following : List ℕ) (n : ℕ) → n ≡ position_or_len p text → part ≡ take n text → following ≡ drop n text → length following < 1 → slice_split p text ≡ part ∷ []

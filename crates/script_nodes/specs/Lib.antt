@@ -1,4 +1,3 @@
-pub mod Words
 pub mod Nodes
 pub mod Faults
 pub mod Reading

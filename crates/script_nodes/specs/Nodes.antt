@@ -9,14 +9,18 @@ use Rattle.script_nodes.specs.declared.nodes.Node.{Node}
 use Rattle.script_nodes.specs.declared.nodes.Node.TheVariants.{Source, Trim, Splice, Crop, Fade}
 use Rattle.script_nodes.specs.declared.faults.ScriptFault.{ScriptFault}
 use Rattle.script_nodes.specs.declared.faults.ScriptFault.TheVariants.{Syntax, Nodes, Reference, Number}
-use Rattle.script_nodes.specs.Words.{words_of, number_of}
+use Rattle.text_words.specs.Words.{words_of, number_of}
 
 -- ---- the text of a node
+
+-- the number that a word of at most 10 digits writes
+abbrev pub short_number_of : List ℕ → Option ℕ
+short_number_of word = if nat_le (length word) 10 then number_of word else None
 
 -- a node that continues with a number, and with the words after it
 abbrev pub with_number : (ℕ → List (List ℕ) → Option Node) → List (List ℕ) → Option Node
 with_number next [] = None
-with_number next (word ∷ words) = option_map_or (λ n. next n words) (number_of word) None
+with_number next (word ∷ words) = option_map_or (λ n. next n words) (short_number_of word) None
 
 -- a node that ends here
 abbrev pub at_end : Node → List (List ℕ) → Option Node

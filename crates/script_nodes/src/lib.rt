@@ -12,7 +12,6 @@ mod reading;
 mod rows;
 mod scripts;
 mod traces;
-mod words;
 
 pub use faults::{ApplyFault, CropOutside, ScriptFault};
 pub use nodes::{Area, Node, Ramp};

@@ -1,11 +1,24 @@
 //! Reads one node of a script's text.
 ghost use Rattle.std.specs.Prelude.{◌≡◌, ℕ, List, Option, None, IfSome, IfNone};
-ghost use Rattle.script_nodes.specs.Words.{words_of};
-ghost use Rattle.script_nodes.specs.Nodes.{with_number, at_end, source_by, trim_by, splice_by, crop_by, fade_by, node_of};
+ghost use Rattle.text_words.specs.Words.{words_of};
+ghost use Rattle.script_nodes.specs.Nodes.{short_number_of, with_number, at_end, source_by, trim_by, splice_by, crop_by, fade_by, node_of};
 ghost use Rattle.script_nodes.specs.declared.nodes.Node.{Node};
 
 use crate::nodes::{Area, Node, Ramp};
-use crate::words::{next_word, number};
+use text_words::{next_word, number};
+
+/// The most digits of a number.
+const MOST_DIGITS: usize = 10;
+
+/// The number that a word writes: 1 to 10 decimal digits.
+fn short_number(word: &[u8]) -> Option<u64>
+    ensures { result ≡ short_number_of word.now }
+{
+    if word.len() > MOST_DIGITS {
+        return None;
+    }
+    number(word)
+}
 
 /// The number that is the next word and the text after it, or `None` if there is none.
 fn next_number(text: &[u8]) -> Option<(u64, &[u8])>
@@ -13,7 +26,7 @@ fn next_number(text: &[u8]) -> Option<(u64, &[u8])>
     ensures some { IfSome result (λ found. (next : ℕ → List (List ℕ) → Option Node) → with_number next (words_of text.now) ≡ next found.0 (words_of found.1.now)) }
 {
     let (word, rest) = next_word(text)?;
-    match number(word) {
+    match short_number(word) {
         Some(n) => Some((n, rest)),
         None => None,
     }

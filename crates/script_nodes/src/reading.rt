@@ -1,7 +1,7 @@
 //! Reads the nodes of a script's text.
 ghost use Rattle.std.specs.Prelude.{◌≡◌, ◌<◌, ◌≤◌, ◌==◌, Ok, Some, length, IfOk, IfErr, IfSome};
 ghost use Rattle.std.specs.List.{list_all, slice_split};
-ghost use Rattle.script_nodes.specs.Words.{words_of};
+ghost use Rattle.text_words.specs.Words.{words_of};
 ghost use Rattle.script_nodes.specs.Nodes.{is_dash, nodes_by_parts, nodes_of, script_of, all_use_below, has_source, has_numbers};
 ghost use Rattle.script_nodes.specs.Reading.{IsCut, RefusesParts};
 ghost use Rattle.script_nodes.specs.Faults.{RefusesText};
@@ -9,8 +9,8 @@ ghost use Rattle.script_nodes.specs.Faults.{RefusesText};
 use crate::faults::ScriptFault;
 use crate::nodes::Node;
 use crate::parts::read_node;
-use crate::words::{length_before, next_word};
 use arrayvec::ArrayVec;
+use text_words::{length_before, next_word};
 
 /// The nodes of a script.
 pub(crate) type Nodes = ArrayVec<Node, 16>;

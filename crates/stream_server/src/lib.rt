@@ -5,5 +5,6 @@
 mod live;
 mod program;
 
-pub use command_lines::{Argument, Fault, SameFile, given, tell};
+pub use command_lines::{Argument, Fault, SameFile, tell};
+pub use command_parser::given;
 pub use program::{run_to, serve};

@@ -5,7 +5,8 @@ ghost use Rattle.command_lines.specs.CommandLines.{source_names};
 ghost use Rattle.stream_server.specs.Endings.{IsInput, IsLiveEnded, IsLiveFault, IsLiveRefused, IsLiveReplied, IsServed, reported_live};
 
 use crate::program::{BYTES_AT_ONCE, end, save_to_path};
-use command_lines::{Accepted, Fault, Messages, NO_FILE, read_sources, read_tables, slices_of};
+use command_lines::{Accepted, Fault, NO_FILE, read_sources, read_tables, slices_of};
+use command_parser::Messages;
 use frame_session::{LiveFault, Session, Settings, run_live_observed};
 use std::fs::File;
 use std::io::{self, BufRead, BufReader, BufWriter, Read, Write};

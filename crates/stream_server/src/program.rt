@@ -11,9 +11,9 @@ ghost use Rattle.stream_server.specs.Endings.{IsEnded, IsRefused, IsReplied, IsR
 
 use crate::live::answer_live;
 use command_lines::{
-    Accepted, Argument, Fault, Inputs, Messages, NO_FILE, Words, explain_fault, explain_spare,
-    help_or_fault, is_asked, parse, read_inputs, slices_of, tell,
+    Accepted, Argument, Fault, Inputs, NO_FILE, Words, read_inputs, slices_of, tell,
 };
+use command_parser::{Messages, explain_fault, explain_spare, help_or_fault, is_asked, parse};
 use frame_session::{Observer, Session, Settings, run_observed};
 use std::alloc::Global;
 use std::convert::AsStr;

@@ -1,10 +1,10 @@
 // The arguments of the command line.
-use crate::fault::Fault;
 use clap::{Arg, ArgAction, ArgMatches, Command};
 use std::alloc::{AllocError, Global};
 use std::convert::AsStr;
 use std::env::{self, Env};
 use std::io::ErrorKind;
+use stream_outputs::Fault;
 
 /// The program's version.
 const VERSION: &str = "0.1.0";

@@ -2,18 +2,14 @@
 #![tactic(auto)]
 
 mod arguments;
-mod checking;
-mod fault;
-mod hashing;
-mod objects;
 mod program;
 mod progress;
 mod reading;
 
-use fault::Fault;
 use progress::ProgressLine;
 use std::io::{BufWriter, Write};
 use std::process::ExitCode;
+use stream_outputs::Fault;
 
 /// Runs the program on its arguments.
 fn start<E: Write>(rt: &HostRuntime, errors: &mut E) -> Result<u8, Fault<'static>> {

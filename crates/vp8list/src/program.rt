@@ -1,25 +1,15 @@
 // The program over two writers.
-ghost use Rattle.std.specs.Prelude.{◌≡◌, ◌≢◌, ◌≤◌, IfErr, IfOk, OnOk, Err, length};
-ghost use Rattle.std.specs.Io.KnownBytes.{Appends};
+ghost use Rattle.std.specs.Prelude.{◌≡◌, ◌≢◌, ◌≤◌, IfOk, Err};
 ghost use Rattle.clap.specs.Values.{kind_of};
-ghost use Rattle.stream_files.specs.Ivf.{IvfRefuses};
-ghost use Rattle.vp8list.specs.Lists.{IsListed, IsListFault};
 
 use crate::arguments::{self, Output};
-use crate::checking::check_to;
-use crate::fault::Fault;
-use crate::hashing::hash_to;
-use crate::objects::objects_to;
 use crate::reading::{read_file, read_tables};
 use clap::error::ErrorKind;
-use std::alloc::Global;
 use std::convert::AsStr;
 use std::io::Write;
 use std::rt::Files;
-use stream_facts::write_listing;
-use stream_files::ivf_read;
+use stream_outputs::{Fault, check_to, hash_to, list_to, objects_to};
 use stream_progress::Progress;
-use vp8_tables::Tables;
 
 /// The number of bytes of the list that are buffered.
 pub const BYTES_AT_ONCE: usize = 65_536;
@@ -49,24 +39,6 @@ fn help_or_fault<O: Write>(error: clap::Error, output: &mut O) -> Result<(), Fau
         ErrorKind::OutOfMemory => Err(Fault::NoMemory),
         _ => Err(Fault::CommandLine),
     }
-}
-
-/// Writes the list of the packets of an IVF file, and flushes the writer.
-pub fn list_to<O: Write>(alloc: Global, bytes: &[u8], output: &mut O) -> Result<(), Fault<'static>>
-    ensures listed { OnOk result (IsListed bytes.now (O.contents output.old) (O.contents output.new)) }
-    ensures fault { IfErr result (IsListFault bytes.now (O.contents output.old) (O.contents output.new)) }
-{
-    let file = match ivf_read(alloc, bytes) {
-        Ok(file) => file,
-        Err(fault) => return Err(Fault::Input(fault)),
-    };
-    let Ok(()) = write_listing(output, file.packets.as_slice()) else {
-        return Err(Fault::CannotWrite);
-    };
-    let Ok(()) = output.flush() else {
-        return Err(Fault::CannotWrite);
-    };
-    Ok(())
 }
 
 /// Does what a command line asks for, and returns the exit status.

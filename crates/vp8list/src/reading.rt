@@ -3,10 +3,10 @@ ghost use Rattle.std.specs.Prelude.{◌≡◌, IfOk, Ok, false, is_some};
 ghost use Rattle.vp8_tables.specs.Rfc.{rfc_entries};
 ghost use Rattle.vp8_tables.specs.Tables.{entries_of};
 
-use crate::fault::Fault;
 use std::fs::File;
 use std::rt::Files;
 use stream_files::{ReadFault, read_all};
+use stream_outputs::Fault;
 use vp8_tables::Tables;
 
 /// The most bytes that a file may have.

@@ -1,5 +1,5 @@
 use Rattle.std.proofs.Common.{[], ◌∷◌, ◌++◌, refl, arith, length-append}
-use Rattle.stream_files.specs.Ivf.{first_packet, after_first}
+use Rattle.stream_files.specs.Ivf.{first_packet}
 use Rattle.stream_files.proofs.Walks.{after_first-shorter, records_more}
 use Rattle.explanations.proofs.files.whole_records.Goals as goal
 

@@ -1,11 +1,11 @@
-use Rattle.std.proofs.Common.{◌≡◌, ◌≢◌, [], All, length, ◌∙◌, arith}
+use Rattle.std.proofs.Common.{◌≡◌, ◌≢◌, [], length, ◌∙◌, arith}
 use Rattle.std.proofs.lemmas.List.{length-map}
 use Rattle.std.proofs.lemmas.List.Elements.{All-nil}
 use Rattle.std.proofs.KnownBytes.{Consumes-nil}
 use Rattle.frame_session.specs.Answers.{texts_of}
 use Rattle.frame_session.specs.Sessions.{start}
 use Rattle.frame_session.specs.declared.live.LiveFault.TheVariants as faults
-use Rattle.frame_session.proofs.LiveRuns.{ends_first, read_all}
+use Rattle.frame_session.proofs.LiveRuns.{ends_first}
 use Rattle.frame_session.proofs.Sources.{are_as_many, are_few}
 use Rattle.frame_session.proofs.live.run_live_observed.Goals as goal
 

@@ -1,5 +1,4 @@
-use Rattle.std.proofs.Common.{◌≡◌, ◌∙◌, Bool, false, true, rules, subst}
-use Rattle.frame_session.specs.LiveSteps.{RunsText}
+use Rattle.std.proofs.Common.{◌≡◌, ◌∙◌, false, true, rules}
 use Rattle.frame_session.proofs.LiveRuns.{ends_more, ends_read, text_more}
 use Rattle.frame_session.proofs.live.serve_live.Goals as goal
 

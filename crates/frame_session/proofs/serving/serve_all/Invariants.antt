@@ -1,5 +1,5 @@
 use Rattle.std.proofs.Common.{◌≡◌, List, ◌++◌, length}
-use Rattle.frame_session.specs.declared.lines.Line.{Line}
+use Rattle.request_lines.specs.declared.lines.Line.{Line}
 use Rattle.frame_session.specs.Answers.{Runs, requests_of}
 use Rattle.frame_session.proofs.serving.serve_all.Given as goal
 

@@ -1,7 +1,7 @@
 use Rattle.std.proofs.Common.{inr, None}
 use Rattle.std.specs.Io.KnownBytes.{Appends}
 use Rattle.std.proofs.lemmas.Result.{on_ok_weaker}
-use Rattle.frame_session.specs.declared.lines.Line.TheVariants.{Frame}
+use Rattle.request_lines.specs.declared.lines.Line.TheVariants.{Frame}
 use Rattle.frame_session.specs.Replies.{refused_line}
 use Rattle.frame_session.specs.Answers.{Serves}
 use Rattle.frame_session.proofs.Served.{frame_and_reply, frame_or_no_reply, serves_refused}

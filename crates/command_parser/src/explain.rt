@@ -1,0 +1,279 @@
+// Explains the errors that end the program.
+ghost use Rattle.std.specs.Prelude.{◌≡◌, codes, nat_eq};
+ghost use Rattle.std.specs.Cmp.Lexicographic.{pointwise};
+ghost use Rattle.std.specs.List.{list_any};
+
+use crate::arguments::parse;
+use crate::messages::Messages;
+use command_lines::{Argument, Fault, NO_FILE, Words};
+use explanations::{CutRecord, StreamReason, cut_record, stream_reason};
+use std::convert::AsStr;
+use std::fs::{self, File};
+use std::io::{self, Read, Write};
+use std::rt::Files;
+use std::str;
+use stream_files::{IvfFault, read_all};
+
+/// Whether the option `--explain` is among the arguments.
+pub fn is_asked<S: AsStr>(words: &[S]) -> bool
+    ensures { result ≡ list_any (λ word. pointwise nat_eq (S.text word) (codes "--explain")) words.now }
+{
+    words.iter().any(|word| word.as_str() == "--explain")
+}
+
+/// Explains the error that ends the program over these arguments. An error of `messages` is ignored.
+pub fn explain_fault<R: Files + AllocGlobal, S: AsStr, E: Write>(
+    rt: &R,
+    words: &[S],
+    fault: Fault<'_>,
+    messages: &mut Messages<'_, E>,
+) {
+    let _ = match parse(rt.alloc(), words) {
+        Ok(words) => explain_in(rt, words, fault, messages),
+        Err(error) => writeln!(messages.errors, "{error}try vp8serve --help"),
+    };
+}
+
+/// The same with the values of the arguments.
+fn explain_in<R: Files + AllocGlobal, E: Write>(
+    rt: &R,
+    words: Words<'_>,
+    fault: Fault<'_>,
+    messages: &mut Messages<'_, E>,
+) -> io::Result<()> {
+    match fault {
+        Fault::CommandLine if words.pads_nothing() => writeln!(
+            messages.errors,
+            "--pad is for the packets of --save: name a file for them by --save FILE"
+        ),
+        Fault::CommandLine => writeln!(
+            messages.errors,
+            "--sources takes 1 to 7 paths, none of them empty: try vp8serve --help"
+        ),
+        Fault::NamedTwice(_) => writeln!(messages.errors, "try vp8serve --help"),
+        Fault::CannotRead(path) => explain_unread(rt, words, path, messages),
+        Fault::TooLong(path) => explain_long(words, path, messages),
+        Fault::Tables => explain_tables(rt, words, messages),
+        Fault::Input { source, fault } => explain_input(rt, words, source, fault, messages),
+        Fault::CannotWrite => explain_unwritten(words, messages),
+        Fault::NoMemory => writeln!(messages.errors, "try a smaller --cache, or shorter files"),
+    }
+}
+
+/// Whether these are requests that are answered as they come.
+fn is_live(words: Words<'_>, path: &str) -> bool {
+    words.is_live && words.requests == path
+}
+
+/// Explains why a file was not read.
+fn explain_unread<R: Files + AllocGlobal, E: Write>(
+    rt: &R,
+    words: Words<'_>,
+    path: &str,
+    messages: &mut Messages<'_, E>,
+) -> io::Result<()> {
+    if path != NO_FILE && !is_read_once(rt, path) {
+        if let Err(error) = probe(rt, path) {
+            return writeln!(messages.errors, "{path}: {error}");
+        }
+    }
+    if is_live(words, path) {
+        let line = messages.next_line();
+        return writeln!(
+            messages.errors,
+            "line {line} was not answered: reading it failed"
+        );
+    }
+    writeln!(messages.errors, "{path}: reading it failed")
+}
+
+/// Whether this is a pipe or a device: its bytes may be gone, and opening a pipe may wait for a writer.
+fn is_read_once<R: Files>(rt: &R, path: &str) -> bool {
+    match fs::metadata(rt, path) {
+        Ok(known) => !known.is_file() && !known.is_dir(),
+        Err(_) => false,
+    }
+}
+
+/// Says that a pipe or a device is not looked at.
+fn explain_read_once<E: Write>(path: &str, errors: &mut E) -> io::Result<()> {
+    writeln!(
+        errors,
+        "{path} is a pipe or a device and is not read again: copy it to a file, and try that"
+    )
+}
+
+/// Opens a file, and reads a byte.
+fn probe<R: Files>(rt: &R, path: &str) -> io::Result<()> {
+    let mut file = File::open(rt, path)?;
+    let mut byte = [0];
+    file.read(&mut byte)?;
+    Ok(())
+}
+
+/// Explains what was too long.
+fn explain_long<E: Write>(
+    words: Words<'_>,
+    path: &str,
+    messages: &mut Messages<'_, E>,
+) -> io::Result<()> {
+    if is_live(words, path) {
+        let line = messages.next_line();
+        return writeln!(
+            messages.errors,
+            "line {line} was not answered: it has more than 1073741824 bytes"
+        );
+    }
+    writeln!(messages.errors, "{path} has more than 1073741824 bytes")
+}
+
+/// Explains what the file of the tables is.
+fn explain_tables<R: Files + AllocGlobal, E: Write>(
+    rt: &R,
+    words: Words<'_>,
+    messages: &mut Messages<'_, E>,
+) -> io::Result<()> {
+    let Some(path) = words.tables else {
+        return Ok(());
+    };
+    if is_read_once(rt, path) {
+        return explain_read_once(path, messages.errors);
+    }
+    let mut file = File::open(rt, path)?;
+    match read_all(rt.alloc(), &mut file, 1_073_741_824) {
+        Ok(bytes) => {
+            let count = bytes.len();
+            writeln!(messages.errors, "{path} has {count} bytes")
+        }
+        Err(_) => writeln!(messages.errors, "{path} has too many bytes"),
+    }
+}
+
+/// The path of a source, which the arguments name.
+fn path_of<'a>(words: Words<'a>, source: usize) -> &'a str {
+    if source == 0 {
+        return words.stream;
+    }
+    match words.sources {
+        Some(list) => list.split(':').nth(source - 1).unwrap_or(NO_FILE),
+        None => NO_FILE,
+    }
+}
+
+/// Explains why the bytes of a source are not a stream, with the first bytes of its file, which is opened
+/// again.
+fn explain_input<R: Files + AllocGlobal, E: Write>(
+    rt: &R,
+    words: Words<'_>,
+    source: usize,
+    fault: IvfFault,
+    messages: &mut Messages<'_, E>,
+) -> io::Result<()> {
+    let path = path_of(words, source);
+    if is_read_once(rt, path) {
+        return explain_read_once(path, messages.errors);
+    }
+    let mut file = File::open(rt, path)?;
+    let mut bytes = [0; 32];
+    let count = file.read(&mut bytes)?;
+    let head = &bytes[..count];
+    match stream_reason(head, fault) {
+        StreamReason::WebM => writeln!(
+            messages.errors,
+            "{path} is a WebM file: ffmpeg -i {path} -an -c copy -bsf:v setts=ts=N:time_base=1/25 out.ivf"
+        ),
+        StreamReason::Codec => explain_codec(path, head, messages),
+        StreamReason::Short => writeln!(
+            messages.errors,
+            "{path} has {count} bytes, an IVF header 32"
+        ),
+        StreamReason::NoIvf => writeln!(
+            messages.errors,
+            "{path} is not an IVF file, it does not begin with DKIF: ffmpeg -i {path} -an -c:v libvpx out.ivf"
+        ),
+        StreamReason::HeaderLength(length) => writeln!(
+            messages.errors,
+            "{path} claims a header of {length} bytes, not 32 to the length of the file"
+        ),
+        StreamReason::TooMany => writeln!(messages.errors, "{path} has more than 1048576 packets"),
+        StreamReason::NoMemory => writeln!(
+            messages.errors,
+            "{path}: out of memory for its packets"
+        ),
+    }
+}
+
+/// Explains which codec a file has.
+fn explain_codec<E: Write>(
+    path: &str,
+    head: &[u8],
+    messages: &mut Messages<'_, E>,
+) -> io::Result<()> {
+    let codec = head.get(8..12).unwrap_or(b"");
+    let codec = str::from_utf8(codec).unwrap_or("unknown");
+    writeln!(
+        messages.errors,
+        "{path} has the codec {codec}, not VP80: ffmpeg -i {path} -an -c:v libvpx out.ivf"
+    )
+}
+
+/// Explains which file was not written.
+fn explain_unwritten<E: Write>(words: Words<'_>, messages: &mut Messages<'_, E>) -> io::Result<()> {
+    let name = messages.writes.name();
+    let path = match messages.writes {
+        Argument::Save => words.saved.unwrap_or(NO_FILE),
+        _ => words.frames,
+    };
+    match &messages.refused {
+        Some(error) => writeln!(messages.errors, "{name} {path} cannot be created: {error}"),
+        None if messages.writes == Argument::Save => {
+            writeln!(
+                messages.errors,
+                "{name} {path} was not written whole: the disk may be full"
+            )
+        }
+        None => writeln!(
+            messages.errors,
+            "standard output or {name} {path} takes no more bytes: its reader has gone, or the disk is full"
+        ),
+    }
+}
+
+/// Explains the trailing bytes of sources, which the arguments name.
+pub fn explain_spare<E: Write>(
+    words: Words<'_>,
+    sources: &[&[u8]],
+    errors: &mut E,
+) -> io::Result<()> {
+    for (source, bytes) in sources.iter().enumerate() {
+        if let Some(cut) = cut_record(bytes) {
+            write_cut(path_of(words, source), bytes.len(), cut, errors)?;
+        }
+    }
+    Ok(())
+}
+
+/// Writes which record the end of a file of this length cuts off.
+fn write_cut<E: Write>(
+    path: &str,
+    length: usize,
+    cut: CutRecord,
+    errors: &mut E,
+) -> io::Result<()> {
+    let CutRecord {
+        number,
+        begins,
+        size,
+    } = cut;
+    let left = length.saturating_sub(begins);
+    match size {
+        Some(size) => writeln!(
+            errors,
+            "{path}: record {number} begins at byte {begins} and claims 12 + {size} bytes, {left} are left"
+        ),
+        None => writeln!(
+            errors,
+            "{path}: record {number} begins at byte {begins}, {left} bytes are left"
+        ),
+    }
+}

@@ -1,0 +1,12 @@
+//! The arguments of vp8serve, its help, and the explanations of its errors.
+#![tactic(auto)]
+
+mod arguments;
+mod explain;
+mod help;
+mod messages;
+
+pub use arguments::{given, parse};
+pub use explain::{explain_fault, explain_spare, is_asked};
+pub use help::help_or_fault;
+pub use messages::Messages;

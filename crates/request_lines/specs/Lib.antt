@@ -1,0 +1,2 @@
+pub mod HexWords
+pub mod Requests

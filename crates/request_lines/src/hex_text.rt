@@ -1,0 +1,73 @@
+//! Bytes as hexadecimal digits in a request line.
+
+ghost use Rattle.std.specs.Prelude.{◌≡◌, IfOk, codes};
+ghost use Rattle.std.specs.Str.{bytes_eq};
+ghost use Rattle.std.specs.List.{list_all};
+ghost use Rattle.hex.specs.Hex.{is_hex_digit};
+ghost use Rattle.request_lines.specs.HexWords.{bytes_of};
+
+use hex::decode;
+use pixel_planes::NoMemory;
+use std::alloc::Global;
+use std::marker::Model;
+use stream_files::Bytes;
+
+/// A word that writes bytes, not yet decoded: an even number of hexadecimal digits of either case. A
+/// contract sees the bytes.
+#[derive(Drop)]
+pub struct Hex<'a> {
+    digits: &'a [u8],
+}
+
+impl<'a> Model for Hex<'a> {
+    ghost use Rattle.std.specs.Prelude.{◌≡◌, ℕ, List, Ok};
+    ghost use Rattle.hex.specs.Hex.{decode_of};
+    ghost use Rattle.request_lines.specs.HexWords.{digits_bytes};
+
+    ghost Value = { List ℕ };
+
+    ghost view = { λ h. digits_bytes h.digits.now };
+
+    ghost invariant = { λ h. decode_of h.digits.now ≡ Ok (digits_bytes h.digits.now) };
+}
+
+impl<'a> Hex<'a> {
+    /// The bytes that a word writes: `-` for none, otherwise two hexadecimal digits for each byte.
+    /// `None` if it is neither. Nothing is allocated.
+    pub fn of_word(word: &'a [u8]) -> Option<Hex<'a>>
+        ensures { result ≡ bytes_of word.now }
+    {
+        if is_dash(word) {
+            return Some(Hex { digits: &[] });
+        }
+        if word.len() % 2 != 0 {
+            return None;
+        }
+        if !has_only_hex_digits(word) {
+            return None;
+        }
+        Some(Hex { digits: word })
+    }
+
+    /// Decodes the bytes into memory of their own.
+    pub fn read(self, alloc: Global) -> Result<Bytes, NoMemory>
+        ensures { IfOk result (λ bytes. bytes ≡ self.entry) }
+    {
+        match decode(alloc, self.digits) {
+            Ok(bytes) => Ok(Bytes::new(bytes)),
+            Err(_) => Err(NoMemory),
+        }
+    }
+}
+
+fn is_dash(word: &[u8]) -> bool
+    ensures { result ≡ bytes_eq word.now (codes "-") }
+{
+    word == b"-".as_slice()
+}
+
+fn has_only_hex_digits(word: &[u8]) -> bool
+    ensures { result ≡ list_all is_hex_digit word.now }
+{
+    word.iter().all(|byte| byte.is_ascii_hexdigit())
+}

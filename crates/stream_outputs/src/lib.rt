@@ -1,0 +1,15 @@
+//! What vp8list writes for the bytes of a file: the list of its packets, as lines or as JSON, the MD5 of its frames, or
+//! what is wrong with it.
+#![tactic(auto)]
+
+mod checking;
+mod fault;
+mod hashing;
+mod listing;
+mod objects;
+
+pub use checking::check_to;
+pub use fault::Fault;
+pub use hashing::hash_to;
+pub use listing::list_to;
+pub use objects::objects_to;

@@ -1,0 +1,6 @@
+//! The words of a text, and the numbers that words write.
+#![tactic(auto)]
+
+mod words;
+
+pub use words::{length_before, next_word, number};
