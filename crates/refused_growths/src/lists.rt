@@ -80,17 +80,39 @@ fn print<O: Write>(output: &mut O, name: &str, list: &Store) -> Result<(), Fault
     Ok(())
 }
 
+/// Appends the packets of the stream twice.
+fn append<O: Write>(alloc: Global, list: &mut Store, output: &mut O) -> Result<(), Fault> {
+    for _ in 0..2 {
+        push_all(alloc, list)?;
+        print(output, "packets appended", list)?;
+    }
+    Ok(())
+}
+
+/// Inserts packets.
+fn insert_each<O: Write>(alloc: Global, list: &mut Store, output: &mut O) -> Result<(), Fault> {
+    for at in [0, 4, 10] {
+        insert(alloc, list, at)?;
+        print(output, "a packet inserted", list)?;
+    }
+    Ok(())
+}
+
+/// Replaces a packet.
+fn replace<O: Write>(alloc: Global, list: &mut Store, output: &mut O) -> Result<(), Fault> {
+    list.replace(1, copied(alloc, INTER)?)?;
+    print(output, "a packet replaced", list)
+}
+
+/// Makes the calls of a packet list.
+fn grow_list<O: Write>(alloc: Global, list: &mut Store, output: &mut O) -> Result<(), Fault> {
+    append(alloc, list, output)?;
+    insert_each(alloc, list, output)?;
+    replace(alloc, list, output)
+}
+
 /// Makes the calls of a packet list, and prints the list after each.
 pub fn grow<O: Write>(alloc: Global, output: &mut O) -> Result<(), Fault> {
     let mut list = Store::starting(alloc, 0);
-    push_all(alloc, &mut list)?;
-    print(output, "packets appended", &list)?;
-    push_all(alloc, &mut list)?;
-    print(output, "packets appended", &list)?;
-    for at in [0, 4, 10] {
-        insert(alloc, &mut list, at)?;
-        print(output, "a packet inserted", &list)?;
-    }
-    list.replace(1, copied(alloc, INTER)?)?;
-    print(output, "a packet replaced", &list)
+    grow_list(alloc, &mut list, output)
 }

@@ -11,22 +11,33 @@ mod lists;
 mod sessions;
 
 use fault::Fault;
+use frame_session::Session;
+use std::alloc::Global;
 use std::io::Write;
 use std::process::ExitCode;
 
+/// Makes the calls of a session, and steps without one after the first of them.
+fn run_session<O: Write>(
+    alloc: Global,
+    session: &mut Session,
+    output: &mut O,
+) -> Result<(), Fault> {
+    sessions::decode(alloc, session, output)?;
+    sessions::step_directly(alloc, output)?;
+    sessions::insert_all(alloc, session, output)?;
+    sessions::edit_frames(session, output)
+}
+
 /// Makes all calls.
-fn make_all<O: Write>(rt: &HostRuntime, output: &mut O) -> Result<(), Fault> {
-    lists::grow(rt.alloc(), output)?;
-    let mut session = sessions::start(rt.alloc())?;
-    sessions::decode(rt.alloc(), &mut session, output)?;
-    sessions::step_directly(rt.alloc(), output)?;
-    sessions::insert_all(rt.alloc(), &mut session, output)?;
-    sessions::edit_frames(&mut session, output)
+fn make_all<O: Write>(alloc: Global, output: &mut O) -> Result<(), Fault> {
+    lists::grow(alloc, output)?;
+    let mut session = sessions::start(alloc)?;
+    run_session(alloc, &mut session, output)
 }
 
 fn main(rt: HostRuntime) -> ExitCode {
     let mut output = rt.stdout();
-    match make_all(&rt, &mut output) {
+    match make_all(rt.alloc(), &mut output) {
         Ok(()) => ExitCode::SUCCESS,
         Err(fault) => {
             let _ = writeln!(rt.stderr(), "refused_growths: {fault:?}");

@@ -4,7 +4,7 @@ ghost use Rattle.frame_session.specs.Answers.{texts_of};
 ghost use Rattle.command_lines.specs.CommandLines.{source_names};
 ghost use Rattle.stream_server.specs.Endings.{IsInput, IsLiveEnded, IsLiveFault, IsLiveRefused, IsLiveReplied, IsServed, reported_live};
 
-use crate::program::{BYTES_AT_ONCE, end, save_to_path};
+use crate::program::{BYTES_AT_ONCE, finish};
 use command_lines::{Accepted, Fault, NO_FILE, read_sources, read_tables, slices_of};
 use command_parser::Messages;
 use frame_session::{LiveFault, Session, Settings, run_live_observed};
@@ -161,7 +161,5 @@ pub fn answer_live<'a, R: Files + AllocGlobal, I: Read, O: Write, E: Write>(
         output,
         messages,
     )?;
-    save_to_path(rt, &session, line.words, messages)?;
-    end(&session, line, slices.as_slice(), messages);
-    Ok(())
+    finish(rt, &session, line, slices.as_slice(), messages)
 }

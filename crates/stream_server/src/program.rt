@@ -117,7 +117,7 @@ pub fn save_to<W: Write + Drop>(
 }
 
 /// The same to the file of `--save`, which is created now, if the arguments name one.
-pub fn save_to_path<R: Files + AllocGlobal, E: Write>(
+fn save_to_path<R: Files + AllocGlobal, E: Write>(
     rt: &R,
     session: &Session,
     words: Words<'_>,
@@ -151,7 +151,7 @@ pub fn report_spare<E: Write>(session: &Session, errors: &mut E) -> io::Result<(
 }
 
 /// Reports trailing bytes after a run without an error. If `errors` refuses the text, they are not reported.
-pub fn end<E: Write>(
+fn end<E: Write>(
     session: &Session,
     line: &Accepted<'_>,
     sources: &[&[u8]],
@@ -161,6 +161,21 @@ pub fn end<E: Write>(
     if messages.explains {
         let _ = explain_spare(line.words, sources, messages.errors);
     }
+}
+
+/// Saves the packets of source 0 if that is asked for, and reports trailing bytes.
+pub fn finish<R: Files + AllocGlobal, E: Write>(
+    rt: &R,
+    session: &Session,
+    line: &Accepted<'_>,
+    sources: &[&[u8]],
+    messages: &mut Messages<'_, E>,
+) -> Result<(), Fault<'static>>
+    ensures { IfErr result IsSaveFault }
+{
+    save_to_path(rt, session, line.words, messages)?;
+    end(session, line, sources, messages);
+    Ok(())
 }
 
 /// Answers the requests over what was read, and saves the packets of source 0 if that is asked for.
@@ -197,9 +212,7 @@ fn answer_inputs<R: Files + AllocGlobal, O: Write, E: Write>(
         output,
         messages,
     )?;
-    save_to_path(rt, &session, line.words, messages)?;
-    end(&session, line, slices.as_slice(), messages);
-    Ok(())
+    finish(rt, &session, line, slices.as_slice(), messages)
 }
 
 /// Does what an accepted command line asks for.

@@ -33,26 +33,20 @@ const HOLD_40: [u8; 15] = [
     0x91, 1, 0, 0, 0, 0, 0, 0, 6, 0xC6, 0xBD, 0x5C, 0xA8, 2, 0x20,
 ];
 
+/// Checks the bytes of a forged packet.
+fn expect_bytes(rt: &impl Abort, packet: Result<Vec<u8>, ForgeFault>, want: &[u8]) {
+    let packet = forged(rt, packet);
+    assert_eq!(rt; packet.as_slice(), want);
+}
+
 #[test]
 fn packets_have_their_bytes(rt: HostRuntime) -> Result<(), Fail> {
     let alloc = rt.alloc();
     let tables = tables(&rt, alloc)?;
-    assert_eq!(rt;
-        blank(alloc, &tables, 16, 16)?.as_slice(),
-        BLANK_16.as_slice()
-    );
-    assert_eq!(rt;
-        blank(alloc, &tables, 40, 24)?.as_slice(),
-        BLANK_40.as_slice()
-    );
-    assert_eq!(rt;
-        hold(alloc, &tables, 16, 16)?.as_slice(),
-        HOLD_16.as_slice()
-    );
-    assert_eq!(rt;
-        hold(alloc, &tables, 40, 24)?.as_slice(),
-        HOLD_40.as_slice()
-    );
+    expect_bytes(&rt, blank(alloc, &tables, 16, 16), &BLANK_16);
+    expect_bytes(&rt, blank(alloc, &tables, 40, 24), &BLANK_40);
+    expect_bytes(&rt, hold(alloc, &tables, 16, 16), &HOLD_16);
+    expect_bytes(&rt, hold(alloc, &tables, 40, 24), &HOLD_40);
     Ok(())
 }
 
@@ -99,7 +93,7 @@ fn decoded(rt: &impl Abort, alloc: Global, packet: &[u8]) -> (State, Picture) {
 /// The same from a state.
 fn decoded_after(rt: &impl Abort, alloc: Global, state: &State, packet: &[u8]) -> (State, Picture) {
     let decoded = step(alloc, &Tables::flat(), Some(state), packet);
-    decoded.expect(rt, "a packet behind a state")
+    decoded.expect(rt, "a packet after a state")
 }
 
 /// A packet that was forged.
@@ -107,18 +101,39 @@ fn forged(rt: &impl Abort, packet: Result<Vec<u8>, ForgeFault>) -> Vec<u8> {
     packet.expect(rt, "a forged packet")
 }
 
+/// Checks that a packet after a state shows this picture, and returns the state after it.
+fn expect_held(
+    rt: &impl Abort,
+    alloc: Global,
+    state: &State,
+    hold: &[u8],
+    picture: &Picture,
+) -> State {
+    let (after, held) = decoded_after(rt, alloc, state, hold);
+    assert!(rt; same(picture, &held));
+    after
+}
+
+/// Checks that a blank packet is grey, and that its picture is held.
+fn expect_grey(rt: &impl Abort, alloc: Global, blank: &[u8], hold: &[u8]) {
+    let (state, picture) = decoded(rt, alloc, blank);
+    assert!(rt; is_grey_picture(&picture));
+    expect_held(rt, alloc, &state, hold, &picture);
+}
+
+/// Checks that a picture that is not grey is held, and stays the last reference.
+fn expect_key_held(rt: &impl Abort, alloc: Global, hold: &[u8]) {
+    let (state, picture) = decoded(rt, alloc, KEY.as_slice());
+    assert!(rt; !is_grey_picture(&picture));
+    let after = expect_held(rt, alloc, &state, hold, &picture);
+    assert!(rt; same(&picture, &after.references().last));
+}
+
 #[test]
 fn frames_are_grey_and_held(rt: HostRuntime) {
     let alloc = rt.alloc();
     let blank = forged(&rt, blank(alloc, &Tables::flat(), 16, 16));
     let hold = forged(&rt, hold(alloc, &Tables::flat(), 16, 16));
-    let (first, picture) = decoded(&rt, alloc, blank.as_slice());
-    assert!(rt; is_grey_picture(&picture));
-    let (_, held) = decoded_after(&rt, alloc, &first, hold.as_slice());
-    assert!(rt; same(&picture, &held));
-    let (second, picture) = decoded(&rt, alloc, KEY.as_slice());
-    assert!(rt; !is_grey_picture(&picture));
-    let (third, held) = decoded_after(&rt, alloc, &second, hold.as_slice());
-    assert!(rt; same(&picture, &held));
-    assert!(rt; same(&picture, &third.references().last));
+    expect_grey(&rt, alloc, blank.as_slice(), hold.as_slice());
+    expect_key_held(&rt, alloc, hold.as_slice());
 }
