@@ -1,5 +1,5 @@
 // Explains the errors that end the program.
-ghost use Rattle.std.specs.Prelude.{◌≡◌, codes, nat_eq};
+ghost use Rattle.std.specs.Prelude.{◌≡◌, ◌≤◌, IfOk, codes, nat_eq};
 ghost use Rattle.std.specs.Cmp.Lexicographic.{pointwise};
 ghost use Rattle.std.specs.List.{list_any};
 
@@ -111,6 +111,14 @@ fn probe<R: Files>(rt: &R, path: &str) -> io::Result<()> {
     Ok(())
 }
 
+/// Reads the first bytes of a file, and returns their number.
+fn read_head<R: Files>(rt: &R, path: &str, head: &mut [u8; 32]) -> io::Result<usize>
+    ensures { IfOk result (λ count. count ≤ 32) }
+{
+    let mut file = File::open(rt, path)?;
+    file.read(head)
+}
+
 /// Explains what was too long.
 fn explain_long<E: Write>(
     words: Words<'_>,
@@ -173,10 +181,18 @@ fn explain_input<R: Files + AllocGlobal, E: Write>(
     if is_read_once(rt, path) {
         return explain_read_once(path, messages.errors);
     }
-    let mut file = File::open(rt, path)?;
     let mut bytes = [0; 32];
-    let count = file.read(&mut bytes)?;
-    let head = &bytes[..count];
+    let count = read_head(rt, path, &mut bytes)?;
+    explain_head(path, &bytes[..count], fault, messages)
+}
+
+/// Explains why the bytes of a file that begins like this are not a stream.
+fn explain_head<E: Write>(
+    path: &str,
+    head: &[u8],
+    fault: IvfFault,
+    messages: &mut Messages<'_, E>,
+) -> io::Result<()> {
     match stream_reason(head, fault) {
         StreamReason::WebM => writeln!(
             messages.errors,
@@ -185,7 +201,8 @@ fn explain_input<R: Files + AllocGlobal, E: Write>(
         StreamReason::Codec => explain_codec(path, head, messages),
         StreamReason::Short => writeln!(
             messages.errors,
-            "{path} has {count} bytes, an IVF header 32"
+            "{path} has {} bytes, an IVF header 32",
+            head.len()
         ),
         StreamReason::NoIvf => writeln!(
             messages.errors,

@@ -66,6 +66,25 @@ fn write_macroblock(encoder: &mut Encoder, macroblock: &Macroblock) -> Result<()
     write_pairs(encoder, CHROMA[macroblock.chroma % 4])
 }
 
+/// The tag of a shown packet whose first partition has this size.
+fn tag(is_key: bool, size: usize) -> [u8; 3] {
+    let low = if is_key { 0x10 } else { 0x11 };
+    let size = size as u64 % 524_288;
+    [
+        (low + size % 8 * 32) as u8,
+        (size / 8 % 256) as u8,
+        (size / 2048) as u8,
+    ]
+}
+
+/// Appends each of these texts.
+fn append(packet: &mut Vec<u8>, texts: &[&[u8]]) -> Result<(), AllocError> {
+    for text in texts {
+        packet.extend_from_slice(text)?;
+    }
+    Ok(())
+}
+
 /// A key packet with this first partition and these bytes after it.
 pub fn packet_of(
     alloc: Global,
@@ -74,16 +93,13 @@ pub fn packet_of(
     first: &[u8],
     following: &[u8],
 ) -> Result<Vec<u8>, AllocError> {
-    let size = first.len() as u64 % 524_288;
+    let tag = tag(true, first.len());
+    let (width, height) = (width.to_le_bytes(), height.to_le_bytes());
     let mut packet = Vec::new(alloc);
-    packet.push((0x10 + size % 8 * 32) as u8)?;
-    packet.push((size / 8 % 256) as u8)?;
-    packet.push((size / 2048) as u8)?;
-    packet.extend_from_slice(&[0x9D, 1, 0x2A])?;
-    packet.extend_from_slice(&width.to_le_bytes())?;
-    packet.extend_from_slice(&height.to_le_bytes())?;
-    packet.extend_from_slice(first)?;
-    packet.extend_from_slice(following)?;
+    append(
+        &mut packet,
+        &[&tag, &[0x9D, 1, 0x2A], &width, &height, first, following],
+    )?;
     Ok(packet)
 }
 
@@ -153,18 +169,46 @@ pub fn filtered_packet(
     quantizer: &[u8],
     macroblocks: &[(usize, &[(bool, u8)], i8)],
 ) -> Result<Vec<u8>, AllocError> {
-    let mut encoder = Encoder::new(alloc);
-    let mut tokens = Encoder::new(alloc);
-    write_header(&mut encoder, fields, b"00", quantizer, b"0")?;
-    for (luma, segment, first) in macroblocks {
-        write_pairs(&mut encoder, segment)?;
-        write_pairs(&mut encoder, LUMA[*luma % 5])?;
-        write_pairs(&mut encoder, CHROMA[0])?;
-        write_y2(&mut tokens, *first)?;
-    }
-    let first = encoder.finish()?;
-    let tokens = tokens.finish()?;
+    let first = filtered_partition(alloc, fields, quantizer, macroblocks)?;
+    let tokens = y2_partition(alloc, macroblocks)?;
     packet_of(alloc, width, 16, first.as_slice(), tokens.as_slice())
+}
+
+/// The first partition of a filtered packet.
+fn filtered_partition(
+    alloc: Global,
+    fields: &[u8],
+    quantizer: &[u8],
+    macroblocks: &[(usize, &[(bool, u8)], i8)],
+) -> Result<Vec<u8>, AllocError> {
+    let mut encoder = Encoder::new(alloc);
+    write_header(&mut encoder, fields, b"00", quantizer, b"0")?;
+    write_filtered(&mut encoder, macroblocks)?;
+    encoder.finish()
+}
+
+fn write_filtered(
+    encoder: &mut Encoder,
+    macroblocks: &[(usize, &[(bool, u8)], i8)],
+) -> Result<(), AllocError> {
+    for (luma, segment, _) in macroblocks {
+        write_pairs(encoder, segment)?;
+        write_pairs(encoder, LUMA[*luma % 5])?;
+        write_pairs(encoder, CHROMA[0])?;
+    }
+    Ok(())
+}
+
+/// The token partition of a filtered packet.
+fn y2_partition(
+    alloc: Global,
+    macroblocks: &[(usize, &[(bool, u8)], i8)],
+) -> Result<Vec<u8>, AllocError> {
+    let mut encoder = Encoder::new(alloc);
+    for (_, _, first) in macroblocks {
+        write_y2(&mut encoder, *first)?;
+    }
+    encoder.finish()
 }
 
 /// Writes the tokens of a macroblock whose Y2 block has a first coefficient of 1, of -1 or none, and
@@ -197,30 +241,51 @@ pub fn inter_packet_of(
     macroblocks: &[&[(bool, u8)]],
     tokens: &[u8],
 ) -> Result<Vec<u8>, AllocError> {
+    let first = inter_partition(alloc, fields, skipping, macroblocks)?;
+    let tag = tag(false, first.len());
+    let mut packet = Vec::new(alloc);
+    append(&mut packet, &[&tag, first.as_slice(), tokens])?;
+    Ok(packet)
+}
+
+/// The first partition of such a packet.
+fn inter_partition(
+    alloc: Global,
+    fields: &[u8],
+    skipping: &[u8],
+    macroblocks: &[&[(bool, u8)]],
+) -> Result<Vec<u8>, AllocError> {
     let mut encoder = Encoder::new(alloc);
-    write_bits(&mut encoder, fields)?;
-    write_bits(&mut encoder, &[b'0'; 24])?;
+    write_inter_header(&mut encoder, fields, skipping)?;
+    write_each(&mut encoder, macroblocks)?;
+    encoder.finish()
+}
+
+/// Writes an inter frame's header.
+fn write_inter_header(
+    encoder: &mut Encoder,
+    fields: &[u8],
+    skipping: &[u8],
+) -> Result<(), AllocError> {
+    write_bits(encoder, fields)?;
+    write_bits(encoder, &[b'0'; 24])?;
     for _ in 0..1056 {
         encoder.bit(false, 128)?;
     }
-    write_bits(&mut encoder, skipping)?;
-    write_bits(&mut encoder, b"000000011111111110000000")?;
-    write_bits(&mut encoder, b"00")?;
+    write_bits(encoder, skipping)?;
+    write_bits(encoder, b"000000011111111110000000")?;
+    write_bits(encoder, b"00")?;
     for component in VECTOR_UPDATE_PROBABILITIES {
         for prob in component {
             encoder.bit(false, prob)?;
         }
     }
-    for macroblock in macroblocks {
-        write_pairs(&mut encoder, macroblock)?;
+    Ok(())
+}
+
+fn write_each(encoder: &mut Encoder, lists: &[&[(bool, u8)]]) -> Result<(), AllocError> {
+    for pairs in lists {
+        write_pairs(encoder, pairs)?;
     }
-    let first = encoder.finish()?;
-    let size = first.len() as u64 % 524_288;
-    let mut packet = Vec::new(alloc);
-    packet.push((0x11 + size % 8 * 32) as u8)?;
-    packet.push((size / 8 % 256) as u8)?;
-    packet.push((size / 2048) as u8)?;
-    packet.extend_from_slice(first.as_slice())?;
-    packet.extend_from_slice(tokens)?;
-    Ok(packet)
+    Ok(())
 }

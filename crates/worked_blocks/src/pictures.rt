@@ -146,12 +146,15 @@ fn put_one(spare: &mut Spare, alloc: Global) -> Result<(), NoMemory> {
 
 #[test]
 fn spare_planes_are_made_again(rt: HostRuntime) -> Result<(), Fail> {
-    let alloc = rt.alloc();
     let mut spare = Spare::new();
-    assert!(rt; makes_zeros(&mut spare, alloc, 1)?);
+    expect_made_again(&rt, rt.alloc(), &mut spare)
+}
+
+fn expect_made_again<R: Abort>(rt: &R, alloc: Global, spare: &mut Spare) -> Result<(), Fail> {
+    assert!(rt; makes_zeros(spare, alloc, 1)?);
     for side in [1, 1, 2, 1] {
-        put_one(&mut spare, alloc)?;
-        assert!(rt; makes_zeros(&mut spare, alloc, side)?);
+        put_one(spare, alloc)?;
+        assert!(rt; makes_zeros(spare, alloc, side)?);
     }
     Ok(())
 }

@@ -1,3 +1,5 @@
+ghost use Rattle.std.specs.Prelude.{◌≤◌};
+
 use pixel_planes::{Picture, Plane, Planes};
 use std::alloc::{AllocError, Global};
 use std::io::{self, ErrorKind, Read};
@@ -166,20 +168,40 @@ fn picture(alloc: Global) -> Result<Picture, AllocError> {
     Picture::share(alloc, Planes { luma, cb, cr }, 3, 1)
 }
 
+/// Writes a stream of one frame.
+fn write_stream(text: &mut Vec<u8>, picture: &Picture) -> Result<(), WriteFault> {
+    y4m_header(text, 3, 1, 25, 2)?;
+    y4m_frame(text, picture)
+}
+
 #[test]
 fn writes_a_stream(rt: HostRuntime) -> Result<(), Fail> {
     let picture = picture(rt.alloc())?;
     let mut text = Vec::new(rt.alloc());
-    y4m_header(&mut text, 3, 1, 25, 2)?;
-    y4m_frame(&mut text, &picture)?;
+    write_stream(&mut text, &picture)?;
     let want = b"YUV4MPEG2 W3 H1 F25:2 Ip C420jpeg\nFRAME\nabcdefg";
     assert_eq!(rt; text.as_slice(), want.as_slice());
-    for (rate, scale) in [(0, 1), (30, 0)] {
-        let mut line = Vec::new(rt.alloc());
-        y4m_header(&mut line, 16, 16, rate, scale)?;
-        let want = b"YUV4MPEG2 W16 H16 F30:1 Ip C420jpeg\n";
-        assert_eq!(rt; line.as_slice(), want.as_slice());
-    }
+    Ok(())
+}
+
+/// Writes a header for a rate without a meaning, and checks that it has 30 frames per second.
+fn expect_usual_rate<R: Abort>(
+    rt: &R,
+    alloc: Global,
+    rate: u32,
+    scale: u32,
+) -> Result<(), WriteFault> {
+    let mut line = Vec::new(alloc);
+    y4m_header(&mut line, 16, 16, rate, scale)?;
+    let want = b"YUV4MPEG2 W16 H16 F30:1 Ip C420jpeg\n";
+    assert_eq!(rt; line.as_slice(), want.as_slice());
+    Ok(())
+}
+
+#[test]
+fn a_rate_of_zero_is_thirty(rt: HostRuntime) -> Result<(), Fail> {
+    expect_usual_rate(&rt, rt.alloc(), 0, 1)?;
+    expect_usual_rate(&rt, rt.alloc(), 30, 0)?;
     Ok(())
 }
 
@@ -273,15 +295,24 @@ fn counts_of_zeros(
     Ok(counts(alloc, &text))
 }
 
+/// The counts of the file of one packet with four bytes of 255 at a place.
+fn counts_with_largest(alloc: Global, place: usize) -> Result<(usize, u64), IvfFault>
+    requires { place ≤ 50 }
+{
+    let mut file = KEY_FILE;
+    file[place..place + 4].copy_from_slice(&[0xFF; 4]);
+    counts(alloc, &file)
+}
+
 // The number of packets in a header may be any number. A record may not be longer than the file.
 #[test]
-fn the_largest_fields(rt: HostRuntime) -> Result<(), Fail> {
-    let mut counted = KEY_FILE;
-    counted[24..28].copy_from_slice(&[0xFF; 4]);
-    assert_eq!(rt; counts(rt.alloc(), &counted), Ok((1, 0)));
-    let mut sized = KEY_FILE;
-    sized[32..36].copy_from_slice(&[0xFF; 4]);
-    assert_eq!(rt; counts(rt.alloc(), &sized), Ok((0, 22)));
+fn the_largest_fields(rt: HostRuntime) {
+    assert_eq!(rt; counts_with_largest(rt.alloc(), 24), Ok((1, 0)));
+    assert_eq!(rt; counts_with_largest(rt.alloc(), 32), Ok((0, 22)));
+}
+
+#[test]
+fn the_most_packets(rt: HostRuntime) -> Result<(), Fail> {
     let many = counts_of_zeros(rt.alloc(), 32 + 12 * MAX_PACKETS)?;
     assert_eq!(rt; many, Ok((MAX_PACKETS, 0)));
     let more = counts_of_zeros(rt.alloc(), 32 + 12 * MAX_PACKETS + 12)?;

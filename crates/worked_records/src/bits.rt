@@ -1,4 +1,5 @@
 use bool_coder::Decoder;
+use std::process::Abort;
 use std::test::Fail;
 
 /// The reader of RFC 6386, section 7.3, a bit at a time. Its d is not clamped to the range: it
@@ -106,13 +107,22 @@ fn mark_counts_bits_taken_in(rt: HostRuntime) {
     }
     let mut decoder = Decoder::new(&text);
     let mut reader = PlainReader::new(&text[..8]);
+    expect_marks(&rt, &mut decoder, &mut reader, bytes);
+    assert_eq!(rt; decoder.left(), 0);
+}
+
+fn expect_marks<R: Abort>(
+    rt: &R,
+    decoder: &mut Decoder<'_>,
+    reader: &mut PlainReader<'_>,
+    mut bytes: Bytes,
+) {
     for _bit in 0..1_000 {
         let left = 104usize.saturating_sub(reader.place);
         assert_eq!(rt; decoder.left(), left as u128);
         let prob = bytes.next_prob();
         let _bits = (decoder.bit(prob), reader.bit(prob));
     }
-    assert_eq!(rt; decoder.left(), 0);
 }
 
 /// How many bits are left before any is read.

@@ -1,5 +1,6 @@
 use bool_coder::{Decoder, Encoder, NoMemory};
 use std::alloc::Global;
+use std::process::Abort;
 use std::test::Fail;
 
 fn text(alloc: Global, pairs: &[(bool, u8)]) -> Result<Vec<u8>, NoMemory> {
@@ -53,19 +54,30 @@ fn pair(state: u32) -> (bool, u8) {
     ((state >> 20) % 2 == 1, prob)
 }
 
-#[test]
-fn mixed_pairs_are_read_back(rt: HostRuntime) -> Result<(), Fail> {
-    let mut pairs = Vec::new(rt.alloc());
+/// 400 such pairs.
+fn mixed_pairs(alloc: Global) -> Result<Vec<(bool, u8)>, NoMemory> {
+    let mut pairs = Vec::new(alloc);
     let mut state = 6386;
     for _ in 0..400 {
         state = next(state);
         pairs.push(pair(state))?;
     }
-    let text = text(rt.alloc(), &pairs)?;
-    let mut decoder = Decoder::new(&text);
-    for (bit, prob) in &pairs {
+    Ok(pairs)
+}
+
+/// Checks that these bits are read from a text at these probabilities.
+fn expect_bits<R: Abort>(rt: &R, text: &[u8], pairs: &[(bool, u8)]) {
+    let mut decoder = Decoder::new(text);
+    for (bit, prob) in pairs {
         assert_eq!(rt; decoder.bit(*prob), *bit);
     }
+}
+
+#[test]
+fn mixed_pairs_are_read_back(rt: HostRuntime) -> Result<(), Fail> {
+    let pairs = mixed_pairs(rt.alloc())?;
+    let text = text(rt.alloc(), &pairs)?;
+    expect_bits(&rt, &text, &pairs);
     Ok(())
 }
 
@@ -73,16 +85,18 @@ fn mixed_pairs_are_read_back(rt: HostRuntime) -> Result<(), Fail> {
 // FF, until the bit that passes it.
 #[test]
 fn carries_run_through_full_bytes(rt: HostRuntime) -> Result<(), Fail> {
+    let pairs = full_pairs(rt.alloc())?;
+    let text = text(rt.alloc(), &pairs)?;
+    assert!(rt; text.starts_with(&[0x80, 0, 0, 0, 0]));
+    expect_bits(&rt, &text, &pairs);
+    Ok(())
+}
+
+fn full_pairs(alloc: Global) -> Result<Vec<(bool, u8)>, NoMemory> {
     let mut read = Decoder::new(&[0x80, 0, 0, 0, 0, 1]);
-    let mut pairs = Vec::new(rt.alloc());
+    let mut pairs = Vec::new(alloc);
     for _ in 0..60 {
         pairs.push((read.bit(200), 200))?;
     }
-    let text = text(rt.alloc(), &pairs)?;
-    assert!(rt; text.starts_with(&[0x80, 0, 0, 0, 0]));
-    let mut decoder = Decoder::new(&text);
-    for (bit, prob) in &pairs {
-        assert_eq!(rt; decoder.bit(*prob), *bit);
-    }
-    Ok(())
+    Ok(pairs)
 }

@@ -124,9 +124,14 @@ fn expect_grey(rt: &impl Abort, alloc: Global, blank: &[u8], hold: &[u8]) {
 /// Checks that a picture that is not grey is held, and stays the last reference.
 fn expect_key_held(rt: &impl Abort, alloc: Global, hold: &[u8]) {
     let (state, picture) = decoded(rt, alloc, KEY.as_slice());
-    assert!(rt; !is_grey_picture(&picture));
     let after = expect_held(rt, alloc, &state, hold, &picture);
-    assert!(rt; same(&picture, &after.references().last));
+    expect_last(rt, &after, &picture);
+}
+
+/// Checks that a picture is not grey and is the last reference.
+fn expect_last(rt: &impl Abort, state: &State, picture: &Picture) {
+    assert!(rt; !is_grey_picture(picture));
+    assert!(rt; same(picture, &state.references().last));
 }
 
 #[test]

@@ -1,5 +1,5 @@
 use bool_coder::Encoder;
-use pixel_planes::{NoMemory, Spare, same};
+use pixel_planes::{NoMemory, Picture, Spare, same};
 use reference_frames::{State, same_state, step, step_with};
 use std::alloc::Global;
 use std::process::Abort;
@@ -23,14 +23,7 @@ fn key_state(rt: &impl Abort, alloc: Global) -> State {
 /// A packet with no key tag whose fields are 0 up to its quantizers, and continue with these
 /// digits and then with zeros. Its picture is 128 throughout, which the key packet's is not.
 fn inter_packet(alloc: Global, digits: &[u8]) -> Result<Vec<u8>, NoMemory> {
-    let mut encoder = Encoder::new(alloc);
-    for _ in 0..26 {
-        encoder.bit(false, 128)?;
-    }
-    for digit in digits {
-        encoder.bit(*digit == b'1', 128)?;
-    }
-    let first = encoder.finish()?;
+    let first = first_partition(alloc, digits)?;
     let mut packet = Vec::new(alloc);
     packet.push((0x11 + first.len() % 8 * 32) as u8)?;
     packet.extend_from_slice(&[(first.len() / 8 % 256) as u8, 0])?;
@@ -38,13 +31,35 @@ fn inter_packet(alloc: Global, digits: &[u8]) -> Result<Vec<u8>, NoMemory> {
     Ok(packet)
 }
 
+/// The first partition of such a packet.
+fn first_partition(alloc: Global, digits: &[u8]) -> Result<Vec<u8>, NoMemory> {
+    let mut encoder = Encoder::new(alloc);
+    write_fields(&mut encoder, digits)?;
+    encoder.finish()
+}
+
+fn write_fields(encoder: &mut Encoder, digits: &[u8]) -> Result<(), NoMemory> {
+    for _ in 0..26 {
+        encoder.bit(false, 128)?;
+    }
+    for digit in digits {
+        encoder.bit(*digit == b'1', 128)?;
+    }
+    Ok(())
+}
+
 /// Whether the state after such a packet equals the state before it.
 fn keeps(rt: &impl Abort, alloc: Global, digits: &[u8]) -> Result<bool, Fail> {
-    let state = key_state(rt, alloc);
     let packet = inter_packet(alloc, digits)?;
-    let decoded = step(alloc, &Tables::flat(), Some(&state), packet.as_slice());
-    let (new, _) = decoded.expect(rt, "a packet behind a state");
-    Ok(same_state(&state, &new))
+    let state = key_state(rt, alloc);
+    Ok(is_kept(rt, alloc, &state, packet.as_slice()))
+}
+
+/// Whether the state after a packet equals the state before it.
+fn is_kept(rt: &impl Abort, alloc: Global, state: &State, packet: &[u8]) -> bool {
+    let decoded = step(alloc, &Tables::flat(), Some(state), packet);
+    let (new, _) = decoded.expect(rt, "a packet after a state");
+    same_state(state, &new)
 }
 
 // Golden and altref are refreshed or copied, then come their sign biases, refresh_entropy and
@@ -82,25 +97,33 @@ fn steps_alike(
     state: Option<&State>,
     packet: &[u8],
 ) -> bool {
-    let fresh = step(alloc, &Tables::flat(), state, packet);
-    let (fresh_state, fresh_picture) = fresh.expect(rt, "a packet that decodes");
+    let fresh = step(alloc, &Tables::flat(), state, packet).expect(rt, "a packet that decodes");
     let decoded = step_with(alloc, &Tables::flat(), spare, state, packet);
-    let (new, picture) = decoded.expect(rt, "the same packet");
-    let is_alike = same_state(&new, &fresh_state) && same(&picture, &fresh_picture);
+    is_put_back(spare, decoded.expect(rt, "the same packet"), &fresh)
+}
+
+/// Whether two steps gave the same. The planes of the first are then the spare ones.
+fn is_put_back(spare: &mut Spare, decoded: (State, Picture), fresh: &(State, Picture)) -> bool {
+    let (state, picture) = decoded;
+    let is_alike = same_state(&state, &fresh.0) && same(&picture, &fresh.1);
     spare.put(picture);
-    new.drop_into(spare);
+    state.drop_into(spare);
     is_alike
 }
 
 #[test]
 fn spare_planes_change_no_step(rt: HostRuntime) -> Result<(), Fail> {
-    let alloc = rt.alloc();
+    let inter = inter_packet(rt.alloc(), b"0000000001")?;
     let mut spare = Spare::new();
-    let inter = inter_packet(alloc, b"0000000001")?;
     for width in [16, 16, 40, 8] {
-        assert!(rt; steps_alike(&rt, alloc, &mut spare, None, &wide_key(width)));
-        let state = key_state(&rt, alloc);
-        assert!(rt; steps_alike(&rt, alloc, &mut spare, Some(&state), inter.as_slice()));
+        expect_alike(&rt, rt.alloc(), &mut spare, width, inter.as_slice());
     }
     Ok(())
+}
+
+/// Checks that a key packet of this width, and a packet after another one, are stepped alike with spare planes.
+fn expect_alike(rt: &impl Abort, alloc: Global, spare: &mut Spare, width: u8, inter: &[u8]) {
+    assert!(rt; steps_alike(rt, alloc, spare, None, &wide_key(width)));
+    let state = key_state(rt, alloc);
+    assert!(rt; steps_alike(rt, alloc, spare, Some(&state), inter));
 }
