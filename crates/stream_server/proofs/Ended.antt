@@ -3,7 +3,8 @@ use Rattle.std.proofs.Common.{ℕ, List, Option, refl}
 use Rattle.command_lines.specs.Readings.{AreNamed, IsInputFault}
 use Rattle.command_lines.specs.declared.fault.Fault.{Fault}
 use Rattle.command_lines.specs.declared.fault.Fault.TheVariants.{CommandLine, NamedTwice, CannotRead, TooLong, Tables, Input, CannotWrite, NoMemory}
-use Rattle.stream_server.specs.Endings.{IsEnded, IsRefused, IsSaveFault}
+use Rattle.vp8_tables.specs.Tables.{TableEntries}
+use Rattle.stream_server.specs.Endings.{IsEnded, IsLiveRefused, IsRefused, IsSaveFault}
 
 module _ (unnamed : List ℕ) (tables : Option (List ℕ)) (names : List (List ℕ)) (requests : List ℕ) where
   -- a file was not read
@@ -38,3 +39,14 @@ module _ (unnamed : List ℕ) (tables : Option (List ℕ)) (names : List (List �
   save_ended left left' replies replies' (Input source fault) why = absurd why
   save_ended left left' replies replies' CannotWrite why = tt
   save_ended left left' replies replies' NoMemory why = tt
+
+-- after live requests the packets were not saved
+pub save_refused : (tables : TableEntries) (sources : List (List ℕ)) (requests : List ℕ) (left replies replies' : Option (List ℕ)) (fault : Fault) → IsSaveFault fault → IsLiveRefused tables sources requests left replies replies' fault
+save_refused tables sources requests left replies replies' CommandLine why = absurd why
+save_refused tables sources requests left replies replies' (NamedTwice same) why = absurd why
+save_refused tables sources requests left replies replies' (CannotRead path) why = absurd why
+save_refused tables sources requests left replies replies' (TooLong path) why = absurd why
+save_refused tables sources requests left replies replies' Tables why = absurd why
+save_refused tables sources requests left replies replies' (Input source fault) why = absurd why
+save_refused tables sources requests left replies replies' CannotWrite why = tt
+save_refused tables sources requests left replies replies' NoMemory why = tt

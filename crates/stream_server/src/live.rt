@@ -1,6 +1,7 @@
 // Requests that are answered as they come.
-ghost use Rattle.std.specs.Prelude.{◌≡◌, ◌≤◌, ℕ, IfErr, IfOk, List, OnOk, Option, is_some, length, option_map};
+ghost use Rattle.std.specs.Prelude.{◌≡◌, ◌≤◌, ℕ, IfErr, IfOk, List, OnOk, Option, is_some, length, map, option_map};
 ghost use Rattle.frame_session.specs.Answers.{texts_of};
+ghost use Rattle.frame_session.specs.Sessions.{Now};
 ghost use Rattle.command_lines.specs.CommandLines.{source_names};
 ghost use Rattle.stream_server.specs.Endings.{IsInput, IsLiveEnded, IsLiveFault, IsLiveRefused, IsLiveReplied, IsServed, reported_live};
 
@@ -132,6 +133,35 @@ fn run_requests<'a, R: Files + AllocGlobal, I: Read, P: Write, E: Write>(
     )
 }
 
+/// Answers the request lines over the files of the sources as they come, and saves the packets of source 0 if that is asked for.
+#[tactic(auto, using(crate::proofs::Ended::save_refused))]
+fn answer_over<'a, R: Files + AllocGlobal, I: Read, O: Write, E: Write>(
+    rt: &R,
+    line: &Accepted<'a>,
+    settings: Settings,
+    sources: &[Vec<u8>],
+    input: &mut I,
+    output: &mut O,
+    messages: &mut Messages<'_, E>,
+) -> Result<(), Fault<'a>>
+    requires capacity { (1 ≤ settings.capacity) × (settings.capacity ≤ 4096) }
+    requires sources { (1 ≤ length sources.now) × (length sources.now ≤ 8) }
+    ensures replied { OnOk result ((given : Option (List ℕ)) × (end : Now) × IsInput line.now.words.requests.now (I.remaining input.old) given × IsLiveReplied settings.tables (map (λ bytes. bytes.items) sources.now) given (O.contents output.old) (O.contents output.new) end) }
+    ensures refused { IfErr result (IsLiveRefused settings.tables (map (λ bytes. bytes.items) sources.now) line.now.words.requests.now (I.remaining input.old) (O.contents output.old) (O.contents output.new)) }
+{
+    let slices = slices_of(rt.alloc(), sources)?;
+    let session = run_requests(
+        rt,
+        line,
+        settings,
+        slices.as_slice(),
+        input,
+        output,
+        messages,
+    )?;
+    finish(rt, &session, line, slices.as_slice(), messages)
+}
+
 /// Does what an accepted command line with `--live` asks for.
 pub fn answer_live<'a, R: Files + AllocGlobal, I: Read, O: Write, E: Write>(
     rt: &R,
@@ -147,19 +177,17 @@ pub fn answer_live<'a, R: Files + AllocGlobal, I: Read, O: Write, E: Write>(
 {
     let tables = read_tables(rt, line.words.tables)?;
     let sources = read_sources(rt, line.words.stream, line.more.as_slice())?;
-    let slices = slices_of(rt.alloc(), sources.as_slice())?;
     let settings = Settings {
         tables,
         capacity: line.capacity,
     };
-    let session = run_requests(
+    answer_over(
         rt,
         line,
         settings,
-        slices.as_slice(),
+        sources.as_slice(),
         input,
         output,
         messages,
-    )?;
-    finish(rt, &session, line, slices.as_slice(), messages)
+    )
 }
