@@ -168,7 +168,7 @@ def ends_by_libvpx(packets, past, lost, totals):
 def damaged_streams(count, seed):
     """Compares the findings of damaged streams; how many differ, and packets by who refuses them."""
     choose = random.Random(seed)
-    clips = [HERE.parent / "examples/mandelbrot.ivf", *sorted((HERE.parent / "crates/real_streams/data").glob("*.ivf"))]
+    clips = [HERE.parent / "examples/mandelbrot.ivf", *sorted((HERE.parent / "crates/gate_clips/data").glob("*.ivf"))]
     wrong, totals = 0, collections.Counter()
     with tempfile.TemporaryDirectory() as room:
         path = pathlib.Path(room) / "damaged.ivf"

@@ -1,6 +1,6 @@
 #!/usr/bin/env python3
 """A plain loop filter, line by line as RFC 6386, section 15, has it, without segments and changes of the level. Prints
-the totals of the planes of the frames with which `crates/worked_blocks/src/filters.rt` compares its own.
+the totals of the planes of the frames with which `crates/test_blocks/src/filters.rt` compares its own.
 
 Run manually: filters.py
 """

@@ -15,7 +15,7 @@ import tempfile
 
 HERE = pathlib.Path(__file__).resolve().parent
 PROGRAM = HERE.parent / "crates/vp8list/out/vp8list"
-CLIPS = HERE.parent / "crates/real_streams/data"
+CLIPS = HERE.parent / "crates/gate_clips/data"
 # The time stamps of the file, each frame once at its own size, and no line with ffmpeg's version.
 FLAGS = ["-fps_mode", "passthrough", "-autoscale", "0", "-bitexact", "-f", "framemd5", "-"]
 

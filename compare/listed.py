@@ -142,7 +142,7 @@ def differs(path):
 def damaged_streams(count, seed):
     """The lists of damaged streams; how many differ."""
     choose = random.Random(seed)
-    clips = [HERE.parent / "examples/mandelbrot.ivf", *sorted((HERE.parent / "crates/real_streams/data").glob("*.ivf"))]
+    clips = [HERE.parent / "examples/mandelbrot.ivf", *sorted((HERE.parent / "crates/gate_clips/data").glob("*.ivf"))]
     wrong = 0
     with tempfile.TemporaryDirectory() as room:
         path = pathlib.Path(room) / "damaged.ivf"

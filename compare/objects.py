@@ -18,7 +18,7 @@ def lines(*arguments):
 
 
 def main():
-    paths = sys.argv[1:] or [*sorted((TOP / "crates/real_streams/data").glob("*.ivf")), TOP / "crates/vp8list/data/damaged.ivf"]
+    paths = sys.argv[1:] or [*sorted((TOP / "crates/gate_clips/data").glob("*.ivf")), TOP / "crates/vp8list/data/damaged.ivf"]
     count = wrong = 0
     for path in paths:
         names, *rows = [line.split("\t") for line in lines(path)]

@@ -23,7 +23,7 @@ from run import PROGRAM
 from traced import Program, traced
 
 HERE = pathlib.Path(__file__).resolve().parent
-GROWTHS = HERE.parent / "crates/refused_growths"
+GROWTHS = HERE.parent / "crates/gate_memory"
 WIDTH, HEIGHT, FRAMES, CLIPS = 48, 32, 10, 4
 KEY = bytes.fromhex("1000009D012A10001000")
 INTER = bytes.fromhex("110000")
@@ -273,7 +273,7 @@ def try_help(bench, told):
 
 
 def requests_of_lines(bench, program):
-    """A run of refused_growths with ample memory, and the number of requests for memory before each line of its output."""
+    """A run of gate_memory with ample memory, and the number of requests for memory before each line of its output."""
     writes = []
 
     def note(call):
@@ -290,22 +290,22 @@ def requests_of_lines(bench, program):
 
 
 def try_growths(bench, told):
-    """Runs refused_growths with each request refused, which must print its text, and counts the requests for memory of its frames."""
-    program, whole = Program(str(GROWTHS / "out/refused_growths")), (GROWTHS / "stdout").read_bytes()
+    """Runs gate_memory with each request refused, which must print its text, and counts the requests for memory of its frames."""
+    program, whole = Program(str(GROWTHS / "out/gate_memory")), (GROWTHS / "stdout").read_bytes()
     ample, made = requests_of_lines(bench, program)
     faults = 0
     for first in range(1, ample.requests + 1):
         got = bench.run([], lambda n: n == first, program)
-        told["runs of refused_growths"] += 1
+        told["runs of gate_memory"] += 1
         if (got.status, got.replies, got.errors) != (0, whole, ""):
             faults += 1
-            print(f"refused_growths: request {first}: status {got.status}, standard error {got.errors!r}")
+            print(f"gate_memory: request {first}: status {got.status}, standard error {got.errors!r}")
     between = {line.partition(":")[0]: requests for line, requests in zip(ample.lines(), made, strict=True)}
     steps, after, again = (between[name] for name in ("three steps from its state", "frame 3 after that", "frame 3 again"))
     print(f"frame 3 of [K, P, P, P] makes {between['frame 3']} requests for memory, again {again}; three steps make {steps}, and the frame after a replacement of packet 1 {after}")
     if again or after >= steps or ample.replies != whole:
         faults += 1
-        print("refused_growths: other counts or another text")
+        print("gate_memory: other counts or another text")
     return faults
 
 
@@ -346,7 +346,7 @@ def main():
         faults += try_help(bench, told) + try_growths(bench, told)
     for kind, number in sorted(told.items()):
         print(f"{number:9} {kind}")
-    print(f"{len(lists)} lists, --help and refused_growths: {faults} differences")
+    print(f"{len(lists)} lists, --help and gate_memory: {faults} differences")
     return 1 if faults else 0
 
 

@@ -72,7 +72,7 @@ pub fn sides_fix_macroblocks()
 
 /// The simple filter of a step of 10, which is measured as 25 (RFC 6386, section 15.2).
 #[tactic(auto, unfolding(crate::specs::Lines::simple_line, crate::specs::Lines::shortfall, crate::specs::Lines::eighth, crate::specs::Lines::raised, crate::specs::Lines::lowered))]
-pub fn worked_steps()
+pub fn test_steps()
     ensures within { simple_four 25 (100 ∷ 100 ∷ 110 ∷ 110 ∷ []) ≡ 100 ∷ 102 ∷ 107 ∷ 110 ∷ [] }
     ensures above { simple_four 24 (100 ∷ 100 ∷ 110 ∷ 110 ∷ []) ≡ 100 ∷ 100 ∷ 110 ∷ 110 ∷ [] }
 {}

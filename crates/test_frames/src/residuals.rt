@@ -1,7 +1,7 @@
 //! Key frames with residuals.
 
 use bool_coder::Encoder;
-use run_fixtures::{first_partition, packet_of, run_packets, write_y2, y4m_of};
+use test_fixtures::{first_partition, packet_of, run_packets, write_y2, y4m_of};
 use std::alloc::{AllocError, Global};
 use std::test::Fail;
 

@@ -1,5 +1,5 @@
 use frame_session::{RunFault, run};
-use run_fixtures::{INTER, KEY, ivf_of, run_over};
+use test_fixtures::{INTER, KEY, ivf_of, run_over};
 use std::alloc::{AllocError, Global};
 use std::io::{self, ErrorKind, Write};
 use std::process::Abort;

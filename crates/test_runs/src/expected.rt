@@ -1,4 +1,4 @@
-use run_fixtures::{Run, replies_of};
+use test_fixtures::{Run, replies_of};
 use std::alloc::Global;
 use std::process::Abort;
 use std::test::Fail;

@@ -40,7 +40,7 @@ fn main(rt: HostRuntime) -> ExitCode {
     match make_all(rt.alloc(), &mut output) {
         Ok(()) => ExitCode::SUCCESS,
         Err(fault) => {
-            let _ = writeln!(rt.stderr(), "refused_growths: {fault:?}");
+            let _ = writeln!(rt.stderr(), "gate_memory: {fault:?}");
             ExitCode::FAILURE
         }
     }

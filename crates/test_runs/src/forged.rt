@@ -3,7 +3,7 @@
 use crate::expected::expect_run;
 use crate::files::{NEVER, Refusing};
 use frame_session::{Edit, Refusal, RunFault, Session, run};
-use run_fixtures::{HIDDEN, INTER, KEY, Ran, Run, ivf_of, run_over, run_packets, y4m_of};
+use test_fixtures::{HIDDEN, INTER, KEY, Ran, Run, ivf_of, run_over, run_packets, y4m_of};
 use std::alloc::Global;
 use std::process::Abort;
 use std::test::Fail;

@@ -2,7 +2,7 @@
 //! order, and prints for each how many frames it has and the MD5 of their samples in order. A line with
 //! three names serves the three clips as the sources of one session, one after another.
 //!
-//! It must print what vpxdec printed for the same clips (`compare/real_streams.py`).
+//! It must print what vpxdec printed for the same clips (`compare/gate_clips.py`).
 #![tactic(auto)]
 
 mod clips;
@@ -54,7 +54,7 @@ fn main(rt: HostRuntime) -> ExitCode {
     match report_all(&rt, &mut output) {
         Ok(()) => ExitCode::SUCCESS,
         Err(fault) => {
-            let _ = writeln!(rt.stderr(), "real_streams: {fault:?}");
+            let _ = writeln!(rt.stderr(), "gate_clips: {fault:?}");
             ExitCode::FAILURE
         }
     }

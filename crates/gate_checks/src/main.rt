@@ -63,7 +63,7 @@ fn main(rt: HostRuntime) -> ExitCode {
     match report_all(&rt, &mut output) {
         Ok(()) => ExitCode::SUCCESS,
         Err(fault) => {
-            let _ = writeln!(rt.stderr(), "checked_streams: {fault:?}");
+            let _ = writeln!(rt.stderr(), "gate_checks: {fault:?}");
             ExitCode::FAILURE
         }
     }

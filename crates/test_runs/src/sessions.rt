@@ -1,7 +1,7 @@
 use frame_header::Cause;
 use frame_session::{Refusal, Session};
 use pixel_planes::{Component, Picture};
-use run_fixtures::{INTER, KEY, WIDE_KEY, ivf_of};
+use test_fixtures::{INTER, KEY, WIDE_KEY, ivf_of};
 use std::alloc::Global;
 use std::process::Abort;
 use std::test::Fail;

@@ -1,7 +1,7 @@
 //! Frames with a loop filter, and frames with segments.
 
 use bool_coder::Encoder;
-use run_fixtures::{INTER, filtered_packet, inter_packet_of, run_packets, write_y2, y4m_of};
+use test_fixtures::{INTER, filtered_packet, inter_packet_of, run_packets, write_y2, y4m_of};
 use std::alloc::Global;
 use std::test::Fail;
 

@@ -1,7 +1,7 @@
 #!/usr/bin/env python3
-"""Makes the clips of the crate real_streams, and what its program must print of them.
+"""Makes the clips of the crate gate_clips, and what its program must print of them.
 
-Run manually, not in the gate: real_streams.py. It needs vpxenc and vpxdec (Debian's vpx-tools) and ffmpeg. Each line that
+Run manually, not in the gate: gate_clips.py. It needs vpxenc and vpxdec (Debian's vpx-tools) and ffmpeg. Each line that
 the program must print is a clip's name, how many frames vpxdec shows of it, and the MD5 that vpxdec gives of their samples; the
 last line is the same of three clips, one after another.
 """
@@ -13,7 +13,7 @@ import subprocess
 from bits import ivf
 from clips import drawn, kinds_of, packets_of
 
-CRATE = pathlib.Path(__file__).resolve().parent.parent / "crates" / "real_streams"
+CRATE = pathlib.Path(__file__).resolve().parent.parent / "crates" / "gate_clips"
 LIMIT = 60_000
 TEST, FRACTAL, NOISE = "testsrc2", "mandelbrot", "testsrc2,noise=alls=60:allf=t"
 LIFE = "life=mold=10:ratio=0.4:death_color=#C83232:life_color=#00ff00,scale"

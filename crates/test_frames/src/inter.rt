@@ -1,6 +1,6 @@
 //! Frames that are no key frames.
 
-use run_fixtures::{HIDDEN, INTER, KEY, Macroblock, inter_packet, key_packet, run_packets, y4m_of};
+use test_fixtures::{HIDDEN, INTER, KEY, Macroblock, inter_packet, key_packet, run_packets, y4m_of};
 use std::test::Fail;
 
 const LINE: &[u8] = b"YUV4MPEG2 W16 H16 F30:1 Ip C420jpeg\n";

@@ -3,7 +3,7 @@
 use crate::expected::expect_run;
 use frame_session::{Edit, Session};
 use pixel_planes::same;
-use run_fixtures::{HIDDEN, INTER, KEY, Run, ivf_of, run_packets, run_with, y4m_of};
+use test_fixtures::{HIDDEN, INTER, KEY, Run, ivf_of, run_packets, run_with, y4m_of};
 use std::alloc::Global;
 use std::process::Abort;
 use std::test::Fail;

@@ -1,6 +1,6 @@
 //! Key frames of each prediction mode.
 
-use run_fixtures::{B, Macroblock, key_packet, run_packets, y4m_of};
+use test_fixtures::{B, Macroblock, key_packet, run_packets, y4m_of};
 use std::alloc::{AllocError, Global};
 use std::test::Fail;
 

@@ -1,4 +1,4 @@
-use run_fixtures::{HIDDEN, INTER, KEY, WIDE_KEY, run_over, run_packets, y4m_of};
+use test_fixtures::{HIDDEN, INTER, KEY, WIDE_KEY, run_over, run_packets, y4m_of};
 use std::test::Fail;
 
 /// The line of a stream of 16 by 16 samples at 30 frames a second.

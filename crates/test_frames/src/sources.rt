@@ -3,7 +3,7 @@
 use crate::edits::{expect_edit, expect_refused};
 use frame_header::Cause;
 use frame_session::{Edit, Refusal, RunFault, Session};
-use run_fixtures::{INTER, KEY, Ran, WIDE_KEY, ivf_of, run_sources, y4m_of};
+use test_fixtures::{INTER, KEY, Ran, WIDE_KEY, ivf_of, run_sources, y4m_of};
 use std::alloc::Global;
 use std::process::Abort;
 use std::test::Fail;

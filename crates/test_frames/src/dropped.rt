@@ -1,7 +1,7 @@
 //! Packets of no bytes, which drop a frame: the last reference is shown again.
 
 use crate::expected::expect_run;
-use run_fixtures::{INTER, KEY, Run, run_packets, y4m_of};
+use test_fixtures::{INTER, KEY, Run, run_packets, y4m_of};
 use std::test::Fail;
 
 const LINE: &[u8] = b"YUV4MPEG2 W16 H16 F30:1 Ip C420jpeg\n";

@@ -2,7 +2,7 @@
 
 use crate::expected::expect_run;
 use frame_session::{Refusal, Session};
-use run_fixtures::{INTER, KEY, Run, ivf_of, run_packets, y4m_of};
+use test_fixtures::{INTER, KEY, Run, ivf_of, run_packets, y4m_of};
 use std::alloc::Global;
 use std::process::Abort;
 use std::test::Fail;

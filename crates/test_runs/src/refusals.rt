@@ -1,6 +1,6 @@
 use bool_coder::Encoder;
 use frame_header::key_size;
-use run_fixtures::{INTER, KEY, packet_of, run_packets, write_bits};
+use test_fixtures::{INTER, KEY, packet_of, run_packets, write_bits};
 use std::alloc::Global;
 use std::process::Abort;
 use std::test::Fail;

@@ -1,7 +1,7 @@
 use crate::expected::expect_run;
 use frame_header::Cause;
 use frame_session::{Edit, Refusal, Session};
-use run_fixtures::{HIDDEN, INTER, KEY, Run, WIDE_KEY, ivf_of, run_over, run_packets};
+use test_fixtures::{HIDDEN, INTER, KEY, Run, WIDE_KEY, ivf_of, run_over, run_packets};
 use std::alloc::Global;
 use std::process::Abort;
 use std::test::Fail;
