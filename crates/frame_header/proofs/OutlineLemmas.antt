@@ -18,6 +18,7 @@ use Rattle.frame_header.specs.TrailingFields.{quantizers, trailing_fields}
 use Rattle.frame_header.specs.declared.cause.Cause.{Cause}
 use Rattle.frame_header.specs.declared.context.Context.{Context}
 use Rattle.frame_header.specs.declared.context.SignBiases.{SignBiases}
+use Rattle.frame_header.specs.declared.fields.Colors.{Colors}
 use Rattle.frame_header.specs.declared.fields.Filter.{Filter}
 use Rattle.frame_header.specs.declared.header.Header.{Header}
 use Rattle.frame_header.specs.declared.outline.Outline.{Outline}
@@ -43,6 +44,10 @@ filter_same is_key c c' r =
     let color : Reader = colors_read is_key r in
     ap (λ (t : Reader). (filter t).0) (segmentation_same c.segments c'.segments color)
 
+colors_same : (is_key : Bool) (c c' : Context) (r : Reader) → (fields is_key c r).0.0.colors ≡ (fields is_key c' r).0.0.colors
+unfolding fields
+colors_same is_key c c' r = refl
+
 references_same : (is_key : Bool) (b b' : SignBiases) (r : Reader) → (refreshes is_key b r).0.0.references ≡ (refreshes is_key b' r).0.0.references
 unfolding refreshes
 references_same true b b' r = refl
@@ -56,18 +61,18 @@ references_in : (is_key : Bool) (updates : List ℕ) (c : Context) (r : Reader) 
 unfolding trailing_fields
 references_in is_key updates c r = refl
 
-abbrev outline_with : ℕ → ℕ → ℕ → ReferenceUpdates → Outline
-outline_with partitions quantizer level references = record { partitions = partitions; quantizer = quantizer; level = level; references = references }
+abbrev outline_with : Colors → ℕ → ℕ → ℕ → ReferenceUpdates → Outline
+outline_with colors partitions quantizer level references = record { colors = colors; partitions = partitions; quantizer = quantizer; level = level; references = references }
 
 -- the outline of a header of these parts, next to the one that is read after another context
 parts_same : (tables : TableEntries) (c c' : Context) (start : Start) (r : Reader) (partitions : ArrayVec Place)
-    → (let read = fields start.tag.key c r in let trailing = trailing_fields start.tag.key tables.updates read.0.1 read.1 in outline_with (length partitions.items) trailing.0.0.quantizers.y_ac_index read.0.0.filter.level trailing.0.0.references)
-    ≡ (let read = fields start.tag.key c' r in let index = quantizers read.1 in outline_with (length partitions.items) index.0.y_ac_index read.0.0.filter.level (refreshes start.tag.key read.0.1.sign_biases index.1).0.0.references)
+    → (let read = fields start.tag.key c r in let trailing = trailing_fields start.tag.key tables.updates read.0.1 read.1 in outline_with read.0.0.colors (length partitions.items) trailing.0.0.quantizers.y_ac_index read.0.0.filter.level trailing.0.0.references)
+    ≡ (let read = fields start.tag.key c' r in let index = quantizers read.1 in outline_with read.0.0.colors (length partitions.items) index.0.y_ac_index read.0.0.filter.level (refreshes start.tag.key read.0.1.sign_biases index.1).0.0.references)
 parts_same tables c c' start r partitions =
     let key : Bool = start.tag.key in
     let read = fields key c r in
     let read' = fields key c' r in
-    rw (index_in key tables.updates read.0.1 read.1, references_in key tables.updates read.0.1 read.1, references_same key read.0.1.sign_biases read'.0.1.sign_biases (quantizers read.1).1, reader_same key c c' r, filter_same key c c' r) refl
+    rw (index_in key tables.updates read.0.1 read.1, references_in key tables.updates read.0.1 read.1, references_same key read.0.1.sign_biases read'.0.1.sign_biases (quantizers read.1).1, reader_same key c c' r, filter_same key c c' r, colors_same key c c' r) refl
 
 ranges_by : (header : ArrayVec Place → Header) (outline : ArrayVec Place → Outline) → ((partitions : ArrayVec Place) → outlined (Ok (header partitions)) ≡ Ok (outline partitions)) → (ranges : Result (ArrayVec Place) Cause)
     → outlined (ranges >>= (λ partitions. Ok (header partitions))) ≡ (ranges >>= (λ partitions. Ok (outline partitions)))
@@ -79,7 +84,7 @@ outline_after : (start : Start) (r : Reader) → ArrayVec Place → Outline
 outline_after start r partitions =
     let read = fields start.tag.key zero_context r in
     let index = quantizers read.1 in
-    outline_with (length partitions.items) index.0.y_ac_index read.0.0.filter.level (refreshes start.tag.key read.0.1.sign_biases index.1).0.0.references
+    outline_with read.0.0.colors (length partitions.items) index.0.y_ac_index read.0.0.filter.level (refreshes start.tag.key read.0.1.sign_biases index.1).0.0.references
 
 ends_by : (tables : TableEntries) (context : Context) (packet : List ℕ) (start : Start) (end : Result ℕ Cause)
     → outlined (end >>= (λ e. let read = fields start.tag.key context (started (slice_range packet start.place e)) in token_ranges packet e read.0.0.partition_count >>= (λ partitions. Ok (header_in start read.0 partitions (trailing_fields start.tag.key tables.updates read.0.1 read.1)))))

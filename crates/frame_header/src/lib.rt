@@ -22,7 +22,7 @@ pub use context::{Context, FilterDeltas, Probabilities, Segments, SignBiases};
 pub use fields::{Colors, Filter, Segmentation};
 pub use header::{Header, first_partition, read_header, read_header_over};
 pub use inter_fields::ReferenceProbabilities;
-pub use outline::{Outline, read_outline};
+pub use outline::{Outline, key_scales, read_outline};
 pub use padding::ends_empty;
 pub use places::Place;
 pub use references::{Reference, ReferenceUpdates};

@@ -14,8 +14,8 @@ pub mod TokenLaws
 pub mod Worked
 pub mod Faults
 pub mod Steps
-pub mod PastEnds
-pub mod PastEndLaws
+pub mod PartitionEnds
+pub mod PartitionEndLaws
 pub mod StepLaws
 pub mod WrittenBlocks
 pub mod Rows

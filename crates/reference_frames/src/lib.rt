@@ -17,7 +17,7 @@ mod states;
 mod step_fault;
 mod steps;
 
-pub use partition_ends::{PastEnds, past_ends};
+pub use partition_ends::{PartitionEnd, PartitionEnds, measure_partitions};
 pub use references::References;
 pub use states::{State, same_state};
 pub use step_fault::StepFault;

@@ -1,3 +1,4 @@
 pub mod Steps
+pub mod Tallies
 pub mod Ends
 pub mod Lost

@@ -1,33 +1,62 @@
 -- The findings at the header and at the end of an IVF file.
-use Rattle.std.specs.Prelude.{◌≡◌, ℕ, ◌+◌, ◌-◌, ◌==◌, Bool, if◌then◌else◌, nat_le, List, [], ◌∷◌, ◌++◌, drop, length, Option, Some, None}
+use Rattle.std.specs.Prelude.{◌≡◌, ℕ, ◌+◌, ◌-◌, ◌==◌, ◌||◌, Bool, if◌then◌else◌, nat_le, List, [], ◌∷◌, ◌++◌, drop, length, Option, Some, None}
 use Rattle.byteorder.specs.Endian.{little_number}
 use Rattle.vp8_tables.specs.Tables.{TableEntries}
+use Rattle.frame_header.specs.Tags.{key_size_of}
+use Rattle.stream_files.specs.declared.ivf.Head.{Head}
 use Rattle.stream_files.specs.declared.ivf.Ivf.{Ivf}
+use Rattle.stream_files.specs.declared.packets.Packet.{Packet}
 use Rattle.stream_checks.specs.declared.finding.Finding.{Finding}
-use Rattle.stream_checks.specs.declared.finding.Finding.TheVariants.{FrameCount, CutRecord}
-use Rattle.stream_checks.specs.Listed.{listed}
-use Rattle.stream_checks.specs.Packets.{packet_findings}
+use Rattle.stream_checks.specs.declared.finding.Trouble.{Trouble}
+use Rattle.stream_checks.specs.declared.finding.Trouble.TheVariants.{FrameCount, FrameSize, NoRate, CutRecord}
+use Rattle.stream_checks.specs.Listed.{found_around, listed}
+use Rattle.stream_checks.specs.Packets.{newer, packet_findings}
 
 -- the number of frames that the header gives: bytes 24 to 27
 abbrev pub claimed_frames : List ℕ → ℕ
 claimed_frames bytes = little_number 4 (drop 24 bytes)
 
-abbrev pub count_finding : ℕ → ℕ → Option Finding
-count_finding claimed packets = if claimed == packets then None else Some (FrameCount claimed packets)
+abbrev pub count_trouble : ℕ → ℕ → Option Trouble
+count_trouble claimed packets = if claimed == packets then None else Some (FrameCount claimed packets)
+
+-- the size of the first key packet that has one
+abbrev pub first_size : List Packet → Option (ℕ × ℕ)
+first_size [] = None
+first_size (packet ∷ packets) = newer (key_size_of packet.bytes) (first_size packets)
+
+-- the size that the header gives, against that of the first key packet
+abbrev pub size_trouble : ℕ × ℕ → Option (ℕ × ℕ) → Option Trouble
+size_trouble claimed None = None
+size_trouble claimed (Some size) =
+    if claimed.0 == size.0 then (if claimed.1 == size.1 then None else Some (FrameSize claimed size)) else Some (FrameSize claimed size)
+
+-- a frame rate of which one number is 0
+abbrev pub rate_trouble : Head → Option Trouble
+rate_trouble head = if head.rate == 0 || head.scale == 0 then Some (NoRate head.rate head.scale) else None
 
 -- the size that a record claims for its packet, in its first four bytes
 abbrev pub claimed_size : List ℕ → Option ℕ
 claimed_size rest = if nat_le 4 (length rest) then Some (little_number 4 rest) else None
 
 -- the record that begins at an index and is not whole
-abbrev pub cut_at : List ℕ → ℕ → ℕ → ℕ → Finding
+abbrev pub cut_at : List ℕ → ℕ → ℕ → ℕ → Trouble
 cut_at bytes packets begins left = CutRecord packets begins (claimed_size (drop begins bytes)) left
 
 -- trailing bytes are a record that the end of the file cuts off
-abbrev pub cut_finding : List ℕ → ℕ → ℕ → Option Finding
-cut_finding bytes packets spare = if spare == 0 then None else Some (cut_at bytes packets (length bytes - spare) spare)
+abbrev pub cut_trouble : List ℕ → ℕ → ℕ → Option Trouble
+cut_trouble bytes packets spare = if spare == 0 then None else Some (cut_at bytes packets (length bytes - spare) spare)
 
--- the findings of a file: at its header, at its packets, and at its end
-abbrev pub findings : TableEntries → List ℕ → Ivf → List Finding
-findings tables bytes file =
-    listed (count_finding (claimed_frames bytes) (length file.packets)) ++ packet_findings tables file.packets ++ listed (cut_finding bytes (length file.packets) file.spare)
+-- the findings at the header
+abbrev pub head_findings : List ℕ → Ivf → List Finding
+head_findings bytes file =
+    listed (found_around (count_trouble (claimed_frames bytes) (length file.packets)))
+    ++ listed (found_around (size_trouble (file.head.width, file.head.height) (first_size file.packets)))
+    ++ listed (found_around (rate_trouble file.head))
+
+-- and at the end
+abbrev pub end_findings : List ℕ → Ivf → List Finding
+end_findings bytes file = listed (found_around (cut_trouble bytes (length file.packets) file.spare))
+
+-- the findings of a file whose shown packets are so many units of time apart: at its header, at its packets, and at its end
+abbrev pub findings : ℕ → TableEntries → List ℕ → Ivf → List Finding
+findings step tables bytes file = head_findings bytes file ++ packet_findings step tables file.packets ++ end_findings bytes file

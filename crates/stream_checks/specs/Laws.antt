@@ -1,15 +1,20 @@
 -- Laws about findings.
-use Rattle.std.specs.Prelude.{◌≡◌, ℕ, ◌<◌, List, [], ◌∷◌, map, slice_get, Option, Some, Result, Err}
+use Rattle.std.specs.Prelude.{◌≡◌, ℕ, ◌<◌, List, [], ◌∷◌, ◌++◌, codes, map, slice_get, Option, Some, None, Result, Err}
 use Rattle.vp8_tables.specs.declared.tables.Tables.{Tables}
-use Rattle.frame_header.specs.declared.cause.Cause.TheVariants.{NoKeyFrame}
+use Rattle.frame_header.specs.declared.cause.Cause.TheVariants.{NoKeyFrame, ShortPacket}
 use Rattle.stream_files.specs.declared.packets.Packet.{Packet}
 use Rattle.state_cache.specs.declared.outcomes.Broken.{Broken}
 use Rattle.state_cache.specs.Decoding.{Outcome, outcomes_from}
-use Rattle.reference_frames.specs.PastEnds.{no_past_ends}
+use Rattle.reference_frames.specs.PartitionEnds.{no_ends}
+use Rattle.reference_frames.specs.declared.partition_ends.PartitionEnd.{PartitionEnd}
 use Rattle.stream_checks.specs.declared.finding.Finding.{Finding}
-use Rattle.stream_checks.specs.declared.finding.Finding.TheVariants.{NeverShown, PastFirst, PastToken, StampGoesBack, StampRepeats, StampSkips}
-use Rattle.stream_checks.specs.PastEnds.{past_findings}
-use Rattle.stream_checks.specs.Packets.{bytes_of, findings_from, first_position, least_step, lost_after}
+use Rattle.stream_checks.specs.declared.finding.Spot.{Spot}
+use Rattle.stream_checks.specs.declared.finding.Trouble.{Trouble}
+use Rattle.stream_checks.specs.declared.finding.Trouble.TheVariants.{NeverShown, PastFirst, PastToken, UnreadFirst, UnreadToken, EmptyToken, Refused, StampGoesBack, StampRepeats, StampSkips}
+use Rattle.stream_checks.specs.Lines.{line_of}
+use Rattle.stream_checks.specs.Objects.{object_of}
+use Rattle.stream_checks.specs.Partitions.{partition_findings}
+use Rattle.stream_checks.specs.Packets.{bytes_of, findings_from, first_position, lost_after}
 
 -- each packet that is counted as lost after a break has this break as its outcome
 abbrev pub LostAreBroken : Type 0
@@ -24,17 +29,39 @@ abbrev pub hidden : ℕ → Packet
 hidden stamp = record { stamp = stamp; bytes = 0x01 ∷ 0 ∷ 0 ∷ [] }
 
 -- the findings at packets that are all lost with a break before them
-abbrev pub found_in : List Packet → List Finding
-found_in packets =
+abbrev pub found_in : ℕ → List Packet → List Finding
+found_in step packets =
     let broken : Broken = record { place = 1000; cause = NoKeyFrame } in
     let lost : Outcome = Err broken in
-    findings_from (least_step packets) first_position packets (map (λ packet. lost) packets) (map (λ packet. no_past_ends) packets)
+    findings_from step first_position packets (map (λ packet. lost) packets) (map (λ packet. no_ends) packets)
 
--- steps of 33 and 34 do not skip, 66 does; a hidden packet may have a time stamp of its own or that of the packet after it
+abbrev pub at_packet : ℕ → Option ℕ → Trouble → Finding
+at_packet packet frame trouble = record { spot = Some (record { packet = packet; frame = frame }); trouble = trouble }
+
+-- with steps of 33 in the median a step of 34 does not skip, and one of 66 does, unless a hidden packet is between; a hidden
+-- packet may have a time stamp of its own or that of the packet after it
 abbrev pub WorkedStamps : Type 0
-WorkedStamps = found_in (shown 0 ∷ shown 33 ∷ shown 67 ∷ shown 67 ∷ shown 60 ∷ hidden 93 ∷ shown 126 ∷ hidden 159 ∷ shown 159 ∷ shown 225 ∷ hidden 225 ∷ [])
-    ≡ StampRepeats 3 67 ∷ StampGoesBack 4 60 67 ∷ StampSkips 9 225 159 ∷ NeverShown 10 ∷ []
+WorkedStamps = found_in 33 (shown 0 ∷ shown 33 ∷ shown 67 ∷ shown 67 ∷ shown 60 ∷ hidden 93 ∷ shown 126 ∷ hidden 159 ∷ shown 159 ∷ shown 225 ∷ hidden 225 ∷ [])
+    ≡ at_packet 3 (Some 3) (StampRepeats 67) ∷ at_packet 4 (Some 4) (StampGoesBack 60 67) ∷ at_packet 9 (Some 7) (StampSkips 225 159) ∷ at_packet 10 None NeverShown ∷ []
 
--- two bytes past the end of the first partition and three past the end of the second token partition, of packet 12
+-- one odd time stamp is one finding, and so is a gap after which the time goes on, or a start from 0
+abbrev pub WorkedOddStamps : Type 0
+WorkedOddStamps = (found_in 1 (shown 0 ∷ shown 1 ∷ shown 2 ∷ shown 9 ∷ shown 4 ∷ shown 5 ∷ []) ≡ at_packet 3 (Some 3) (StampSkips 9 2) ∷ [])
+    × (found_in 1 (shown 0 ∷ shown 1 ∷ shown 2 ∷ shown 10 ∷ shown 11 ∷ []) ≡ at_packet 3 (Some 3) (StampSkips 10 2) ∷ [])
+    × (found_in 1 (shown 5 ∷ shown 6 ∷ shown 0 ∷ shown 1 ∷ []) ≡ at_packet 2 (Some 2) (StampGoesBack 0 6) ∷ [])
+
+-- of partitions of 30 bytes: two bytes past the end of the first, three past that of the second token partition, four unread in
+-- the third; the fourth is empty, and three unread bytes are not a finding
+abbrev pub ended : ℕ → ℕ → ℕ → PartitionEnd
+ended size past unread = record { size = size; past = past; unread = unread }
+
 abbrev pub WorkedEnds : Type 0
-WorkedEnds = past_findings 12 (record { first = 2; tokens = record { items = 0 ∷ 3 ∷ 0 ∷ [] } }) ≡ PastFirst 12 2 ∷ PastToken 12 1 3 ∷ []
+WorkedEnds =
+    partition_findings (record { packet = 12; frame = Some 10 }) (record { first = ended 30 2 0; tokens = record { items = ended 30 0 3 ∷ ended 30 3 0 ∷ ended 30 0 4 ∷ ended 0 0 0 ∷ [] } })
+    ≡ map (at_packet 12 (Some 10)) (PastFirst 2 ∷ PastToken 1 3 ∷ UnreadToken 2 4 30 ∷ EmptyToken 3 ∷ [])
+
+-- a finding as a line and as an object
+abbrev pub WorkedTexts : Type 0
+WorkedTexts =
+    (line_of (at_packet 60 (Some 58) (Refused ShortPacket 12)) ≡ codes "damage: packet 60: refused ShortPacket, packets lost with it: 12\n")
+    × (object_of (at_packet 60 (Some 58) (Refused ShortPacket 12)) ≡ codes "{\"packet\":60,\"frame\":58,\"kind\":\"refused\",\"cause\":\"ShortPacket\",\"lost\":12,\"severity\":\"damage\"}\n")

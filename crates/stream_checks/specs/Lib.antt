@@ -1,8 +1,12 @@
 pub mod Breaks
 pub mod Listed
-pub mod PastEnds
+pub mod Severity
+pub mod Stamps
+pub mod Partitions
 pub mod Packets
 pub mod Files
 pub mod Lines
+pub mod Objects
+pub mod Texts
 pub mod Checks
 pub mod Laws

@@ -1,102 +1,117 @@
 -- The text of findings: a line each.
-use Rattle.std.specs.Prelude.{ℕ, List, [], ◌∷◌, ◌++◌, codes, count_by, length, Option, Some, None}
+use Rattle.std.specs.Prelude.{ℕ, if◌then◌else◌, List, [], ◌∷◌, ◌++◌, codes, count_by, length, Option, Some, None}
 use Rattle.std.specs.List.{flat_map}
 use Rattle.std.specs.Fmt.{decimal}
 use Rattle.frame_header.specs.Tags.{is_shown}
 use Rattle.stream_files.specs.declared.packets.Packet.{Packet}
 use Rattle.stream_facts.specs.Lines.{cause_text}
 use Rattle.stream_checks.specs.declared.finding.Finding.{Finding}
-use Rattle.stream_checks.specs.declared.finding.Finding.TheVariants.{FrameCount, Refused, PastFirst, PastToken, StampRepeats, StampGoesBack, StampSkips, SizeChanges, NeverShown, CutRecord}
+use Rattle.stream_checks.specs.declared.finding.Spot.{Spot}
+use Rattle.stream_checks.specs.declared.finding.Tally.{Tally}
+use Rattle.stream_checks.specs.declared.finding.Trouble.{Trouble}
+use Rattle.stream_checks.specs.declared.finding.Trouble.TheVariants.{FrameCount, FrameSize, NoRate, Refused, PastFirst, PastToken, UnreadFirst, UnreadToken, EmptyToken, NoBytes, StampRepeats, StampGoesBack, StampSkips, SizeChanges, NeverShown, CutRecord}
+use Rattle.stream_checks.specs.Severity.{is_damage}
 
--- the beginnings and ends of lines
-abbrev pub refused_start : ℕ → List ℕ
-refused_start packet = codes "packet " ++ decimal packet ++ codes ": refused "
+-- what is at the front of a line
+abbrev pub severity_text : Trouble → List ℕ
+severity_text trouble = if is_damage trouble then codes "damage: " else codes "note: "
 
-abbrev pub lost_text : ℕ → List ℕ
-lost_text lost = codes ", " ++ decimal lost ++ codes " packets lost\n"
+abbrev pub spot_text : Option Spot → List ℕ
+spot_text None = []
+spot_text (Some spot) = codes "packet " ++ decimal spot.packet ++ codes ": "
 
-abbrev pub refused_line : ℕ → List ℕ → ℕ → List ℕ
-refused_line packet cause lost = refused_start packet ++ cause ++ lost_text lost
-
-abbrev pub size_start : ℕ → List ℕ
-size_start packet = codes "packet " ++ decimal packet ++ codes ": size "
-
+-- sizes
 abbrev pub size_text : ℕ × ℕ → List ℕ
 size_text size = decimal size.0 ++ codes "x" ++ decimal size.1
 
-abbrev pub size_line : ℕ → ℕ × ℕ → ℕ × ℕ → List ℕ
-size_line packet before size = size_start packet ++ size_text before ++ codes " changes to " ++ size_text size ++ codes "\n"
+-- of the header of the file
+abbrev pub count_text : ℕ → ℕ → List ℕ
+count_text claimed packets = codes "header: " ++ decimal claimed ++ codes " frames, " ++ decimal packets ++ codes " packets"
 
+abbrev pub claimed_size_text : ℕ × ℕ → ℕ × ℕ → List ℕ
+claimed_size_text claimed size = codes "header: size " ++ size_text claimed ++ codes ", first key packet " ++ size_text size
+
+abbrev pub rate_text : ℕ → ℕ → List ℕ
+rate_text rate scale = codes "header: rate " ++ decimal rate ++ codes ", scale " ++ decimal scale
+
+-- of a refused packet
+abbrev pub lost_text : ℕ → List ℕ
+lost_text lost = codes ", packets lost with it: " ++ decimal lost
+
+abbrev pub refused_text : List ℕ → ℕ → List ℕ
+refused_text cause lost = codes "refused " ++ cause ++ lost_text lost
+
+-- of a partition
+abbrev pub partition_text : ℕ → List ℕ
+partition_text partition = codes "token partition " ++ decimal partition ++ codes ": "
+
+abbrev pub first_text : List ℕ
+first_text = codes "first partition: "
+
+abbrev pub past_text : ℕ → List ℕ
+past_text bytes = decimal bytes ++ codes " bytes read past its end"
+
+abbrev pub unread_text : ℕ → ℕ → List ℕ
+unread_text bytes size = decimal bytes ++ codes " of " ++ decimal size ++ codes " bytes are not read"
+
+-- of a time stamp
+abbrev pub stamp_text : ℕ → List ℕ
+stamp_text stamp = codes "time stamp " ++ decimal stamp
+
+abbrev pub back_text : ℕ → ℕ → List ℕ
+back_text stamp before = stamp_text stamp ++ codes " goes back from " ++ decimal before
+
+abbrev pub skips_text : ℕ → ℕ → List ℕ
+skips_text stamp before = stamp_text stamp ++ codes " skips from " ++ decimal before
+
+-- of a size
+abbrev pub change_text : ℕ × ℕ → ℕ × ℕ → List ℕ
+change_text before size = codes "size " ++ size_text before ++ codes " changes to " ++ size_text size
+
+-- of a record: a whole one has 12 bytes for its head and those of its packet
 abbrev pub cut_start : ℕ → ℕ → List ℕ
 cut_start number begins = codes "record " ++ decimal number ++ codes " at byte " ++ decimal begins ++ codes ": "
 
--- a whole record has 12 bytes for its head and those of its packet
 abbrev pub claimed_text : ℕ → List ℕ
 claimed_text claimed = codes "claims 12 + " ++ decimal claimed ++ codes " bytes, "
 
-abbrev pub there_text : ℕ → List ℕ
-there_text left = decimal left ++ codes " are there\n"
-
 abbrev pub left_text : Option ℕ → ℕ → List ℕ
-left_text None left = decimal left ++ codes " bytes are there\n"
-left_text (Some claimed) left = claimed_text claimed ++ there_text left
+left_text None left = decimal left ++ codes " bytes are there"
+left_text (Some claimed) left = claimed_text claimed ++ decimal left ++ codes " are there"
 
-abbrev pub cut_line : ℕ → ℕ → Option ℕ → ℕ → List ℕ
-cut_line number begins claimed left = cut_start number begins ++ left_text claimed left
+abbrev pub cut_text : ℕ → ℕ → Option ℕ → ℕ → List ℕ
+cut_text number begins claimed left = cut_start number begins ++ left_text claimed left
 
-abbrev pub count_line : ℕ → ℕ → List ℕ
-count_line claimed packets = codes "header: " ++ decimal claimed ++ codes " frames, " ++ decimal packets ++ codes " packets\n"
-
-abbrev pub past_text : ℕ → List ℕ
-past_text bytes = decimal bytes ++ codes " bytes read past its end\n"
-
-abbrev pub first_start : ℕ → List ℕ
-first_start packet = codes "packet " ++ decimal packet ++ codes ": first partition: "
-
-abbrev pub past_first_line : ℕ → ℕ → List ℕ
-past_first_line packet bytes = first_start packet ++ past_text bytes
-
-abbrev pub partition_text : ℕ → List ℕ
-partition_text partition = codes "partition " ++ decimal partition ++ codes ": "
-
-abbrev pub token_start : ℕ → List ℕ
-token_start packet = codes "packet " ++ decimal packet ++ codes ": token "
-
-abbrev pub past_token_line : ℕ → ℕ → ℕ → List ℕ
-past_token_line packet partition bytes = token_start packet ++ partition_text partition ++ past_text bytes
-
-abbrev pub repeats_line : ℕ → ℕ → List ℕ
-repeats_line packet stamp = codes "packet " ++ decimal packet ++ codes ": time stamp " ++ decimal stamp ++ codes " repeats\n"
-
-abbrev pub back_line : ℕ → ℕ → ℕ → List ℕ
-back_line packet stamp before = codes "packet " ++ decimal packet ++ codes ": time stamp " ++ decimal stamp ++ codes " goes back from " ++ decimal before ++ codes "\n"
-
-abbrev pub skips_line : ℕ → ℕ → ℕ → List ℕ
-skips_line packet stamp before = codes "packet " ++ decimal packet ++ codes ": time stamp " ++ decimal stamp ++ codes " skips from " ++ decimal before ++ codes "\n"
-
-abbrev pub hidden_line : ℕ → List ℕ
-hidden_line packet = codes "packet " ++ decimal packet ++ codes ": hidden, never shown\n"
+-- what is found
+abbrev pub trouble_text : Trouble → List ℕ
+trouble_text (FrameCount claimed packets) = count_text claimed packets
+trouble_text (FrameSize claimed size) = claimed_size_text claimed size
+trouble_text (NoRate rate scale) = rate_text rate scale
+trouble_text (Refused cause lost) = refused_text (cause_text cause) lost
+trouble_text (PastFirst bytes) = first_text ++ past_text bytes
+trouble_text (PastToken partition bytes) = partition_text partition ++ past_text bytes
+trouble_text (UnreadFirst bytes size) = first_text ++ unread_text bytes size
+trouble_text (UnreadToken partition bytes size) = partition_text partition ++ unread_text bytes size
+trouble_text (EmptyToken partition) = partition_text partition ++ codes "no bytes, which libvpx calls corrupt"
+trouble_text NoBytes = codes "no bytes, at which vpxdec ends"
+trouble_text (StampRepeats stamp) = stamp_text stamp ++ codes " repeats"
+trouble_text (StampGoesBack stamp before) = back_text stamp before
+trouble_text (StampSkips stamp before) = skips_text stamp before
+trouble_text (SizeChanges before size) = change_text before size
+trouble_text NeverShown = codes "hidden, never shown"
+trouble_text (CutRecord number begins claimed left) = cut_text number begins claimed left
 
 -- the line of a finding
 abbrev pub line_of : Finding → List ℕ
-line_of (FrameCount claimed packets) = count_line claimed packets
-line_of (Refused packet cause lost) = refused_line packet (cause_text cause) lost
-line_of (PastFirst packet bytes) = past_first_line packet bytes
-line_of (PastToken packet partition bytes) = past_token_line packet partition bytes
-line_of (StampRepeats packet stamp) = repeats_line packet stamp
-line_of (StampGoesBack packet stamp before) = back_line packet stamp before
-line_of (StampSkips packet stamp before) = skips_line packet stamp before
-line_of (SizeChanges packet before size) = size_line packet before size
-line_of (NeverShown packet) = hidden_line packet
-line_of (CutRecord number begins claimed left) = cut_line number begins claimed left
-
-abbrev pub lines_of : List Finding → List ℕ
-lines_of findings = flat_map line_of findings
+line_of finding = severity_text finding.trouble ++ spot_text finding.spot ++ trouble_text finding.trouble ++ codes "\n"
 
 -- the frames of a stream: its shown packets
 abbrev pub frames_of : List Packet → ℕ
 frames_of packets = count_by (λ packet. is_shown packet.bytes) packets
 
--- the last line: the numbers of packets, frames and findings
-abbrev pub summary_line : ℕ → ℕ → ℕ → List ℕ
-summary_line packets frames found = decimal packets ++ codes " packets, " ++ decimal frames ++ codes " frames, " ++ decimal found ++ codes " findings\n"
+-- the last line: the numbers of packets and frames, and of findings
+abbrev pub counts_text : ℕ → ℕ → List ℕ
+counts_text packets frames = decimal packets ++ codes " packets, " ++ decimal frames ++ codes " frames, "
+
+abbrev pub summary_line : ℕ → ℕ → Tally → List ℕ
+summary_line packets frames tally = counts_text packets frames ++ codes "damage: " ++ decimal tally.damage ++ codes ", notes: " ++ decimal tally.notes ++ codes "\n"

@@ -4,16 +4,18 @@ ghost use Rattle.std.specs.Prelude.{◌≡◌, ◌+◌, ◌<◌, ◌≤◌, ◌^
 ghost use Rattle.std.specs.Io.KnownBytes.{Appends};
 ghost use Rattle.state_cache.specs.Decoding.{left_by};
 ghost use Rattle.stream_checks.specs.Packets.{first_position, listed_of, position_after};
-ghost use Rattle.stream_checks.specs.Lines.{lines_of};
+ghost use Rattle.stream_checks.specs.Partitions.{partition_findings};
+ghost use Rattle.stream_checks.specs.Severity.{tally_of};
+ghost use Rattle.stream_checks.specs.Texts.{texts_of};
 ghost use Rattle.stream_checks.specs.Checks.{Answers, findings_next, outcome_next};
-ghost use Rattle.stream_checks.specs.PastEnds.{past_findings};
 
 use crate::decoder::Decoder;
 use crate::fault::CheckFault;
-use crate::lines::write_found;
+use crate::finding::{Spot, Tally};
 use crate::packets::{Found, Position, unshown};
-use crate::past::write_past;
-use reference_frames::PastEnds;
+use crate::partitions::{found, write_partitions};
+use crate::texts::{Form, write_found};
+use reference_frames::PartitionEnds;
 use std::alloc::Global;
 use std::io::Write;
 use stream_files::{Packet, WriteFault};
@@ -22,91 +24,107 @@ use vp8_tables::Tables;
 /// A position between two packets of a stream, with the decoder there.
 #[derive(Drop)]
 pub(crate) struct Checker {
-    least: u64,
+    form: Form,
+    // The median step between the time stamps of shown packets.
+    step: u64,
     position: Position,
     decoder: Decoder,
     // Of a hidden packet before the position: whether no shown packet comes before the next key tag.
     unshown: Option<bool>,
 }
 
-/// Writes the lines of the findings at a packet by the packets around it, and returns their number.
-fn write_around<W: Write>(w: &mut W, found: Found) -> Result<u64, WriteFault>
-    ensures written { OnOk result (Appends (W.contents w.old) (W.contents w.new) (lines_of (listed_of found))) }
-    ensures counted { IfOk result (λ count. count ≡ length (listed_of found)) }
-    ensures few { IfOk result (λ count. count ≤ 4) }
+/// Writes the findings at a packet by the packets around it, and returns their tally.
+fn write_around<W: Write>(
+    w: &mut W,
+    form: Form,
+    spot: Spot,
+    all: Found,
+) -> Result<Tally, WriteFault>
+    ensures written { OnOk result (Appends (W.contents w.old) (W.contents w.new) (texts_of form (listed_of spot all))) }
+    ensures counted { IfOk result (λ tally. tally ≡ tally_of (listed_of spot all)) }
+    ensures few { IfOk result (λ tally. tally.damage + tally.notes ≤ 5) }
 {
-    let refused = write_found(w, found.refused)?;
-    let stamp = write_found(w, found.stamp)?;
-    let size = write_found(w, found.size)?;
-    let hidden = write_found(w, found.hidden)?;
-    Ok(refused + stamp + size + hidden)
+    let refused = write_found(w, form, found(spot, all.refused))?;
+    let empty = write_found(w, form, found(spot, all.empty))?;
+    let stamp = write_found(w, form, found(spot, all.stamp))?;
+    let size = write_found(w, form, found(spot, all.size))?;
+    let hidden = write_found(w, form, found(spot, all.hidden))?;
+    Ok(refused.plus(empty).plus(stamp).plus(size).plus(hidden))
 }
 
-/// Writes the lines of the findings at a packet, and returns their number.
+/// Writes the findings at a packet, and returns their tally.
 fn write_all<W: Write>(
     w: &mut W,
-    packet: usize,
-    past: &PastEnds,
-    found: Found,
-) -> Result<u64, WriteFault>
-    requires { length past.now.tokens.items ≤ 8 }
-    ensures written { OnOk result (Appends (W.contents w.old) (W.contents w.new) (lines_of (past_findings packet past.now ++ listed_of found))) }
-    ensures counted { IfOk result (λ count. count ≡ length (past_findings packet past.now ++ listed_of found)) }
-    ensures few { IfOk result (λ count. count ≤ 13) }
+    form: Form,
+    spot: Spot,
+    ends: &PartitionEnds,
+    all: Found,
+) -> Result<Tally, WriteFault>
+    requires { length ends.now.tokens.items ≤ 8 }
+    ensures written { OnOk result (Appends (W.contents w.old) (W.contents w.new) (texts_of form (partition_findings spot ends.now ++ listed_of spot all))) }
+    ensures counted { IfOk result (λ tally. tally ≡ tally_of (partition_findings spot ends.now ++ listed_of spot all)) }
+    ensures few { IfOk result (λ tally. tally.damage + tally.notes ≤ 14) }
 {
-    let at_ends = write_past(w, packet, past)?;
-    let around = write_around(w, found)?;
-    Ok(at_ends + around)
+    let partitions = write_partitions(w, form, spot, ends)?;
+    let around = write_around(w, form, spot, all)?;
+    Ok(partitions.plus(around))
 }
 
 impl Checker {
-    /// Before the first packet of a stream whose least step between time stamps is `least`.
-    pub fn new(alloc: Global, least: u64) -> Checker
-        ensures { result ≡ record { least = least; position = first_position; decoder = Ok None; unshown = None } }
+    /// Before the first packet of a stream whose shown packets are `step` units of time apart.
+    pub fn new(alloc: Global, form: Form, step: u64) -> Checker
+        ensures { result ≡ record { form = form; step = step; position = first_position; decoder = Ok None; unshown = None } }
     {
         Checker {
-            least,
+            form,
+            step,
             position: Position::first(),
             decoder: Decoder::new(alloc),
             unshown: None,
         }
     }
 
-    /// Decodes the next packet, writes the lines of its findings, and returns their number. `rest` is
-    /// the packets after it. `NoMemory` comes before the first line.
+    /// Decodes the next packet, writes its findings, and returns their tally. `rest` is the packets
+    /// after it. `NoMemory` comes before the first finding.
     pub fn next<W: Write>(
         &mut self,
         w: &mut W,
         tables: &Tables,
         packet: &Packet,
         rest: &[Packet],
-    ) -> Result<u64, CheckFault>
+    ) -> Result<Tally, CheckFault>
         requires room { self.old.position.packets + 1 < 2 ^ 64 }
+        requires frames { self.old.position.frames ≤ self.old.position.packets }
+        requires step { 1 ≤ self.old.step }
         requires answers { Answers self.old.unshown (packet.now ∷ rest.now) }
-        ensures written { OnOk result (Appends (W.contents w.old) (W.contents w.new) (lines_of (findings_next tables.now self.old packet.now rest.now))) }
-        ensures counted { IfOk result (λ count. count ≡ length (findings_next tables.now self.old packet.now rest.now)) }
-        ensures few { IfOk result (λ count. count ≤ 13) }
+        ensures written { OnOk result (Appends (W.contents w.old) (W.contents w.new) (texts_of self.old.form (findings_next tables.now self.old packet.now rest.now))) }
+        ensures counted { IfOk result (λ tally. tally ≡ tally_of (findings_next tables.now self.old packet.now rest.now)) }
+        ensures few { IfOk result (λ tally. tally.damage + tally.notes ≤ 14) }
         ensures early { IfErr result (λ fault. fault ≡ CheckFault.NoMemory → W.contents w.new ≡ W.contents w.old) }
-        ensures least { self.new.least ≡ self.old.least }
-        ensures position { OnOk result (self.new.position ≡ position_after self.old.position packet.now) }
+        ensures form { self.new.form ≡ self.old.form }
+        ensures step { self.new.step ≡ self.old.step }
+        ensures position { OnOk result (self.new.position ≡ position_after self.old.step self.old.position packet.now) }
+        ensures frames { OnOk result (self.new.position.frames ≤ self.new.position.packets) }
         ensures decoder { OnOk result (self.new.decoder ≡ left_by (outcome_next tables.now self.old packet.now)) }
         ensures answers { OnOk result (Answers self.new.unshown rest.now) }
     {
+        let bytes = packet.bytes.as_slice();
         let place = self.position.packets;
-        let Ok(past) = self.decoder.past_ends(tables, packet.bytes.as_slice()) else {
+        let Ok(ends) = self.decoder.measure_partitions(tables, bytes) else {
             return Err(CheckFault::NoMemory);
         };
-        let Ok(()) = self.decoder.next(tables, place, packet.bytes.as_slice()) else {
+        let Ok(()) = self.decoder.next(tables, place, bytes) else {
             return Err(CheckFault::NoMemory);
         };
         let cause = self.decoder.break_at(place);
         self.unshown = unshown(self.unshown, packet, rest);
-        let found = self
+        let spot = self.position.spot(packet);
+        let all = self
             .position
-            .found(self.least, packet, rest, cause, self.unshown);
-        self.position = self.position.after(packet);
-        match write_all(w, place, &past, found) {
-            Ok(count) => Ok(count),
+            .found(self.step, packet, rest, cause, self.unshown);
+        self.position = self.position.after(self.step, packet);
+        match write_all(w, self.form, spot, &ends, all) {
+            Ok(tally) => Ok(tally),
             Err(_) => Err(CheckFault::Write),
         }
     }

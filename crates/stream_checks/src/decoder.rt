@@ -8,11 +8,11 @@ ghost use Rattle.reference_frames.specs.States.{StateValue};
 ghost use Rattle.reference_frames.specs.Steps.{StepAnswers};
 ghost use Rattle.state_cache.specs.Decoding.{left_by, outcome, reported_at};
 ghost use Rattle.stream_checks.specs.Breaks.{break_in, is_lost, state_from};
-ghost use Rattle.stream_checks.specs.PastEnds.{past_at};
+ghost use Rattle.stream_checks.specs.Partitions.{ends_at};
 
 use frame_header::{Cause, has_key_tag};
 use pixel_planes::{NoMemory, Picture, Spare};
-use reference_frames::{PastEnds, State, StepFault, past_ends, step_with};
+use reference_frames::{PartitionEnds, State, StepFault, measure_partitions, step_with};
 use state_cache::Broken;
 use std::alloc::Global;
 use std::marker::Model;
@@ -113,12 +113,16 @@ impl Decoder {
         Ok(())
     }
 
-    /// How many bytes past the end of each partition decoding the next packet reads.
-    pub fn past_ends(&self, tables: &Tables, packet: &[u8]) -> Result<PastEnds, NoMemory>
-        ensures value { IfOk result (λ past. past ≡ past_at tables.now self.now packet.now) }
-        ensures few { IfOk result (λ past. length past.tokens.items ≤ 8) }
+    /// Where decoding the next packet ends in each partition.
+    pub fn measure_partitions(
+        &self,
+        tables: &Tables,
+        packet: &[u8],
+    ) -> Result<PartitionEnds, NoMemory>
+        ensures value { IfOk result (λ ends. ends ≡ ends_at tables.now self.now packet.now) }
+        ensures few { IfOk result (λ ends. length ends.tokens.items ≤ 8) }
     {
-        past_ends(
+        measure_partitions(
             self.alloc,
             tables,
             state_from(&self.progress, packet),

@@ -1,10 +1,18 @@
 //! The findings at the header and at the end of a file.
 
-ghost use Rattle.std.specs.Prelude.{◌≡◌, ◌≤◌, length};
-ghost use Rattle.stream_checks.specs.Files.{claimed_frames, claimed_size, count_finding, cut_finding};
+ghost use Rattle.std.specs.Prelude.{◌≡◌, ◌+◌, ◌≤◌, IfOk, OnOk, length};
+ghost use Rattle.std.specs.Io.KnownBytes.{Appends};
+ghost use Rattle.stream_checks.specs.Files.{claimed_frames, claimed_size, count_trouble, cut_trouble, end_findings, first_size, head_findings, rate_trouble, size_trouble};
+ghost use Rattle.stream_checks.specs.Listed.{found_around};
+ghost use Rattle.stream_checks.specs.Severity.{tally_of};
+ghost use Rattle.stream_checks.specs.Texts.{texts_of};
 
-use crate::finding::Finding;
+use crate::finding::{Finding, Tally, Trouble};
+use crate::texts::{Form, write_found};
 use byteorder::{ByteOrder, LittleEndian};
+use frame_header::key_size;
+use std::io::Write;
+use stream_files::{Head, Ivf, Packet, WriteFault};
 
 /// The number of frames that the header gives.
 fn claimed_frames(bytes: &[u8]) -> u32
@@ -15,15 +23,53 @@ fn claimed_frames(bytes: &[u8]) -> u32
 }
 
 /// Compares the number of frames that the header gives with the number of packets.
-pub(crate) fn count_finding(bytes: &[u8], packets: usize) -> Option<Finding>
+fn count_trouble(bytes: &[u8], packets: usize) -> Option<Trouble>
     requires { 32 ≤ length bytes.now }
-    ensures { result ≡ count_finding (claimed_frames bytes.now) packets }
+    ensures { result ≡ count_trouble (claimed_frames bytes.now) packets }
 {
     let claimed = claimed_frames(bytes);
     if claimed as usize == packets {
         None
     } else {
-        Some(Finding::FrameCount { claimed, packets })
+        Some(Trouble::FrameCount { claimed, packets })
+    }
+}
+
+/// The size of the first key packet that has one.
+fn first_size(packets: &[Packet]) -> Option<(u16, u16)>
+    ensures { result ≡ first_size packets.now }
+{
+    for packet in packets {
+        if let Some(size) = key_size(packet.bytes.as_slice()) {
+            return Some(size);
+        }
+    }
+    None
+}
+
+/// Compares the size that the header gives with that of the first key packet.
+fn size_trouble(claimed: (u16, u16), size: Option<(u16, u16)>) -> Option<Trouble>
+    ensures { result ≡ size_trouble claimed size }
+{
+    let Some(size) = size else {
+        return None;
+    };
+    if claimed.0 == size.0 {
+        if claimed.1 == size.1 {
+            return None;
+        }
+    }
+    Some(Trouble::FrameSize { claimed, size })
+}
+
+fn rate_trouble(head: Head) -> Option<Trouble>
+    ensures { result ≡ rate_trouble head }
+{
+    let Head { rate, scale, .. } = head;
+    if rate == 0 || scale == 0 {
+        Some(Trouble::NoRate { rate, scale })
+    } else {
+        None
     }
 }
 
@@ -38,17 +84,69 @@ fn claimed_size(rest: &[u8]) -> Option<u32>
 }
 
 /// The record that the trailing bytes of a file begin.
-pub(crate) fn cut_finding(bytes: &[u8], packets: usize, spare: u64) -> Option<Finding>
-    ensures { result ≡ cut_finding bytes.now packets spare }
+fn cut_trouble(bytes: &[u8], packets: usize, spare: u64) -> Option<Trouble>
+    ensures { result ≡ cut_trouble bytes.now packets spare }
 {
     if spare == 0 {
         return None;
     }
     let begins = bytes.len().saturating_sub(spare as usize);
-    Some(Finding::CutRecord {
+    Some(Trouble::CutRecord {
         number: packets,
         begins,
         claimed: claimed_size(&bytes[begins..]),
         left: spare,
     })
+}
+
+/// What is found around the packets.
+fn found(trouble: Option<Trouble>) -> Option<Finding>
+    ensures { result ≡ found_around trouble }
+{
+    match trouble {
+        None => None,
+        Some(trouble) => Some(Finding {
+            spot: None,
+            trouble,
+        }),
+    }
+}
+
+/// Writes the findings at the header, and returns their tally.
+pub(crate) fn write_head<W: Write>(
+    w: &mut W,
+    form: Form,
+    bytes: &[u8],
+    file: &Ivf,
+) -> Result<Tally, WriteFault>
+    requires { 32 ≤ length bytes.now }
+    ensures written { OnOk result (Appends (W.contents w.old) (W.contents w.new) (texts_of form (head_findings bytes.now file.now))) }
+    ensures counted { IfOk result (λ tally. tally ≡ tally_of (head_findings bytes.now file.now)) }
+    ensures few { IfOk result (λ tally. tally.damage + tally.notes ≤ 3) }
+{
+    let head = file.head;
+    let packets = file.packets.as_slice();
+    let size = size_trouble((head.width, head.height), first_size(packets));
+    let count = write_found(w, form, found(count_trouble(bytes, packets.len())))?;
+    let size = write_found(w, form, found(size))?;
+    let rate = write_found(w, form, found(rate_trouble(head)))?;
+    Ok(count.plus(size).plus(rate))
+}
+
+/// Writes the finding at the end, if there is one, and returns its tally.
+pub(crate) fn write_cut<W: Write>(
+    w: &mut W,
+    form: Form,
+    bytes: &[u8],
+    file: &Ivf,
+) -> Result<Tally, WriteFault>
+    ensures written { OnOk result (Appends (W.contents w.old) (W.contents w.new) (texts_of form (end_findings bytes.now file.now))) }
+    ensures counted { IfOk result (λ tally. tally ≡ tally_of (end_findings bytes.now file.now)) }
+    ensures few { IfOk result (λ tally. tally.damage + tally.notes ≤ 1) }
+{
+    write_found(
+        w,
+        form,
+        found(cut_trouble(bytes, file.packets.len(), file.spare)),
+    )
 }

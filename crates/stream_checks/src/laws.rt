@@ -1,7 +1,7 @@
 //! Laws about the definitions of this crate. Each law is the contract of a function that does
 //! nothing.
 
-ghost use Rattle.stream_checks.specs.Laws.{LostAreBroken, WorkedEnds, WorkedStamps};
+ghost use Rattle.stream_checks.specs.Laws.{LostAreBroken, WorkedEnds, WorkedOddStamps, WorkedStamps, WorkedTexts};
 
 /// Each packet that is counted as lost after a break has this break as its outcome.
 pub fn lost_are_broken()
@@ -14,7 +14,18 @@ pub fn worked_stamps()
     ensures { WorkedStamps }
 {}
 
-/// A partition that is read past its end has a finding of its own; one that is not has none.
+/// One odd time stamp is one finding, and so is a gap, or a start from 0.
+pub fn worked_odd_stamps()
+    ensures { WorkedOddStamps }
+{}
+
+/// A partition that is read past its end has a finding of its own, and so has one of which more than
+/// three bytes are not read, and one of no bytes.
 pub fn worked_ends()
     ensures { WorkedEnds }
+{}
+
+/// A finding as a line and as an object.
+pub fn worked_texts()
+    ensures { WorkedTexts }
 {}

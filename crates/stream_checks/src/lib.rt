@@ -10,9 +10,13 @@ mod file;
 mod finding;
 pub mod laws;
 mod lines;
+mod objects;
 mod packets;
-mod past;
+mod partitions;
+mod stamps;
+mod texts;
 
 pub use checking::check;
 pub use fault::CheckFault;
-pub use finding::Finding;
+pub use finding::{Finding, Spot, Tally, Trouble};
+pub use texts::Form;

@@ -1,127 +1,36 @@
 //! The line of a finding.
 
-ghost use Rattle.std.specs.Prelude.{◌≡◌, ◌≤◌, IfOk, OnOk, length};
+ghost use Rattle.std.specs.Prelude.{◌≡◌, ◌++◌, OnOk, codes};
 ghost use Rattle.std.specs.Io.KnownBytes.{Appends};
 ghost use Rattle.stream_facts.specs.Lines.{cause_text};
-ghost use Rattle.stream_checks.specs.Lines.{back_line, claimed_text, count_line, cut_line, cut_start, hidden_line, left_text, line_of, lines_of, lost_text, first_start, past_first_line, partition_text, past_text, past_token_line, token_start, refused_line, refused_start, repeats_line, size_line, size_start, size_text, skips_line, summary_line, there_text};
-ghost use Rattle.stream_checks.specs.Listed.{listed};
+ghost use Rattle.stream_checks.specs.Lines.{back_text, change_text, claimed_size_text, claimed_text, count_text, counts_text, cut_start, cut_text, first_text, left_text, line_of, lost_text, partition_text, past_text, rate_text, refused_text, severity_text, size_text, skips_text, spot_text, stamp_text, summary_line, trouble_text, unread_text};
 
-use crate::finding::Finding;
+use crate::finding::{Finding, Spot, Tally, Trouble};
 use frame_header::Cause;
 use std::io::Write;
 use stream_facts::{write_cause, write_text};
 use stream_files::WriteFault;
 
-fn write_count<W: Write>(w: &mut W, claimed: u32, packets: usize) -> Result<(), WriteFault>
-    ensures { OnOk result (Appends (W.contents w.old) (W.contents w.new) (count_line claimed packets)) }
+fn write_severity<W: Write>(w: &mut W, trouble: Trouble) -> Result<(), WriteFault>
+    ensures { OnOk result (Appends (W.contents w.old) (W.contents w.new) (severity_text trouble)) }
 {
-    write!(w, "header: {claimed} frames, {packets} packets\n").map_err(|_| WriteFault::Write)
+    if trouble.is_damage() {
+        write_text(w, "damage: ")
+    } else {
+        write_text(w, "note: ")
+    }
 }
 
-fn write_refused_start<W: Write>(w: &mut W, packet: usize) -> Result<(), WriteFault>
-    ensures { OnOk result (Appends (W.contents w.old) (W.contents w.new) (refused_start packet)) }
+fn write_spot<W: Write>(w: &mut W, spot: Option<Spot>) -> Result<(), WriteFault>
+    ensures { OnOk result (Appends (W.contents w.old) (W.contents w.new) (spot_text spot)) }
 {
-    write!(w, "packet {packet}: refused ").map_err(|_| WriteFault::Write)
-}
-
-fn write_lost<W: Write>(w: &mut W, lost: usize) -> Result<(), WriteFault>
-    ensures { OnOk result (Appends (W.contents w.old) (W.contents w.new) (lost_text lost)) }
-{
-    write!(w, ", {lost} packets lost\n").map_err(|_| WriteFault::Write)
-}
-
-fn write_refused<W: Write>(
-    w: &mut W,
-    packet: usize,
-    cause: Cause,
-    lost: usize,
-) -> Result<(), WriteFault>
-    ensures { OnOk result (Appends (W.contents w.old) (W.contents w.new) (refused_line packet (cause_text cause) lost)) }
-{
-    write_refused_start(w, packet)?;
-    write_cause(w, cause)?;
-    write_lost(w, lost)
-}
-
-fn write_past<W: Write>(w: &mut W, bytes: usize) -> Result<(), WriteFault>
-    ensures { OnOk result (Appends (W.contents w.old) (W.contents w.new) (past_text bytes)) }
-{
-    write!(w, "{bytes} bytes read past its end\n").map_err(|_| WriteFault::Write)
-}
-
-fn write_first_start<W: Write>(w: &mut W, packet: usize) -> Result<(), WriteFault>
-    ensures { OnOk result (Appends (W.contents w.old) (W.contents w.new) (first_start packet)) }
-{
-    write!(w, "packet {packet}: first partition: ").map_err(|_| WriteFault::Write)
-}
-
-fn write_past_first<W: Write>(w: &mut W, packet: usize, bytes: usize) -> Result<(), WriteFault>
-    ensures { OnOk result (Appends (W.contents w.old) (W.contents w.new) (past_first_line packet bytes)) }
-{
-    write_first_start(w, packet)?;
-    write_past(w, bytes)
-}
-
-fn write_token_start<W: Write>(w: &mut W, packet: usize) -> Result<(), WriteFault>
-    ensures { OnOk result (Appends (W.contents w.old) (W.contents w.new) (token_start packet)) }
-{
-    write!(w, "packet {packet}: token ").map_err(|_| WriteFault::Write)
-}
-
-fn write_partition<W: Write>(w: &mut W, partition: usize) -> Result<(), WriteFault>
-    ensures { OnOk result (Appends (W.contents w.old) (W.contents w.new) (partition_text partition)) }
-{
-    write!(w, "partition {partition}: ").map_err(|_| WriteFault::Write)
-}
-
-fn write_past_token<W: Write>(
-    w: &mut W,
-    packet: usize,
-    partition: usize,
-    bytes: usize,
-) -> Result<(), WriteFault>
-    ensures { OnOk result (Appends (W.contents w.old) (W.contents w.new) (past_token_line packet partition bytes)) }
-{
-    write_token_start(w, packet)?;
-    write_partition(w, partition)?;
-    write_past(w, bytes)
-}
-
-fn write_repeats<W: Write>(w: &mut W, packet: usize, stamp: u64) -> Result<(), WriteFault>
-    ensures { OnOk result (Appends (W.contents w.old) (W.contents w.new) (repeats_line packet stamp)) }
-{
-    write!(w, "packet {packet}: time stamp {stamp} repeats\n").map_err(|_| WriteFault::Write)
-}
-
-fn write_back<W: Write>(w: &mut W, packet: usize, stamp: u64, before: u64) -> Result<(), WriteFault>
-    ensures { OnOk result (Appends (W.contents w.old) (W.contents w.new) (back_line packet stamp before)) }
-{
-    write!(
-        w,
-        "packet {packet}: time stamp {stamp} goes back from {before}\n"
-    )
-    .map_err(|_| WriteFault::Write)
-}
-
-fn write_skips<W: Write>(
-    w: &mut W,
-    packet: usize,
-    stamp: u64,
-    before: u64,
-) -> Result<(), WriteFault>
-    ensures { OnOk result (Appends (W.contents w.old) (W.contents w.new) (skips_line packet stamp before)) }
-{
-    write!(
-        w,
-        "packet {packet}: time stamp {stamp} skips from {before}\n"
-    )
-    .map_err(|_| WriteFault::Write)
-}
-
-fn write_size_start<W: Write>(w: &mut W, packet: usize) -> Result<(), WriteFault>
-    ensures { OnOk result (Appends (W.contents w.old) (W.contents w.new) (size_start packet)) }
-{
-    write!(w, "packet {packet}: size ").map_err(|_| WriteFault::Write)
+    match spot {
+        None => Ok(()),
+        Some(spot) => {
+            let packet = spot.packet;
+            write!(w, "packet {packet}: ").map_err(|_| WriteFault::Write)
+        }
+    }
 }
 
 fn write_size<W: Write>(w: &mut W, size: (u16, u16)) -> Result<(), WriteFault>
@@ -131,25 +40,143 @@ fn write_size<W: Write>(w: &mut W, size: (u16, u16)) -> Result<(), WriteFault>
     write!(w, "{width}x{height}").map_err(|_| WriteFault::Write)
 }
 
-fn write_sizes<W: Write>(
-    w: &mut W,
-    packet: usize,
-    before: (u16, u16),
-    size: (u16, u16),
-) -> Result<(), WriteFault>
-    ensures { OnOk result (Appends (W.contents w.old) (W.contents w.new) (size_line packet before size)) }
+fn write_count<W: Write>(w: &mut W, claimed: u32, packets: usize) -> Result<(), WriteFault>
+    ensures { OnOk result (Appends (W.contents w.old) (W.contents w.new) (count_text claimed packets)) }
 {
-    write_size_start(w, packet)?;
-    write_size(w, before)?;
-    write_text(w, " changes to ")?;
-    write_size(w, size)?;
-    write_text(w, "\n")
+    write!(w, "header: {claimed} frames, {packets} packets").map_err(|_| WriteFault::Write)
 }
 
-fn write_hidden<W: Write>(w: &mut W, packet: usize) -> Result<(), WriteFault>
-    ensures { OnOk result (Appends (W.contents w.old) (W.contents w.new) (hidden_line packet)) }
+fn write_claimed_size<W: Write>(
+    w: &mut W,
+    claimed: (u16, u16),
+    size: (u16, u16),
+) -> Result<(), WriteFault>
+    ensures { OnOk result (Appends (W.contents w.old) (W.contents w.new) (claimed_size_text claimed size)) }
 {
-    write!(w, "packet {packet}: hidden, never shown\n").map_err(|_| WriteFault::Write)
+    write_text(w, "header: size ")?;
+    write_size(w, claimed)?;
+    write_text(w, ", first key packet ")?;
+    write_size(w, size)
+}
+
+fn write_rate<W: Write>(w: &mut W, rate: u32, scale: u32) -> Result<(), WriteFault>
+    ensures { OnOk result (Appends (W.contents w.old) (W.contents w.new) (rate_text rate scale)) }
+{
+    write!(w, "header: rate {rate}, scale {scale}").map_err(|_| WriteFault::Write)
+}
+
+fn write_lost<W: Write>(w: &mut W, lost: usize) -> Result<(), WriteFault>
+    ensures { OnOk result (Appends (W.contents w.old) (W.contents w.new) (lost_text lost)) }
+{
+    write!(w, ", packets lost with it: {lost}").map_err(|_| WriteFault::Write)
+}
+
+fn write_refused<W: Write>(w: &mut W, cause: Cause, lost: usize) -> Result<(), WriteFault>
+    ensures { OnOk result (Appends (W.contents w.old) (W.contents w.new) (refused_text (cause_text cause) lost)) }
+{
+    write_text(w, "refused ")?;
+    write_cause(w, cause)?;
+    write_lost(w, lost)
+}
+
+fn write_first<W: Write>(w: &mut W) -> Result<(), WriteFault>
+    ensures { OnOk result (Appends (W.contents w.old) (W.contents w.new) first_text) }
+{
+    write_text(w, "first partition: ")
+}
+
+fn write_partition<W: Write>(w: &mut W, partition: usize) -> Result<(), WriteFault>
+    ensures { OnOk result (Appends (W.contents w.old) (W.contents w.new) (partition_text partition)) }
+{
+    write!(w, "token partition {partition}: ").map_err(|_| WriteFault::Write)
+}
+
+fn write_past<W: Write>(w: &mut W, bytes: usize) -> Result<(), WriteFault>
+    ensures { OnOk result (Appends (W.contents w.old) (W.contents w.new) (past_text bytes)) }
+{
+    write!(w, "{bytes} bytes read past its end").map_err(|_| WriteFault::Write)
+}
+
+fn write_unread<W: Write>(w: &mut W, bytes: usize, size: usize) -> Result<(), WriteFault>
+    ensures { OnOk result (Appends (W.contents w.old) (W.contents w.new) (unread_text bytes size)) }
+{
+    write!(w, "{bytes} of {size} bytes are not read").map_err(|_| WriteFault::Write)
+}
+
+fn write_past_first<W: Write>(w: &mut W, bytes: usize) -> Result<(), WriteFault>
+    ensures { OnOk result (Appends (W.contents w.old) (W.contents w.new) (first_text ++ past_text bytes)) }
+{
+    write_first(w)?;
+    write_past(w, bytes)
+}
+
+fn write_past_token<W: Write>(w: &mut W, partition: usize, bytes: usize) -> Result<(), WriteFault>
+    ensures { OnOk result (Appends (W.contents w.old) (W.contents w.new) (partition_text partition ++ past_text bytes)) }
+{
+    write_partition(w, partition)?;
+    write_past(w, bytes)
+}
+
+fn write_unread_first<W: Write>(w: &mut W, bytes: usize, size: usize) -> Result<(), WriteFault>
+    ensures { OnOk result (Appends (W.contents w.old) (W.contents w.new) (first_text ++ unread_text bytes size)) }
+{
+    write_first(w)?;
+    write_unread(w, bytes, size)
+}
+
+fn write_unread_token<W: Write>(
+    w: &mut W,
+    partition: usize,
+    bytes: usize,
+    size: usize,
+) -> Result<(), WriteFault>
+    ensures { OnOk result (Appends (W.contents w.old) (W.contents w.new) (partition_text partition ++ unread_text bytes size)) }
+{
+    write_partition(w, partition)?;
+    write_unread(w, bytes, size)
+}
+
+fn write_empty_token<W: Write>(w: &mut W, partition: usize) -> Result<(), WriteFault>
+    ensures { OnOk result (Appends (W.contents w.old) (W.contents w.new) (partition_text partition ++ codes "no bytes, which libvpx calls corrupt")) }
+{
+    write_partition(w, partition)?;
+    write_text(w, "no bytes, which libvpx calls corrupt")
+}
+
+fn write_stamp<W: Write>(w: &mut W, stamp: u64) -> Result<(), WriteFault>
+    ensures { OnOk result (Appends (W.contents w.old) (W.contents w.new) (stamp_text stamp)) }
+{
+    write!(w, "time stamp {stamp}").map_err(|_| WriteFault::Write)
+}
+
+fn write_repeats<W: Write>(w: &mut W, stamp: u64) -> Result<(), WriteFault>
+    ensures { OnOk result (Appends (W.contents w.old) (W.contents w.new) (stamp_text stamp ++ codes " repeats")) }
+{
+    write_stamp(w, stamp)?;
+    write_text(w, " repeats")
+}
+
+fn write_back<W: Write>(w: &mut W, stamp: u64, before: u64) -> Result<(), WriteFault>
+    ensures { OnOk result (Appends (W.contents w.old) (W.contents w.new) (back_text stamp before)) }
+{
+    write_stamp(w, stamp)?;
+    write!(w, " goes back from {before}").map_err(|_| WriteFault::Write)
+}
+
+fn write_skips<W: Write>(w: &mut W, stamp: u64, before: u64) -> Result<(), WriteFault>
+    ensures { OnOk result (Appends (W.contents w.old) (W.contents w.new) (skips_text stamp before)) }
+{
+    write_stamp(w, stamp)?;
+    write!(w, " skips from {before}").map_err(|_| WriteFault::Write)
+}
+
+fn write_change<W: Write>(w: &mut W, before: (u16, u16), size: (u16, u16)) -> Result<(), WriteFault>
+    ensures { OnOk result (Appends (W.contents w.old) (W.contents w.new) (change_text before size)) }
+{
+    write_text(w, "size ")?;
+    write_size(w, before)?;
+    write_text(w, " changes to ")?;
+    write_size(w, size)
 }
 
 fn write_cut_start<W: Write>(w: &mut W, number: usize, begins: usize) -> Result<(), WriteFault>
@@ -164,20 +191,14 @@ fn write_claimed<W: Write>(w: &mut W, claimed: u32) -> Result<(), WriteFault>
     write!(w, "claims 12 + {claimed} bytes, ").map_err(|_| WriteFault::Write)
 }
 
-fn write_there<W: Write>(w: &mut W, left: u64) -> Result<(), WriteFault>
-    ensures { OnOk result (Appends (W.contents w.old) (W.contents w.new) (there_text left)) }
-{
-    write!(w, "{left} are there\n").map_err(|_| WriteFault::Write)
-}
-
 fn write_left<W: Write>(w: &mut W, claimed: Option<u32>, left: u64) -> Result<(), WriteFault>
     ensures { OnOk result (Appends (W.contents w.old) (W.contents w.new) (left_text claimed left)) }
 {
     match claimed {
-        None => write!(w, "{left} bytes are there\n").map_err(|_| WriteFault::Write),
+        None => write!(w, "{left} bytes are there").map_err(|_| WriteFault::Write),
         Some(claimed) => {
             write_claimed(w, claimed)?;
-            write_there(w, left)
+            write!(w, "{left} are there").map_err(|_| WriteFault::Write)
         }
     }
 }
@@ -189,47 +210,37 @@ fn write_cut<W: Write>(
     claimed: Option<u32>,
     left: u64,
 ) -> Result<(), WriteFault>
-    ensures { OnOk result (Appends (W.contents w.old) (W.contents w.new) (cut_line number begins claimed left)) }
+    ensures { OnOk result (Appends (W.contents w.old) (W.contents w.new) (cut_text number begins claimed left)) }
 {
     write_cut_start(w, number, begins)?;
     write_left(w, claimed, left)
 }
 
-/// Writes the line of a finding.
-fn write_line<W: Write>(w: &mut W, finding: Finding) -> Result<(), WriteFault>
-    ensures { OnOk result (Appends (W.contents w.old) (W.contents w.new) (line_of finding)) }
+/// Writes what is found.
+fn write_trouble<W: Write>(w: &mut W, trouble: Trouble) -> Result<(), WriteFault>
+    ensures { OnOk result (Appends (W.contents w.old) (W.contents w.new) (trouble_text trouble)) }
 {
-    match finding {
-        Finding::FrameCount { claimed, packets } => write_count(w, claimed, packets),
-        Finding::Refused {
-            packet,
-            cause,
-            lost,
-        } => write_refused(w, packet, cause, lost),
-        Finding::PastFirst { packet, bytes } => write_past_first(w, packet, bytes),
-        Finding::PastToken {
-            packet,
+    match trouble {
+        Trouble::FrameCount { claimed, packets } => write_count(w, claimed, packets),
+        Trouble::FrameSize { claimed, size } => write_claimed_size(w, claimed, size),
+        Trouble::NoRate { rate, scale } => write_rate(w, rate, scale),
+        Trouble::Refused { cause, lost } => write_refused(w, cause, lost),
+        Trouble::PastFirst { bytes } => write_past_first(w, bytes),
+        Trouble::PastToken { partition, bytes } => write_past_token(w, partition, bytes),
+        Trouble::UnreadFirst { bytes, size } => write_unread_first(w, bytes, size),
+        Trouble::UnreadToken {
             partition,
             bytes,
-        } => write_past_token(w, packet, partition, bytes),
-        Finding::StampRepeats { packet, stamp } => write_repeats(w, packet, stamp),
-        Finding::StampGoesBack {
-            packet,
-            stamp,
-            before,
-        } => write_back(w, packet, stamp, before),
-        Finding::StampSkips {
-            packet,
-            stamp,
-            before,
-        } => write_skips(w, packet, stamp, before),
-        Finding::SizeChanges {
-            packet,
-            before,
             size,
-        } => write_sizes(w, packet, before, size),
-        Finding::NeverShown { packet } => write_hidden(w, packet),
-        Finding::CutRecord {
+        } => write_unread_token(w, partition, bytes, size),
+        Trouble::EmptyToken { partition } => write_empty_token(w, partition),
+        Trouble::NoBytes => write_text(w, "no bytes, at which vpxdec ends"),
+        Trouble::StampRepeats { stamp } => write_repeats(w, stamp),
+        Trouble::StampGoesBack { stamp, before } => write_back(w, stamp, before),
+        Trouble::StampSkips { stamp, before } => write_skips(w, stamp, before),
+        Trouble::SizeChanges { before, size } => write_change(w, before, size),
+        Trouble::NeverShown => write_text(w, "hidden, never shown"),
+        Trouble::CutRecord {
             number,
             begins,
             claimed,
@@ -238,19 +249,20 @@ fn write_line<W: Write>(w: &mut W, finding: Finding) -> Result<(), WriteFault>
     }
 }
 
-/// Writes the line of a finding, if there is one, and returns the number of lines.
-pub(crate) fn write_found<W: Write>(w: &mut W, found: Option<Finding>) -> Result<u64, WriteFault>
-    ensures written { OnOk result (Appends (W.contents w.old) (W.contents w.new) (lines_of (listed found))) }
-    ensures counted { IfOk result (λ count. count ≡ length (listed found)) }
-    ensures few { IfOk result (λ count. count ≤ 1) }
+/// Writes the line of a finding.
+pub(crate) fn write_line<W: Write>(w: &mut W, finding: Finding) -> Result<(), WriteFault>
+    ensures { OnOk result (Appends (W.contents w.old) (W.contents w.new) (line_of finding)) }
 {
-    match found {
-        None => Ok(0),
-        Some(finding) => {
-            write_line(w, finding)?;
-            Ok(1)
-        }
-    }
+    write_severity(w, finding.trouble)?;
+    write_spot(w, finding.spot)?;
+    write_trouble(w, finding.trouble)?;
+    write_text(w, "\n")
+}
+
+fn write_counts<W: Write>(w: &mut W, packets: usize, frames: usize) -> Result<(), WriteFault>
+    ensures { OnOk result (Appends (W.contents w.old) (W.contents w.new) (counts_text packets frames)) }
+{
+    write!(w, "{packets} packets, {frames} frames, ").map_err(|_| WriteFault::Write)
 }
 
 /// Writes the last line.
@@ -258,11 +270,11 @@ pub(crate) fn write_summary<W: Write>(
     w: &mut W,
     packets: usize,
     frames: usize,
-    found: u64,
+    tally: Tally,
 ) -> Result<(), WriteFault>
-    ensures { OnOk result (Appends (W.contents w.old) (W.contents w.new) (summary_line packets frames found)) }
+    ensures { OnOk result (Appends (W.contents w.old) (W.contents w.new) (summary_line packets frames tally)) }
 {
-    write!(w, "{packets} packets, {frames} frames, {found} findings\n").map_err(
-        |_| WriteFault::Write,
-    )
+    let Tally { damage, notes } = tally;
+    write_counts(w, packets, frames)?;
+    write!(w, "damage: {damage}, notes: {notes}\n").map_err(|_| WriteFault::Write)
 }

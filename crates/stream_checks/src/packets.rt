@@ -1,31 +1,32 @@
 //! The findings at a packet, by the packets around it.
 
-ghost use Rattle.std.specs.Prelude.{◌≡◌, ◌+◌, ◌<◌, ◌≤◌, ◌^◌, ◌∷◌, IfSome, Some, None, if◌then◌else◌, length};
-ghost use Rattle.frame_header.specs.Tags.{is_shown, key_size_of};
-ghost use Rattle.stream_checks.specs.Packets.{first_position, found_at, hidden_of, is_unshown, least_of, least_step, lost_after, newer, position_after, refusal, size_change, stamp_after, stamp_change, stamp_finding, step_to, unshown_at};
+ghost use Rattle.std.specs.Prelude.{◌≡◌, ◌+◌, ◌<◌, ◌≤◌, ◌^◌, ◌∷◌, IfSome};
+ghost use Rattle.stream_checks.specs.Packets.{emptiness, first_position, found_at, hidden_of, is_unshown, lost_after, newer, position_after, refusal, size_change, spot_of, unshown_at};
 ghost use Rattle.stream_checks.specs.Lines.{frames_of};
 
-use crate::finding::Finding;
+use crate::finding::{Spot, Trouble};
+use crate::stamps::{Stamps, stamp_trouble, stamps_after};
 use frame_header::{Cause, has_key_tag, is_shown, key_size};
 use stream_files::Packet;
 
-/// What is known of the packets before an index: their number, the time stamps of the last one and of
-/// the last shown one, and the size of the last key packet with a size.
+/// What is known of the packets before an index: their number and that of the shown ones, their time
+/// stamps, and the size of the last key packet with a size.
 #[derive(Clone, Copy)]
 pub(crate) struct Position {
     pub packets: usize,
-    pub last: u64,
-    pub stamp: Option<u64>,
+    pub frames: usize,
+    pub stamps: Option<Stamps>,
     pub size: Option<(u16, u16)>,
 }
 
-/// The findings at a packet.
+/// What is wrong with a packet by the packets around it.
 #[derive(Clone, Copy)]
 pub(crate) struct Found {
-    pub refused: Option<Finding>,
-    pub stamp: Option<Finding>,
-    pub size: Option<Finding>,
-    pub hidden: Option<Finding>,
+    pub refused: Option<Trouble>,
+    pub empty: Option<Trouble>,
+    pub stamp: Option<Trouble>,
+    pub size: Option<Trouble>,
+    pub hidden: Option<Trouble>,
 }
 
 /// The number of packets before the next key tag.
@@ -37,25 +38,20 @@ fn lost_after(rest: &[Packet]) -> usize
         .count()
 }
 
-fn refusal(place: usize, cause: Option<Cause>, rest: &[Packet]) -> Option<Finding>
-    ensures { result ≡ refusal place cause rest.now }
+fn refusal(cause: Option<Cause>, rest: &[Packet]) -> Option<Trouble>
+    ensures { result ≡ refusal cause rest.now }
 {
     match cause {
         None => None,
-        Some(cause) => Some(Finding::Refused {
-            packet: place,
+        Some(cause) => Some(Trouble::Refused {
             cause,
             lost: lost_after(rest),
         }),
     }
 }
 
-fn size_change(
-    place: usize,
-    before: Option<(u16, u16)>,
-    size: Option<(u16, u16)>,
-) -> Option<Finding>
-    ensures { result ≡ size_change place before size }
+fn size_change(before: Option<(u16, u16)>, size: Option<(u16, u16)>) -> Option<Trouble>
+    ensures { result ≡ size_change before size }
 {
     let Some(before) = before else {
         return None;
@@ -68,11 +64,7 @@ fn size_change(
             return None;
         }
     }
-    Some(Finding::SizeChanges {
-        packet: place,
-        before,
-        size,
-    })
+    Some(Trouble::SizeChanges { before, size })
 }
 
 /// Whether no shown packet comes before the next key tag.
@@ -111,12 +103,22 @@ pub(crate) fn unshown(before: Option<bool>, packet: &Packet, rest: &[Packet]) ->
     }
 }
 
-fn hidden_finding(place: usize, unshown: Option<bool>) -> Option<Finding>
-    ensures { result ≡ hidden_of place unshown }
+fn hidden_trouble(unshown: Option<bool>) -> Option<Trouble>
+    ensures { result ≡ hidden_of unshown }
 {
     match unshown {
-        Some(true) => Some(Finding::NeverShown { packet: place }),
+        Some(true) => Some(Trouble::NeverShown),
         _ => None,
+    }
+}
+
+fn emptiness(packet: &Packet) -> Option<Trouble>
+    ensures { result ≡ emptiness packet.now }
+{
+    if packet.bytes.len() == 0 {
+        Some(Trouble::NoBytes)
+    } else {
+        None
     }
 }
 
@@ -129,141 +131,71 @@ fn newer(size: Option<(u16, u16)>, before: Option<(u16, u16)>) -> Option<(u16, u
     }
 }
 
-fn stamp_after(before: Option<u64>, packet: &Packet) -> Option<u64>
-    ensures { result ≡ stamp_after before packet.now }
-{
-    if is_shown(packet.bytes.as_slice()) {
-        Some(packet.stamp)
-    } else {
-        before
-    }
-}
-
 impl Position {
     pub fn first() -> Position
         ensures { result ≡ first_position }
     {
         Position {
             packets: 0,
-            last: 0,
-            stamp: None,
+            frames: 0,
+            stamps: None,
             size: None,
         }
     }
 
-    /// Compares the time stamp of a shown packet with that of the shown packet before it.
-    fn stamp_change(self, least: u64, before: u64, stamp: u64) -> Option<Finding>
-        ensures { result ≡ stamp_change least self before stamp }
+    /// The packet after this position, and the frame that it is shown as.
+    pub fn spot(self, packet: &Packet) -> Spot
+        ensures { result ≡ spot_of self packet.now }
     {
-        let packet = self.packets;
-        let last = self.last;
-        if stamp == before {
-            Some(Finding::StampRepeats { packet, stamp })
-        } else if stamp < before {
-            Some(Finding::StampGoesBack {
-                packet,
-                stamp,
-                before,
-            })
-        } else if least <= stamp.saturating_sub(last) / 2 {
-            Some(Finding::StampSkips {
-                packet,
-                stamp,
-                before: last,
-            })
+        let frame = if is_shown(packet.bytes.as_slice()) {
+            Some(self.frames)
         } else {
             None
-        }
-    }
-
-    fn stamp_finding(self, least: u64, packet: &Packet) -> Option<Finding>
-        ensures { result ≡ stamp_finding least self packet.now }
-    {
-        match self.stamp {
-            None => None,
-            Some(before) => {
-                if is_shown(packet.bytes.as_slice()) {
-                    self.stamp_change(least, before, packet.stamp)
-                } else {
-                    None
-                }
-            }
+        };
+        Spot {
+            packet: self.packets,
+            frame,
         }
     }
 
     /// The position after a packet.
-    pub fn after(self, packet: &Packet) -> Position
-        requires { self.packets + 1 < 2 ^ 64 }
-        ensures { result ≡ position_after self packet.now }
+    pub fn after(self, step: u64, packet: &Packet) -> Position
+        requires room { self.packets + 1 < 2 ^ 64 }
+        requires frames { self.frames ≤ self.packets }
+        requires step { 1 ≤ step }
+        ensures after { result ≡ position_after step self packet.now }
+        ensures frames { result.frames ≤ result.packets }
     {
+        let bytes = packet.bytes.as_slice();
         Position {
             packets: self.packets + 1,
-            last: packet.stamp,
-            stamp: stamp_after(self.stamp, packet),
-            size: newer(key_size(packet.bytes.as_slice()), self.size),
+            frames: self.frames + usize::from(is_shown(bytes)),
+            stamps: stamps_after(step, self.packets, self.stamps, packet),
+            size: newer(key_size(bytes), self.size),
         }
     }
 
-    /// The findings at the packet after this position, which is refused if there is a cause.
+    /// What is wrong with the packet after this position, which is refused if there is a cause.
     pub fn found(
         self,
-        least: u64,
+        step: u64,
         packet: &Packet,
         rest: &[Packet],
         cause: Option<Cause>,
         unshown: Option<bool>,
     ) -> Found
-        requires { unshown ≡ unshown_at packet.now rest.now }
-        ensures { result ≡ found_at least self packet.now rest.now cause }
+        requires step { 1 ≤ step }
+        requires unshown { unshown ≡ unshown_at packet.now rest.now }
+        ensures { result ≡ found_at step self packet.now rest.now cause }
     {
         Found {
-            refused: refusal(self.packets, cause, rest),
-            stamp: self.stamp_finding(least, packet),
-            size: size_change(self.packets, self.size, key_size(packet.bytes.as_slice())),
-            hidden: hidden_finding(self.packets, unshown),
+            refused: refusal(cause, rest),
+            empty: emptiness(packet),
+            stamp: stamp_trouble(step, self.packets, self.stamps, packet),
+            size: size_change(self.size, key_size(packet.bytes.as_slice())),
+            hidden: hidden_trouble(unshown),
         }
     }
-}
-
-fn step_to(before: Option<u64>, packet: &Packet) -> u64
-    ensures { result ≡ step_to before packet.now }
-{
-    match before {
-        None => 0,
-        Some(before) => {
-            if is_shown(packet.bytes.as_slice()) {
-                packet.stamp.saturating_sub(before)
-            } else {
-                0
-            }
-        }
-    }
-}
-
-fn least_of(least: u64, step: u64) -> u64
-    ensures { result ≡ least_of least step }
-{
-    if step == 0 {
-        least
-    } else if least == 0 {
-        step
-    } else {
-        least.min(step)
-    }
-}
-
-/// The least step between the time stamps of shown packets in sequence that is not 0; 0 if there is
-/// none.
-pub(crate) fn least_step(packets: &[Packet]) -> u64
-    ensures { result ≡ least_step packets.now }
-{
-    let mut least = 0;
-    let mut before = None;
-    for packet in packets {
-        least = least_of(least, step_to(before, packet));
-        before = stamp_after(before, packet);
-    }
-    least
 }
 
 /// The number of shown packets.

@@ -13,7 +13,8 @@ use stream_files::{Packet, WriteFault};
 const NO_FIELDS: &str =
     "\"partitions\":null,\"quantizer\":null,\"level\":null,\"last\":null,\"golden\":null,\"altref\":null,";
 
-fn write_member<W: Write>(w: &mut W, name: &str, value: &str) -> Result<(), WriteFault>
+/// Writes a member whose value is this text, and a comma.
+pub fn write_member<W: Write>(w: &mut W, name: &str, value: &str) -> Result<(), WriteFault>
     ensures { OnOk result (Appends (W.contents w.old) (W.contents w.new) (member name.now value.now)) }
 {
     write_text(w, "\"")?;
@@ -23,7 +24,8 @@ fn write_member<W: Write>(w: &mut W, name: &str, value: &str) -> Result<(), Writ
     write_text(w, ",")
 }
 
-fn write_number<W: Write>(w: &mut W, name: &str, n: u64) -> Result<(), WriteFault>
+/// Writes a member whose value is a number, and a comma.
+pub fn write_number<W: Write>(w: &mut W, name: &str, n: u64) -> Result<(), WriteFault>
     ensures { OnOk result (Appends (W.contents w.old) (W.contents w.new) (number_member name.now n)) }
 {
     write_text(w, "\"")?;
@@ -33,7 +35,8 @@ fn write_number<W: Write>(w: &mut W, name: &str, n: u64) -> Result<(), WriteFaul
     write_text(w, ",")
 }
 
-fn write_optional<W: Write>(w: &mut W, name: &str, n: Option<u64>) -> Result<(), WriteFault>
+/// Writes a member whose value is a number or null, and a comma.
+pub fn write_optional<W: Write>(w: &mut W, name: &str, n: Option<u64>) -> Result<(), WriteFault>
     ensures { OnOk result (Appends (W.contents w.old) (W.contents w.new) (optional_member name.now n)) }
 {
     match n {

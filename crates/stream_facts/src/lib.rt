@@ -7,6 +7,6 @@ mod lines;
 mod listing;
 
 pub use facts::{Facts, Position};
-pub use json::write_objects;
+pub use json::{write_member, write_number, write_objects, write_optional};
 pub use lines::{write_cause, write_text};
 pub use listing::write_listing;

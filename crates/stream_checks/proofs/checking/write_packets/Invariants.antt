@@ -1,19 +1,22 @@
 use Rattle.std.proofs.Common.{◌≡◌, ◌+◌, ◌*◌, ◌≤◌, ◌++◌, List, length}
 use Rattle.std.specs.Io.KnownBytes.{Appends}
 use Rattle.stream_checks.specs.declared.finding.Finding.{Finding}
-use Rattle.stream_checks.specs.Packets.{packet_findings}
-use Rattle.stream_checks.specs.Lines.{lines_of}
+use Rattle.stream_checks.specs.Severity.{tally_of}
+use Rattle.stream_checks.specs.Texts.{texts_of}
 use Rattle.stream_checks.specs.Checks.{Answers, findings_after}
 use Rattle.stream_checks.proofs.checking.write_packets.Given as goal
 
 abbrev pub invariant-loop-packet : goal.invariant-loop-packet
 invariant-loop-packet g l = record {
   done : List Finding;
-  whole : done ++ findings_after l.tables l.checker l.rest ≡ packet_findings l.tables l.packets;
-  said : Appends (g.W.Write.contents l.fn.w) (g.W.Write.contents l.w) (lines_of done);
-  counted : l.count ≡ length done;
-  few : l.count ≤ 13 * l.checker.position.packets;
-  packets : l.checker.position.packets + length l.rest ≡ length l.packets;
+  whole : done ++ findings_after l.tables l.checker l.rest ≡ findings_after l.tables l.initial.checker l.packets;
+  said : Appends (g.W.Write.contents l.fn.w) (g.W.Write.contents l.w) (texts_of l.initial.checker.form done);
+  counted : l.tally ≡ tally_of done;
+  few : l.tally.damage + l.tally.notes + 14 * length l.rest ≤ 14680064;
+  packets : l.checker.position.packets + length l.rest ≤ 1048576;
+  frames : l.checker.position.frames ≤ l.checker.position.packets;
+  form : l.checker.form ≡ l.initial.checker.form;
+  step : 1 ≤ l.checker.step;
   answers : Answers l.checker.unshown l.rest;
 }
 

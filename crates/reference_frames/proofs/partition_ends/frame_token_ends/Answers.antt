@@ -3,12 +3,12 @@ use Rattle.std.proofs.lemmas.List.{length-map}
 use Rattle.frame_header.specs.declared.places.Place.{Place}
 use Rattle.bool_coder.specs.Reader.{Reader, started}
 use Rattle.reference_frames.specs.FrameTokens.{TokenState}
-use Rattle.reference_frames.specs.PastEnds.{marked_text}
-use Rattle.reference_frames.proofs.MarkedPartitions.{marked_readers, tokens_past_is}
-use Rattle.reference_frames.proofs.partition_ends.frame_tokens_past.Goals as goal
+use Rattle.reference_frames.specs.PartitionEnds.{marked_text}
+use Rattle.reference_frames.proofs.MarkedPartitions.{marked_readers, token_ends_are}
+use Rattle.reference_frames.proofs.partition_ends.frame_token_ends.Goals as goal
 
-pub tokens_past-requires-clause-each : goal.tokens_past-requires-clause-each
-tokens_past-requires-clause-each c =
+pub token_ends-requires-clause-each : goal.token_ends-requires-clause-each
+token_ends-requires-clause-each c =
     let places : List Place = c.as_slice-partitions.result.now in
     let readers : c.in_ok-readers.readers.items ≡ map (λ place. started (marked_text c.args.zeros c.args.packet.now place)) places =
     c.in_ok-readers.ensures ∙ ap (λ texts. map (λ text. started text.items) texts) c.deref.ensures.value ∙ marked_readers (λ text. text.items) c.args.zeros c.args.packet.now c.in_ok-texts.texts.items places c.in_ok-texts.ensures in
@@ -19,4 +19,4 @@ returns c =
     let places : List Place = c.as_slice-partitions.result.now in
     let readers : c.in_ok-readers.readers.items ≡ map (λ place. started (marked_text c.args.zeros c.args.packet.now place)) places =
     c.in_ok-readers.ensures ∙ ap (λ texts. map (λ text. started text.items) texts) c.deref.ensures.value ∙ marked_readers (λ text. text.items) c.args.zeros c.args.packet.now c.in_ok-texts.texts.items places c.in_ok-texts.ensures in
-    c.tokens_past.ensures ∙ tokens_past_is c.args.zeros c.args.packet.now c.args.header.now c.args.columns c.args.modes.now c.in_ok-readers.readers.items places _ c.as_slice-partitions.ensures.value readers (rw c.in_ok-tokens.ensures at c.read_tokens.ensures.value)
+    c.token_ends.ensures ∙ token_ends_are c.args.zeros c.args.packet.now c.args.header.now c.args.columns c.args.modes.now c.in_ok-readers.readers.items places _ c.as_slice-partitions.ensures.value readers (rw c.in_ok-tokens.ensures at c.read_tokens.ensures.value)

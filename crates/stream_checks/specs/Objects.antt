@@ -1,0 +1,78 @@
+-- A finding as a JSON object (RFC 8259).
+use Rattle.std.specs.Prelude.{ℕ, if◌then◌else◌, List, [], ◌∷◌, ◌++◌, codes, Option, Some, None}
+use Rattle.stream_facts.specs.Json.{member, number_member, optional_member}
+use Rattle.stream_facts.specs.Lines.{cause_text}
+use Rattle.stream_checks.specs.declared.finding.Finding.{Finding}
+use Rattle.stream_checks.specs.declared.finding.Spot.{Spot}
+use Rattle.stream_checks.specs.declared.finding.Trouble.{Trouble}
+use Rattle.stream_checks.specs.declared.finding.Trouble.TheVariants.{FrameCount, FrameSize, NoRate, Refused, PastFirst, PastToken, UnreadFirst, UnreadToken, EmptyToken, NoBytes, StampRepeats, StampGoesBack, StampSkips, SizeChanges, NeverShown, CutRecord}
+use Rattle.stream_checks.specs.Lines.{size_text}
+use Rattle.stream_checks.specs.Severity.{is_damage}
+
+-- the packet and its frame: null at the header and the end of the file, and the frame of a hidden packet
+abbrev pub spot_members : Option Spot → List ℕ
+spot_members None = member (codes "packet") (codes "null") ++ member (codes "frame") (codes "null")
+spot_members (Some spot) = number_member (codes "packet") spot.packet ++ optional_member (codes "frame") spot.frame
+
+-- a text as a value
+abbrev pub quoted : List ℕ → List ℕ
+quoted text = codes "\"" ++ text ++ codes "\""
+
+abbrev pub kind_member : List ℕ → List ℕ
+kind_member kind = member (codes "kind") (quoted kind)
+
+abbrev pub size_member : List ℕ → ℕ × ℕ → List ℕ
+size_member name size = member name (quoted (size_text size))
+
+-- the number of a token partition; null for the first partition
+abbrev pub partition_members : List ℕ → Option ℕ → List ℕ
+partition_members kind partition = kind_member kind ++ optional_member (codes "partition") partition
+
+abbrev pub past_members : Option ℕ → ℕ → List ℕ
+past_members partition bytes = partition_members (codes "past_end") partition ++ number_member (codes "bytes") bytes
+
+abbrev pub unread_members : Option ℕ → ℕ → ℕ → List ℕ
+unread_members partition bytes size =
+    partition_members (codes "unread") partition ++ number_member (codes "bytes") bytes ++ number_member (codes "size") size
+
+abbrev pub refused_members : List ℕ → ℕ → List ℕ
+refused_members cause lost = kind_member (codes "refused") ++ member (codes "cause") (quoted cause) ++ number_member (codes "lost") lost
+
+-- two time stamps
+abbrev pub stamp_members : List ℕ → ℕ → ℕ → List ℕ
+stamp_members kind stamp before = kind_member kind ++ number_member (codes "stamp") stamp ++ number_member (codes "before") before
+
+-- two sizes
+abbrev pub size_members : List ℕ → List ℕ → ℕ × ℕ → ℕ × ℕ → List ℕ
+size_members kind name before size = kind_member kind ++ size_member name before ++ size_member (codes "size") size
+
+abbrev pub cut_members : ℕ → ℕ → Option ℕ → ℕ → List ℕ
+cut_members number begins claimed left =
+    kind_member (codes "cut_record") ++ number_member (codes "record") number ++ number_member (codes "byte") begins
+    ++ optional_member (codes "claimed") claimed ++ number_member (codes "left") left
+
+-- the kind of a finding, and the numbers of its line
+abbrev pub trouble_members : Trouble → List ℕ
+trouble_members (FrameCount claimed packets) = kind_member (codes "frame_count") ++ number_member (codes "claimed") claimed ++ number_member (codes "packets") packets
+trouble_members (FrameSize claimed size) = size_members (codes "frame_size") (codes "claimed") claimed size
+trouble_members (NoRate rate scale) = kind_member (codes "no_rate") ++ number_member (codes "rate") rate ++ number_member (codes "scale") scale
+trouble_members (Refused cause lost) = refused_members (cause_text cause) lost
+trouble_members (PastFirst bytes) = past_members None bytes
+trouble_members (PastToken partition bytes) = past_members (Some partition) bytes
+trouble_members (UnreadFirst bytes size) = unread_members None bytes size
+trouble_members (UnreadToken partition bytes size) = unread_members (Some partition) bytes size
+trouble_members (EmptyToken partition) = partition_members (codes "empty") (Some partition)
+trouble_members NoBytes = kind_member (codes "no_bytes")
+trouble_members (StampRepeats stamp) = kind_member (codes "stamp_repeats") ++ number_member (codes "stamp") stamp
+trouble_members (StampGoesBack stamp before) = stamp_members (codes "stamp_goes_back") stamp before
+trouble_members (StampSkips stamp before) = stamp_members (codes "stamp_skips") stamp before
+trouble_members (SizeChanges before size) = size_members (codes "size_changes") (codes "before") before size
+trouble_members NeverShown = kind_member (codes "never_shown")
+trouble_members (CutRecord number begins claimed left) = cut_members number begins claimed left
+
+-- damage, or a note
+abbrev pub severity_member : Trouble → List ℕ
+severity_member trouble = if is_damage trouble then codes "\"severity\":\"damage\"" else codes "\"severity\":\"note\""
+
+abbrev pub object_of : Finding → List ℕ
+object_of finding = codes "{" ++ spot_members finding.spot ++ trouble_members finding.trouble ++ severity_member finding.trouble ++ codes "}\n"

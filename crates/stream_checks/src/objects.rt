@@ -1,0 +1,235 @@
+//! A finding as a JSON object.
+
+ghost use Rattle.std.specs.Prelude.{◌≡◌, ◌++◌, OnOk, codes};
+ghost use Rattle.std.specs.Io.KnownBytes.{Appends};
+ghost use Rattle.stream_facts.specs.Lines.{cause_text};
+ghost use Rattle.stream_facts.specs.Json.{number_member};
+ghost use Rattle.stream_checks.specs.Objects.{cut_members, kind_member, object_of, partition_members, past_members, refused_members, severity_member, size_member, size_members, spot_members, stamp_members, trouble_members, unread_members};
+
+use crate::finding::{Finding, Spot, Trouble};
+use frame_header::Cause;
+use std::io::Write;
+use stream_facts::{write_cause, write_member, write_number, write_optional, write_text};
+use stream_files::WriteFault;
+
+fn write_spot<W: Write>(w: &mut W, spot: Option<Spot>) -> Result<(), WriteFault>
+    ensures { OnOk result (Appends (W.contents w.old) (W.contents w.new) (spot_members spot)) }
+{
+    match spot {
+        None => {
+            write_member(w, "packet", "null")?;
+            write_member(w, "frame", "null")
+        }
+        Some(spot) => {
+            write_number(w, "packet", spot.packet as u64)?;
+            write_optional(w, "frame", wide(spot.frame))
+        }
+    }
+}
+
+/// An index as a number of 64 bits.
+fn wide(n: Option<usize>) -> Option<u64>
+    ensures { result ≡ n }
+{
+    match n {
+        None => None,
+        Some(n) => Some(n as u64),
+    }
+}
+
+fn write_kind<W: Write>(w: &mut W, kind: &str) -> Result<(), WriteFault>
+    ensures { OnOk result (Appends (W.contents w.old) (W.contents w.new) (kind_member kind.now)) }
+{
+    write_text(w, "\"kind\":\"")?;
+    write_text(w, kind)?;
+    write_text(w, "\",")
+}
+
+fn write_size<W: Write>(w: &mut W, name: &str, size: (u16, u16)) -> Result<(), WriteFault>
+    ensures { OnOk result (Appends (W.contents w.old) (W.contents w.new) (size_member name.now size)) }
+{
+    let (width, height) = size;
+    write_text(w, "\"")?;
+    write_text(w, name)?;
+    write_text(w, "\":\"")?;
+    write!(w, "{width}x{height}").map_err(|_| WriteFault::Write)?;
+    write_text(w, "\",")
+}
+
+fn write_partition<W: Write>(
+    w: &mut W,
+    kind: &str,
+    partition: Option<usize>,
+) -> Result<(), WriteFault>
+    ensures { OnOk result (Appends (W.contents w.old) (W.contents w.new) (partition_members kind.now partition)) }
+{
+    write_kind(w, kind)?;
+    write_optional(w, "partition", wide(partition))
+}
+
+fn write_past<W: Write>(w: &mut W, partition: Option<usize>, bytes: usize) -> Result<(), WriteFault>
+    ensures { OnOk result (Appends (W.contents w.old) (W.contents w.new) (past_members partition bytes)) }
+{
+    write_partition(w, "past_end", partition)?;
+    write_number(w, "bytes", bytes as u64)
+}
+
+fn write_unread<W: Write>(
+    w: &mut W,
+    partition: Option<usize>,
+    bytes: usize,
+    size: usize,
+) -> Result<(), WriteFault>
+    ensures { OnOk result (Appends (W.contents w.old) (W.contents w.new) (unread_members partition bytes size)) }
+{
+    write_partition(w, "unread", partition)?;
+    write_number(w, "bytes", bytes as u64)?;
+    write_number(w, "size", size as u64)
+}
+
+fn write_quoted_cause<W: Write>(w: &mut W, cause: Cause) -> Result<(), WriteFault>
+    ensures { OnOk result (Appends (W.contents w.old) (W.contents w.new) (codes "\"cause\":\"" ++ cause_text cause ++ codes "\",")) }
+{
+    write_text(w, "\"cause\":\"")?;
+    write_cause(w, cause)?;
+    write_text(w, "\",")
+}
+
+fn write_refused<W: Write>(w: &mut W, cause: Cause, lost: usize) -> Result<(), WriteFault>
+    ensures { OnOk result (Appends (W.contents w.old) (W.contents w.new) (refused_members (cause_text cause) lost)) }
+{
+    write_kind(w, "refused")?;
+    write_quoted_cause(w, cause)?;
+    write_number(w, "lost", lost as u64)
+}
+
+fn write_stamps<W: Write>(w: &mut W, kind: &str, stamp: u64, before: u64) -> Result<(), WriteFault>
+    ensures { OnOk result (Appends (W.contents w.old) (W.contents w.new) (stamp_members kind.now stamp before)) }
+{
+    write_kind(w, kind)?;
+    write_number(w, "stamp", stamp)?;
+    write_number(w, "before", before)
+}
+
+fn write_sizes<W: Write>(
+    w: &mut W,
+    kind: &str,
+    name: &str,
+    before: (u16, u16),
+    size: (u16, u16),
+) -> Result<(), WriteFault>
+    ensures { OnOk result (Appends (W.contents w.old) (W.contents w.new) (size_members kind.now name.now before size)) }
+{
+    write_kind(w, kind)?;
+    write_size(w, name, before)?;
+    write_size(w, "size", size)
+}
+
+fn write_count<W: Write>(w: &mut W, claimed: u32, packets: usize) -> Result<(), WriteFault>
+    ensures { OnOk result (Appends (W.contents w.old) (W.contents w.new) (kind_member (codes "frame_count") ++ number_member (codes "claimed") claimed ++ number_member (codes "packets") packets)) }
+{
+    write_kind(w, "frame_count")?;
+    write_number(w, "claimed", u64::from(claimed))?;
+    write_number(w, "packets", packets as u64)
+}
+
+fn write_rate<W: Write>(w: &mut W, rate: u32, scale: u32) -> Result<(), WriteFault>
+    ensures { OnOk result (Appends (W.contents w.old) (W.contents w.new) (kind_member (codes "no_rate") ++ number_member (codes "rate") rate ++ number_member (codes "scale") scale)) }
+{
+    write_kind(w, "no_rate")?;
+    write_number(w, "rate", u64::from(rate))?;
+    write_number(w, "scale", u64::from(scale))
+}
+
+fn write_repeats<W: Write>(w: &mut W, stamp: u64) -> Result<(), WriteFault>
+    ensures { OnOk result (Appends (W.contents w.old) (W.contents w.new) (kind_member (codes "stamp_repeats") ++ number_member (codes "stamp") stamp)) }
+{
+    write_kind(w, "stamp_repeats")?;
+    write_number(w, "stamp", stamp)
+}
+
+/// A size in bytes as a number of 64 bits.
+fn widened(n: Option<u32>) -> Option<u64>
+    ensures { result ≡ n }
+{
+    match n {
+        None => None,
+        Some(n) => Some(u64::from(n)),
+    }
+}
+
+fn write_cut<W: Write>(
+    w: &mut W,
+    number: usize,
+    begins: usize,
+    claimed: Option<u32>,
+    left: u64,
+) -> Result<(), WriteFault>
+    ensures { OnOk result (Appends (W.contents w.old) (W.contents w.new) (cut_members number begins claimed left)) }
+{
+    write_kind(w, "cut_record")?;
+    write_number(w, "record", number as u64)?;
+    write_number(w, "byte", begins as u64)?;
+    write_optional(w, "claimed", widened(claimed))?;
+    write_number(w, "left", left)
+}
+
+/// Writes the kind of a finding and its numbers.
+fn write_trouble<W: Write>(w: &mut W, trouble: Trouble) -> Result<(), WriteFault>
+    ensures { OnOk result (Appends (W.contents w.old) (W.contents w.new) (trouble_members trouble)) }
+{
+    match trouble {
+        Trouble::FrameCount { claimed, packets } => write_count(w, claimed, packets),
+        Trouble::FrameSize { claimed, size } => {
+            write_sizes(w, "frame_size", "claimed", claimed, size)
+        }
+        Trouble::NoRate { rate, scale } => write_rate(w, rate, scale),
+        Trouble::Refused { cause, lost } => write_refused(w, cause, lost),
+        Trouble::PastFirst { bytes } => write_past(w, None, bytes),
+        Trouble::PastToken { partition, bytes } => write_past(w, Some(partition), bytes),
+        Trouble::UnreadFirst { bytes, size } => write_unread(w, None, bytes, size),
+        Trouble::UnreadToken {
+            partition,
+            bytes,
+            size,
+        } => write_unread(w, Some(partition), bytes, size),
+        Trouble::EmptyToken { partition } => write_partition(w, "empty", Some(partition)),
+        Trouble::NoBytes => write_kind(w, "no_bytes"),
+        Trouble::StampRepeats { stamp } => write_repeats(w, stamp),
+        Trouble::StampGoesBack { stamp, before } => {
+            write_stamps(w, "stamp_goes_back", stamp, before)
+        }
+        Trouble::StampSkips { stamp, before } => write_stamps(w, "stamp_skips", stamp, before),
+        Trouble::SizeChanges { before, size } => {
+            write_sizes(w, "size_changes", "before", before, size)
+        }
+        Trouble::NeverShown => write_kind(w, "never_shown"),
+        Trouble::CutRecord {
+            number,
+            begins,
+            claimed,
+            left,
+        } => write_cut(w, number, begins, claimed, left),
+    }
+}
+
+fn write_severity<W: Write>(w: &mut W, trouble: Trouble) -> Result<(), WriteFault>
+    ensures { OnOk result (Appends (W.contents w.old) (W.contents w.new) (severity_member trouble)) }
+{
+    if trouble.is_damage() {
+        write_text(w, "\"severity\":\"damage\"")
+    } else {
+        write_text(w, "\"severity\":\"note\"")
+    }
+}
+
+/// Writes the object of a finding.
+pub(crate) fn write_object<W: Write>(w: &mut W, finding: Finding) -> Result<(), WriteFault>
+    ensures { OnOk result (Appends (W.contents w.old) (W.contents w.new) (object_of finding)) }
+{
+    write_text(w, "{")?;
+    write_spot(w, finding.spot)?;
+    write_trouble(w, finding.trouble)?;
+    write_severity(w, finding.trouble)?;
+    write_text(w, "}\n")
+}
