@@ -1,30 +1,41 @@
--- The end of a check: the lines of its three parts, and the summary.
-use Rattle.std.proofs.Common.{◌≡◌, ◌++◌, ℕ, List, Option, refl, sym, ap, ◌∙◌, append_assoc}
+-- The end of a check: the texts of its three parts, and what follows them.
+use Rattle.std.proofs.Common.{◌≡◌, ◌⊎◌, ◌++◌, ℕ, List, Option, refl, inr, sym, ap, ◌∙◌, append_assoc}
 use Rattle.std.proofs.KnownBytes.{Appends-trans}
 use Rattle.std.proofs.lemmas.Grind.{flat_map-append}
 use Rattle.std.specs.Io.KnownBytes.{Appends}
 use Rattle.stream_checks.specs.declared.finding.Finding.{Finding}
+use Rattle.stream_checks.specs.declared.finding.Tally.{Tally}
 use Rattle.stream_checks.specs.declared.fault.CheckFault.{CheckFault}
 use Rattle.stream_checks.specs.declared.fault.CheckFault.TheVariants.{NoMemory, Write}
-use Rattle.stream_checks.specs.Lines.{line_of, lines_of}
-use Rattle.stream_checks.specs.Checks.{IsBegun, IsEarlyEnd}
+use Rattle.stream_checks.specs.declared.texts.Form.{Form}
+use Rattle.stream_checks.specs.Checks.{IsBegun, IsPacketEnd}
+use Rattle.stream_checks.specs.Severity.{plus, tally_of}
+use Rattle.stream_checks.specs.Texts.{text_of, texts_of}
+use Rattle.stream_checks.proofs.Tallies.{tally_append}
 
 -- an early end of the second part is one of the whole
-pub early_kept : (fault : CheckFault) (first middle last : List Finding) (w0 w1 w2 : Option (List ℕ))
-    → Appends w0 w1 (lines_of first) → IsEarlyEnd middle w1 w2 fault → IsEarlyEnd (first ++ middle ++ last) w0 w2 fault
-early_kept NoMemory first middle last w0 w1 w2 said begun = record {
+pub begun_whole : (form : Form) (first middle last : List Finding) (w0 w1 w2 : Option (List ℕ))
+    → Appends w0 w1 (texts_of form first) → IsBegun form middle w1 w2 → IsBegun form (first ++ middle ++ last) w0 w2
+begun_whole form first middle last w0 w1 w2 said begun = record {
   done = first ++ begun.done;
   left = begun.left ++ last;
   whole = sym (append_assoc (first ++ begun.done) begun.left last)
       ∙ ap (λ (found : List Finding). found ++ last) (append_assoc first begun.done begun.left ∙ ap (λ (found : List Finding). first ++ found) begun.whole);
-  said = rw (flat_map-append line_of first begun.done) (Appends-trans _ _ _ _ _ said begun.said);
+  said = rw (flat_map-append (text_of form) first begun.done) (Appends-trans _ _ _ _ _ said begun.said);
 }
-early_kept Write first middle last w0 w1 w2 said begun = tt
 
--- the parts in sequence, and then the summary
-pub whole_kept : (first middle last : List Finding) (summary : List ℕ) (w0 w1 w2 w3 w4 : Option (List ℕ))
-    → Appends w0 w1 (lines_of first) → Appends w1 w2 (lines_of middle) → Appends w2 w3 (lines_of last) → Appends w3 w4 summary
-    → Appends w0 w4 (lines_of (first ++ middle ++ last) ++ summary)
-whole_kept first middle last summary w0 w1 w2 w3 w4 a b c d =
-    rw (flat_map-append line_of (first ++ middle) last, flat_map-append line_of first middle)
+-- the parts in sequence, and then what follows
+pub whole_text : (form : Form) (first middle last : List Finding) (end : List ℕ) (w0 w1 w2 w3 w4 : Option (List ℕ))
+    → Appends w0 w1 (texts_of form first) → Appends w1 w2 (texts_of form middle) → Appends w2 w3 (texts_of form last) → Appends w3 w4 end
+    → Appends w0 w4 (texts_of form (first ++ middle ++ last) ++ end)
+whole_text form first middle last end w0 w1 w2 w3 w4 a b c d =
+    rw (flat_map-append (text_of form) (first ++ middle) last, flat_map-append (text_of form) first middle)
     (Appends-trans _ _ _ _ _ (Appends-trans _ _ _ _ _ (Appends-trans _ _ _ _ _ a b) c) d)
+
+-- and their tally
+pub whole_tally : (first middle last : List Finding) (a b c : Tally) → a ≡ tally_of first → b ≡ tally_of middle → c ≡ tally_of last
+    → plus (plus a b) c ≡ tally_of (first ++ middle ++ last)
+whole_tally first middle last a b c of_first of_middle of_last =
+    ap (λ (t : Tally). plus (plus t b) c) of_first ∙ ap (λ (t : Tally). plus (plus (tally_of first) t) c) of_middle
+    ∙ ap (λ (t : Tally). plus (plus (tally_of first) (tally_of middle)) t) of_last
+    ∙ ap (λ (t : Tally). plus t (tally_of last)) (sym (tally_append first middle)) ∙ sym (tally_append (first ++ middle) last)

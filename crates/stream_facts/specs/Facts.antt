@@ -1,12 +1,12 @@
 -- The facts of a packet, by the headers of the packets before it.
-use Rattle.std.specs.Prelude.{ℕ, ◌+◌, ◌==◌, Bool, true, false, if◌then◌else◌, List, [], ◌∷◌, length, Option, Some, None, Result, Ok, Err}
+use Rattle.std.specs.Prelude.{ℕ, ◌+◌, ◌==◌, ◌&&◌, ◌||◌, Bool, true, false, not, if◌then◌else◌, List, [], ◌∷◌, is_ok, length, Option, Some, None, Result, Ok, Err}
 use Rattle.std.specs.Int.{from_bool}
 use Rattle.stream_files.specs.declared.packets.Packet.{Packet}
 use Rattle.frame_header.specs.declared.cause.Cause.{Cause}
 use Rattle.frame_header.specs.declared.cause.Cause.TheVariants.{NoKeyFrame}
 use Rattle.frame_header.specs.declared.outline.Outline.{Outline}
-use Rattle.frame_header.specs.Outlines.{outline_of}
-use Rattle.frame_header.specs.Tags.{tag_of, key_size_of, is_shown}
+use Rattle.frame_header.specs.Outlines.{key_scales_of, outline_of}
+use Rattle.frame_header.specs.Tags.{has_key_tag, tag_of, key_size_of, is_shown}
 use Rattle.stream_facts.specs.declared.facts.Facts.{Facts}
 use Rattle.stream_facts.specs.declared.facts.Position.{Position}
 
@@ -30,20 +30,40 @@ follows_by follows (Err cause) = follows
 abbrev pub follows_after : Bool → List ℕ → Bool
 follows_after follows bytes = if length bytes == 0 then follows else follows_by follows (outline_of follows bytes)
 
--- before the first packet
-abbrev pub first_position : Position
-first_position = record { packets = 0; frames = 0; follows = false }
+-- a packet that decoding refuses because of an earlier one: it comes after a refused packet, and no key tag is between them or at it
+abbrev pub is_lost : Position → Packet → Bool
+is_lost position packet = position.is_broken && not (has_key_tag packet.bytes)
 
--- the facts of the packet at a position: frames are numbered by the shown packets before them
+-- whether the packets after this one are lost up to the next key tag
+abbrev pub broken_after : Position → Packet → Bool
+broken_after position packet = is_lost position packet || not (is_ok (header_facts position.follows packet.bytes))
+
+-- a record's head has 12 bytes, and then come those of its packet
+abbrev pub record_length : Packet → ℕ
+record_length packet = 12 + length packet.bytes
+
+abbrev pub records_length : List Packet → ℕ
+records_length [] = 0
+records_length (packet ∷ packets) = record_length packet + records_length packets
+
+-- before the first packet, whose record begins at this byte of the file
+abbrev pub first_position : ℕ → Position
+first_position begins = record { packets = 0; frames = 0; begins = begins; follows = false; is_broken = false }
+
+-- the facts of the packet at a position: frames are numbered by the shown packets before them, and its bytes come after its record's
+-- head
 abbrev pub facts_of : Position → Packet → Facts
 facts_of position packet = record {
   packet = position.packets;
   frame = if is_shown packet.bytes then Some position.frames else None;
   stamp = packet.stamp;
   bytes = length packet.bytes;
+  byte = position.begins + 12;
   tag = tag_of packet.bytes;
   size = key_size_of packet.bytes;
+  scales = key_scales_of packet.bytes;
   header = header_facts position.follows packet.bytes;
+  is_lost = is_lost position packet;
 }
 
 -- the position after it
@@ -51,7 +71,9 @@ abbrev pub position_after : Position → Packet → Position
 position_after position packet = record {
   packets = position.packets + 1;
   frames = position.frames + from_bool (is_shown packet.bytes);
+  begins = position.begins + record_length packet;
   follows = follows_after position.follows packet.bytes;
+  is_broken = broken_after position packet;
 }
 
 -- the facts of each packet of a list
@@ -59,5 +81,6 @@ abbrev pub facts_from : Position → List Packet → List Facts
 facts_from position [] = []
 facts_from position (packet ∷ packets) = facts_of position packet ∷ facts_from (position_after position packet) packets
 
-abbrev pub facts_in : List Packet → List Facts
-facts_in packets = facts_from first_position packets
+-- of packets whose first record begins at this byte of the file
+abbrev pub facts_in : ℕ → List Packet → List Facts
+facts_in begins packets = facts_from (first_position begins) packets

@@ -1,11 +1,12 @@
 -- The line of a packet's facts: columns between tabs, and `-` for a fact that it does not have.
-use Rattle.std.specs.Prelude.{ℕ, Bool, if◌then◌else◌, List, [], ◌∷◌, ◌++◌, codes, map, Option, Some, None, Result, Ok, Err}
+use Rattle.std.specs.Prelude.{ℕ, Bool, true, false, if◌then◌else◌, List, [], ◌∷◌, ◌++◌, codes, map, Option, Some, None, Result, Ok, Err}
 use Rattle.std.specs.List.{flat_map}
 use Rattle.std.specs.Fmt.{decimal}
 use Rattle.stream_files.specs.declared.packets.Packet.{Packet}
 use Rattle.frame_header.specs.Cause.{cause_word}
 use Rattle.frame_header.specs.declared.cause.Cause.{Cause}
 use Rattle.frame_header.specs.declared.cause.Cause.TheVariants as causes
+use Rattle.frame_header.specs.declared.fields.Colors.{Colors}
 use Rattle.frame_header.specs.declared.references.Reference.{Reference}
 use Rattle.frame_header.specs.declared.references.Reference.TheVariants.{Last, Golden, Altref}
 use Rattle.frame_header.specs.declared.references.ReferenceUpdates.{ReferenceUpdates}
@@ -16,7 +17,7 @@ use Rattle.stream_facts.specs.Facts.{facts_in}
 
 -- the names of the columns
 abbrev pub head_line : List ℕ
-head_line = codes "packet\tframe\tstamp\tbytes\tkind\tshow\tversion\tsize\tfirst\tpartitions\tquantizer\tlevel\tlast\tgolden\taltref\tcause\n"
+head_line = codes "packet\tframe\tstamp\tbytes\tkind\tshow\tversion\tsize\tfirst\tpartitions\tquantizer\tlevel\tlast\tgolden\taltref\tcause\tbyte\tscale\tcolor\tclamp\n"
 
 -- a column, and the tab after it
 abbrev pub column : List ℕ → List ℕ
@@ -87,15 +88,56 @@ abbrev pub cause_text : Cause → List ℕ
 cause_text (causes.TokenPartition k) = codes "TokenPartition " ++ decimal k
 cause_text cause = cause_word cause
 
--- the fields of the header, and the cause if it is refused
+abbrev pub no_fields : List ℕ
+no_fields = codes "-\t-\t-\t-\t-\t-\t"
+
+-- of a header, if it has them
 abbrev pub header_columns : Result (Option Outline) Cause → List ℕ
-header_columns (Ok (Some fields)) = field_columns fields ++ codes "-\n"
-header_columns (Ok None) = codes "-\t-\t-\t-\t-\t-\t-\n"
-header_columns (Err cause) = codes "-\t-\t-\t-\t-\t-\t" ++ cause_text cause ++ codes "\n"
+header_columns (Ok (Some fields)) = field_columns fields
+header_columns (Ok None) = no_fields
+header_columns (Err cause) = no_fields
+
+-- why decoding refuses the packet: `lost` because of an earlier one, or the cause against its header
+abbrev pub own_cause : Result (Option Outline) Cause → List ℕ
+own_cause (Ok fields) = none
+own_cause (Err cause) = column (cause_text cause)
+
+abbrev pub cause_column : Facts → List ℕ
+cause_column facts = if facts.is_lost then codes "lost\t" else own_cause facts.header
+
+-- the byte of the file at which the packet's bytes begin, and the scales of a key packet
+abbrev pub scale_column : Option (ℕ × ℕ) → List ℕ
+scale_column None = none
+scale_column (Some scales) = decimal scales.0 ++ codes "x" ++ number scales.1
+
+abbrev pub file_columns : Facts → List ℕ
+file_columns facts = number facts.byte ++ scale_column facts.scales
+
+-- the color space bit and the clamping bit of a key frame
+abbrev pub bit_text : Bool → List ℕ
+bit_text true = codes "1"
+bit_text false = codes "0"
+
+abbrev pub bits_text : Colors → List ℕ
+bits_text colors = bit_text colors.color_space ++ codes "\t" ++ bit_text colors.clamping_type ++ codes "\n"
+
+abbrev pub no_bits : List ℕ
+no_bits = codes "-\t-\n"
+
+abbrev pub outline_bits : Option Tag → Outline → List ℕ
+outline_bits None fields = no_bits
+outline_bits (Some tag) fields = if tag.key then bits_text fields.colors else no_bits
+
+abbrev pub color_columns : Option Tag → Result (Option Outline) Cause → List ℕ
+color_columns tag (Ok (Some fields)) = outline_bits tag fields
+color_columns tag (Ok None) = no_bits
+color_columns tag (Err cause) = no_bits
 
 abbrev pub line_of : Facts → List ℕ
-line_of facts = place_columns facts ++ tag_columns facts ++ size_columns facts ++ header_columns facts.header
+line_of facts =
+    place_columns facts ++ tag_columns facts ++ size_columns facts ++ header_columns facts.header
+    ++ cause_column facts ++ file_columns facts ++ color_columns facts.tag facts.header
 
--- the list of a stream: the names of the columns, and a line a packet
-abbrev pub listing_of : List Packet → List ℕ
-listing_of packets = head_line ++ flat_map line_of (facts_in packets)
+-- the list of a stream whose first record begins at this byte: the names of the columns, and a line a packet
+abbrev pub listing_of : ℕ → List Packet → List ℕ
+listing_of begins packets = head_line ++ flat_map line_of (facts_in begins packets)

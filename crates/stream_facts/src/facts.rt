@@ -1,9 +1,11 @@
 //! The facts of one packet after another.
 
 ghost use Rattle.std.specs.Prelude.{◌≡◌, ◌+◌, ◌<◌, ◌≤◌, ◌^◌};
-ghost use Rattle.stream_facts.specs.Facts.{follows_after, header_facts, first_position, facts_of, position_after};
+ghost use Rattle.stream_facts.specs.Facts.{facts_of, first_position, follows_after, header_facts, position_after, record_length};
 
-use frame_header::{Cause, Outline, Tag, is_shown, key_size, read_outline, tag};
+use frame_header::{
+    Cause, Outline, Tag, has_key_tag, is_shown, key_scales, key_size, read_outline, tag,
+};
 use stream_files::Packet;
 
 /// The facts of a packet.
@@ -17,33 +19,44 @@ pub struct Facts {
     pub stamp: u64,
     /// The length in bytes.
     pub bytes: usize,
+    /// The byte of the file at which the packet's bytes begin.
+    pub byte: usize,
     /// The tag; `None` with fewer than 3 bytes.
     pub tag: Option<Tag>,
     /// The width and height of a key packet; `None` if it has none, or for any other packet.
     pub size: Option<(u16, u16)>,
+    /// The horizontal and vertical scale of a key packet with a size, 0 to 3 each; `None` for any other.
+    pub scales: Option<(u8, u8)>,
     /// The fields of the header, or the first cause against it. A packet of no bytes repeats the
     /// frame before it and has none.
     pub header: Result<Option<Outline>, Cause>,
+    /// Decoding refuses the packet because of an earlier one.
+    pub is_lost: bool,
 }
 
 /// A position between two packets of a stream: the number of packets and of shown packets before
-/// it, and whether a header before it was accepted.
+/// it, the byte of the file at which the next record begins, whether a header before it was accepted,
+/// and whether the packets after it are lost up to the next key tag.
 #[derive(Drop)]
 pub struct Position {
     packets: usize,
     frames: usize,
+    begins: usize,
     follows: bool,
+    is_broken: bool,
 }
 
 impl Position {
-    /// The position before the first packet.
-    pub fn first() -> Position
-        ensures { result ≡ first_position }
+    /// The position before the first packet, whose record begins at this byte of the file.
+    pub fn first(begins: usize) -> Position
+        ensures { result ≡ first_position begins }
     {
         Position {
             packets: 0,
             frames: 0,
+            begins,
             follows: false,
+            is_broken: false,
         }
     }
 
@@ -53,6 +66,8 @@ impl Position {
         ensures follows { self.new.follows ≡ follows_after self.old.follows bytes.now }
         ensures packets { self.new.packets ≡ self.old.packets }
         ensures frames { self.new.frames ≡ self.old.frames }
+        ensures begins { self.new.begins ≡ self.old.begins }
+        ensures is_broken { self.new.is_broken ≡ self.old.is_broken }
     {
         if bytes.is_empty() {
             return if self.follows {
@@ -69,26 +84,34 @@ impl Position {
     /// The facts of the next packet; the position is then after it.
     pub fn next(&mut self, packet: &Packet) -> Facts
         requires room { self.old.packets + 1 < 2 ^ 64 }
+        requires file { self.old.begins + record_length packet.now < 2 ^ 64 }
         requires frames { self.old.frames ≤ self.old.packets }
         ensures facts { result ≡ facts_of self.old packet.now }
         ensures after { self.new ≡ position_after self.old packet.now }
         ensures frames { self.new.frames ≤ self.new.packets }
     {
         let bytes = packet.bytes.as_slice();
+        let is_lost = self.is_broken && !has_key_tag(bytes);
         let header = self.read(bytes);
         let is_shown = is_shown(bytes);
         let frame = if is_shown { Some(self.frames) } else { None };
         let number = self.packets;
+        let byte = self.begins + 12;
         self.packets += 1;
         self.frames += usize::from(is_shown);
+        self.begins = byte + bytes.len();
+        self.is_broken = is_lost || header.is_err();
         Facts {
             packet: number,
             frame,
             stamp: packet.stamp,
             bytes: bytes.len(),
+            byte,
             tag: tag(bytes),
             size: key_size(bytes),
+            scales: key_scales(bytes),
             header,
+            is_lost,
         }
     }
 }

@@ -1,17 +1,22 @@
 //! The line of a packet's facts as a JSON object.
 
-ghost use Rattle.std.specs.Prelude.{◌≡◌, OnOk, codes};
+ghost use Rattle.std.specs.Prelude.{◌≡◌, ◌+◌, ◌^◌, ◌<◌, OnOk, codes};
 ghost use Rattle.std.specs.Io.KnownBytes.{Appends};
-ghost use Rattle.stream_facts.specs.Json.{copy_value, field_members, first_of, header_members, kind_value, member, number_member, object_of, objects_of, optional_member, place_members, reference_members, show_value, size_member, size_members, some_fields, tag_members, update_value, version_of};
+ghost use Rattle.stream_files.specs.Ivf.{IsIvf, header_length};
+ghost use Rattle.stream_facts.specs.Facts.{records_length};
+ghost use Rattle.stream_facts.specs.Json.{bit_members, bit_value, cause_member, color_members, copy_value, field_members, first_of, header_members, kind_value, member, number_member, object_of, objects_of, optional_member, outline_bits, own_cause, place_members, reference_members, scale_member, show_value, size_member, size_members, some_fields, tag_members, update_value, version_of};
 
 use crate::facts::{Facts, Position};
 use crate::lines::{write_cause, write_text};
-use frame_header::{Cause, Outline, Reference, ReferenceUpdates, Tag};
+use crate::listing::first_record;
+use frame_header::{Cause, Colors, Outline, Reference, ReferenceUpdates, Tag};
 use std::io::Write;
-use stream_files::{Packet, WriteFault};
+use stream_files::{Ivf, Packet, WriteFault};
 
 const NO_FIELDS: &str =
     "\"partitions\":null,\"quantizer\":null,\"level\":null,\"last\":null,\"golden\":null,\"altref\":null,";
+
+const NO_BITS: &str = "\"color\":null,\"clamp\":null,";
 
 /// Writes a member whose value is this text, and a comma.
 pub fn write_member<W: Write>(w: &mut W, name: &str, value: &str) -> Result<(), WriteFault>
@@ -61,6 +66,7 @@ fn write_place<W: Write>(w: &mut W, facts: &Facts) -> Result<(), WriteFault>
     write_number(w, "packet", facts.packet as u64)?;
     write_optional(w, "frame", wide(facts.frame))?;
     write_number(w, "stamp", facts.stamp)?;
+    write_number(w, "byte", facts.byte as u64)?;
     write_number(w, "bytes", facts.bytes as u64)
 }
 
@@ -120,10 +126,22 @@ fn write_size<W: Write>(w: &mut W, size: Option<(u16, u16)>) -> Result<(), Write
     }
 }
 
+fn write_scale<W: Write>(w: &mut W, scales: Option<(u8, u8)>) -> Result<(), WriteFault>
+    ensures { OnOk result (Appends (W.contents w.old) (W.contents w.new) (scale_member scales)) }
+{
+    match scales {
+        None => write_text(w, "\"scale\":null,"),
+        Some((across, down)) => {
+            write!(w, "\"scale\":\"{across}x{down}\",").map_err(|_| WriteFault::Write)
+        }
+    }
+}
+
 fn write_sizes<W: Write>(w: &mut W, facts: &Facts) -> Result<(), WriteFault>
     ensures { OnOk result (Appends (W.contents w.old) (W.contents w.new) (size_members facts.now)) }
 {
     write_size(w, facts.size)?;
+    write_scale(w, facts.scales)?;
     write_optional(w, "first", first_of(facts.tag))
 }
 
@@ -180,16 +198,73 @@ fn write_header<W: Write>(
     ensures { OnOk result (Appends (W.contents w.old) (W.contents w.new) (header_members header)) }
 {
     match header {
-        Ok(fields) => {
-            write_some_fields(w, fields)?;
-            write_text(w, "\"cause\":null")
-        }
+        Ok(fields) => write_some_fields(w, fields),
+        Err(_) => write_text(w, NO_FIELDS),
+    }
+}
+
+fn bit_of(bit: bool) -> &'static str
+    ensures { result.now ≡ bit_value bit }
+{
+    if bit { "1" } else { "0" }
+}
+
+fn write_bits<W: Write>(w: &mut W, colors: Colors) -> Result<(), WriteFault>
+    ensures { OnOk result (Appends (W.contents w.old) (W.contents w.new) (bit_members colors)) }
+{
+    write_member(w, "color", bit_of(colors.color_space))?;
+    write_member(w, "clamp", bit_of(colors.clamping_type))
+}
+
+fn write_outline_bits<W: Write>(
+    w: &mut W,
+    tag: Option<Tag>,
+    fields: Outline,
+) -> Result<(), WriteFault>
+    ensures { OnOk result (Appends (W.contents w.old) (W.contents w.new) (outline_bits tag fields)) }
+{
+    match tag {
+        Some(tag) if tag.key => write_bits(w, fields.colors),
+        _ => write_text(w, NO_BITS),
+    }
+}
+
+fn write_colors<W: Write>(
+    w: &mut W,
+    tag: Option<Tag>,
+    header: Result<Option<Outline>, Cause>,
+) -> Result<(), WriteFault>
+    ensures { OnOk result (Appends (W.contents w.old) (W.contents w.new) (color_members tag header)) }
+{
+    match header {
+        Ok(Some(fields)) => write_outline_bits(w, tag, fields),
+        Ok(None) | Err(_) => write_text(w, NO_BITS),
+    }
+}
+
+fn write_own_cause<W: Write>(
+    w: &mut W,
+    header: Result<Option<Outline>, Cause>,
+) -> Result<(), WriteFault>
+    ensures { OnOk result (Appends (W.contents w.old) (W.contents w.new) (own_cause header)) }
+{
+    match header {
+        Ok(_) => write_text(w, "\"cause\":null"),
         Err(cause) => {
-            write_text(w, NO_FIELDS)?;
             write_text(w, "\"cause\":\"")?;
             write_cause(w, cause)?;
             write_text(w, "\"")
         }
+    }
+}
+
+fn write_cause_member<W: Write>(w: &mut W, facts: &Facts) -> Result<(), WriteFault>
+    ensures { OnOk result (Appends (W.contents w.old) (W.contents w.new) (cause_member facts.now)) }
+{
+    if facts.is_lost {
+        write_text(w, "\"cause\":\"lost\"")
+    } else {
+        write_own_cause(w, facts.header)
     }
 }
 
@@ -202,17 +277,28 @@ fn write_object<W: Write>(w: &mut W, facts: Facts) -> Result<(), WriteFault>
     write_tag(w, &facts)?;
     write_sizes(w, &facts)?;
     write_header(w, facts.header)?;
+    write_colors(w, facts.tag, facts.header)?;
+    write_cause_member(w, &facts)?;
     write_text(w, "}\n")
 }
 
-/// Writes a line for each packet, a JSON object with its facts. Only headers are read.
-pub fn write_objects<W: Write>(w: &mut W, packets: &[Packet]) -> Result<(), WriteFault>
-    ensures { OnOk result (Appends (W.contents w.old) (W.contents w.new) (objects_of packets.now)) }
+/// Writes an object for each packet, the first of whose records begins at this byte of the file.
+fn write_all<W: Write>(w: &mut W, begins: usize, packets: &[Packet]) -> Result<(), WriteFault>
+    requires { begins + records_length packets.now < 2 ^ 63 }
+    ensures { OnOk result (Appends (W.contents w.old) (W.contents w.new) (objects_of begins packets.now)) }
 {
-    let mut position = Position::first();
+    let mut position = Position::first(begins);
     for packet in packets {
         let facts = position.next(packet);
         write_object(w, facts)?;
     }
     Ok(())
+}
+
+/// Writes a line for each packet of an IVF file, a JSON object with its facts. Only headers are read.
+pub fn write_objects<W: Write>(w: &mut W, bytes: &[u8], file: &Ivf) -> Result<(), WriteFault>
+    requires { IsIvf bytes.now file.now }
+    ensures { OnOk result (Appends (W.contents w.old) (W.contents w.new) (objects_of (header_length bytes.now) file.now.packets)) }
+{
+    write_all(w, first_record(bytes), file.packets.as_slice())
 }

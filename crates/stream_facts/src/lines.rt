@@ -2,10 +2,10 @@
 
 ghost use Rattle.std.specs.Prelude.{◌≡◌, OnOk};
 ghost use Rattle.std.specs.Io.KnownBytes.{Appends};
-ghost use Rattle.stream_facts.specs.Lines.{cause_text, copy_column, field_columns, first_column, frame_column, header_columns, kind_column, line_of, place_columns, reference_columns, show_column, size_column, size_columns, tag_columns, update_column, version_column};
+ghost use Rattle.stream_facts.specs.Lines.{bit_text, bits_text, cause_column, cause_text, color_columns, copy_column, field_columns, file_columns, first_column, frame_column, header_columns, kind_column, line_of, outline_bits, own_cause, place_columns, reference_columns, scale_column, show_column, size_column, size_columns, tag_columns, update_column, version_column};
 
 use crate::facts::Facts;
-use frame_header::{Cause, Outline, Reference, ReferenceUpdates, Tag};
+use frame_header::{Cause, Colors, Outline, Reference, ReferenceUpdates, Tag};
 use std::io::Write;
 use stream_files::WriteFault;
 
@@ -140,6 +140,7 @@ fn write_fields<W: Write>(w: &mut W, fields: Outline) -> Result<(), WriteFault>
         quantizer,
         level,
         references,
+        ..
     } = fields;
     write!(w, "{partitions}\t{quantizer}\t{level}\t").map_err(|_| WriteFault::Write)?;
     write_references(w, references)
@@ -164,16 +165,91 @@ fn write_header<W: Write>(
     ensures { OnOk result (Appends (W.contents w.old) (W.contents w.new) (header_columns header)) }
 {
     match header {
-        Ok(Some(fields)) => {
-            write_fields(w, fields)?;
-            write_text(w, "-\n")
-        }
-        Ok(None) => write_text(w, "-\t-\t-\t-\t-\t-\t-\n"),
+        Ok(Some(fields)) => write_fields(w, fields),
+        Ok(None) | Err(_) => write_text(w, "-\t-\t-\t-\t-\t-\t"),
+    }
+}
+
+fn write_own_cause<W: Write>(
+    w: &mut W,
+    header: Result<Option<Outline>, Cause>,
+) -> Result<(), WriteFault>
+    ensures { OnOk result (Appends (W.contents w.old) (W.contents w.new) (own_cause header)) }
+{
+    match header {
+        Ok(_) => write_text(w, NONE),
         Err(cause) => {
-            write_text(w, "-\t-\t-\t-\t-\t-\t")?;
             write_cause(w, cause)?;
-            write_text(w, "\n")
+            write_text(w, "\t")
         }
+    }
+}
+
+fn write_cause_column<W: Write>(w: &mut W, facts: &Facts) -> Result<(), WriteFault>
+    ensures { OnOk result (Appends (W.contents w.old) (W.contents w.new) (cause_column facts.now)) }
+{
+    if facts.is_lost {
+        write_text(w, "lost\t")
+    } else {
+        write_own_cause(w, facts.header)
+    }
+}
+
+fn write_scale<W: Write>(w: &mut W, scales: Option<(u8, u8)>) -> Result<(), WriteFault>
+    ensures { OnOk result (Appends (W.contents w.old) (W.contents w.new) (scale_column scales)) }
+{
+    match scales {
+        Some((across, down)) => write!(w, "{across}x{down}\t").map_err(|_| WriteFault::Write),
+        None => write_text(w, NONE),
+    }
+}
+
+fn write_file<W: Write>(w: &mut W, facts: &Facts) -> Result<(), WriteFault>
+    ensures { OnOk result (Appends (W.contents w.old) (W.contents w.new) (file_columns facts.now)) }
+{
+    let byte = facts.byte;
+    write!(w, "{byte}\t").map_err(|_| WriteFault::Write)?;
+    write_scale(w, facts.scales)
+}
+
+fn bit_text(bit: bool) -> &'static str
+    ensures { result.now ≡ bit_text bit }
+{
+    if bit { "1" } else { "0" }
+}
+
+fn write_bits<W: Write>(w: &mut W, colors: Colors) -> Result<(), WriteFault>
+    ensures { OnOk result (Appends (W.contents w.old) (W.contents w.new) (bits_text colors)) }
+{
+    write_text(w, bit_text(colors.color_space))?;
+    write_text(w, "\t")?;
+    write_text(w, bit_text(colors.clamping_type))?;
+    write_text(w, "\n")
+}
+
+fn write_outline_bits<W: Write>(
+    w: &mut W,
+    tag: Option<Tag>,
+    fields: Outline,
+) -> Result<(), WriteFault>
+    ensures { OnOk result (Appends (W.contents w.old) (W.contents w.new) (outline_bits tag fields)) }
+{
+    match tag {
+        Some(tag) if tag.key => write_bits(w, fields.colors),
+        _ => write_text(w, "-\t-\n"),
+    }
+}
+
+fn write_colors<W: Write>(
+    w: &mut W,
+    tag: Option<Tag>,
+    header: Result<Option<Outline>, Cause>,
+) -> Result<(), WriteFault>
+    ensures { OnOk result (Appends (W.contents w.old) (W.contents w.new) (color_columns tag header)) }
+{
+    match header {
+        Ok(Some(fields)) => write_outline_bits(w, tag, fields),
+        Ok(None) | Err(_) => write_text(w, "-\t-\n"),
     }
 }
 
@@ -184,5 +260,8 @@ pub(crate) fn write_line<W: Write>(w: &mut W, facts: Facts) -> Result<(), WriteF
     write_place(w, &facts)?;
     write_tag(w, &facts)?;
     write_sizes(w, &facts)?;
-    write_header(w, facts.header)
+    write_header(w, facts.header)?;
+    write_cause_column(w, &facts)?;
+    write_file(w, &facts)?;
+    write_colors(w, facts.tag, facts.header)
 }

@@ -1,25 +1,19 @@
-use Rattle.std.proofs.Common.{rules, ◌≡◌, ◌+◌, ℕ, List, [], ◌∷◌, ◌++◌, length, ap, sym, refl, ◌∙◌, arith, append_assoc, length-append}
+use Rattle.std.proofs.Common.{rules, ◌≡◌, ◌+◌, ℕ, List, [], ◌∷◌, ◌++◌, length, ap, sym, refl, subst, ◌∙◌, arith, append_assoc, ◌≤◌}
 use Rattle.std.proofs.KnownBytes.{Appends-nil, Appends-trans}
 use Rattle.std.proofs.lemmas.Grind.{flat_map-append}
+use Rattle.std.specs.Io.KnownBytes.{Appends}
 use Rattle.stream_files.specs.declared.packets.Packet.{Packet}
 use Rattle.stream_checks.specs.declared.checker.Checker.{Checker}
 use Rattle.stream_checks.specs.declared.finding.Finding.{Finding}
+use Rattle.stream_checks.specs.declared.finding.Tally.{Tally}
 use Rattle.stream_checks.specs.declared.packets.Position.{Position}
-use Rattle.stream_checks.specs.Lines.{line_of}
+use Rattle.stream_checks.specs.declared.texts.Form.{Form}
 use Rattle.stream_checks.specs.Checks.{findings_after, findings_next}
+use Rattle.stream_checks.specs.Severity.{plus, tally_of}
+use Rattle.stream_checks.specs.Texts.{text_of, texts_of}
 use Rattle.stream_checks.proofs.Steps.{one_more}
+use Rattle.stream_checks.proofs.Tallies.{tally_append}
 use Rattle.stream_checks.proofs.checking.write_packets.Goals as goal
-
-pub loop-packet-init : goal.loop-packet-init
-loop-packet-init g c = record {
-  done = [];
-  whole = search rules;
-  said = Appends-nil _;
-  counted = refl;
-  few = search rules;
-  packets = search rules;
-  answers = search rules;
-}
 
 pub loop-packet-preserved : goal.loop-packet-preserved
 loop-packet-preserved g c =
@@ -33,17 +27,20 @@ loop-packet-preserved g c =
     let at : c.loop-packet.rest.now ≡ packet ∷ following = c.in-Some.ensures.cases.0 in
     let shorter : length following + 1 ≡ length c.loop-packet.rest.now = c.in-Some.ensures.cases.1 in
     let made = c.in-Ok.ensures in
-    let counted : c.in-Ok.more ≡ length found = made.counted in
     let next : after.position.packets ≡ before.position.packets + 1 = ap (λ (p : Position). p.packets) made.position in
+    let added = subst (λ (form : Form). Appends _ _ (texts_of form found)) met.form made.written in
     record {
       done = met.done ++ found;
       whole = append_assoc met.done found (findings_after tables after following)
-          ∙ ap (λ (more : List Finding). met.done ++ more) (sym (one_more tables before after packet following made.least made.position made.decoder))
+          ∙ ap (λ (more : List Finding). met.done ++ more) (sym (one_more tables before after packet following made.step made.position made.decoder))
           ∙ ap (λ (packets : List Packet). met.done ++ findings_after tables before packets) (sym at)
           ∙ met.whole;
-      said = rw (flat_map-append line_of met.done found) (Appends-trans _ _ _ _ _ met.said made.written);
-      counted = omega (arith, length-append met.done found, met.counted, counted);
-      few = omega (arith, met.few, made.few, next);
+      said = rw (flat_map-append (text_of c.loop-packet.initial.checker.form) met.done found) (Appends-trans _ _ _ _ _ met.said added);
+      counted = c.plus.ensures ∙ ap (λ (tally : Tally). plus tally c.in-Ok.more) met.counted ∙ ap (λ (tally : Tally). plus (tally_of met.done) tally) made.counted ∙ sym (tally_append met.done found);
+      few = omega (arith, met.few, made.few, c.plus.ensures, shorter);
       packets = omega (arith, met.packets, shorter, next);
+      frames = made.frames;
+      form = made.form ∙ met.form;
+      step = subst (λ (s : ℕ). 1 ≤ s) (sym made.step) met.step;
       answers = made.answers;
     }

@@ -5,6 +5,6 @@ use Rattle.stream_facts.proofs.json.write_object.Goals as goal
 pub returns : goal.returns
 returns g c =
     on_ok_weaker c.write_text-2.result
-    (λ p. Appends-trans _ _ _ _ _ (Appends-trans _ _ _ _ _ (Appends-trans _ _ _ _ _ (Appends-trans _ _ _ _ _ (Appends-trans _ _ _ _ _
-    c.in_ok-write_text.ensures c.in_ok-write_place.ensures) c.in_ok-write_tag.ensures) c.in_ok-write_sizes.ensures) c.in_ok-write_header.ensures) p)
+    (λ p. Appends-trans _ _ _ _ _ (Appends-trans _ _ _ _ _ (Appends-trans _ _ _ _ _ (Appends-trans _ _ _ _ _ (Appends-trans _ _ _ _ _ (Appends-trans _ _ _ _ _ (Appends-trans _ _ _ _ _
+    c.in_ok-write_text.ensures c.in_ok-write_place.ensures) c.in_ok-write_tag.ensures) c.in_ok-write_sizes.ensures) c.in_ok-write_header.ensures) c.in_ok-write_colors.ensures) c.in_ok-write_cause_member.ensures) p)
     c.write_text-2.ensures
