@@ -115,7 +115,7 @@ fn hidden_trouble(unshown: Option<bool>) -> Option<Trouble>
 fn emptiness(packet: &Packet) -> Option<Trouble>
     ensures { result ≡ emptiness packet.now }
 {
-    if packet.bytes.len() == 0 {
+    if packet.bytes.as_slice().is_empty() {
         Some(Trouble::NoBytes)
     } else {
         None
