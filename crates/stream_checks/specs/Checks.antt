@@ -34,8 +34,8 @@ findings_next tables checker packet rest =
     past_findings checker.position.packets (past_next tables checker packet) ++ listed_of (found_next tables checker packet rest)
 
 -- what is known of a hidden packet before the position is the answer for the packets after it
-abbrev pub Answers : Option Bool → List Packet → Type 0
-Answers unshown rest = IfSome unshown (λ answer. answer ≡ is_unshown rest)
+abbrev pub TellsUnshown : Option Bool → List Packet → Type 0
+TellsUnshown unshown rest = IfSome unshown (λ answer. answer ≡ is_unshown rest)
 
 -- the findings at the packets after the position
 abbrev pub findings_after : TableEntries → Checker → List Packet → List Finding

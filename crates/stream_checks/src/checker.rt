@@ -5,7 +5,7 @@ ghost use Rattle.std.specs.Io.KnownBytes.{Appends};
 ghost use Rattle.state_cache.specs.Decoding.{left_by};
 ghost use Rattle.stream_checks.specs.Packets.{first_position, listed_of, position_after};
 ghost use Rattle.stream_checks.specs.Lines.{lines_of};
-ghost use Rattle.stream_checks.specs.Checks.{Answers, findings_next, outcome_next};
+ghost use Rattle.stream_checks.specs.Checks.{TellsUnshown, findings_next, outcome_next};
 ghost use Rattle.stream_checks.specs.PastEnds.{past_findings};
 
 use crate::decoder::Decoder;
@@ -82,7 +82,7 @@ impl Checker {
         rest: &[Packet],
     ) -> Result<u64, CheckFault>
         requires room { self.old.position.packets + 1 < 2 ^ 64 }
-        requires answers { Answers self.old.unshown (packet.now ∷ rest.now) }
+        requires answers { TellsUnshown self.old.unshown (packet.now ∷ rest.now) }
         ensures written { OnOk result (Appends (W.contents w.old) (W.contents w.new) (lines_of (findings_next tables.now self.old packet.now rest.now))) }
         ensures counted { IfOk result (λ count. count ≡ length (findings_next tables.now self.old packet.now rest.now)) }
         ensures few { IfOk result (λ count. count ≤ 13) }
@@ -90,7 +90,7 @@ impl Checker {
         ensures least { self.new.least ≡ self.old.least }
         ensures position { OnOk result (self.new.position ≡ position_after self.old.position packet.now) }
         ensures decoder { OnOk result (self.new.decoder ≡ left_by (outcome_next tables.now self.old packet.now)) }
-        ensures answers { OnOk result (Answers self.new.unshown rest.now) }
+        ensures answers { OnOk result (TellsUnshown self.new.unshown rest.now) }
     {
         let place = self.position.packets;
         let Ok(past) = self.decoder.past_ends(tables, packet.bytes.as_slice()) else {

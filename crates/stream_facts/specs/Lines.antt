@@ -97,5 +97,5 @@ abbrev pub line_of : Facts → List ℕ
 line_of facts = place_columns facts ++ tag_columns facts ++ size_columns facts ++ header_columns facts.header
 
 -- the list of a stream: the names of the columns, and a line a packet
-abbrev pub listing_of : List Packet → List ℕ
-listing_of packets = head_line ++ flat_map line_of (facts_in packets)
+abbrev pub list_text : List Packet → List ℕ
+list_text packets = head_line ++ flat_map line_of (facts_in packets)

@@ -2,7 +2,7 @@
 
 ghost use Rattle.std.specs.Prelude.{◌≡◌, OnOk};
 ghost use Rattle.std.specs.Io.KnownBytes.{Appends};
-ghost use Rattle.stream_facts.specs.Lines.{head_line, listing_of};
+ghost use Rattle.stream_facts.specs.Lines.{head_line, list_text};
 
 use crate::facts::Position;
 use crate::lines::{write_line, write_text};
@@ -16,7 +16,7 @@ const HEAD: &str =
 /// Writes a line with the names of the columns, and a line for each packet with its facts. Only
 /// headers are read.
 pub fn write_listing<W: Write>(w: &mut W, packets: &[Packet]) -> Result<(), WriteFault>
-    ensures { OnOk result (Appends (W.contents w.old) (W.contents w.new) (listing_of packets.now)) }
+    ensures { OnOk result (Appends (W.contents w.old) (W.contents w.new) (list_text packets.now)) }
 {
     write_text(w, HEAD)?;
     let mut position = Position::first();

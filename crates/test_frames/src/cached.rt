@@ -25,6 +25,19 @@ const REPLACEMENT_BY_THE_SAME: Run = Run {
     frames: Some((LINE, &[&[(384, 0x80)], &[(384, 0x80)]])),
 };
 
+// A frame before the mark leaves it where it is, so the states converge at packet 2 afterwards.
+#[test]
+fn a_frame_before_the_mark(rt: HostRuntime) -> Result<(), Fail> {
+    expect_run(&rt, rt.alloc(), &FRAME_BEFORE_THE_MARK)
+}
+
+const FRAME_BEFORE_THE_MARK: Run = Run {
+    packets: &[KEY, INTER, INTER, INTER],
+    requests: b"frame 3\nreplace 1 110000\nframe 1\nframe 3\nstats\n",
+    replies: b"served 3\nok 4\nserved 1\nserved 3\ndecoded 6\n",
+    frames: Some((LINE, &[&[(384, 0x80)], &[(384, 0x80)], &[(384, 0x80)]])),
+};
+
 // A key packet is inserted, and after it the states converge.
 #[test]
 fn an_insertion_of_a_key_packet(rt: HostRuntime) -> Result<(), Fail> {

@@ -3,7 +3,7 @@ use Rattle.std.specs.Io.KnownBytes.{Appends}
 use Rattle.stream_checks.specs.declared.finding.Finding.{Finding}
 use Rattle.stream_checks.specs.Packets.{packet_findings}
 use Rattle.stream_checks.specs.Lines.{lines_of}
-use Rattle.stream_checks.specs.Checks.{Answers, findings_after}
+use Rattle.stream_checks.specs.Checks.{TellsUnshown, findings_after}
 use Rattle.stream_checks.proofs.checking.write_packets.Given as goal
 
 abbrev pub invariant-loop-packet : goal.invariant-loop-packet
@@ -14,7 +14,7 @@ invariant-loop-packet g l = record {
   counted : l.count ≡ length done;
   few : l.count ≤ 13 * l.checker.position.packets;
   packets : l.checker.position.packets + length l.rest ≡ length l.packets;
-  answers : Answers l.checker.unshown l.rest;
+  answers : TellsUnshown l.checker.unshown l.rest;
 }
 
 abbrev pub decreases-loop-packet : goal.decreases-loop-packet
