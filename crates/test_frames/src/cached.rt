@@ -3,11 +3,11 @@
 use crate::expected::expect_run;
 use frame_session::{Edit, Session};
 use pixel_planes::same;
-use test_fixtures::{HIDDEN, INTER, KEY, Run, ivf_of, run_packets, run_with, y4m_of};
 use std::alloc::Global;
 use std::process::Abort;
 use std::test::Fail;
 use stream_files::{Bytes, ivf_read};
+use test_fixtures::{HIDDEN, INTER, KEY, Run, ivf_of, run_packets, run_with, y4m_of};
 use vp8_tables::Tables;
 
 const LINE: &[u8] = b"YUV4MPEG2 W16 H16 F30:1 Ip C420jpeg\n";
