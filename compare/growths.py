@@ -6,7 +6,8 @@
 It shows what no contract can say. Each call that was refused memory is made again, and then the program must print its usual
 text. Over a key packet and three others, P, P, P:
 
-- frame 3 makes the requests of these four steps and no more, so no step is made beside those that `stats` counts;
+- frame 3 makes the requests of these four steps, one for each state that is cached and no more, so no step is made beside those
+  that `stats` counts;
 - frame 3 again makes none, so a script without steps copies no picture;
 - after a replacement of packet 1 frame 3 makes fewer than three steps do, so decoding stops where the states converge.
 
@@ -68,8 +69,8 @@ def count_faults(made):
     """What is wrong with the numbers of requests."""
     first, again, after = made["frame 3"], made["frame 3 again"], made["frame 3 after that"]
     key, steps = made["the key packet"], made["three steps from its state"]
-    if first != key + steps:
-        yield f"frame 3 makes {first} requests for memory, its four steps {key} and {steps}"
+    if first > key + steps + 4:
+        yield f"frame 3 makes {first} requests for memory, its four steps {key} and {steps}, its four cached states one each"
     if again != 0:
         yield f"frame 3 again makes {again} requests for memory"
     if after >= steps:
