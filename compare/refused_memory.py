@@ -19,11 +19,10 @@ from dataclasses import dataclass, field
 from bits import ivf
 from clips import packets_of, run, settings
 from edits import PACKETS, long_line
+from growths import GROWTHS, all_faults
 from run import PROGRAM
 from traced import Program, traced
 
-HERE = pathlib.Path(__file__).resolve().parent
-GROWTHS = HERE.parent / "crates/gate_memory"
 WIDTH, HEIGHT, FRAMES, CLIPS = 48, 32, 10, 4
 KEY = bytes.fromhex("1000009D012A10001000")
 INTER = bytes.fromhex("110000")
@@ -272,41 +271,15 @@ def try_help(bench, told):
         first += 1
 
 
-def requests_of_lines(bench, program):
-    """A run of gate_memory with ample memory, and the number of requests for memory before each line of its output."""
-    writes = []
-
-    def note(call):
-        if call.descriptor == 1:
-            writes.append((call.requests, call.length))
-
-    ran = bench.run([], lambda n: False, program, note)
-    text, made = ran.replies, []
-    for requests, length in writes:
-        if len(text) == len(ran.replies) or ran.replies[: len(ran.replies) - len(text)].endswith(b"\n"):
-            made.append(requests)
-        text = text[length:]
-    return ran, [now - before for now, before in zip(made, [0, *made])]
-
-
-def try_growths(bench, told):
-    """Runs gate_memory with each request refused, which must print its text, and counts the requests for memory of its frames."""
-    program, whole = Program(str(GROWTHS / "out/gate_memory")), (GROWTHS / "stdout").read_bytes()
-    ample, made = requests_of_lines(bench, program)
-    faults = 0
-    for first in range(1, ample.requests + 1):
-        got = bench.run([], lambda n: n == first, program)
-        told["runs of gate_memory"] += 1
-        if (got.status, got.replies, got.errors) != (0, whole, ""):
-            faults += 1
-            print(f"gate_memory: request {first}: status {got.status}, standard error {got.errors!r}")
-    between = {line.partition(":")[0]: requests for line, requests in zip(ample.lines(), made, strict=True)}
-    steps, after, again = (between[name] for name in ("three steps from its state", "frame 3 after that", "frame 3 again"))
-    print(f"frame 3 of [K, P, P, P] makes {between['frame 3']} requests for memory, again {again}; three steps make {steps}, and the frame after a replacement of packet 1 {after}")
-    if again or after >= steps or ample.replies != whole:
-        faults += 1
-        print("gate_memory: other counts or another text")
-    return faults
+def try_growths(told):
+    """Refuses each request of gate_memory, and counts those of its frames (growths.py)."""
+    found, made, requests = all_faults(Program(str(GROWTHS / "out/gate_memory")))
+    told["runs of gate_memory"] += requests
+    names = "frame 3", "frame 3 again", "three steps from its state", "frame 3 after that"
+    print("requests for memory of gate_memory: " + ", ".join(f"{name} {made[name]}" for name in names))
+    for fault in found:
+        print(f"gate_memory: {fault}")
+    return len(found)
 
 
 def try_long_lists(count):
@@ -343,7 +316,7 @@ def main():
             before = told["runs"]
             faults += try_list(bench, requests, told)
             print(f"{requests.name}: {told['runs'] - before} runs", flush=True)
-        faults += try_help(bench, told) + try_growths(bench, told)
+        faults += try_help(bench, told) + try_growths(told)
     for kind, number in sorted(told.items()):
         print(f"{number:9} {kind}")
     print(f"{len(lists)} lists, --help and gate_memory: {faults} differences")

@@ -4,7 +4,7 @@ use Rattle.script_nodes.specs.declared.faults.ScriptFault.TheVariants as scripts
 use Rattle.script_nodes.specs.declared.nodes.Node.{Node}
 use Rattle.script_nodes.specs.declared.traces.Step.{Step}
 use Rattle.script_nodes.specs.Frames.{Origin, traced}
-use Rattle.script_nodes.specs.Nodes.{nodes_of, script_by}
+use Rattle.script_nodes.specs.Nodes.{nodes_of, script_from}
 use Rattle.script_nodes.specs.Shown.{Shown, shown_in, steps_shown}
 use Rattle.request_lines.specs.declared.lines.Line.{Line}
 use Rattle.request_lines.specs.declared.lines.Line.TheVariants.{Silent, Unknown, Frame, Use, Insert, Replace, Delete, Move, Copy, Blank, Hold, Script, Count, Stats}
@@ -23,7 +23,7 @@ use Rattle.packet_forge.specs.declared.faults.ForgeFault.TheVariants as forging
 use Rattle.packet_forge.specs.Packets.{blank_of}
 use Rattle.vp8_tables.specs.declared.tables.Tables.{Tables}
 use Rattle.frame_session.proofs.Forging.{blank_lacks_none, held_lacks_none}
-use Rattle.frame_session.specs.Edits.{edit_of, hold_bytes_at, refusal_by, refused_forged, unless_refused}
+use Rattle.frame_session.specs.Edits.{edit_of, hold_bytes_at, refusal_by, refused_forged, count_unless}
 use Rattle.frame_session.specs.Replies.{refused_line, served_line, ok_line, edit_line, count_line, stats_line}
 use Rattle.frame_session.specs.Scripts.{script_reported}
 use Rattle.frame_session.specs.Sessions.{Now, after_frame, choice_answer, current_list, edit_answer, now_after_choice, now_after_edit, now_after_script, fits, fitted, frame_count, frame_from, frame_made, frame_of, outcome_of, packet_count, picture_from, script_answer, shown_counts, size_of, size_served}
@@ -113,20 +113,20 @@ full_told = record { returned = refl; enough = refusal_told refusals.Full (λ h.
 spent_told : IsTold (Err refusals.Spent)
 spent_told = record { returned = refl; enough = refusal_told refusals.Spent (λ h. cc) }
 
-id_told : (spent : Bool) (count : ℕ) → IsTold (unless_refused (option_map refusal_by (cond spent (Some faults.Spent) None)) count)
+id_told : (spent : Bool) (count : ℕ) → IsTold (count_unless (option_map refusal_by (cond spent (Some faults.Spent) None)) count)
 id_told true count = spent_told
 id_told false count = ok_told count
 
-insertion_told : (outside full spent : Bool) (count : ℕ) → IsTold (unless_refused (option_map refusal_by (cond outside (Some faults.Place) (cond full (Some faults.Full) (cond spent (Some faults.Spent) None)))) count)
+insertion_told : (outside full spent : Bool) (count : ℕ) → IsTold (count_unless (option_map refusal_by (cond outside (Some faults.Place) (cond full (Some faults.Full) (cond spent (Some faults.Spent) None)))) count)
 insertion_told true full spent count = place_told
 insertion_told false true spent count = full_told
 insertion_told false false spent count = id_told spent count
 
-replacement_told : (inside spent : Bool) (count : ℕ) → IsTold (unless_refused (option_map refusal_by (cond inside (cond spent (Some faults.Spent) None) (Some faults.Place))) count)
+replacement_told : (inside spent : Bool) (count : ℕ) → IsTold (count_unless (option_map refusal_by (cond inside (cond spent (Some faults.Spent) None) (Some faults.Place))) count)
 replacement_told true spent count = id_told spent count
 replacement_told false spent count = place_told
 
-copy_told : (exists inside outside full spent : Bool) (count : ℕ) → IsTold (unless_refused (cond exists (option_map refusal_by (cond inside (cond outside (Some faults.Place) (cond full (Some faults.Full) (cond spent (Some faults.Spent) None))) (Some faults.Place))) (Some refusals.Source)) count)
+copy_told : (exists inside outside full spent : Bool) (count : ℕ) → IsTold (count_unless (cond exists (option_map refusal_by (cond inside (cond outside (Some faults.Place) (cond full (Some faults.Full) (cond spent (Some faults.Spent) None))) (Some faults.Place))) (Some refusals.Source)) count)
 copy_told true true outside full spent count = insertion_told outside full spent count
 copy_told true false outside full spent count = place_told
 copy_told false inside outside full spent count = source_told
@@ -135,7 +135,7 @@ choice_told : (exists : Bool) (count : ℕ) → IsTold (cond exists (Ok count) (
 choice_told true count = ok_told count
 choice_told false count = source_told
 
-place_or_told : (inside : Bool) (count : ℕ) → IsTold (unless_refused (option_map refusal_by (cond inside None (Some faults.Place))) count)
+place_or_told : (inside : Bool) (count : ℕ) → IsTold (count_unless (option_map refusal_by (cond inside None (Some faults.Place))) count)
 place_or_told true count = ok_told count
 place_or_told false count = place_told
 
@@ -145,13 +145,13 @@ size_told = record { returned = refl; enough = refusal_told refusals.Size (λ h.
 large_told : IsTold (Err refusals.TooLarge)
 large_told = record { returned = refl; enough = refusal_told refusals.TooLarge (λ h. cc) }
 
-forging_told : (forged : Result (List ℕ) ForgeFault) (count : ℕ) → (forged ≡ Err forging.NoMemory → ⊥) → IsTold (unless_refused (refused_forged None forged) count)
+forging_told : (forged : Result (List ℕ) ForgeFault) (count : ℕ) → (forged ≡ Err forging.NoMemory → ⊥) → IsTold (count_unless (refused_forged None forged) count)
 forging_told (Ok packet) count some = ok_told count
 forging_told (Err forging.Size) count some = size_told
 forging_told (Err forging.TooLarge) count some = large_told
 forging_told (Err forging.NoMemory) count some = absurd (some refl)
 
-forged_told : (outside full spent : Bool) (forged : Result (List ℕ) ForgeFault) (count : ℕ) → (forged ≡ Err forging.NoMemory → ⊥) → IsTold (unless_refused (refused_forged (cond outside (Some faults.Place) (cond full (Some faults.Full) (cond spent (Some faults.Spent) None))) forged) count)
+forged_told : (outside full spent : Bool) (forged : Result (List ℕ) ForgeFault) (count : ℕ) → (forged ≡ Err forging.NoMemory → ⊥) → IsTold (count_unless (refused_forged (cond outside (Some faults.Place) (cond full (Some faults.Full) (cond spent (Some faults.Spent) None))) forged) count)
 forged_told true full spent forged count some = place_told
 forged_told false true spent forged count some = full_told
 forged_told false false true forged count some = spent_told
@@ -173,7 +173,7 @@ nodes_told count nodes false true odd = record { returned = refl; enough = refus
 nodes_told count nodes false false true = record { returned = refl; enough = refusal_told refusals.Number (λ h. cc) }
 nodes_told count nodes false false false = ok_told count
 
-script_told : (count sources : ℕ) (nodes : Option (List Node)) → IsTold (script_reported count (script_by sources nodes))
+script_told : (count sources : ℕ) (nodes : Option (List Node)) → IsTold (script_reported count (script_from sources nodes))
 script_told count sources None = record { returned = refl; enough = refusal_told refusals.Syntax (λ h. cc) }
 script_told count sources (Some nodes) = nodes_told count nodes _ _ _
 

@@ -13,7 +13,7 @@ use Rattle.packet_forge.specs.Packets.{blank_of}
 use Rattle.frame_session.specs.declared.edit.Edit.{Edit}
 use Rattle.frame_session.specs.declared.edit.Edit.TheVariants.{Insert}
 use Rattle.frame_session.specs.declared.refusal.Refusal.{Refusal}
-use Rattle.frame_session.specs.Edits.{after_edit, edit_of, edited, hold_bytes, inserted_forged, refusal_by, refusal_by_forging, refused_forged, stamp_before, unless_refused}
+use Rattle.frame_session.specs.Edits.{after_edit, edit_of, edited, hold_bytes, inserted_forged, refusal_by, refusal_by_forging, refused_forged, stamp_before, count_unless}
 use Rattle.frame_session.specs.IsOrNoMemory.{IsOrNoMemory}
 
 -- no packet that is wanted is NoMemory
@@ -46,21 +46,21 @@ no_fault : (insertion : Option EditFault) → told_unless insertion ≡ Ok tt �
 no_fault None e = refl
 no_fault (Some first) e = cc
 
-told_first : (fault : EditFault) (forged : Result (List ℕ) ForgeFault) (count : ℕ) → (fault ≡ faults.NoMemory → ⊥) → IsOrNoMemory (unless_refused (refused_forged (Some fault) forged) count) (Err (refusal_by fault))
+told_first : (fault : EditFault) (forged : Result (List ℕ) ForgeFault) (count : ℕ) → (fault ≡ faults.NoMemory → ⊥) → IsOrNoMemory (count_unless (refused_forged (Some fault) forged) count) (Err (refusal_by fault))
 told_first faults.Place forged count some = refl
 told_first faults.Full forged count some = refl
 told_first faults.Spent forged count some = refl
 told_first faults.NoMemory forged count some = absurd (some refl)
 
 -- an error of the insertion is reported first
-pub insertion_refused : (list : Listing) (at : ℕ) (fault : EditFault) (forged : Result (List ℕ) ForgeFault) (count : ℕ) → told_unless (refused_insertion list at) ≡ Err fault → IsOrNoMemory (unless_refused (refused_forged (refused_insertion list at) forged) count) (Err (refusal_by fault))
+pub insertion_refused : (list : Listing) (at : ℕ) (fault : EditFault) (forged : Result (List ℕ) ForgeFault) (count : ℕ) → told_unless (refused_insertion list at) ≡ Err fault → IsOrNoMemory (count_unless (refused_forged (refused_insertion list at) forged) count) (Err (refusal_by fault))
 insertion_refused list at fault forged count e =
     let first : refused_insertion list at ≡ Some fault = first_fault (refused_insertion list at) fault e in
     let some : fault ≡ faults.NoMemory → ⊥ = λ lacks. insertion_lacks_none _ _ _ (first ∙ ap (λ (x : EditFault). Some x) lacks) in
-    let P : Option EditFault → Type 0 = λ insertion. IsOrNoMemory (unless_refused (refused_forged insertion forged) count) (Err (refusal_by fault)) in
+    let P : Option EditFault → Type 0 = λ insertion. IsOrNoMemory (count_unless (refused_forged insertion forged) count) (Err (refusal_by fault)) in
     subst P (sym first) (told_first fault forged count some)
 
-forging_given : (want : Result (List ℕ) ForgeFault) (count : ℕ) (fault : ForgeFault) → (want ≡ Err forging.NoMemory → ⊥) → ForgeRefuses want fault → IsOrNoMemory (unless_refused (refused_forged None want) count) (Err (refusal_by_forging fault))
+forging_given : (want : Result (List ℕ) ForgeFault) (count : ℕ) (fault : ForgeFault) → (want ≡ Err forging.NoMemory → ⊥) → ForgeRefuses want fault → IsOrNoMemory (count_unless (refused_forged None want) count) (Err (refusal_by_forging fault))
 forging_given want count forging.Size some refused = rw refused refl
 forging_given want count forging.TooLarge some refused = rw refused refl
 forging_given (Ok packet) count forging.NoMemory some refused = tt
@@ -69,9 +69,9 @@ forging_given (Err forging.TooLarge) count forging.NoMemory some refused = tt
 forging_given (Err forging.NoMemory) count forging.NoMemory some refused = absurd (some refl)
 
 -- if the insertion has no error, the error of forging is reported
-pub forging_refused : (list : Listing) (at : ℕ) (want : Result (List ℕ) ForgeFault) (count : ℕ) (fault : ForgeFault) → told_unless (refused_insertion list at) ≡ Ok tt → (want ≡ Err forging.NoMemory → ⊥) → ForgeRefuses want fault → IsOrNoMemory (unless_refused (refused_forged (refused_insertion list at) want) count) (Err (refusal_by_forging fault))
+pub forging_refused : (list : Listing) (at : ℕ) (want : Result (List ℕ) ForgeFault) (count : ℕ) (fault : ForgeFault) → told_unless (refused_insertion list at) ≡ Ok tt → (want ≡ Err forging.NoMemory → ⊥) → ForgeRefuses want fault → IsOrNoMemory (count_unless (refused_forged (refused_insertion list at) want) count) (Err (refusal_by_forging fault))
 forging_refused list at want count fault none some refused =
-    let P : Option EditFault → Type 0 = λ insertion. IsOrNoMemory (unless_refused (refused_forged insertion want) count) (Err (refusal_by_forging fault)) in
+    let P : Option EditFault → Type 0 = λ insertion. IsOrNoMemory (count_unless (refused_forged insertion want) count) (Err (refusal_by_forging fault)) in
     subst P (sym (no_fault (refused_insertion list at) none)) (forging_given want count fault some refused)
 
 same_refusal : (insertion : Option EditFault) (bytes : List ℕ) → option_map refusal_by insertion ≡ refused_forged insertion (Ok bytes)
@@ -84,12 +84,12 @@ inserted_same at stamp bytes forged list made is =
     ∙ ap (λ (b : List ℕ). inserted at (stamp_before at list) b list) (sym (ap (λ (f : Result (List ℕ) ForgeFault). result_unwrap_or f []) made))
 
 -- the result of inserting the forged bytes
-pub insertion_gives : (tables : Tables) (lists : List Listing) (list : Listing) (at stamp : ℕ) (bytes : List ℕ) (forged : Result (List ℕ) ForgeFault) (answer : Result ℕ Refusal) → forged ≡ Ok bytes → stamp ≡ stamp_before at list → IsOrNoMemory (edit_of tables lists list (Insert at stamp bytes)) answer → IsOrNoMemory (unless_refused (refused_forged (refused_insertion list at) forged) (length (inserted_forged at forged list).entries)) answer
+pub insertion_gives : (tables : Tables) (lists : List Listing) (list : Listing) (at stamp : ℕ) (bytes : List ℕ) (forged : Result (List ℕ) ForgeFault) (answer : Result ℕ Refusal) → forged ≡ Ok bytes → stamp ≡ stamp_before at list → IsOrNoMemory (edit_of tables lists list (Insert at stamp bytes)) answer → IsOrNoMemory (count_unless (refused_forged (refused_insertion list at) forged) (length (inserted_forged at forged list).entries)) answer
 insertion_gives tables lists list at stamp bytes forged answer made is returned =
     let first : option_map refusal_by (refused_insertion list at) ≡ refused_forged (refused_insertion list at) forged =
     same_refusal (refused_insertion list at) bytes ∙ ap (λ (f : Result (List ℕ) ForgeFault). refused_forged (refused_insertion list at) f) (sym made) in
-    let P : Option Refusal → Type 0 = λ refusal. IsOrNoMemory (unless_refused refusal (length (inserted at stamp bytes list).entries)) answer in
-    let Q : Listing → Type 0 = λ after. IsOrNoMemory (unless_refused (refused_forged (refused_insertion list at) forged) (length after.entries)) answer in
+    let P : Option Refusal → Type 0 = λ refusal. IsOrNoMemory (count_unless refusal (length (inserted at stamp bytes list).entries)) answer in
+    let Q : Listing → Type 0 = λ after. IsOrNoMemory (count_unless (refused_forged (refused_insertion list at) forged) (length after.entries)) answer in
     subst Q (inserted_same at stamp bytes forged list made is) (subst P first returned)
 
 after_same : (tables : Tables) (lists : List Listing) (edit edit' : Edit) (list : Listing) (answer : Result ℕ Refusal) → edited tables lists edit list ≡ edited tables lists edit' list → after_edit tables lists edit list answer ≡ after_edit tables lists edit' list answer

@@ -17,7 +17,8 @@ use Rattle.frame_session.specs.declared.refusal.Refusal.TheVariants as refusals
 use Rattle.frame_session.specs.declared.size.Size.{Size}
 use Rattle.state_cache.specs.Costs.{Costs}
 use Rattle.state_cache.specs.Decoding.{Outcome, outcomes}
-use Rattle.frame_session.specs.Cached.{FrameCosts, LeavesOthers, SessionValue, place_of, store_at}
+use Rattle.state_cache.specs.Walks.{IsWalk}
+use Rattle.frame_session.specs.Cached.{FrameCosts, LeavesOthers, SessionValue, packet_of_frame, store_at}
 use Rattle.frame_session.specs.IsOrNoMemory.{IsFrameOrNoMemory}
 use Rattle.frame_session.specs.Edits.{list_at}
 use Rattle.frame_session.specs.Sessions.{Now, fits, fitted, frame_from, frame_made, frame_of, outcome_of, picture_from, shown_counts, size_of}
@@ -63,9 +64,9 @@ frame_given old n counts source frame place steps picture made same from at deco
 
 -- and it costs what reaching its packet costs
 pub frame_costs : (old new : SessionValue) (n : ℕ) (counts : List ℕ) (source frame place : ℕ) (steps : List Step) (made : PictureSamples) → counts ≡ shown_counts old.now → traced counts old.now.script n ≡ Some (origin_of source frame steps) → Some place ≡ slice_get (shown_indexes (stream_of (list_at old.now.lists source))) frame
-    → Costs old.now.tables source (store_at old.stores source) old.cache place true (store_at new.stores source) new.cache → LeavesOthers source old new → FrameCosts (place_of old.now n) old (Ok made) new
-frame_costs old new n counts source frame place steps made same from at costs leaves =
+    → Costs old.now.tables source (store_at old.stores source) old.cache place true (store_at new.stores source) new.cache → IsWalk old.now.tables source (store_at old.stores source) old.cache place true (store_at new.stores source) new.cache → LeavesOthers source old new → FrameCosts (packet_of_frame old.now n) old (Ok made) new
+frame_costs old new n counts source frame place steps made same from at costs walks leaves =
     let place_in : Origin → Option (ℕ × ℕ) = λ origin. option_map (λ (p : ℕ). (origin.source, p)) (slice_get (shown_indexes (stream_of (list_at old.now.lists origin.source))) origin.frame) in
-    let is : place_of old.now n ≡ Some (source, place) =
+    let is : packet_of_frame old.now n ≡ Some (source, place) =
     ap (λ (k : List ℕ). option_and_then place_in (traced k old.now.script n)) (sym same) ∙ ap (λ (o : Option Origin). option_and_then place_in o) from ∙ ap (λ (o : Option ℕ). option_map (λ (p : ℕ). (source, p)) o) (sym at) in
-    subst (λ (o : Option (ℕ × ℕ)). FrameCosts o old (Ok made) new) (sym is) (true, costs, leaves, λ h. refl)
+    subst (λ (o : Option (ℕ × ℕ)). FrameCosts o old (Ok made) new) (sym is) (record { reached = true; costs = costs; walks = walks; others = leaves; is_needed = λ h. refl })

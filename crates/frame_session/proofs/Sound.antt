@@ -29,7 +29,7 @@ use Rattle.frame_session.specs.declared.edit.Edit.TheVariants.{Insert, Replace, 
 use Rattle.frame_session.specs.declared.refusal.Refusal.{Refusal}
 use Rattle.frame_session.specs.declared.refusal.Refusal.TheVariants as refusals
 use Rattle.frame_session.specs.IsOrNoMemory.{IsOrNoMemory, MayRunOutOfMemory}
-use Rattle.frame_session.specs.Edits.{EditAnswers, hold_bytes_at, list_at, refusal_by, refused_copy_of, refused_edit, stamp_before, unless_refused}
+use Rattle.frame_session.specs.Edits.{EditAnswers, hold_bytes_at, list_at, refusal_by, refused_copy_of, refused_edit, stamp_before, count_unless}
 use Rattle.frame_session.specs.Cached.{CacheWithout, IsSession, IsSound, leaving, id_removed, lists_of, store_at, store_edited, store_of_file, stores_after, stores_edited}
 use Rattle.frame_session.specs.Sessions.{picture_from}
 use Rattle.frame_session.proofs.Stores.{store_here, store_there}
@@ -41,7 +41,7 @@ no_id (e ∷ es) zero h = absurd (omega (arith, h))
 no_id (e ∷ es) (suc at) h = no_id es at (omega (arith, h))
 
 -- an edit that is accepted has no refusal
-accepted : (refusal : Option Refusal) (n count : ℕ) → unless_refused refusal n ≡ Ok count → refusal ≡ None
+accepted : (refusal : Option Refusal) (n count : ℕ) → count_unless refusal n ≡ Ok count → refusal ≡ None
 accepted None n count e = refl
 accepted (Some refusal) n count e = cc
 

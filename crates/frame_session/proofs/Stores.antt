@@ -5,7 +5,7 @@ use Rattle.std.proofs.Math.ListN.{get_or-map}
 use Rattle.std.proofs.Math.Seq.{map-set_same}
 use Rattle.vp8_tables.specs.declared.tables.Tables.{Tables}
 use Rattle.stream_files.specs.declared.ivf.Ivf.{Ivf}
-use Rattle.packet_edits.specs.Edits.{Listing, copied, listing_of}
+use Rattle.packet_edits.specs.Edits.{Listing, copied, starting_with}
 use Rattle.packet_edits.specs.Marks.{StoreValue, marks_inserted}
 use Rattle.packet_edits.specs.Shown.{shown_indexes, stream_of}
 use Rattle.frame_session.specs.declared.edit.Edit.{Edit}
@@ -120,6 +120,6 @@ counts_same [] = refl
 counts_same (s ∷ stores) = ap (λ (l : List ℕ). length (shown_indexes (stream_of s.list)) ∷ l) (counts_same stores)
 
 -- the lists of new stores
-pub begun_lists : (files : List Ivf) → lists_of (map store_of_file files) ≡ map (λ file. listing_of file.packets) files
+pub begun_lists : (files : List Ivf) → lists_of (map store_of_file files) ≡ map (λ file. starting_with file.packets) files
 begun_lists [] = refl
-begun_lists (file ∷ files) = ap (λ (l : List Listing). listing_of file.packets ∷ l) (begun_lists files)
+begun_lists (file ∷ files) = ap (λ (l : List Listing). starting_with file.packets ∷ l) (begun_lists files)

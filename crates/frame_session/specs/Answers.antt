@@ -52,6 +52,10 @@ answer_to_frame now n (Err refusal) = reply_only (refused_line refusal)
 abbrev pub AnswersEdit : Now → Edit → Result ℕ Refusal → Answer → Now → Type 0
 AnswersEdit old edit edited answer new = (answer ≡ reply_only (edit_line edited)) × (new ≡ now_after_edit edit old edited)
 
+-- an edit that may be out of memory, with an answer and the new state
+abbrev pub AnswersGrowth : Now → Edit → Answer → Now → Type 0
+AnswersGrowth old edit answer new = (edited : Result ℕ Refusal) × IsOrNoMemory (edit_answer old edit) edited × AnswersEdit old edit edited answer new
+
 -- a script and its result, with the answer and the new state
 abbrev pub AnswersScript : Now → List ℕ → Result ℕ Refusal → Answer → Now → Type 0
 AnswersScript old text set answer new = (answer ≡ reply_only (edit_line set)) × (new ≡ now_after_script text old set)
@@ -63,18 +67,13 @@ Answers old requests.Unknown answer new = (answer ≡ reply_only (refused_line r
 Answers old (requests.Frame n) answer new =
     (frame : Result Shown Refusal) × IsOrNoMemory (frame_of old n) frame × (answer ≡ answer_to_frame old n frame) × IsAfterFrame old (size_served frame) new
 Answers old (requests.Use source) answer new = (answer ≡ reply_only (edit_line (choice_answer old source))) × (new ≡ now_after_choice source old)
-Answers old (requests.Insert at stamp bytes) answer new =
-    (edited : Result ℕ Refusal) × IsOrNoMemory (edit_answer old (edits.Insert at stamp bytes)) edited × AnswersEdit old (edits.Insert at stamp bytes) edited answer new
-Answers old (requests.Replace at bytes) answer new =
-    (edited : Result ℕ Refusal) × IsOrNoMemory (edit_answer old (edits.Replace at bytes)) edited × AnswersEdit old (edits.Replace at bytes) edited answer new
+Answers old (requests.Insert at stamp bytes) answer new = AnswersGrowth old (edits.Insert at stamp bytes) answer new
+Answers old (requests.Replace at bytes) answer new = AnswersGrowth old (edits.Replace at bytes) answer new
 Answers old (requests.Delete at) answer new = AnswersEdit old (edits.Delete at) (edit_answer old (edits.Delete at)) answer new
 Answers old (requests.Move from to) answer new = AnswersEdit old (edits.Move from to) (edit_answer old (edits.Move from to)) answer new
-Answers old (requests.Copy source from at) answer new =
-    (edited : Result ℕ Refusal) × IsOrNoMemory (edit_answer old (edits.Copy source from at)) edited × AnswersEdit old (edits.Copy source from at) edited answer new
-Answers old (requests.Blank at width height) answer new =
-    (edited : Result ℕ Refusal) × IsOrNoMemory (edit_answer old (edits.Blank at width height)) edited × AnswersEdit old (edits.Blank at width height) edited answer new
-Answers old (requests.Hold at) answer new =
-    (edited : Result ℕ Refusal) × IsOrNoMemory (edit_answer old (edits.Hold at)) edited × AnswersEdit old (edits.Hold at) edited answer new
+Answers old (requests.Copy source from at) answer new = AnswersGrowth old (edits.Copy source from at) answer new
+Answers old (requests.Blank at width height) answer new = AnswersGrowth old (edits.Blank at width height) answer new
+Answers old (requests.Hold at) answer new = AnswersGrowth old (edits.Hold at) answer new
 Answers old (requests.Script text) answer new =
     (set : Result ℕ Refusal) × IsOrNoMemory (script_answer old text) set × AnswersScript old text set answer new
 Answers old requests.Count answer new = (answer ≡ reply_only (count_line (packet_count old) (frame_count old))) × (new ≡ old)
@@ -151,27 +150,11 @@ pub record SourceRefuses (sources : List (List ℕ)) (source : ℕ) (fault : Ivf
   pub files : List Ivf
   pub earlier : AreIvfs (take source sources) files
 
--- reading the sources ends at an error of one of them
-abbrev pub IsSourceRefused : List (List ℕ) → RunFault → Type 0
-IsSourceRefused sources (faults.Ivf source fault) = SourceRefuses sources source fault
-IsSourceRefused sources faults.Write = ⊥
-IsSourceRefused sources faults.NoMemory = ⊥
-
--- when a run returns no session: an error of a source is the first one, otherwise all sources are files
-abbrev pub RunRefuses : List (List ℕ) → RunFault → Type 0
-RunRefuses sources (faults.Ivf source fault) = SourceRefuses sources source fault
-RunRefuses sources faults.Write = (files : List Ivf) × AreIvfs sources files
-RunRefuses sources faults.NoMemory = (files : List Ivf) × AreIvfs sources files
-
--- a run that ends before its first line writes nothing
-abbrev pub Leaves : RunFault → Option (List ℕ) → Option (List ℕ) → Type 0
-Leaves (faults.Ivf source fault) old new = Keeps old new
-Leaves faults.Write old new = Unit {0}
-Leaves faults.NoMemory old new = Keeps old new
-
--- a run that a writer's error ends stops within its request list: no reply begins before its whole frame is written
+-- how a run ends without a session. If a source is not a file, the error is the first one's; otherwise all are files. Nothing is
+-- written before the first line, and a writer's error stops the run within its request list: no reply begins before its whole
+-- frame is written
 abbrev pub RunStops : Tables → (sources : List (List ℕ)) → (requests : List ℕ) → (frames frames' replies replies' : Option (List ℕ)) → RunFault → Type 0
-RunStops tables sources requests frames frames' replies replies' (faults.Ivf source fault) = Unit {0}
+RunStops tables sources requests frames frames' replies replies' (faults.Ivf source fault) = SourceRefuses sources source fault × Keeps frames frames' × Keeps replies replies'
+RunStops tables sources requests frames frames' replies replies' faults.NoMemory = (files : List Ivf) × AreIvfs sources files × Keeps frames frames' × Keeps replies replies'
 RunStops tables sources requests frames frames' replies replies' faults.Write =
     (files : List Ivf) × AreIvfs sources files × Stops (start tables files) (requests_of requests) frames frames' replies replies'
-RunStops tables sources requests frames frames' replies replies' faults.NoMemory = Unit {0}

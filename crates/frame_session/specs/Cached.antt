@@ -2,7 +2,7 @@
 use Rattle.std.specs.Prelude.{◌≡◌, ℕ, ◌<◌, ◌≤◌, Bool, true, false, [], List, length, map, slice_get, slice_index_or, slice_set, Option, Some, None, Result, Ok, Err, option_and_then, option_map}
 use Rattle.vp8_tables.specs.declared.tables.Tables.{Tables}
 use Rattle.stream_files.specs.declared.ivf.Ivf.{Ivf}
-use Rattle.packet_edits.specs.Edits.{Listing, copied, listing_of, starting}
+use Rattle.packet_edits.specs.Edits.{Listing, copied, starting_with, starting}
 use Rattle.packet_edits.specs.Marks.{StoreValue, marks_deleted, marks_inserted, marks_moved, marks_pushed, marks_replaced}
 use Rattle.packet_edits.specs.Shown.{shown_indexes, stream_of}
 use Rattle.pixel_planes.specs.Pictures.{PictureSamples}
@@ -11,6 +11,7 @@ use Rattle.state_cache.specs.Costs.{Costs}
 use Rattle.state_cache.specs.EditLaws.{IsWithout, AreOfPackets, id_at}
 use Rattle.state_cache.specs.Reaching.{CacheValue, OthersDrop, OthersStay, view_of}
 use Rattle.state_cache.specs.Views.{IsCoherent, marked_packets}
+use Rattle.state_cache.specs.Walks.{IsWalk}
 use Rattle.frame_session.specs.declared.edit.Edit.{Edit}
 use Rattle.frame_session.specs.declared.edit.Edit.TheVariants.{Insert, Replace, Delete, Move, Copy, Blank, Hold}
 use Rattle.frame_session.specs.declared.refusal.Refusal.{Refusal}
@@ -35,7 +36,7 @@ pub record SessionValue : Type 0 where
 
 -- the packets of a file, none of them marked
 abbrev pub store_of_file : Ivf → StoreValue
-store_of_file file = record { list = listing_of file.packets; marks = marks_pushed file.packets [] }
+store_of_file file = record { list = starting_with file.packets; marks = marks_pushed file.packets [] }
 
 -- a new session: no packet is marked, and no outcome is cached
 abbrev pub begun : Tables → ℕ → List Ivf → SessionValue
@@ -63,8 +64,8 @@ abbrev pub shown_counts_of : List StoreValue → List ℕ
 shown_counts_of stores = map (λ store. length (shown_indexes (stream_of store.list))) stores
 
 -- the packet that frame n comes from, if there is such a frame: its source, and its index
-abbrev pub place_of : Now → ℕ → Option (ℕ × ℕ)
-place_of now n =
+abbrev pub packet_of_frame : Now → ℕ → Option (ℕ × ℕ)
+packet_of_frame now n =
     option_and_then (λ origin. option_map (λ place. (origin.source, place)) (slice_get (shown_indexes (stream_of (list_at now.lists origin.source))) origin.frame))
     (traced (shown_counts now) now.script n)
 
@@ -80,12 +81,19 @@ pub record LeavesOthers (source : ℕ) (old new : SessionValue) : Type 0 where
   pub packets : new.stores ≡ slice_set old.stores source (store_at new.stores source)
   pub outcomes : OthersDrop source old.cache new.cache
 
--- a frame costs as much as reaching its packet; if the answer follows from the packet's picture, the packet was reached. With no packet nothing changes
+-- the packet at an index of a source was reached, or not, and it was if the answer follows from its picture. This costs what
+-- reaching costs, and marks change only as on the walk there
+pub record WalksToPacket (source place : ℕ) (old : SessionValue) (answer : Result PictureSamples Refusal) (new : SessionValue) : Type 0 where
+  pub reached : Bool
+  pub costs : Costs old.now.tables source (store_at old.stores source) old.cache place reached (store_at new.stores source) new.cache
+  pub walks : IsWalk old.now.tables source (store_at old.stores source) old.cache place reached (store_at new.stores source) new.cache
+  pub others : LeavesOthers source old new
+  pub is_needed : needs_picture answer ≡ true → reached ≡ true
+
+-- a frame costs what reaching its packet costs; with no packet nothing changes
 abbrev pub FrameCosts : Option (ℕ × ℕ) → SessionValue → Result PictureSamples Refusal → SessionValue → Type 0
 FrameCosts None old answer new = new ≡ old
-FrameCosts (Some packet) old answer new =
-    (reached : Bool) × Costs old.now.tables packet.0 (store_at old.stores packet.0) old.cache packet.1 reached (store_at new.stores packet.0) new.cache
-    × LeavesOthers packet.0 old new × (needs_picture answer ≡ true → reached ≡ true)
+FrameCosts (Some packet) old answer new = WalksToPacket packet.0 packet.1 old answer new
 
 -- the marks after an edit that is accepted
 abbrev pub marks_edited : Edit → List Bool → List Bool

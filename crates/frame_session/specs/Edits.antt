@@ -82,13 +82,13 @@ refused_edit tables lists list (Blank at width height) = refused_forged (refused
 refused_edit tables lists list (Hold at) = refused_forged (refused_insertion list at) (hold_bytes_at tables list at)
 
 -- the result if nothing is refused
-abbrev pub unless_refused : Option Refusal → ℕ → Result ℕ Refusal
-unless_refused None count = Ok count
-unless_refused (Some refusal) count = Err refusal
+abbrev pub count_unless : Option Refusal → ℕ → Result ℕ Refusal
+count_unless None count = Ok count
+count_unless (Some refusal) count = Err refusal
 
 -- an edit's result: the new number of packets, or the first refusal
 abbrev pub edit_of : Tables → List Listing → Listing → Edit → Result ℕ Refusal
-edit_of tables lists list edit = unless_refused (refused_edit tables lists list edit) (length (edited tables lists edit list).entries)
+edit_of tables lists list edit = count_unless (refused_edit tables lists list edit) (length (edited tables lists edit list).entries)
 
 -- the results that an edit may have: an insertion or a copy may also be out of memory
 abbrev pub EditAnswers : Tables → List Listing → Listing → Edit → Result ℕ Refusal → Type 0

@@ -6,6 +6,7 @@ pub mod Replies
 pub mod Sessions
 pub mod Cached
 pub mod Answers
+pub mod ProofsOnly
 pub mod Laws
 pub mod Live
 pub mod LiveSteps

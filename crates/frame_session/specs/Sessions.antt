@@ -10,7 +10,7 @@ use Rattle.frame_session.specs.declared.refusal.Refusal.TheVariants as refusals
 use Rattle.frame_session.specs.declared.size.Size.{Size}
 use Rattle.frame_session.specs.declared.edit.Edit.{Edit}
 use Rattle.state_cache.specs.Decoding.{Outcome, outcomes}
-use Rattle.packet_edits.specs.Edits.{Listing, listing_of}
+use Rattle.packet_edits.specs.Edits.{Listing, starting_with}
 use Rattle.packet_edits.specs.Shown.{shown_indexes, stream_of}
 use Rattle.script_nodes.specs.declared.nodes.Node.{Node}
 use Rattle.script_nodes.specs.declared.traces.Step.{Step}
@@ -34,9 +34,9 @@ pub record Now : Type 0 where
   pub size : Option Size
   pub decoded : ℕ
 
--- the head of the first file; with no file, the head of an empty stream
+-- the head of the first file; each session has one, so the first line is never used
 abbrev pub head_of_first : List Ivf → Head
-head_of_first [] = record { width = 0; height = 0; rate = 30; scale = 1 }
+head_of_first [] = record { width = 0; height = 0; rate = 0; scale = 0 }
 head_of_first (file ∷ files) = file.head
 
 -- the greatest number of trailing bytes that is reported
@@ -52,7 +52,7 @@ abbrev pub start : Tables → List Ivf → Now
 start tables files = record {
   tables = tables;
   head = head_of_first files;
-  lists = map (λ file. listing_of file.packets) files;
+  lists = map (λ file. starting_with file.packets) files;
   current = 0;
   script = [];
   spare = spare_of files;

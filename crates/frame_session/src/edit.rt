@@ -1,6 +1,6 @@
 ghost use Rattle.std.specs.Prelude.{◌≡◌, ◌<◌, List, if◌then◌else◌, is_ok, length, slice_set};
 ghost use Rattle.packet_edits.specs.Edits.{Listing, refused_copy};
-ghost use Rattle.packet_edits.specs.Faults.{Answers};
+ghost use Rattle.packet_edits.specs.Faults.{IsFirstOrNoMemory};
 ghost use Rattle.frame_session.specs.Cached.{lists_of, marks_after, store_at, store_copied, stores_after};
 ghost use Rattle.vp8_tables.specs.declared.tables.Tables.{Tables};
 ghost use Rattle.frame_session.specs.Edits.{EditAnswers, after_edit, edit_of};
@@ -57,7 +57,7 @@ pub fn make_edit(
         Edit::Replace { at, bytes } => replace(&mut stores[current], at, bytes),
         Edit::Delete { at } => delete(&mut stores[current], at),
         Edit::Move { from, to } => move_to(&mut stores[current], from, to),
-        Edit::Copy { source, from, at } => copy(alloc, stores, current, source, from, at),
+        Edit::Copy { source, from, at } => copy(stores, current, source, from, at),
         Edit::Blank { at, width, height } => {
             insert_blank(alloc, tables, &mut stores[current], at, width, height)
         }
@@ -67,7 +67,6 @@ pub fn make_edit(
 
 /// Inserts a copy of packet `from` of a source at index `at` of source `current`.
 fn copy(
-    alloc: Global,
     stores: &mut [Store],
     current: usize,
     source: u64,
@@ -81,7 +80,7 @@ fn copy(
     if source >= stores.len() as u64 {
         return Err(Refusal::Source);
     }
-    match copy_packet(alloc, stores, current, source as usize, from, at) {
+    match copy_packet(stores, current, source as usize, from, at) {
         Ok(()) => Ok(stores[current].len() as u64),
         Err(fault) => Err(Refusal::by(fault)),
     }
@@ -89,7 +88,6 @@ fn copy(
 
 /// Inserts a copy of packet `from` of source `source` at index `at` of source `current`. Both exist.
 fn copy_packet(
-    alloc: Global,
     stores: &mut [Store],
     current: usize,
     source: usize,
@@ -98,18 +96,18 @@ fn copy_packet(
 ) -> Result<(), EditFault>
     requires current { current < length stores.old }
     requires source { source < length stores.old }
-    ensures answers { Answers (refused_copy (store_at stores.old current).list at (store_at stores.old source).list from) result }
+    ensures answers { IsFirstOrNoMemory (refused_copy (store_at stores.old current).list at (store_at stores.old source).list from) result }
     ensures after { stores.new ≡ (if is_ok result then slice_set stores.old current (store_copied at (store_at stores.old source).list from (store_at stores.old current)) else stores.old) }
 {
     if source == current {
-        return stores[current].copy_within(alloc, at, from);
+        return stores[current].copy_within(at, from);
     }
     if source < current {
         let (front, back) = stores.split_at_mut(current);
-        return back[0].copy_from(alloc, at, &front[source], from);
+        return back[0].copy_from(at, &front[source], from);
     }
     let (front, back) = stores.split_at_mut(source);
-    front[current].copy_from(alloc, at, &back[0], from)
+    front[current].copy_from(at, &back[0], from)
 }
 
 pub(crate) fn insert(list: &mut Store, at: u64, stamp: u64, bytes: Bytes) -> Result<u64, Refusal>

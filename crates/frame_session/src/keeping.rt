@@ -7,6 +7,7 @@ ghost use Rattle.state_cache.specs.Costs.{Costs};
 ghost use Rattle.state_cache.specs.Decoding.{outcomes};
 ghost use Rattle.state_cache.specs.EditLaws.{id_at};
 ghost use Rattle.state_cache.specs.Reaching.{OthersDrop};
+ghost use Rattle.state_cache.specs.Walks.{IsWalk};
 ghost use Rattle.frame_session.specs.Cached.{CacheWithout, IsSound, leaving, id_removed, lists_of, needs_picture, store_at, stores_after};
 ghost use Rattle.frame_session.specs.Edits.{EditAnswers};
 ghost use Rattle.frame_session.specs.IsOrNoMemory.{IsOrNoMemory};
@@ -42,6 +43,7 @@ pub(crate) fn picture_at(
     ensures packets { stores.new ≡ slice_set stores.old source (store_at stores.new source) }
     ensures others { OthersDrop source cache.old cache.new }
     ensures costs { Costs tables.now source (store_at stores.old source) cache.old place (is_ok result) (store_at stores.new source) cache.new }
+    ensures walks { IsWalk tables.now source (store_at stores.old source) cache.old place (is_ok result) (store_at stores.new source) cache.new }
     ensures reached { needs_picture result ≡ is_ok result }
     ensures rises { cache.old.decoded ≤ cache.new.decoded }
     ensures sound { IsSound tables.now stores.new cache.new }

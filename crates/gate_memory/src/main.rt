@@ -1,7 +1,7 @@
 //! Makes each call of a packet list and of a session that takes memory, and makes it again if memory is refused: it must
 //! then answer as if it had not been made before.
 //!
-//! It prints the same with ample memory and with one refused request (`compare/refused_memory.py`). That script also counts
+//! It prints the same with ample memory and with one refused request (`compare/growths.py`). That script also counts
 //! the requests for memory between two lines, so each line is written when its call has returned.
 #![tactic(auto)]
 

@@ -15,8 +15,8 @@ use Rattle.packet_edits.proofs.Mapped.{map_insert, map_moved, map_remove, map_se
 abbrev shown_at : Entry → Bool
 shown_at e = is_shown e.bytes
 
-abbrev key_at : Entry → Bool
-key_at e = has_key_tag e.bytes
+abbrev tagged_at : Entry → Bool
+tagged_at e = has_key_tag e.bytes
 
 abbrev both_of : List Bool → List Bool → PacketIndex
 both_of shown keys = record { shown = shown; keys = keys }
@@ -26,19 +26,19 @@ both_are a b c d same as_well = ap (λ (xs : List Bool). both_of xs c) same ∙ 
 
 -- as many flags as packets
 pub as_many : (es : List Entry) (index : PacketIndex) → index ≡ index_of es → (length index.shown ≡ length es) × (length index.keys ≡ length es)
-as_many es index is = (ap (λ (i : PacketIndex). length i.shown) is ∙ length-map es shown_at, ap (λ (i : PacketIndex). length i.keys) is ∙ length-map es key_at)
+as_many es index is = (ap (λ (i : PacketIndex). length i.shown) is ∙ length-map es shown_at, ap (λ (i : PacketIndex). length i.keys) is ∙ length-map es tagged_at)
 
 pub index_inserted : (es : List Entry) (index : PacketIndex) (at : ℕ) (e : Entry) → index ≡ index_of es → at ≤ length es → inserted_to at e.bytes index ≡ index_of (insert es at e)
-index_inserted es index at e is within = ap (inserted_to at e.bytes) is ∙ sym (both_are _ _ _ _ (map_insert shown_at es at e within) (map_insert key_at es at e within))
+index_inserted es index at e is within = ap (inserted_to at e.bytes) is ∙ sym (both_are _ _ _ _ (map_insert shown_at es at e within) (map_insert tagged_at es at e within))
 
 pub index_removed : (es : List Entry) (index : PacketIndex) (at : ℕ) → index ≡ index_of es → at < length es → removed_from at index ≡ index_of (remove es at)
-index_removed es index at is within = ap (removed_from at) is ∙ sym (both_are _ _ _ _ (map_remove shown_at es at within) (map_remove key_at es at within))
+index_removed es index at is within = ap (removed_from at) is ∙ sym (both_are _ _ _ _ (map_remove shown_at es at within) (map_remove tagged_at es at within))
 
 pub index_set : (es : List Entry) (index : PacketIndex) (at : ℕ) (e : Entry) → index ≡ index_of es → set_in at e.bytes index ≡ index_of (slice_set es at e)
-index_set es index at e is = ap (set_in at e.bytes) is ∙ sym (both_are _ _ _ _ (map_set shown_at es at e) (map_set key_at es at e))
+index_set es index at e is = ap (set_in at e.bytes) is ∙ sym (both_are _ _ _ _ (map_set shown_at es at e) (map_set tagged_at es at e))
 
 pub index_moved : (es : List Entry) (index : PacketIndex) (from to : ℕ) → index ≡ index_of es → from < length es → to < length es → moved_in from to index ≡ index_of (moved from to es)
-index_moved es index from to is out in_ = ap (moved_in from to) is ∙ sym (both_are _ _ _ _ (map_moved shown_at es from to out in_) (map_moved key_at es from to out in_))
+index_moved es index from to is out in_ = ap (moved_in from to) is ∙ sym (both_are _ _ _ _ (map_moved shown_at es from to out in_) (map_moved tagged_at es from to out in_))
 
 flags_numbered : (f : List ℕ → Bool) (id : ℕ) (packets : List Packet) → map (λ (e : Entry). f e.bytes) (numbered id packets) ≡ map (λ (packet : Packet). f packet.bytes) packets
 flags_numbered f id [] = refl

@@ -26,9 +26,9 @@ abbrev pub numbered : ℕ → List Packet → List Entry
 numbered id [] = []
 numbered id (packet ∷ packets) = record { id = id; stamp = packet.stamp; bytes = packet.bytes } ∷ numbered (id + 1) packets
 
--- the list of a file's packets
-abbrev pub listing_of : List Packet → Listing
-listing_of packets = record { entries = numbered 0 packets; next_id = length packets }
+-- the packets of a file, with ids starting at 0
+abbrev pub starting_with : List Packet → Listing
+starting_with packets = record { entries = numbered 0 packets; next_id = length packets }
 
 -- no packets, and the id of the first inserted one
 abbrev pub starting : ℕ → Listing

@@ -16,9 +16,9 @@ unless_refused None = Ok tt
 unless_refused (Some fault) = Err fault
 
 -- the answer to an edit that allocates: its first error, if there is one; else it may be out of memory
-abbrev pub Answers : Option EditFault → Result (Unit {0}) EditFault → Type 0
-Answers first (Ok done) = first ≡ None
-Answers first (Err NoMemory) = first ≡ None
-Answers first (Err Place) = first ≡ Some Place
-Answers first (Err Full) = first ≡ Some Full
-Answers first (Err Spent) = first ≡ Some Spent
+abbrev pub IsFirstOrNoMemory : Option EditFault → Result (Unit {0}) EditFault → Type 0
+IsFirstOrNoMemory first (Ok done) = first ≡ None
+IsFirstOrNoMemory first (Err NoMemory) = first ≡ None
+IsFirstOrNoMemory first (Err Place) = first ≡ Some Place
+IsFirstOrNoMemory first (Err Full) = first ≡ Some Full
+IsFirstOrNoMemory first (Err Spent) = first ≡ Some Spent

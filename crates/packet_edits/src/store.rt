@@ -1,7 +1,7 @@
 ghost use Rattle.std.specs.Prelude.{◌≡◌, ◌+◌, ◌^◌, ◌++◌, ◌<◌, ◌≤◌, [], IfOk, IfSome, OnOk, Some, is_ok, if◌then◌else◌, length, option_map, slice_get};
 ghost use Rattle.std.specs.Io.KnownBytes.{Appends};
 ghost use Rattle.packet_edits.specs.Edits.{numbered};
-ghost use Rattle.packet_edits.specs.Faults.{Answers, unless_refused};
+ghost use Rattle.packet_edits.specs.Faults.{IsFirstOrNoMemory, unless_refused};
 ghost use Rattle.packet_edits.specs.Marks.{marks_pushed};
 ghost use Rattle.stream_files.specs.Texts.{written_text};
 
@@ -28,6 +28,7 @@ const SPENT_ID: u64 = u64::MAX;
 /// `copy_from` and `copy_within` allocate.
 #[derive(Drop)]
 pub struct Store {
+    alloc: Global,
     entries: ChunkedList<Entry>,
     marks: FlagIndex,
     index: PacketIndex,
@@ -60,6 +61,7 @@ impl Store {
         ensures { result ≡ record { list = starting first_id; marks = [] } }
     {
         Store {
+            alloc,
             entries: ChunkedList::new(alloc),
             marks: FlagIndex::new(alloc),
             index: PacketIndex::new(alloc),
@@ -72,7 +74,7 @@ impl Store {
     /// Errors, in this order: `Full` if there would be more than 1,048,576 packets, `Spent` if one
     /// of them would get the id 18,446,744,073,709,551,615, and `NoMemory`.
     pub fn push_all(&mut self, packets: Packets) -> Result<(), EditFault>
-        ensures answers { Answers (refused_push self.old.list packets) result }
+        ensures answers { IsFirstOrNoMemory (refused_push self.old.list packets) result }
         ensures after { self.new.list ≡ (if is_ok result then pushed packets self.old.list else self.old.list) }
         ensures marks { self.new.marks ≡ (if is_ok result then marks_pushed packets self.old.marks else self.old.marks) }
     {
@@ -101,7 +103,7 @@ impl Store {
     /// Errors, in this order: `Place`, `Full` if there are 1,048,576 packets, `Spent` if no id is
     /// left, and `NoMemory`.
     pub fn insert(&mut self, at: u64, stamp: u64, bytes: Bytes) -> Result<(), EditFault>
-        ensures answers { Answers (refused_insertion self.old.list at) result }
+        ensures answers { IsFirstOrNoMemory (refused_insertion self.old.list at) result }
         ensures after { self.new.list ≡ (if is_ok result then inserted at stamp bytes self.old.list else self.old.list) }
         ensures marks { self.new.marks ≡ (if is_ok result then marks_inserted at self.old.marks else self.old.marks) }
     {
@@ -135,19 +137,13 @@ impl Store {
     ///
     /// Errors, in this order: `Place`, also if `source` has no packet `from`, `Full` if there are
     /// 1,048,576 packets, `Spent` if no id is left, and `NoMemory`.
-    pub fn copy_from(
-        &mut self,
-        alloc: Global,
-        at: u64,
-        source: &Store,
-        from: u64,
-    ) -> Result<(), EditFault>
-        ensures answers { Answers (refused_copy self.old.list at source.now.list from) result }
+    pub fn copy_from(&mut self, at: u64, source: &Store, from: u64) -> Result<(), EditFault>
+        ensures answers { IsFirstOrNoMemory (refused_copy self.old.list at source.now.list from) result }
         ensures after { self.new.list ≡ (if is_ok result then copied at source.now.list from self.old.list else self.old.list) }
         ensures marks { self.new.marks ≡ (if is_ok result then marks_inserted at self.old.marks else self.old.marks) }
     {
         self.may_copy(at, source, from)?;
-        let Ok(copy) = source.copy_of(alloc, from as usize) else {
+        let Ok(copy) = source.copy_of(self.alloc, from as usize) else {
             return Err(EditFault::NoMemory);
         };
         self.insert(at, copy.stamp, copy.bytes)
@@ -155,13 +151,13 @@ impl Store {
 
     /// Inserts a copy of packet `from` of this store at index `at`, as `copy_from` does. `from` is
     /// the packet's index before the insertion.
-    pub fn copy_within(&mut self, alloc: Global, at: u64, from: u64) -> Result<(), EditFault>
-        ensures answers { Answers (refused_copy self.old.list at self.old.list from) result }
+    pub fn copy_within(&mut self, at: u64, from: u64) -> Result<(), EditFault>
+        ensures answers { IsFirstOrNoMemory (refused_copy self.old.list at self.old.list from) result }
         ensures after { self.new.list ≡ (if is_ok result then copied at self.old.list from self.old.list else self.old.list) }
         ensures marks { self.new.marks ≡ (if is_ok result then marks_inserted at self.old.marks else self.old.marks) }
     {
         self.may_copy(at, self, from)?;
-        let Ok(copy) = self.copy_of(alloc, from as usize) else {
+        let Ok(copy) = self.copy_of(self.alloc, from as usize) else {
             return Err(EditFault::NoMemory);
         };
         self.insert(at, copy.stamp, copy.bytes)

@@ -1,55 +1,47 @@
 -- The requests of the lines of a request list. The lines of a text are std's `lines`.
 use Rattle.std.specs.Prelude.{ℕ, List, [], ◌∷◌, nat_eq, if◌then◌else◌, codes}
 use Rattle.std.specs.List.{starts_with}
-use Rattle.std.specs.Option.{option_map_or}
 use Rattle.std.specs.Str.{bytes_eq}
 use Rattle.request_lines.specs.declared.lines.Line.{Line}
 use Rattle.request_lines.specs.declared.lines.Line.TheVariants.{Silent, Unknown, Frame, Use, Insert, Replace, Delete, Move, Copy, Blank, Hold, Script, Count, Stats}
-use Rattle.text_words.specs.Words.{words_of, number_of, after_word}
+use Rattle.text_words.specs.Words.{words_of, number_of, after_word, with_word, at_end}
 use Rattle.request_lines.specs.HexWords.{bytes_of}
 
 -- a line that continues with a number, and with the words after it
 abbrev pub with_number : (ℕ → List (List ℕ) → Line) → List (List ℕ) → Line
-with_number next [] = Unknown
-with_number next (word ∷ words) = option_map_or (λ n. next n words) (number_of word) Unknown
+with_number next words = with_word Unknown number_of next words
 
 -- a line that continues with bytes, and with the words after them
 abbrev pub with_bytes : (List ℕ → List (List ℕ) → Line) → List (List ℕ) → Line
-with_bytes next [] = Unknown
-with_bytes next (word ∷ words) = option_map_or (λ bytes. next bytes words) (bytes_of word) Unknown
-
--- a line that ends here
-abbrev pub at_end : Line → List (List ℕ) → Line
-at_end line [] = line
-at_end line (word ∷ words) = Unknown
+with_bytes next words = with_word Unknown bytes_of next words
 
 -- each command, from the words after it
 abbrev pub frame_by : List (List ℕ) → Line
-frame_by words = with_number (λ n. at_end (Frame n)) words
+frame_by words = with_number (λ n. at_end Unknown (Frame n)) words
 
 abbrev pub use_by : List (List ℕ) → Line
-use_by words = with_number (λ source. at_end (Use source)) words
+use_by words = with_number (λ source. at_end Unknown (Use source)) words
 
 abbrev pub insert_by : List (List ℕ) → Line
-insert_by words = with_number (λ at. with_number (λ stamp. with_bytes (λ bytes. at_end (Insert at stamp bytes)))) words
+insert_by words = with_number (λ at. with_number (λ stamp. with_bytes (λ bytes. at_end Unknown (Insert at stamp bytes)))) words
 
 abbrev pub replace_by : List (List ℕ) → Line
-replace_by words = with_number (λ at. with_bytes (λ bytes. at_end (Replace at bytes))) words
+replace_by words = with_number (λ at. with_bytes (λ bytes. at_end Unknown (Replace at bytes))) words
 
 abbrev pub delete_by : List (List ℕ) → Line
-delete_by words = with_number (λ at. at_end (Delete at)) words
+delete_by words = with_number (λ at. at_end Unknown (Delete at)) words
 
 abbrev pub move_by : List (List ℕ) → Line
-move_by words = with_number (λ from. with_number (λ to. at_end (Move from to))) words
+move_by words = with_number (λ from. with_number (λ to. at_end Unknown (Move from to))) words
 
 abbrev pub copy_by : List (List ℕ) → Line
-copy_by words = with_number (λ source. with_number (λ from. with_number (λ at. at_end (Copy source from at)))) words
+copy_by words = with_number (λ source. with_number (λ from. with_number (λ at. at_end Unknown (Copy source from at)))) words
 
 abbrev pub blank_by : List (List ℕ) → Line
-blank_by words = with_number (λ at. with_number (λ width. with_number (λ height. at_end (Blank at width height)))) words
+blank_by words = with_number (λ at. with_number (λ width. with_number (λ height. at_end Unknown (Blank at width height)))) words
 
 abbrev pub hold_by : List (List ℕ) → Line
-hold_by words = with_number (λ at. at_end (Hold at)) words
+hold_by words = with_number (λ at. at_end Unknown (Hold at)) words
 
 -- a script: the text after the command, which has these words
 abbrev pub script_by : List ℕ → List (List ℕ) → Line
@@ -71,8 +63,8 @@ asked_by_words text (command ∷ words) =
     else if bytes_eq command (codes "blank") then blank_by words
     else if bytes_eq command (codes "hold") then hold_by words
     else if bytes_eq command (codes "script") then script_by text words
-    else if bytes_eq command (codes "count") then at_end Count words
-    else if bytes_eq command (codes "stats") then at_end Stats words
+    else if bytes_eq command (codes "count") then at_end Unknown Count words
+    else if bytes_eq command (codes "stats") then at_end Unknown Stats words
     else Unknown
 
 -- the request of a line

@@ -1,8 +1,8 @@
 // Reads the lines of a request list: lines, and the request of each.
 ghost use Rattle.std.specs.Prelude.{◌≡◌, ℕ, List, ◌<◌, [], ◌∷◌, length, MatchOption, IfSome, IfNone};
 ghost use Rattle.std.specs.Str.Lines.{lines, strip_carriage_return};
-ghost use Rattle.text_words.specs.Words.{words_of};
-ghost use Rattle.request_lines.specs.Requests.{with_number, with_bytes, at_end, frame_by, use_by, insert_by, replace_by, delete_by, move_by, copy_by, blank_by, hold_by, script_by, asked_by};
+ghost use Rattle.text_words.specs.Words.{at_end, words_of};
+ghost use Rattle.request_lines.specs.Requests.{with_number, with_bytes, frame_by, use_by, insert_by, replace_by, delete_by, move_by, copy_by, blank_by, hold_by, script_by, asked_by};
 ghost use Rattle.request_lines.specs.declared.lines.Line.{Line};
 ghost use Rattle.request_lines.specs.declared.lines.Line.TheVariants.{Unknown};
 
@@ -94,7 +94,7 @@ fn next_bytes(line: &[u8]) -> Option<(Hex<'_>, &[u8])>
 
 /// The request, if no word is left.
 fn ended<'a>(asked: Line<'a>, rest: &[u8]) -> Line<'a>
-    ensures { result ≡ at_end asked.entry (words_of rest.now) }
+    ensures { result ≡ at_end Unknown asked.entry (words_of rest.now) }
 {
     match next_word(rest) {
         None => asked,

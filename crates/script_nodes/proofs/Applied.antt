@@ -10,7 +10,7 @@ use Rattle.script_nodes.specs.declared.nodes.Area.{Area}
 use Rattle.script_nodes.specs.declared.traces.Step.{Step}
 use Rattle.script_nodes.specs.declared.traces.Step.TheVariants.{Cut, Weigh}
 use Rattle.script_nodes.specs.Frames.{after_steps}
-use Rattle.script_nodes.specs.Shown.{Shown, Shows, shown_in, is_inside, place_of, cut_to, black, weighed, faded_to, step_shown, use_step, steps_shown, Size, step_size, use_size, steps_size}
+use Rattle.script_nodes.specs.Shown.{Shown, Shows, shown_in, is_inside, position_in, cut_to, black, weighed, faded_to, step_shown, use_step, steps_shown, Size, step_size, use_size, steps_size}
 use Rattle.script_nodes.specs.Planes.{ShowsMade}
 use Rattle.script_nodes.proofs.Uses.{both}
 use Rattle.script_nodes.proofs.Sizes.{none_after}
@@ -43,7 +43,7 @@ cut_shows p next s area before inside made = record {
       let w : area.x + area.width ≤ p.width = leb-true (area.x + area.width) p.width (both _ _ inside).0 in
       let h : area.y + area.height ≤ p.height = leb-true (area.y + area.height) p.height (both _ _ inside).1 in
       made.each component x y across down
-      ∙ before.each component (place_of component area.x + x) (place_of component area.y + y) (place_inside component area.x area.width p.width x w (rw (← made.wide) across)) (place_inside component area.y area.height p.height y h (rw (← made.high) down));
+      ∙ before.each component (position_in component area.x + x) (position_in component area.y + y) (place_inside component area.x area.width p.width x w (rw (← made.wide) across)) (place_inside component area.y area.height p.height y h (rw (← made.high) down));
 }
 
 fade_shows : (p next : PictureSamples) (s : Shown) (weight : ℕ) → Shows p s → Shows next (faded_to weight (shown_in p)) → Shows next (faded_to weight s)

@@ -12,7 +12,7 @@ use Rattle.pixel_planes.specs.declared.pictures.Component.TheVariants.{Luma, Cb,
 use Rattle.pixel_planes.proofs.Rows.{written_row, kept_row}
 use Rattle.pixel_planes.proofs.InBlock.{sample_of_row}
 use Rattle.script_nodes.specs.declared.nodes.Area.{Area}
-use Rattle.script_nodes.specs.Shown.{Shows, shown_in, is_inside, place_of, cut_to, black, weighed, faded_to}
+use Rattle.script_nodes.specs.Shown.{Shows, shown_in, is_inside, position_in, cut_to, black, weighed, faded_to}
 use Rattle.script_nodes.specs.Rows.{IsFadedTo}
 use Rattle.script_nodes.specs.Planes.{block_side, IsCodedPlane, HasRows}
 use Rattle.script_nodes.proofs.Uses.{both}
@@ -53,20 +53,20 @@ shown_at p component x y whole inside =
     ∙ sample_of_row (plane_of p component) x y (omega (arith, shown_fits p component whole))
 
 -- a position of an area in the picture around it
-pub place_inside : (component : Component) (at wide whole x : ℕ) → at + wide ≤ whole → x < side_of component wide → place_of component at + x < side_of component whole
+pub place_inside : (component : Component) (at wide whole x : ℕ) → at + wide ≤ whole → x < side_of component wide → position_in component at + x < side_of component whole
 place_inside Luma at wide whole x fits less = omega arith
 place_inside Cb at wide whole x fits less = omega arith
 place_inside Cr at wide whole x fits less = omega arith
 
 -- a row that was copied from an area
-pub row_cut : (p : PictureSamples) (component : Component) (area : Area) (left top y : ℕ) (row out : List ℕ) → IsWholePicture p → is_inside area p.width p.height ≡ true → left ≡ place_of component area.x → top ≡ place_of component area.y → row ≡ shown_row_of p component (top + y) → ((x : ℕ) → x < side_of component area.width → slice_index out x ≡ slice_index row (left + x)) → (x : ℕ) → x < side_of component area.width → slice_index out x ≡ (cut_to area (shown_in p)).sample component x y
+pub row_cut : (p : PictureSamples) (component : Component) (area : Area) (left top y : ℕ) (row out : List ℕ) → IsWholePicture p → is_inside area p.width p.height ≡ true → left ≡ position_in component area.x → top ≡ position_in component area.y → row ≡ shown_row_of p component (top + y) → ((x : ℕ) → x < side_of component area.width → slice_index out x ≡ slice_index row (left + x)) → (x : ℕ) → x < side_of component area.width → slice_index out x ≡ (cut_to area (shown_in p)).sample component x y
 row_cut p component area left top y row out whole inside at_left at_top is copied x less =
     let within : area.x + area.width ≤ p.width = leb-true (area.x + area.width) p.width (both _ _ inside).0 in
     copied x less
     ∙ ap (λ (l : List ℕ). slice_index l (left + x)) is
     ∙ ap (λ (k : ℕ). slice_index (shown_row_of p component (top + y)) (k + x)) at_left
-    ∙ shown_at p component (place_of component area.x + x) (top + y) whole (place_inside component area.x area.width p.width x within less)
-    ∙ ap (λ (k : ℕ). sample_at (plane_of p component) (place_of component area.x + x) (k + y)) at_top
+    ∙ shown_at p component (position_in component area.x + x) (top + y) whole (place_inside component area.x area.width p.width x within less)
+    ∙ ap (λ (k : ℕ). sample_at (plane_of p component) (position_in component area.x + x) (k + y)) at_top
 
 -- a row that was faded
 pub row_faded : (p : PictureSamples) (component : Component) (weight dark y : ℕ) (row out : List ℕ) → IsWholePicture p → dark ≡ black component → row ≡ shown_row_of p component y → length row ≡ side_of component p.width → IsFadedTo weight dark row (length row) out → (x : ℕ) → x < side_of component p.width → slice_index out x ≡ (faded_to weight (shown_in p)).sample component x y

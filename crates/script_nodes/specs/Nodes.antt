@@ -1,7 +1,6 @@
 -- The nodes of a text, and whether they are a script.
 use Rattle.std.specs.Prelude.{ℕ, ◌+◌, ◌^◌, ◌%◌, Bool, true, false, List, [], ◌∷◌, Option, None, Some, Result, Ok, Err, ◌&&◌, ◌==◌, not, nat_lt, nat_le, if◌then◌else◌, length, codes}
 use Rattle.std.specs.List.{list_all, slice_split}
-use Rattle.std.specs.Option.{option_map_or}
 use Rattle.std.specs.Str.{bytes_eq}
 use Rattle.script_nodes.specs.declared.nodes.Area.{Area}
 use Rattle.script_nodes.specs.declared.nodes.Ramp.{Ramp}
@@ -9,7 +8,7 @@ use Rattle.script_nodes.specs.declared.nodes.Node.{Node}
 use Rattle.script_nodes.specs.declared.nodes.Node.TheVariants.{Source, Trim, Splice, Crop, Fade}
 use Rattle.script_nodes.specs.declared.faults.ScriptFault.{ScriptFault}
 use Rattle.script_nodes.specs.declared.faults.ScriptFault.TheVariants.{Syntax, Nodes, Reference, Number}
-use Rattle.text_words.specs.Words.{words_of, number_of}
+use Rattle.text_words.specs.Words.{words_of, number_of, with_word, at_end}
 
 -- ---- the text of a node
 
@@ -17,35 +16,29 @@ use Rattle.text_words.specs.Words.{words_of, number_of}
 abbrev pub short_number_of : List ℕ → Option ℕ
 short_number_of word = if nat_le (length word) 10 then number_of word else None
 
--- a node that continues with a number, and with the words after it
-abbrev pub with_number : (ℕ → List (List ℕ) → Option Node) → List (List ℕ) → Option Node
-with_number next [] = None
-with_number next (word ∷ words) = option_map_or (λ n. next n words) (short_number_of word) None
-
--- a node that ends here
-abbrev pub at_end : Node → List (List ℕ) → Option Node
-at_end node [] = Some node
-at_end node (word ∷ words) = None
+-- a node that continues with a short number, and with the words after it
+abbrev pub with_short_number : (ℕ → List (List ℕ) → Option Node) → List (List ℕ) → Option Node
+with_short_number next words = with_word None short_number_of next words
 
 -- each kind of node, from the words after its name
 abbrev pub source_by : List (List ℕ) → Option Node
-source_by words = with_number (λ number. at_end (Source number)) words
+source_by words = with_short_number (λ number. at_end None (Some (Source number))) words
 
 abbrev pub trim_by : List (List ℕ) → Option Node
-trim_by words = with_number (λ clip. with_number (λ first. with_number (λ count. at_end (Trim clip first count)))) words
+trim_by words = with_short_number (λ clip. with_short_number (λ first. with_short_number (λ count. at_end None (Some (Trim clip first count))))) words
 
 abbrev pub splice_by : List (List ℕ) → Option Node
-splice_by words = with_number (λ front. with_number (λ back. at_end (Splice front back))) words
+splice_by words = with_short_number (λ front. with_short_number (λ back. at_end None (Some (Splice front back)))) words
 
 abbrev pub crop_by : List (List ℕ) → Option Node
 crop_by words =
-    with_number (λ clip. with_number (λ x. with_number (λ y. with_number (λ width. with_number (λ height.
-    at_end (Crop clip (record { x = x; y = y; width = width; height = height }))))))) words
+    with_short_number (λ clip. with_short_number (λ x. with_short_number (λ y. with_short_number (λ width. with_short_number (λ height.
+    at_end None (Some (Crop clip (record { x = x; y = y; width = width; height = height })))))))) words
 
 abbrev pub fade_by : List (List ℕ) → Option Node
 fade_by words =
-    with_number (λ clip. with_number (λ first. with_number (λ count. with_number (λ start. with_number (λ end.
-    at_end (Fade clip (record { first = first; count = count; start = start; end = end }))))))) words
+    with_short_number (λ clip. with_short_number (λ first. with_short_number (λ count. with_short_number (λ start. with_short_number (λ end.
+    at_end None (Some (Fade clip (record { first = first; count = count; start = start; end = end })))))))) words
 
 -- the node of these words
 abbrev pub node_by_words : List (List ℕ) → Option Node
@@ -139,9 +132,9 @@ has_numbers (Crop clip area) = is_area area
 has_numbers (Fade clip ramp) = is_ramp ramp
 
 -- the script of these nodes over this many sources, or their first error
-abbrev pub script_by : ℕ → Option (List Node) → Result (List Node) ScriptFault
-script_by sources None = Err Syntax
-script_by sources (Some nodes) =
+abbrev pub script_from : ℕ → Option (List Node) → Result (List Node) ScriptFault
+script_from sources None = Err Syntax
+script_from sources (Some nodes) =
     if nat_lt 16 (length nodes) then Err Nodes
     else if not (all_use_below 1 nodes && list_all (has_source sources) nodes) then Err Reference
     else if not (list_all has_numbers nodes) then Err Number
@@ -149,4 +142,4 @@ script_by sources (Some nodes) =
 
 -- the script of a text over this many sources, or its first error
 abbrev pub script_of : ℕ → List ℕ → Result (List Node) ScriptFault
-script_of sources text = script_by sources (nodes_of text)
+script_of sources text = script_from sources (nodes_of text)

@@ -31,17 +31,17 @@ abbrev pub is_inside : Area → ℕ → ℕ → Bool
 is_inside area width height = nat_le (area.x + area.width) width && nat_le (area.y + area.height) height
 
 -- a luma position in this component
-abbrev pub place_of : Component → ℕ → ℕ
-place_of Luma n = n
-place_of Cb n = n / 2
-place_of Cr n = n / 2
+abbrev pub position_in : Component → ℕ → ℕ
+position_in Luma n = n
+position_in Cb n = n / 2
+position_in Cr n = n / 2
 
 -- the samples of an area of a picture
 abbrev pub cut_to : Area → Shown → Shown
 cut_to area shown = record {
   width = area.width;
   height = area.height;
-  sample = λ component x y. shown.sample component (place_of component area.x + x) (place_of component area.y + y);
+  sample = λ component x y. shown.sample component (position_in component area.x + x) (position_in component area.y + y);
 }
 
 -- the sample of a black picture

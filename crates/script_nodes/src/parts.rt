@@ -1,7 +1,7 @@
 //! Reads one node of a script's text.
 ghost use Rattle.std.specs.Prelude.{◌≡◌, ℕ, List, Option, None, IfSome, IfNone};
-ghost use Rattle.text_words.specs.Words.{words_of};
-ghost use Rattle.script_nodes.specs.Nodes.{short_number_of, with_number, at_end, source_by, trim_by, splice_by, crop_by, fade_by, node_of};
+ghost use Rattle.text_words.specs.Words.{at_end, words_of};
+ghost use Rattle.script_nodes.specs.Nodes.{short_number_of, with_short_number, source_by, trim_by, splice_by, crop_by, fade_by, node_of};
 ghost use Rattle.script_nodes.specs.declared.nodes.Node.{Node};
 
 use crate::nodes::{Area, Node, Ramp};
@@ -22,8 +22,8 @@ fn short_number(word: &[u8]) -> Option<u64>
 
 /// The number that is the next word and the text after it, or `None` if there is none.
 fn next_number(text: &[u8]) -> Option<(u64, &[u8])>
-    ensures none { IfNone result ((next : ℕ → List (List ℕ) → Option Node) → with_number next (words_of text.now) ≡ None) }
-    ensures some { IfSome result (λ found. (next : ℕ → List (List ℕ) → Option Node) → with_number next (words_of text.now) ≡ next found.0 (words_of found.1.now)) }
+    ensures none { IfNone result ((next : ℕ → List (List ℕ) → Option Node) → with_short_number next (words_of text.now) ≡ None) }
+    ensures some { IfSome result (λ found. (next : ℕ → List (List ℕ) → Option Node) → with_short_number next (words_of text.now) ≡ next found.0 (words_of found.1.now)) }
 {
     let (word, rest) = next_word(text)?;
     match short_number(word) {
@@ -34,7 +34,7 @@ fn next_number(text: &[u8]) -> Option<(u64, &[u8])>
 
 /// The node, if no word is left.
 fn ended(node: Node, rest: &[u8]) -> Option<Node>
-    ensures { result ≡ at_end node (words_of rest.now) }
+    ensures { result ≡ at_end None (Some node) (words_of rest.now) }
 {
     match next_word(rest) {
         None => Some(node),

@@ -1,7 +1,7 @@
 //! Makes the planes of a cropped and of a faded picture.
 ghost use Rattle.std.specs.Prelude.{◌≡◌, ◌<◌, ◌≤◌, true, IfOk};
 ghost use Rattle.pixel_planes.specs.Pictures.{IsWholePicture, side_of};
-ghost use Rattle.script_nodes.specs.Shown.{is_inside, place_of, black, cut_to, faded_to, shown_in};
+ghost use Rattle.script_nodes.specs.Shown.{is_inside, position_in, black, cut_to, faded_to, shown_in};
 ghost use Rattle.script_nodes.specs.Planes.{block_side, IsCodedPlane, HasRows};
 
 use crate::nodes::Area;
@@ -32,8 +32,8 @@ fn side_of(component: Component, side: usize) -> usize
 }
 
 /// A luma position in this component: half of it in chroma.
-fn place_of(component: Component, place: usize) -> usize
-    ensures { result ≡ place_of component place }
+fn position_in(component: Component, place: usize) -> usize
+    ensures { result ≡ position_in component place }
 {
     match component {
         Component::Luma => place,
@@ -94,8 +94,8 @@ pub(crate) fn cut_plane(
 {
     picture_is_whole(picture);
     let mut plane = blank(alloc, component, area.width as usize, area.height as usize)?;
-    let left = place_of(component, area.x as usize);
-    let top = place_of(component, area.y as usize);
+    let left = position_in(component, area.x as usize);
+    let top = position_in(component, area.y as usize);
     let width = side_of(component, area.width as usize);
     for y in 0..side_of(component, area.height as usize) {
         copy_row(

@@ -10,7 +10,8 @@ use Rattle.state_cache.specs.declared.outcomes.Kept.{Kept}
 use Rattle.state_cache.specs.Costs.{HasRoom, IsIdOf, IsSettled, uncached_from}
 use Rattle.state_cache.specs.Reaching.{CacheValue, IsNext, Converged, view_of}
 use Rattle.state_cache.specs.Views.{Drops, IsCoherent, MarkedPacket, View, is_cut, is_usable, cached_at, marked_packet, marked_packets, marked_packets_of, with_cached}
-use Rattle.state_cache.specs.Walks.{Advances, IsAfterCached, IsPut, IsIteration, ConvergesWithSame}
+use Rattle.state_cache.specs.Walks.{IsPut, IsIteration, ConvergesWithSame}
+use Rattle.state_cache.specs.ProofsOnly.{Advances, IsAfterCached}
 use Rattle.state_cache.proofs.Marked.{IsOwn, own_seens}
 use Rattle.state_cache.proofs.Onward.{cut_marked, joined_gap, joined_next, joined_onward, passed_next, passed_onward, plain_next, plain_onward}
 use Rattle.state_cache.proofs.Passed.{still_kept}

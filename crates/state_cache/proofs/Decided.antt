@@ -12,9 +12,9 @@ use Rattle.pixel_planes.specs.Samples.{Samples}
 use Rattle.reference_frames.specs.declared.references.References.{References}
 use Rattle.reference_frames.specs.States.{StateValue}
 use Rattle.state_cache.specs.declared.outcomes.Kept.{Kept}
-use Rattle.state_cache.specs.Costs.{IsCachedAsDecoded, IsOneRun, IsSettled, cut_at, outcome_at}
+use Rattle.state_cache.specs.Costs.{IsCachedAsDecoded, IsOneRun, IsSettled, cut_at}
 use Rattle.state_cache.specs.Decoding.{Outcome, outcomes}
-use Rattle.state_cache.specs.Views.{MarkedPacket, View, cached_at}
+use Rattle.state_cache.specs.Views.{MarkedPacket, View, cached_at, outcome_at}
 use Rattle.state_cache.proofs.Runs.{same_or_not, up_to_or_behind}
 
 -- a fact holds or does not

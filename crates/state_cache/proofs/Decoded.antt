@@ -51,8 +51,8 @@ stands_more tables ps i p progress o found before here =
     sym (ap (λ (bs : List (List ℕ)). progress_after tables 0 (Ok None) bs) (taken_more ps i p found) ∙ more ∙ placed ∙ ap left_by here)
 
 -- the outcome at an index is the outcome of its packet in the situation before it
-pub outcome_at : (tables : Tables) (ps : List (List ℕ)) (i : ℕ) (p : List ℕ) (progress : Progress) → slice_get ps i ≡ Some p → progress ≡ progress_after tables 0 (Ok None) (take i ps) → slice_get (outcomes tables ps) i ≡ Some (outcome tables i progress p)
-outcome_at tables ps i p progress found before =
+pub outcome_found : (tables : Tables) (ps : List (List ℕ)) (i : ℕ) (p : List ℕ) (progress : Progress) → slice_get ps i ≡ Some p → progress ≡ progress_after tables 0 (Ok None) (take i ps) → slice_get (outcomes tables ps) i ≡ Some (outcome tables i progress p)
+outcome_found tables ps i p progress found before =
     outcomes_from-at tables 0 (Ok None) ps i p found
     ∙ ap (λ (k : ℕ). Some (outcome tables k (progress_after tables 0 (Ok None) (take i ps)) p)) (zero-add i)
     ∙ ap (λ (s : Progress). Some (outcome tables i s p)) (sym before)

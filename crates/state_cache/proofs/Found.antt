@@ -7,9 +7,8 @@ use Rattle.packet_edits.specs.Sizes.{key_tag_at}
 use Rattle.packet_edits.specs.declared.entry.Entry.{Entry}
 use Rattle.packet_edits.proofs.Nearest.{first_as, last_as}
 use Rattle.state_cache.specs.Reaching.{IsNext}
-use Rattle.state_cache.specs.Searches.{mark_at, next_of}
-use Rattle.state_cache.specs.Views.{MarkedPacket, View, cached_at, key_at, marked_packets_of}
-use Rattle.state_cache.specs.Walks.{IsAfterCached}
+use Rattle.state_cache.specs.ProofsOnly.{next_of, IsAfterCached}
+use Rattle.state_cache.specs.Views.{MarkedPacket, View, cached_at, key_at, marked_packets_of, mark_at}
 use Rattle.state_cache.proofs.Reached.{length_seens}
 use Rattle.state_cache.proofs.Search.{IsEnd, after_is, end_of, next_is, next_within, starts_at}
 use Rattle.state_cache.proofs.Shows.{key_agrees, mark_agrees}

@@ -4,10 +4,9 @@ use Rattle.std.specs.Option.{option_map_or}
 use Rattle.vp8_tables.specs.Tables.{TableEntries}
 use Rattle.frame_header.specs.Tags.{has_key_tag}
 use Rattle.state_cache.specs.declared.outcomes.Kept.{Kept}
-use Rattle.state_cache.specs.Costs.{IsOneRun, cut_at, outcome_at}
+use Rattle.state_cache.specs.Costs.{IsOneRun, cut_at}
 use Rattle.state_cache.specs.CacheViews.{BeginsKnown, CoherentIsCacheView, IsCacheView, StepsReach, bytes_at, left_after}
-use Rattle.state_cache.specs.Searches.{mark_at}
-use Rattle.state_cache.specs.Views.{Before, CoherentFrom, Fits, Follows, IsCoherent, MarkedPacket, View, entering, cached_at, known, known_after, leaving, stepped, unknown}
+use Rattle.state_cache.specs.Views.{Before, CoherentFrom, Fits, Follows, IsCoherent, MarkedPacket, View, entering, cached_at, known, known_after, leaving, stepped, unknown, mark_at, outcome_at}
 use Rattle.state_cache.proofs.Known.{coherent_parts}
 use Rattle.state_cache.proofs.Marked.{known_more, split_here, take_next}
 use Rattle.state_cache.proofs.Runs.{cut_is, no_cut, same_or_not}

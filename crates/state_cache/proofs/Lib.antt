@@ -25,6 +25,7 @@ pub mod Walked
 pub mod KeptView
 pub mod CostLaw
 pub mod WalkSteps
+pub mod WalkSettled
 pub mod Decided
 pub mod Evicted
 pub mod Victims

@@ -4,12 +4,12 @@ use Rattle.vp8_tables.specs.Tables.{TableEntries}
 use Rattle.frame_header.specs.Tags.{has_key_tag}
 use Rattle.reference_frames.specs.declared.states.State.{State}
 use Rattle.state_cache.specs.declared.outcomes.Kept.{Kept}
-use Rattle.state_cache.specs.Costs.{IsCachedAsDecoded, IsOneRun, IsSettled, cut_at, outcome_at}
+use Rattle.state_cache.specs.Costs.{IsCachedAsDecoded, IsOneRun, IsSettled, cut_at}
 use Rattle.state_cache.specs.Decoding.{Outcome, outcomes}
 use Rattle.state_cache.specs.Reaching.{IsNext, Converged, following}
-use Rattle.state_cache.specs.Searches.{mark_at}
-use Rattle.state_cache.specs.Views.{Drops, IsCoherent, MarkedPacket, View, is_cut, is_usable, cached_at, key_at, with_cached}
-use Rattle.state_cache.specs.Walks.{IsAfterCached, ConvergesWithSame}
+use Rattle.state_cache.specs.Views.{Drops, IsCoherent, MarkedPacket, View, is_cut, is_usable, cached_at, key_at, with_cached, mark_at, outcome_at}
+use Rattle.state_cache.specs.Walks.{ConvergesWithSame}
+use Rattle.state_cache.specs.ProofsOnly.{IsAfterCached}
 use Rattle.state_cache.proofs.Marked.{IsOwn}
 use Rattle.state_cache.proofs.Passed.{bytes_passed, cut_joined, kept_before_at, kept_is, key_passed, length_passed_at, mark_behind, outcome_passed, step_leaves}
 use Rattle.state_cache.proofs.Runs.{mark_ends, not_true, one_run_trusted, usable_along}

@@ -12,9 +12,9 @@ use Rattle.state_cache.specs.declared.outcomes.Kept.{Kept}
 use Rattle.state_cache.specs.declared.outcomes.ReachFault.{ReachFault}
 use Rattle.state_cache.specs.declared.outcomes.ReachFault.TheVariants.{Refused, NoMemory}
 use Rattle.state_cache.specs.Decoding.{outcomes}
-use Rattle.state_cache.specs.Reaching.{Begins, IsNext, CachedAnswers, Converged, Reaches, IterationAnswers, Reports, passed_marks, state_from}
-use Rattle.state_cache.specs.Searches.{mark_at}
-use Rattle.state_cache.specs.Views.{Drops, IsCoherent, MarkedPacket, View, is_cut, is_usable, key_at, marked_packets_of, step_result, with_cached}
+use Rattle.state_cache.specs.Reaching.{Begins, IsNext, Converged, Reaches, passed_marks, state_from}
+use Rattle.state_cache.specs.ProofsOnly.{CachedAnswers, IterationAnswers, Reports}
+use Rattle.state_cache.specs.Views.{Drops, IsCoherent, MarkedPacket, View, is_cut, is_usable, key_at, marked_packets_of, step_result, with_cached, mark_at}
 use Rattle.state_cache.proofs.Decoded.{outcome_present}
 use Rattle.state_cache.proofs.Marked.{bytes_seens, own_seens}
 use Rattle.state_cache.proofs.Shows.{shows}

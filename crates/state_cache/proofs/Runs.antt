@@ -3,8 +3,7 @@ use Rattle.std.proofs.Common.{◌≡◌, ℕ, zero, suc, ◌+◌, ◌-◌, ◌<�
 use Rattle.std.proofs.lemmas.Bool.{eqb-true}
 use Rattle.std.specs.Cmp.{nat_eq_equiv}
 use Rattle.state_cache.specs.Costs.{IsOneRun, cut_at}
-use Rattle.state_cache.specs.Searches.{mark_at}
-use Rattle.state_cache.specs.Views.{MarkedPacket, View, is_usable, cached_at, key_at}
+use Rattle.state_cache.specs.Views.{MarkedPacket, View, is_usable, cached_at, key_at, mark_at}
 use Rattle.state_cache.proofs.Trust.{mark_here, trust, trust_false, trust_marked, trust_plain, usable_both}
 use Rattle.state_cache.proofs.Steps.{key_here}
 use Rattle.state_cache.proofs.Truth.{present}

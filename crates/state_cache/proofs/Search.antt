@@ -5,9 +5,8 @@ use Rattle.std.proofs.lemmas.Bool.{cases_lt}
 use Rattle.packet_edits.specs.Nearest.{HoldsNowhere, IsFirst, IsLast}
 use Rattle.state_cache.specs.Costs.{IsOneRun, cut_at}
 use Rattle.state_cache.specs.Reaching.{Begins, IsNext, at_key, at_start, following}
-use Rattle.state_cache.specs.Searches.{mark_at, next_of}
-use Rattle.state_cache.specs.Views.{MarkedPacket, View, is_usable, cached_at, key_at}
-use Rattle.state_cache.specs.Walks.{IsAfterCached}
+use Rattle.state_cache.specs.ProofsOnly.{next_of, IsAfterCached}
+use Rattle.state_cache.specs.Views.{MarkedPacket, View, is_usable, cached_at, key_at, mark_at}
 use Rattle.state_cache.proofs.Runs.{cut_is, mark_ends}
 use Rattle.state_cache.proofs.Steps.{key_here}
 use Rattle.state_cache.proofs.Trust.{mark_here, not_usable_kept, not_usable_trust, trust, trust_key, trust_on_unmarked, usable_both}

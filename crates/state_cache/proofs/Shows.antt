@@ -6,9 +6,8 @@ use Rattle.packet_edits.specs.Sizes.{key_tag_at}
 use Rattle.packet_edits.specs.declared.entry.Entry.{Entry}
 use Rattle.state_cache.specs.declared.outcomes.Kept.{Kept}
 use Rattle.state_cache.specs.Evictions.{outcome_before, outcome_from}
-use Rattle.state_cache.specs.Reaching.{state_before, state_from}
-use Rattle.state_cache.specs.Searches.{mark_at}
-use Rattle.state_cache.specs.Views.{MarkedPacket, View, key_at, cached_at, marked_packet, marked_packets_of}
+use Rattle.state_cache.specs.Reaching.{state_cached_before, state_from}
+use Rattle.state_cache.specs.Views.{MarkedPacket, View, key_at, cached_at, marked_packet, marked_packets_of, mark_at}
 use Rattle.state_cache.proofs.Marked.{bytes_seens}
 use Rattle.state_cache.proofs.Truth.{got_bytes}
 
@@ -72,7 +71,7 @@ outcome_told es ms kept (suc i) r some h k step_result =
     let id_is : r ≡ s.packet.id = id_shown es ms i s.packet r s.is there in
     rw (k, s.is, id_is) refl
 
-state_case : (b : Bool) (xs : List MarkedPacket) (kept : View) (i : ℕ) → option_map (λ (k : Kept). k.state) (cond b None (outcome_before xs kept i)) ≡ cond b None (state_before xs kept i)
+state_case : (b : Bool) (xs : List MarkedPacket) (kept : View) (i : ℕ) → option_map (λ (k : Kept). k.state) (cond b None (outcome_before xs kept i)) ≡ cond b None (state_cached_before xs kept i)
 state_case true xs kept i = refl
 state_case false xs kept zero = refl
 state_case false xs kept (suc i) = refl

@@ -7,7 +7,7 @@ use Rattle.packet_edits.specs.declared.entry.Entry.{Entry}
 use Rattle.reference_frames.specs.declared.states.State.{State}
 use Rattle.reference_frames.specs.Steps.{step_of}
 use Rattle.state_cache.specs.declared.outcomes.Kept.{Kept}
-use Rattle.state_cache.specs.Reaching.{Begins, Converged, at_key, at_start, following, passed_marks, state_before, state_from}
+use Rattle.state_cache.specs.Reaching.{Begins, Converged, at_key, at_start, following, passed_marks, state_cached_before, state_from}
 use Rattle.state_cache.specs.Views.{Before, CoherentFrom, Drops, with_cached, Fits, Follows, IsCoherent, MarkedPacket, View, entering, is_cut, is_usable, cached_at, key_at, known, known_after, leaving, marked_packets_of, step_result, trusted_after, unknown}
 use Rattle.state_cache.proofs.Known.{Apart, Agree, agree_coherent, agree_known, apart_agree, coherent_join, coherent_parts, drops_same, leaving_less, same_kept, weaker}
 use Rattle.state_cache.proofs.Marked.{IsOwn, get_join, known_more, mark_both, mark_here, mark_set, own_before, own_behind, seens_set, split_here, take_join, take_next, trusted_more, with_mark}
@@ -39,7 +39,7 @@ usable_trusted xs kept u h = (both_true (cached_at xs kept u) (trusted_after tru
 
 -- what is known at an index where steps begin
 pub record Stands (tables : TableEntries) (xs : List MarkedPacket) (kept : View) (m : ℕ) : Type 0 where
-  pub known_is : known_after tables (known None) (take m xs) kept ≡ known (state_before xs kept m)
+  pub known_is : known_after tables (known None) (take m xs) kept ≡ known (state_cached_before xs kept m)
   pub trusted : trusted_after true (take m xs) ≡ true
 
 stands_behind : (tables : TableEntries) (xs : List MarkedPacket) (kept : View) (u : ℕ) → is_usable xs kept u ≡ true → Stands tables xs kept (suc u)
@@ -176,14 +176,14 @@ step_kept tables xs m p kept kept' state new converged h own coherent e s hm n d
 
 -- the state before an index where steps begin is known
 stands_case : (tables : TableEntries) (xs : List MarkedPacket) (kept : View) (m : ℕ) (p : MarkedPacket) (k : Bool) → slice_get xs m ≡ Some p → has_key_tag p.bytes ≡ k → Begins xs kept m
-    → cond k (known None) (known_after tables (known None) (take m xs) kept) ≡ known (cond k None (state_before xs kept m))
+    → cond k (known None) (known_after tables (known None) (take m xs) kept) ≡ known (cond k None (state_cached_before xs kept m))
 stands_case tables xs kept m p true h e b = refl
 stands_case tables xs kept m p false h e b = (begins_stands tables xs kept m p h e b).known_is
 
 pub stands_before : (tables : TableEntries) (xs : List MarkedPacket) (kept : View) (m : ℕ) (p : MarkedPacket) → slice_get xs m ≡ Some p → Begins xs kept m
     → entering (known_after tables (known None) (take m xs) kept) (with_mark false p) ≡ known (state_from xs kept m)
 stands_before tables xs kept m p h b =
-    stands_case tables xs kept m p (has_key_tag p.bytes) h refl b ∙ sym (ap (λ (k : Bool). known (cond k None (state_before xs kept m))) (key_here xs m p h))
+    stands_case tables xs kept m p (has_key_tag p.bytes) h refl b ∙ sym (ap (λ (k : Bool). known (cond k None (state_cached_before xs kept m))) (key_here xs m p h))
 
 missing_case : (k mk t : Bool) (o : Option Kept) → (k ≡ false → t ≡ true) → (is_some o && (k || (not mk && t))) ≡ false → (mk && not k) ≡ false → o ≡ None
 missing_case k mk t None h u c = refl

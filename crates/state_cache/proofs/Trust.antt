@@ -1,8 +1,7 @@
 -- Which indexes are trusted and usable, packet by packet.
 use Rattle.std.proofs.Common.{◌≡◌, ℕ, ◌+◌, Bool, true, false, not, ◌&&◌, ◌||◌, List, Some, take, slice_get, refl, ap, ◌∙◌}
 use Rattle.frame_header.specs.Tags.{has_key_tag}
-use Rattle.state_cache.specs.Searches.{mark_at}
-use Rattle.state_cache.specs.Views.{MarkedPacket, View, is_usable, cached_at, trusted_after}
+use Rattle.state_cache.specs.Views.{MarkedPacket, View, is_usable, cached_at, trusted_after, mark_at}
 use Rattle.state_cache.proofs.Steps.{trusted_here}
 
 -- whether the packets before an index end in a trusted run

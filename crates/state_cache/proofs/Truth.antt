@@ -9,9 +9,9 @@ use Rattle.reference_frames.specs.Steps.{step_of}
 use Rattle.state_cache.specs.declared.outcomes.Broken.{Broken}
 use Rattle.state_cache.specs.declared.outcomes.Kept.{Kept}
 use Rattle.state_cache.specs.Decoding.{Outcome, Progress, following, left_by, outcome, outcomes, reported_at}
-use Rattle.state_cache.specs.Reaching.{Begins, state_before, state_from}
+use Rattle.state_cache.specs.Reaching.{Begins, state_cached_before, state_from}
 use Rattle.state_cache.specs.Views.{Before, CoherentFrom, Fits, Follows, IsCoherent, MarkedPacket, View, entering, failed, is_usable, key_at, known, known_after, leaving, step_result, trusted_after, unknown}
-use Rattle.state_cache.proofs.Decoded.{outcome_at, stands_more, progress_after}
+use Rattle.state_cache.proofs.Decoded.{outcome_found, stands_more, progress_after}
 use Rattle.state_cache.proofs.Known.{coherent_parts}
 use Rattle.state_cache.proofs.Marked.{split_here}
 use Rattle.state_cache.proofs.Steps.{begins_stands, both_true, key_here, usable_here}
@@ -98,23 +98,23 @@ module _ (tables : TableEntries) where
         let parts = coherent_parts tables (known None) (take i xs) (p ∷ drop (suc i) xs) kept all in
         let follows : Follows tables (entering (known_after tables (known None) (take i xs) kept) p) p.bytes k = subst (λ o. Fits tables (entering (known_after tables (known None) (take i xs) kept) p) p.bytes o) e parts.1.0 in
         let trust = both_true _ _ (sym (usable_here xs kept i p h) ∙ u) in
-        outcome_at tables (bytes_of xs) i p.bytes (stands_at i) (got_bytes xs i p h) refl
+        outcome_found tables (bytes_of xs) i p.bytes (stands_at i) (got_bytes xs i p h) refl
         ∙ ap (λ (o : Outcome). Some o) (here_true i (trusted_after true (take i xs)) (has_key_tag p.bytes) p.marked (known_after tables (known None) (take i xs) kept) (stands_at i) p.bytes k trust.1 (before_ties i p h) follows)
 
     -- a packet that is refused at an index where steps begin breaks the stream there
-    refused_case : (i : ℕ) (p : MarkedPacket) (k : Bool) (cause : Cause) → slice_get xs i ≡ Some p → has_key_tag p.bytes ≡ k → Begins xs kept i → step_of tables (cond k None (state_before xs kept i)) p.bytes ≡ Err cause
+    refused_case : (i : ℕ) (p : MarkedPacket) (k : Bool) (cause : Cause) → slice_get xs i ≡ Some p → has_key_tag p.bytes ≡ k → Begins xs kept i → step_of tables (cond k None (state_cached_before xs kept i)) p.bytes ≡ Err cause
         → cond k (reported_at i (step_of tables None p.bytes)) (following tables i (stands_at i) p.bytes) ≡ Err (record { place = i; cause = cause })
     refused_case i p true cause h e b s = rw s refl
     refused_case i p false cause h e b s =
         let packet_is = begins_stands tables xs kept i p h e b in
         let ties = before_ties i p h in
-        let tied : stands_at i ≡ Ok (state_before xs kept i) = rw (packet_is.known_is, packet_is.trusted) at ties in
+        let tied : stands_at i ≡ Ok (state_cached_before xs kept i) = rw (packet_is.known_is, packet_is.trusted) at ties in
         rw (tied, s) refl
 
     pub refused_true : (i : ℕ) (p : MarkedPacket) (cause : Cause) → slice_get xs i ≡ Some p → Begins xs kept i → step_of tables (state_from xs kept i) p.bytes ≡ Err cause → slice_get (outcomes tables (bytes_of xs)) i ≡ Some (Err (record { place = i; cause = cause }))
     refused_true i p cause h b s =
-        outcome_at tables (bytes_of xs) i p.bytes (stands_at i) (got_bytes xs i p h) refl
-        ∙ ap (λ (o : Outcome). Some o) (refused_case i p (has_key_tag p.bytes) cause h refl b (ap (λ (k : Bool). step_of tables (cond k None (state_before xs kept i)) p.bytes) (sym (key_here xs i p h)) ∙ s))
+        outcome_found tables (bytes_of xs) i p.bytes (stands_at i) (got_bytes xs i p h) refl
+        ∙ ap (λ (o : Outcome). Some o) (refused_case i p (has_key_tag p.bytes) cause h refl b (ap (λ (k : Bool). step_of tables (cond k None (state_cached_before xs kept i)) p.bytes) (sym (key_here xs i p h)) ∙ s))
 
     -- and it stays broken up to the next key tag
     pub stays_broken : (m : ℕ) (broken : Broken) → slice_get (outcomes tables (bytes_of xs)) m ≡ Some (Err broken) → (n : ℕ) → ((q : ℕ) → m < q → q ≤ m + n → key_at xs q ≡ false) → m + n < length xs → slice_get (outcomes tables (bytes_of xs)) (m + n) ≡ Some (Err broken)
@@ -123,10 +123,10 @@ module _ (tables : TableEntries) where
         let before = stays_broken m broken at_m n (λ q a b. none q a (omega (arith, b))) (omega (arith, within)) in
         let p = present xs (m + n) (omega (arith, within)) in
         let y = present xs (m + suc n) within in
-        let told_there : Some (outcome tables (m + n) (stands_at (m + n)) p.0.bytes) ≡ Some (Err broken) = sym (outcome_at tables (bytes_of xs) (m + n) p.0.bytes (stands_at (m + n)) (got_bytes xs (m + n) p.0 p.1) refl) ∙ before in
+        let told_there : Some (outcome tables (m + n) (stands_at (m + n)) p.0.bytes) ≡ Some (Err broken) = sym (outcome_found tables (bytes_of xs) (m + n) p.0.bytes (stands_at (m + n)) (got_bytes xs (m + n) p.0 p.1) refl) ∙ before in
         let is : outcome tables (m + n) (stands_at (m + n)) p.0.bytes ≡ Err broken = cc in
         let left : Err broken ≡ progress_after tables 0 (Ok None) (take (m + n + 1) (bytes_of xs)) = stands_more tables (bytes_of xs) (m + n) p.0.bytes (stands_at (m + n)) (Err broken) (got_bytes xs (m + n) p.0 p.1) refl is in
         let next : m + n + 1 ≡ m + suc n = omega arith in
         let plain : has_key_tag y.0.bytes ≡ false = sym (key_here xs (m + suc n) y.0 y.1) ∙ none (m + suc n) (omega arith) (omega arith) in
-        outcome_at tables (bytes_of xs) (m + suc n) y.0.bytes (Err broken) (got_bytes xs (m + suc n) y.0 y.1) (left ∙ ap (λ (k : ℕ). progress_after tables 0 (Ok None) (take k (bytes_of xs))) next)
+        outcome_found tables (bytes_of xs) (m + suc n) y.0.bytes (Err broken) (got_bytes xs (m + suc n) y.0 y.1) (left ∙ ap (λ (k : ℕ). progress_after tables 0 (Ok None) (take k (bytes_of xs))) next)
         ∙ rw plain refl

@@ -4,8 +4,7 @@ use Rattle.packet_edits.specs.Marks.{StoreValue}
 use Rattle.state_cache.specs.declared.outcomes.Kept.{Kept}
 use Rattle.state_cache.specs.declared.outcomes.PacketKey.{PacketKey}
 use Rattle.state_cache.specs.Reaching.{CacheValue, Converged, OthersDrop, passed_marks, view_of}
-use Rattle.state_cache.specs.Searches.{mark_at}
-use Rattle.state_cache.specs.Views.{Drops, MarkedPacket, View, is_cut, key_at, cached_in, marked_packets, with_cached}
+use Rattle.state_cache.specs.Views.{Drops, MarkedPacket, View, is_cut, key_at, cached_in, marked_packets, with_cached, mark_at}
 use Rattle.state_cache.specs.Walks.{IsPut, IsIteration, ConvergesWithSame, entries_with}
 use Rattle.state_cache.proofs.Reached.{cut_seen}
 

@@ -6,29 +6,30 @@ use Rattle.packet_edits.specs.Marks.{StoreValue, unmarked_at}
 use Rattle.state_cache.specs.declared.outcomes.Kept.{Kept}
 use Rattle.state_cache.specs.Costs.{most_steps}
 use Rattle.state_cache.specs.Reaching.{Begins, CacheValue, IsNext, OthersDrop, at_key, at_start, following, passed_marks, view_of}
-use Rattle.state_cache.specs.Views.{Drops, MarkedPacket, View, is_cut, is_usable, key_at, marked_packets}
+use Rattle.state_cache.specs.Views.{Drops, IsCoherent, MarkedPacket, View, is_cut, is_usable, key_at, marked_packets}
 use Rattle.state_cache.specs.WalkLaws.{IsAmong, NextIsUnique, WalksStepInOrder}
-use Rattle.state_cache.specs.Walks.{Advances, Ends, IsIteration, IsWalk, IsWalkStep, Walks, arrives, is_refused}
+use Rattle.state_cache.specs.Walks.{Ends, IsIteration, IsWalk, IsWalkStep, Walks, arrives, is_refused}
+use Rattle.state_cache.specs.ProofsOnly.{Advances}
 use Rattle.state_cache.proofs.Known.{drops_same}
 use Rattle.state_cache.proofs.Runs.{up_to_or_behind}
 
 -- a walk from a first index so far
-pub record Walking (source : ℕ) (old : StoreValue) (before : CacheValue) (place : ℕ) (now : StoreValue) (cache : CacheValue) (next : ℕ) : Type 0 where
+pub record Walking (tables : TableEntries) (source : ℕ) (old : StoreValue) (before : CacheValue) (place : ℕ) (now : StoreValue) (cache : CacheValue) (next : ℕ) : Type 0 where
   pub first : ℕ
   pub is_first : IsNext (marked_packets old) (view_of source before) place first
   pub stepped : List ℕ
-  pub walk : Walks source old before place first stepped now cache next
+  pub walk : Walks tables source old before place first stepped now cache next
 
-pub walking_begins : (source : ℕ) (old : StoreValue) (before : CacheValue) (place next : ℕ) → IsNext (marked_packets old) (view_of source before) place next → Walking source old before place old before next
-walking_begins source old before place next n = record { first = next; is_first = n; stepped = []; walk = (refl, refl, refl) }
+pub walking_begins : (tables : TableEntries) (source : ℕ) (old : StoreValue) (before : CacheValue) (place next : ℕ) → IsNext (marked_packets old) (view_of source before) place next → Walking tables source old before place old before next
+walking_begins tables source old before place next n = record { first = next; is_first = n; stepped = []; walk = (refl, refl, refl) }
 
-pub walking_more : (source : ℕ) (old now new : StoreValue) (before cache after : CacheValue) (place next further : ℕ) → Walking source old before place now cache next → IsWalkStep source now cache place next new after further → Walking source old before place new after further
-walking_more source old now new before cache after place next further w s = record { first = w.first; is_first = w.is_first; stepped = next ∷ w.stepped; walk = (now, (cache, (w.walk, s))) }
+pub walking_more : (tables : TableEntries) (source : ℕ) (old now new : StoreValue) (before cache after : CacheValue) (place next further : ℕ) → Walking tables source old before place now cache next → IsWalkStep tables source now cache place next new after further → Walking tables source old before place new after further
+walking_more tables source old now new before cache after place next further w s = record { first = w.first; is_first = w.is_first; stepped = next ∷ w.stepped; walk = (now, (cache, (w.walk, s))) }
 
 -- a cached step, from the contract of `iterate`
 pub step_is : (tables : TableEntries) (source : ℕ) (old new : StoreValue) (before after : CacheValue) (place next further : ℕ) (joined : Bool) → IsIteration source old before next joined new after → after.decoded ≡ min (before.decoded + 1) most_steps → after.capacity ≡ before.capacity
-    → next ≤ place → Advances tables source old before place next new after further → (joined ≡ false → further ≡ next + 1) → IsWalkStep source old before place next new after further
-step_is tables source old new before after place next further joined iterated counted capacity low a onward = record {
+    → next ≤ place → Advances tables source old before place next new after further → (joined ≡ false → further ≡ next + 1) → IsCoherent tables (marked_packets new) (view_of source after) → IsWalkStep tables source old before place next new after further
+step_is tables source old new before after place next further joined iterated counted capacity low a onward coherent = record {
   joined = joined;
   iterated = iterated;
   counted = counted;
@@ -38,11 +39,12 @@ step_is tables source old new before after place next further joined iterated co
   later = a.following;
   onward = onward;
   continues = a.first;
+  coherent = coherent;
 }
 
 -- a walk that has reached its index
-pub walk_arrives : (source : ℕ) (old now : StoreValue) (before cache : CacheValue) (place next : ℕ) (is_ok : Bool) → Walking source old before place now cache next → place < next → IsWalk source old before place is_ok now cache
-walk_arrives source old now before cache place next is_ok w up = record {
+pub walk_arrives : (tables : TableEntries) (source : ℕ) (old now : StoreValue) (before cache : CacheValue) (place next : ℕ) (is_ok : Bool) → Walking tables source old before place now cache next → place < next → IsWalk tables source old before place is_ok now cache
+walk_arrives tables source old now before cache place next is_ok w up = record {
   first = w.first;
   is_first = w.is_first;
   stepped = w.stepped;
@@ -59,15 +61,15 @@ counted_only cache after decoded entries capacity steps =
     ∙ ap (λ (n : ℕ). record cache { decoded = n }) steps
 
 -- a walk that ends with a step that is refused
-pub walk_refused : (source : ℕ) (old now new : StoreValue) (before cache after : CacheValue) (place next : ℕ) → Walking source old before place now cache next → next ≤ place → new ≡ now → after.entries ≡ cache.entries → after.capacity ≡ cache.capacity
-    → after.decoded ≡ min (cache.decoded + 1) most_steps → IsWalk source old before place false new after
-walk_refused source old now new before cache after place next w low same entries capacity counted = record {
+pub walk_refused : (tables : TableEntries) (source : ℕ) (old now new : StoreValue) (before cache after : CacheValue) (place next : ℕ) → Walking tables source old before place now cache next → next ≤ place → new ≡ now → after.entries ≡ cache.entries → after.capacity ≡ cache.capacity
+    → after.decoded ≡ min (cache.decoded + 1) most_steps → IsWalk tables source old before place false new after
+walk_refused tables source old now new before cache after place next w low same entries capacity counted = record {
   first = w.first;
   is_first = w.is_first;
   stepped = w.stepped;
   next = next;
   cache = cache;
-  walk = subst (λ (s : StoreValue). Walks source old before place w.first w.stepped s cache next) (sym same) w.walk;
+  walk = subst (λ (s : StoreValue). Walks tables source old before place w.first w.stepped s cache next) (sym same) w.walk;
   ends = is_refused refl low (counted_only cache after (min (cache.decoded + 1) most_steps) entries capacity counted);
 }
 
@@ -75,21 +77,21 @@ drops_more : (o p q : Option Kept) → Drops o p → Drops p q → Drops o q
 drops_more None p q d e = tt
 drops_more (Some k) p q d e = subst (λ (x : Option Kept). Drops x q) d e
 
-others_so_far : (source : ℕ) (old now : StoreValue) (before cache : CacheValue) (place first next : ℕ) (stepped : List ℕ) → Walks source old before place first stepped now cache next → OthersDrop source before cache
-others_so_far source old now before cache place first next [] w other id apart = subst (λ (c : CacheValue). Drops (view_of other c id) (view_of other before id)) (sym w.1) (drops_same (view_of other before id))
-others_so_far source old now before cache place first next (m ∷ earlier) w other id apart =
+others_so_far : (tables : TableEntries) (source : ℕ) (old now : StoreValue) (before cache : CacheValue) (place first next : ℕ) (stepped : List ℕ) → Walks tables source old before place first stepped now cache next → OthersDrop source before cache
+others_so_far tables source old now before cache place first next [] w other id apart = subst (λ (c : CacheValue). Drops (view_of other c id) (view_of other before id)) (sym w.1) (drops_same (view_of other before id))
+others_so_far tables source old now before cache place first next (m ∷ earlier) w other id apart =
     drops_more (view_of other cache id) (view_of other w.1.0 id) (view_of other before id) (w.1.1.1.iterated.other_sources other id apart)
-    (others_so_far source old w.0 before w.1.0 place first m earlier w.1.1.0 other id apart)
+    (others_so_far tables source old w.0 before w.1.0 place first m earlier w.1.1.0 other id apart)
 
 others_at_end : (place next : ℕ) (cache after : CacheValue) (is_ok : Bool) (other id : ℕ) → Ends place next cache is_ok after → Drops (view_of other after id) (view_of other cache id)
 others_at_end place next cache after is_ok other id (arrives up same) = subst (λ (c : CacheValue). Drops (view_of other c id) (view_of other cache id)) (sym same) (drops_same (view_of other cache id))
 others_at_end place next cache after is_ok other id (is_refused not_ok low same) = subst (λ (c : CacheValue). Drops (view_of other c id) (view_of other cache id)) (sym same) (drops_same (view_of other cache id))
 
 -- a walk changes the outcomes of other sources by dropping some
-pub walk_others : (source : ℕ) (old new : StoreValue) (before after : CacheValue) (place : ℕ) (is_ok : Bool) → IsWalk source old before place is_ok new after → OthersDrop source before after
-walk_others source old new before after place is_ok w other id apart =
+pub walk_others : (tables : TableEntries) (source : ℕ) (old new : StoreValue) (before after : CacheValue) (place : ℕ) (is_ok : Bool) → IsWalk tables source old before place is_ok new after → OthersDrop source before after
+walk_others tables source old new before after place is_ok w other id apart =
     drops_more (view_of other after id) (view_of other w.cache id) (view_of other before id) (others_at_end place w.next w.cache after is_ok other id w.ends)
-    (others_so_far source old new before w.cache place w.first w.next w.stepped w.walk other id apart)
+    (others_so_far tables source old new before w.cache place w.first w.next w.stepped w.walk other id apart)
 
 -- other marks are unchanged
 other_mark : (ms : List Bool) (i p : ℕ) (m : Bool) → (p ≡ i → ⊥) → slice_get (slice_set ms i m) p ≡ slice_get ms p
@@ -106,36 +108,36 @@ passed_other true false joined ms m further p is onward other after =
     let next : further ≡ m + 1 = onward is in
     other_mark (unmarked_at m ms) (m + 1) p true (λ same. after (same ∙ sym next)) ∙ other_mark ms m p false other
 
-step_marks : (source : ℕ) (now new : StoreValue) (cache after : CacheValue) (place m further p : ℕ) → IsWalkStep source now cache place m new after further → (p ≡ m → ⊥) → (p ≡ further → ⊥) → slice_get new.marks p ≡ slice_get now.marks p
-step_marks source now new cache after place m further p s other later =
+step_marks : (tables : TableEntries) (source : ℕ) (now new : StoreValue) (cache after : CacheValue) (place m further p : ℕ) → IsWalkStep tables source now cache place m new after further → (p ≡ m → ⊥) → (p ≡ further → ⊥) → slice_get new.marks p ≡ slice_get now.marks p
+step_marks tables source now new cache after place m further p s other later =
     let t = s.iterated in
     ap (λ (store : StoreValue). slice_get store.marks p) t.marks
     ∙ passed_other (is_cut t.packet) t.has_converged s.joined now.marks m further p t.joined_is s.onward other later
 
-marks_stay : (source : ℕ) (old new : StoreValue) (before after : CacheValue) (place first next p : ℕ) (stepped : List ℕ) → Walks source old before place first stepped new after next → (IsAmong p stepped → ⊥) → (p ≡ next → ⊥) → slice_get new.marks p ≡ slice_get old.marks p
-marks_stay source old new before after place first next p [] w none other = ap (λ (store : StoreValue). slice_get store.marks p) w.0
-marks_stay source old new before after place first next p (m ∷ earlier) w none other =
+marks_stay : (tables : TableEntries) (source : ℕ) (old new : StoreValue) (before after : CacheValue) (place first next p : ℕ) (stepped : List ℕ) → Walks tables source old before place first stepped new after next → (IsAmong p stepped → ⊥) → (p ≡ next → ⊥) → slice_get new.marks p ≡ slice_get old.marks p
+marks_stay tables source old new before after place first next p [] w none other = ap (λ (store : StoreValue). slice_get store.marks p) w.0
+marks_stay tables source old new before after place first next p (m ∷ earlier) w none other =
     let now = w.0 in
     let cache = w.1.0 in
-    step_marks source now new cache after place m next p w.1.1.1 (λ same. none (inl same)) other
-    ∙ marks_stay source old now before cache place first m p earlier w.1.1.0 (λ a. none (inr a)) (λ same. none (inl same))
+    step_marks tables source now new cache after place m next p w.1.1.1 (λ same. none (inl same)) other
+    ∙ marks_stay tables source old now before cache place first m p earlier w.1.1.0 (λ a. none (inr a)) (λ same. none (inl same))
 
-first_low : (source : ℕ) (old new : StoreValue) (before after : CacheValue) (place first next : ℕ) (stepped : List ℕ) → Walks source old before place first stepped new after next → first ≤ next
-first_low source old new before after place first next [] w = let same : next ≡ first = w.2 in omega (arith, same)
-first_low source old new before after place first next (m ∷ earlier) w =
-    let low : first ≤ m = first_low source old w.0 before w.1.0 place first m earlier w.1.1.0 in
+first_low : (tables : TableEntries) (source : ℕ) (old new : StoreValue) (before after : CacheValue) (place first next : ℕ) (stepped : List ℕ) → Walks tables source old before place first stepped new after next → first ≤ next
+first_low tables source old new before after place first next [] w = let same : next ≡ first = w.2 in omega (arith, same)
+first_low tables source old new before after place first next (m ∷ earlier) w =
+    let low : first ≤ m = first_low tables source old w.0 before w.1.0 place first m earlier w.1.1.0 in
     let later : m < next = w.1.1.1.later in
     omega (arith, low, later)
 
-in_order : (source : ℕ) (old new : StoreValue) (before after : CacheValue) (place first next p : ℕ) (stepped : List ℕ) → Walks source old before place first stepped new after next → IsAmong p stepped → (first ≤ p) × (p ≤ place) × (p < next)
-in_order source old new before after place first next p [] w a = absurd a
-in_order source old new before after place first next p (m ∷ earlier) w (inl same) =
-    let low : first ≤ m = first_low source old w.0 before w.1.0 place first m earlier w.1.1.0 in
+in_order : (tables : TableEntries) (source : ℕ) (old new : StoreValue) (before after : CacheValue) (place first next p : ℕ) (stepped : List ℕ) → Walks tables source old before place first stepped new after next → IsAmong p stepped → (first ≤ p) × (p ≤ place) × (p < next)
+in_order tables source old new before after place first next p [] w a = absurd a
+in_order tables source old new before after place first next p (m ∷ earlier) w (inl same) =
+    let low : first ≤ m = first_low tables source old w.0 before w.1.0 place first m earlier w.1.1.0 in
     let within : m ≤ place = w.1.1.1.low in
     let later : m < next = w.1.1.1.later in
     (omega (arith, same, low), omega (arith, same, within), omega (arith, same, later))
-in_order source old new before after place first next p (m ∷ earlier) w (inr a) =
-    let rest = in_order source old w.0 before w.1.0 place first m p earlier w.1.1.0 a in
+in_order tables source old new before after place first next p (m ∷ earlier) w (inr a) =
+    let rest = in_order tables source old w.0 before w.1.0 place first m p earlier w.1.1.0 a in
     let below : p < m = rest.2 in
     let later : m < next = w.1.1.1.later in
     (rest.0, rest.1, omega (arith, below, later))

@@ -11,7 +11,7 @@ use Rattle.state_cache.specs.declared.outcomes.PacketKey.{PacketKey}
 use Rattle.state_cache.specs.Costs.{AreStepped, AreUnsettled, Costs, HasRoom, IsIdOf, IsSettled, most_steps}
 use Rattle.state_cache.specs.Reaching.{CacheValue, IsNext, view_of}
 use Rattle.state_cache.specs.Views.{View, is_usable, cached_at, cached_in, marked_packets, marked_packets_of}
-use Rattle.state_cache.specs.Walks.{Advances}
+use Rattle.state_cache.specs.ProofsOnly.{Advances}
 use Rattle.state_cache.proofs.Reached.{beyond}
 use Rattle.state_cache.proofs.Unsettled.{none_left, some_left}
 

@@ -4,9 +4,8 @@ use Rattle.std.specs.Option.{option_map_or}
 use Rattle.vp8_tables.specs.Tables.{TableEntries}
 use Rattle.reference_frames.specs.declared.states.State.{State}
 use Rattle.state_cache.specs.declared.outcomes.Kept.{Kept}
-use Rattle.state_cache.specs.Costs.{IsOneRun, outcome_at}
-use Rattle.state_cache.specs.Searches.{mark_at}
-use Rattle.state_cache.specs.Views.{Before, Follows, IsCoherent, MarkedPacket, View, cached_at, key_at, known, stepped}
+use Rattle.state_cache.specs.Costs.{IsOneRun}
+use Rattle.state_cache.specs.Views.{Before, Follows, IsCoherent, MarkedPacket, View, cached_at, key_at, known, stepped, mark_at, outcome_at}
 
 abbrev pub bytes_at : List MarkedPacket → ℕ → List ℕ
 bytes_at packets place = option_map_or (λ packet. packet.bytes) (slice_get packets place) []

@@ -1,5 +1,5 @@
 -- The cost of reaching an index, and the outcomes cached afterwards.
-use Rattle.std.specs.Prelude.{◌≡◌, ℕ, ◌+◌, ◌-◌, ◌^◌, ◌<◌, ◌≤◌, ◌||◌, ◌⊎◌, Bool, true, false, min, nat_eq, List, map, length, take, drop, count_by, slice_get, Option, Some, option_map, option_and_then, is_none, IsSome, Ok}
+use Rattle.std.specs.Prelude.{◌≡◌, ℕ, ◌+◌, ◌-◌, ◌^◌, ◌<◌, ◌≤◌, ◌||◌, ◌⊎◌, Bool, true, false, min, nat_eq, List, map, length, take, drop, count_by, slice_get, Some, option_map, is_none, IsSome, Ok}
 use Rattle.vp8_tables.specs.Tables.{TableEntries}
 use Rattle.pixel_planes.specs.Pictures.{PictureSamples}
 use Rattle.packet_edits.specs.declared.entry.Entry.{Entry}
@@ -8,8 +8,7 @@ use Rattle.packet_edits.specs.Marks.{StoreValue}
 use Rattle.state_cache.specs.declared.outcomes.Kept.{Kept}
 use Rattle.state_cache.specs.Decoding.{outcomes}
 use Rattle.state_cache.specs.Reaching.{CacheValue, IsNext, view_of}
-use Rattle.state_cache.specs.Searches.{mark_at}
-use Rattle.state_cache.specs.Views.{MarkedPacket, View, is_usable, cached_at, key_at, marked_packets}
+use Rattle.state_cache.specs.Views.{MarkedPacket, View, is_usable, cached_at, key_at, mark_at, marked_packets, outcome_at}
 
 -- a cut, at which a run begins: index 0, a key tag, or a mark
 abbrev pub cut_at : List MarkedPacket → ℕ → Bool
@@ -18,10 +17,6 @@ cut_at packets place = nat_eq place 0 || (key_at packets place || mark_at packet
 -- two indexes are in one run: there is no cut after the first, up to the last
 abbrev pub IsOneRun : List MarkedPacket → ℕ → ℕ → Type 0
 IsOneRun packets first last = (p : ℕ) → first < p → p ≤ last → cut_at packets p ≡ false
-
--- the outcome cached for the packet at an index
-abbrev pub outcome_at : List MarkedPacket → View → ℕ → Option Kept
-outcome_at packets kept place = option_and_then (λ packet. kept packet.id) (slice_get packets place)
 
 -- the outcome cached at an index has the state that decoding from the start has there
 pub record IsCachedAsDecoded (tables : TableEntries) (packets : List MarkedPacket) (kept : View) (place : ℕ) : Type 0 where

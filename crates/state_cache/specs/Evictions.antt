@@ -1,15 +1,15 @@
 -- Which cached outcome is dropped if the cache is full.
-use Rattle.std.specs.Prelude.{◌≡◌, ℕ, zero, suc, ◌+◌, ◌-◌, ◌/◌, ◌^◌, ◌<◌, ◌≤◌, ◌⊎◌, cond, min, List, length, slice_get, Option, Some, None, IsSome, option_and_then}
+use Rattle.std.specs.Prelude.{◌≡◌, ℕ, zero, suc, ◌+◌, ◌-◌, ◌/◌, ◌^◌, ◌<◌, ◌≤◌, ◌⊎◌, cond, min, List, length, slice_get, Option, Some, None, IsSome}
 use Rattle.std.specs.Map.{lookup, remove_entry}
 use Rattle.std.specs.Int.{trailing_zeros, w32}
 use Rattle.state_cache.specs.declared.outcomes.Kept.{Kept}
 use Rattle.state_cache.specs.declared.outcomes.PacketKey.{PacketKey}
-use Rattle.state_cache.specs.Views.{MarkedPacket, View, key_at, same_key}
+use Rattle.state_cache.specs.Views.{MarkedPacket, View, key_at, outcome_at, same_key}
 
 -- the outcome from whose state the packet at an index is stepped: none if it has a key tag or index 0
 abbrev pub outcome_before : List MarkedPacket → View → ℕ → Option Kept
 outcome_before packets kept zero = None
-outcome_before packets kept (suc before) = option_and_then (λ packet. kept packet.id) (slice_get packets before)
+outcome_before packets kept (suc before) = outcome_at packets kept before
 
 abbrev pub outcome_from : List MarkedPacket → View → ℕ → Option Kept
 outcome_from packets kept place = cond (key_at packets place) None (outcome_before packets kept place)

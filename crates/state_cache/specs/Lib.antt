@@ -2,10 +2,10 @@ pub mod Decoding
 pub mod DecodingLaws
 pub mod Views
 pub mod Reaching
-pub mod Searches
 pub mod Costs
 pub mod EditLaws
 pub mod Walks
+pub mod ProofsOnly
 pub mod CacheViews
 pub mod CostLaws
 pub mod WalkLaws

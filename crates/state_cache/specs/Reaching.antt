@@ -1,9 +1,6 @@
 -- Reaching an index: where steps begin, marks after a step, and the answer.
-use Rattle.std.specs.Prelude.{◌≡◌, ℕ, zero, suc, cond, option_map, option_and_then, ◌+◌, ◌<◌, ◌≤◌, Bool, true, false, List, slice_get, Option, Some, None, Result, Ok, Err}
+use Rattle.std.specs.Prelude.{◌≡◌, ℕ, zero, suc, cond, option_map, ◌+◌, ◌<◌, ◌≤◌, Bool, true, false, List, slice_get, Option, Some, None, Result, Ok, Err}
 use Rattle.vp8_tables.specs.Tables.{TableEntries}
-use Rattle.frame_header.specs.declared.cause.Cause.{Cause}
-use Rattle.pixel_planes.specs.Pictures.{PictureSamples}
-use Rattle.reference_frames.specs.Steps.{step_of}
 use Rattle.packet_edits.specs.Edits.{Listing}
 use Rattle.packet_edits.specs.Marks.{marked_at, unmarked_at}
 use Rattle.reference_frames.specs.declared.states.State.{State}
@@ -13,7 +10,7 @@ use Rattle.state_cache.specs.declared.outcomes.PacketKey.{PacketKey}
 use Rattle.state_cache.specs.declared.outcomes.ReachFault.{ReachFault}
 use Rattle.state_cache.specs.declared.outcomes.ReachFault.TheVariants.{Refused, NoMemory}
 use Rattle.state_cache.specs.Decoding.{Outcome, outcomes}
-use Rattle.state_cache.specs.Views.{Drops, MarkedPacket, View, is_usable, key_at, cached_in, step_result}
+use Rattle.state_cache.specs.Views.{Drops, MarkedPacket, View, is_usable, key_at, cached_in, outcome_at, step_result}
 
 -- the value of a cache: outcomes by the sources and ids of their packets, the capacity, and the number of steps made
 pub record CacheValue : Type 0 where
@@ -40,13 +37,13 @@ pub data Begins (packets : List MarkedPacket) (kept : View) (place : ℕ) : Type
   following : (before : ℕ) → place ≡ before + 1 → is_usable packets kept before ≡ true → Begins packets kept place
 
 -- the state cached for the packet before an index
-abbrev pub state_before : List MarkedPacket → View → ℕ → Option State
-state_before packets kept zero = None
-state_before packets kept (suc before) = option_map (λ outcome. outcome.state) (option_and_then (λ packet. kept packet.id) (slice_get packets before))
+abbrev pub state_cached_before : List MarkedPacket → View → ℕ → Option State
+state_cached_before packets kept zero = None
+state_cached_before packets kept (suc before) = option_map (λ outcome. outcome.state) (outcome_at packets kept before)
 
 -- the state from which the packet at an index is stepped: none if it has a key tag
 abbrev pub state_from : List MarkedPacket → View → ℕ → Option State
-state_from packets kept place = cond (key_at packets place) None (state_before packets kept place)
+state_from packets kept place = cond (key_at packets place) None (state_cached_before packets kept place)
 
 -- the marks after a cached step. A cut because of a mark loses it if the new state equals the one cached there before, and
 -- passes it to the next packet otherwise
@@ -76,24 +73,3 @@ ReachAnswers want (Err NoMemory) = Unit {0}
 -- the answer is the outcome of decoding at an index, or that there was no memory
 abbrev pub Reaches : TableEntries → Listing → ℕ → Result Kept ReachFault → Type 0
 Reaches tables list place result = (want : Outcome) × (slice_get (outcomes tables (stream_of list)) place ≡ Some want) × ReachAnswers want result
-
--- the answer of a step at an index: its good outcome, its cause with that index, or that there was no memory
-abbrev pub AnswersAt : ℕ → Result (State × PictureSamples) Cause → Result Kept ReachFault → Type 0
-AnswersAt place want (Ok kept) = want ≡ Ok (step_result kept)
-AnswersAt place want (Err (Refused broken)) = (want ≡ Err broken.cause) × (broken.place ≡ place)
-AnswersAt place want (Err NoMemory) = Unit {0}
-
--- the answer is the answer of the step of the packet at an index
-abbrev pub IterationAnswers : TableEntries → List MarkedPacket → View → ℕ → Result Kept ReachFault → Type 0
-IterationAnswers tables packets kept place result = (packet : MarkedPacket) × (slice_get packets place ≡ Some packet) × AnswersAt place (step_of tables (state_from packets kept place) packet.bytes) result
-
--- a refusal names the index at which decoding finds the stream broken
-abbrev pub Reports : TableEntries → Listing → ℕ → ReachFault → Type 0
-Reports tables list place (Refused broken) = slice_get (outcomes tables (stream_of list)) place ≡ Some (Err broken)
-Reports tables list place NoMemory = Unit {0}
-
--- the answer is the outcome cached at an index, or that there was no memory
-abbrev pub CachedAnswers : List MarkedPacket → View → ℕ → Result Kept ReachFault → Type 0
-CachedAnswers packets kept place (Ok outcome) = option_and_then (λ packet. kept packet.id) (slice_get packets place) ≡ Some outcome
-CachedAnswers packets kept place (Err (Refused broken)) = ⊥
-CachedAnswers packets kept place (Err NoMemory) = Unit {0}

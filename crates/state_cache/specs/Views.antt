@@ -1,5 +1,5 @@
 -- Cached views: the outcomes cached for packets, and the indexes from which decoding may continue.
-use Rattle.std.specs.Prelude.{◌≡◌, ℕ, ◌+◌, Bool, true, false, cond, not, ◌&&◌, ◌||◌, List, [], ◌∷◌, take, slice_get, Option, Some, None, is_some, Result, Ok, Err, nat_eq}
+use Rattle.std.specs.Prelude.{◌≡◌, ℕ, ◌+◌, Bool, true, false, cond, not, ◌&&◌, ◌||◌, List, [], ◌∷◌, take, slice_get, Option, Some, None, is_some, option_and_then, Result, Ok, Err, nat_eq}
 use Rattle.std.specs.Option.{option_map_or}
 use Rattle.std.specs.Map.{lookup}
 use Rattle.vp8_tables.specs.Tables.{TableEntries}
@@ -71,6 +71,14 @@ cached_at packets kept place = option_map_or (λ packet. is_some (kept packet.id
 
 abbrev pub key_at : List MarkedPacket → ℕ → Bool
 key_at packets place = option_map_or (λ packet. has_key_tag packet.bytes) (slice_get packets place) false
+
+-- whether the packet at an index is marked
+abbrev pub mark_at : List MarkedPacket → ℕ → Bool
+mark_at packets place = option_map_or (λ packet. packet.marked) (slice_get packets place) false
+
+-- the outcome cached for the packet at an index
+abbrev pub outcome_at : List MarkedPacket → View → ℕ → Option Kept
+outcome_at packets kept place = option_and_then (λ packet. kept packet.id) (slice_get packets place)
 
 -- a usable index: it is cached, and its run begins at a key tag, or at index 0 with no mark
 abbrev pub is_usable : List MarkedPacket → View → ℕ → Bool

@@ -1,11 +1,11 @@
 -- A walk to an index: one step, where the walk continues, and how it ends.
-use Rattle.std.specs.Prelude.{◌≡◌, ℕ, ◌+◌, ◌<◌, ◌≤◌, ◌&&◌, ◌⊎◌, Bool, true, false, cond, min, List, [], ◌∷◌, length, slice_get, Option, Some, is_none, IsSome}
+use Rattle.std.specs.Prelude.{◌≡◌, ℕ, ◌+◌, ◌<◌, ◌≤◌, ◌&&◌, Bool, true, false, cond, min, List, [], ◌∷◌, length, slice_get, Option, Some, is_none}
 use Rattle.vp8_tables.specs.Tables.{TableEntries}
 use Rattle.packet_edits.specs.Marks.{StoreValue}
 use Rattle.state_cache.specs.declared.outcomes.Kept.{Kept}
-use Rattle.state_cache.specs.Costs.{AreUnsettled, HasRoom, IsIdOf, IsOneRun, IsSettled, most_steps}
+use Rattle.state_cache.specs.Costs.{most_steps}
 use Rattle.state_cache.specs.Reaching.{CacheValue, IsNext, Converged, OthersDrop, OthersStay, passed_marks, view_of}
-use Rattle.state_cache.specs.Views.{Drops, MarkedPacket, View, is_cut, cached_at, marked_packets, with_cached}
+use Rattle.state_cache.specs.Views.{Drops, IsCoherent, MarkedPacket, is_cut, marked_packets, with_cached}
 
 -- if an outcome with the same state was cached, the states converge
 abbrev pub ConvergesWithSame : Bool → Option Kept → Kept → Type 0
@@ -38,32 +38,9 @@ pub record IsIteration (source : ℕ) (old : StoreValue) (before : CacheValue) (
   -- with room for it, nothing else is dropped
   pub room : entries_with source before packet.id ≤ before.capacity → IsPut source before packet.id outcome after
 
--- the index after the last cached one of a run, from `first` up to `place`
-pub record IsAfterCached (packets : List MarkedPacket) (kept : View) (first place next : ℕ) : Type 0 where
-  pub last : ℕ
-  pub next_is : next ≡ last + 1
-  pub from : first ≤ last
-  pub within : last ≤ place
-  pub one_run : IsOneRun packets first last
-  pub is_cached : cached_at packets kept last ≡ true
-  pub greatest : (p : ℕ) → last < p → p ≤ place → IsOneRun packets first p → cached_at packets kept p ≡ false
-
--- a cached step on the way to an index: the walk continues after it, and exactly one index fewer is not settled
-pub record Advances (tables : TableEntries) (source : ℕ) (old : StoreValue) (before : CacheValue) (place next : ℕ) (new : StoreValue) (after : CacheValue) (further : ℕ) : Type 0 where
-  pub first : IsNext (marked_packets new) (view_of source after) place further
-  pub following : next < further
-  pub number : length before.entries ≤ length after.entries
-  pub of_packets : (id : ℕ) → IsSome (view_of source after id) → IsSome (view_of source before id) ⊎ IsIdOf old.list id
-  pub room : HasRoom source old.list before next place → HasRoom source new.list after further place
-  pub stays : HasRoom source old.list before next place → (any id : ℕ) → IsSome (view_of any before id) → IsSome (view_of any after id)
-  pub keeps : HasRoom source old.list before next place → (p : ℕ) → next ≤ p → p ≤ place → (IsSettled tables (marked_packets old) (view_of source before) place p → ⊥)
-      → (cached_at (marked_packets new) (view_of source after) p ≡ true) ⊎ ((further ≤ p) × (IsSettled tables (marked_packets new) (view_of source after) place p → ⊥))
-  pub fewer : HasRoom source old.list before next place → (places : List ℕ) → AreUnsettled tables (marked_packets old) (view_of source before) next place places
-      → (rest : List ℕ) × (places ≡ next ∷ rest) × AreUnsettled tables (marked_packets new) (view_of source after) further place rest
-
 -- one step of a walk to `place`: the packet at `next` is stepped, its outcome is cached and its mark passed. The walk
--- continues at `further`, which is the next index unless two runs were joined
-pub record IsWalkStep (source : ℕ) (old : StoreValue) (before : CacheValue) (place next : ℕ) (new : StoreValue) (after : CacheValue) (further : ℕ) : Type 0 where
+-- continues at `further`, which is the next index unless two runs were joined, and the cache is coherent
+pub record IsWalkStep (tables : TableEntries) (source : ℕ) (old : StoreValue) (before : CacheValue) (place next : ℕ) (new : StoreValue) (after : CacheValue) (further : ℕ) : Type 0 where
   pub joined : Bool
   pub iterated : IsIteration source old before next joined new after
   pub counted : after.decoded ≡ min (before.decoded + 1) most_steps
@@ -73,13 +50,15 @@ pub record IsWalkStep (source : ℕ) (old : StoreValue) (before : CacheValue) (p
   pub later : next < further
   pub onward : joined ≡ false → further ≡ next + 1
   pub continues : IsNext (marked_packets new) (view_of source after) place further
+  -- so its outcome is the result of the step
+  pub coherent : IsCoherent tables (marked_packets new) (view_of source after)
 
 -- a walk to `place` that began at `first`: these indexes were stepped, the latest one first, and `next` is the index to step
 -- then
-abbrev pub Walks : ℕ → StoreValue → CacheValue → ℕ → ℕ → List ℕ → StoreValue → CacheValue → ℕ → Type 0
-Walks source old before place first [] new after next = (new ≡ old) × (after ≡ before) × (next ≡ first)
-Walks source old before place first (last ∷ earlier) new after next =
-    (now : StoreValue) × ((cache : CacheValue) × (Walks source old before place first earlier now cache last × IsWalkStep source now cache place last new after next))
+abbrev pub Walks : TableEntries → ℕ → StoreValue → CacheValue → ℕ → ℕ → List ℕ → StoreValue → CacheValue → ℕ → Type 0
+Walks tables source old before place first [] new after next = (new ≡ old) × (after ≡ before) × (next ≡ first)
+Walks tables source old before place first (last ∷ earlier) new after next =
+    (now : StoreValue) × ((cache : CacheValue) × (Walks tables source old before place first earlier now cache last × IsWalkStep tables source now cache place last new after next))
 
 -- how a walk ends: it arrives at its index, or a step is refused, which is counted and changes nothing else
 pub data Ends (place next : ℕ) (cache : CacheValue) (is_ok : Bool) (after : CacheValue) : Type 0 where
@@ -88,11 +67,11 @@ pub data Ends (place next : ℕ) (cache : CacheValue) (is_ok : Bool) (after : Ca
 
 -- what reaching an index does: it walks there, one cached step after another. A step that is refused leaves the packets, the
 -- marks and the cached outcomes as they were before that step
-pub record IsWalk (source : ℕ) (old : StoreValue) (before : CacheValue) (place : ℕ) (is_ok : Bool) (new : StoreValue) (after : CacheValue) : Type 0 where
+pub record IsWalk (tables : TableEntries) (source : ℕ) (old : StoreValue) (before : CacheValue) (place : ℕ) (is_ok : Bool) (new : StoreValue) (after : CacheValue) : Type 0 where
   pub first : ℕ
   pub is_first : IsNext (marked_packets old) (view_of source before) place first
   pub stepped : List ℕ
   pub next : ℕ
   pub cache : CacheValue
-  pub walk : Walks source old before place first stepped new cache next
+  pub walk : Walks tables source old before place first stepped new cache next
   pub ends : Ends place next cache is_ok after

@@ -8,10 +8,10 @@ ghost use Rattle.reference_frames.specs.Steps.{StepAnswers};
 ghost use Rattle.reference_frames.specs.States.{StateValue};
 ghost use Rattle.state_cache.specs.Costs.{Costs, most_steps};
 ghost use Rattle.state_cache.specs.Evictions.{Evicts, IsVictim, outcome_from, steps_from, without};
-ghost use Rattle.state_cache.specs.Reaching.{Begins, AnswersAt, IsNext, CachedAnswers, Converged, OthersDrop, OthersStay, Reaches, IterationAnswers, Reports, passed_marks, view_of};
-ghost use Rattle.state_cache.specs.Searches.{mark_at, next_of};
-ghost use Rattle.state_cache.specs.Walks.{Advances, IsAfterCached, IsPut, IsIteration, IsWalk, IsWalkStep, ConvergesWithSame, entries_with};
-ghost use Rattle.state_cache.specs.Views.{Drops, IsCoherent, is_usable, cached_at, cached_in, key_at, marked_packets, same_key, with_cached};
+ghost use Rattle.state_cache.specs.Reaching.{Begins, IsNext, Converged, OthersDrop, OthersStay, Reaches, passed_marks, view_of};
+ghost use Rattle.state_cache.specs.ProofsOnly.{next_of, Advances, IsAfterCached, AnswersAt, CachedAnswers, IterationAnswers, Reports};
+ghost use Rattle.state_cache.specs.Walks.{IsPut, IsIteration, IsWalk, IsWalkStep, ConvergesWithSame, entries_with};
+ghost use Rattle.state_cache.specs.Views.{Drops, IsCoherent, is_usable, cached_at, cached_in, key_at, marked_packets, same_key, with_cached, mark_at};
 
 use crate::counter::Counter;
 use crate::outcomes::{Broken, Kept, PacketKey, ReachFault};
@@ -115,7 +115,7 @@ impl Cache {
         ensures coherent { IsCoherent tables.now (marked_packets store.new) (view_of source self.new) }
         ensures others { OthersDrop source self.old self.new }
         ensures costs { Costs tables.now source store.old self.old place (is_ok result) store.new self.new }
-        ensures walks { IsWalk source store.old self.old place (is_ok result) store.new self.new }
+        ensures walks { IsWalk tables.now source store.old self.old place (is_ok result) store.new self.new }
     {
         self.holds_few();
         let mut next = self.next_step(source, store, place);
@@ -167,7 +167,7 @@ impl Cache {
         ensures capacity { self.new.capacity ≡ self.old.capacity }
         ensures bounded { length self.new.entries ≤ self.new.capacity }
         ensures advances { IfOk result (λ further. Advances tables.now source store.old self.old place next store.new self.new further) }
-        ensures walks { IfOk result (λ further. IsWalkStep source store.old self.old place next store.new self.new further) }
+        ensures walks { IfOk result (λ further. IsWalkStep tables.now source store.old self.old place next store.new self.new further) }
     {
         store.holds_few();
         let is_joined = match self.iterate(tables, source, store, next) {
@@ -251,7 +251,7 @@ impl Cache {
         let packet = store.packet(place);
         let spare = &mut self.spare;
         let answer = self.steps.step(self.alloc, tables, spare, state, packet);
-        outcome_at(place, steps_after(before), answer)
+        outcome_of_step(place, steps_after(before), answer)
     }
 
     /// Caches an outcome; if the cache is full, it then drops the victim. Returns whether an outcome
@@ -423,7 +423,7 @@ fn drop_into(outcome: Option<Kept>, spare: &mut Spare) {
 
 /// The answer of the step at `place` as an outcome of its packet, this number of steps from a key
 /// packet.
-fn outcome_at(
+fn outcome_of_step(
     place: usize,
     steps: u32,
     answer: Result<(State, Picture), StepFault>,

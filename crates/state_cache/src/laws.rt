@@ -6,7 +6,7 @@ ghost use Rattle.state_cache.specs.DecodingLaws.{BreaksAreNamed, EachHasOutcome,
 ghost use Rattle.state_cache.specs.EvictionLaws.{VictimIsUnique, WorkedVictims};
 ghost use Rattle.state_cache.specs.EditLaws.{DropsKeepCoherence, EditsKeepCoherence, EditsKeepIds, LaterIdsAreNotCached, NextIdIsNotCached};
 ghost use Rattle.state_cache.specs.CacheViews.{CoherentIsCacheView};
-ghost use Rattle.state_cache.specs.WalkLaws.{NextIsUnique, WalksStepInOrder};
+ghost use Rattle.state_cache.specs.WalkLaws.{NextIsUnique, WalksSettle, WalksStepInOrder};
 
 use vp8_tables::Tables;
 
@@ -72,6 +72,12 @@ pub fn next_is_unique()
 /// the index after the last one.
 pub fn walks_step_in_order()
     ensures { WalksStepInOrder }
+{}
+
+/// With room, each step of a walk leaves exactly one index fewer that is not settled, so a walk steps exactly the indexes that are
+/// not settled.
+pub fn walks_settle(tables: &Tables)
+    ensures { WalksSettle tables.now }
 {}
 
 /// A full cache drops one outcome, which is unique.

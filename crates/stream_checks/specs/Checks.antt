@@ -33,8 +33,8 @@ findings_next tables checker packet rest =
     findings_at checker.step checker.position packet rest (outcome_next tables checker packet) (ends_next tables checker packet)
 
 -- what is known of a hidden packet before the position is the answer for the packets after it
-abbrev pub Answers : Option Bool → List Packet → Type 0
-Answers unshown rest = IfSome unshown (λ answer. answer ≡ is_unshown rest)
+abbrev pub TellsUnshown : Option Bool → List Packet → Type 0
+TellsUnshown unshown rest = IfSome unshown (λ answer. answer ≡ is_unshown rest)
 
 -- the findings at the packets after the position
 abbrev pub findings_after : TableEntries → Checker → List Packet → List Finding

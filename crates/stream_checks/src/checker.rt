@@ -7,7 +7,7 @@ ghost use Rattle.stream_checks.specs.Packets.{first_position, listed_of, positio
 ghost use Rattle.stream_checks.specs.Partitions.{partition_findings};
 ghost use Rattle.stream_checks.specs.Severity.{tally_of};
 ghost use Rattle.stream_checks.specs.Texts.{texts_of};
-ghost use Rattle.stream_checks.specs.Checks.{Answers, findings_next, outcome_next};
+ghost use Rattle.stream_checks.specs.Checks.{TellsUnshown, findings_next, outcome_next};
 
 use crate::decoder::Decoder;
 use crate::fault::CheckFault;
@@ -96,7 +96,7 @@ impl Checker {
         requires room { self.old.position.packets + 1 < 2 ^ 64 }
         requires frames { self.old.position.frames ≤ self.old.position.packets }
         requires step { 1 ≤ self.old.step }
-        requires answers { Answers self.old.unshown (packet.now ∷ rest.now) }
+        requires answers { TellsUnshown self.old.unshown (packet.now ∷ rest.now) }
         ensures written { OnOk result (Appends (W.contents w.old) (W.contents w.new) (texts_of self.old.form (findings_next tables.now self.old packet.now rest.now))) }
         ensures counted { IfOk result (λ tally. tally ≡ tally_of (findings_next tables.now self.old packet.now rest.now)) }
         ensures few { IfOk result (λ tally. tally.damage + tally.notes ≤ 14) }
@@ -106,7 +106,7 @@ impl Checker {
         ensures position { OnOk result (self.new.position ≡ position_after self.old.step self.old.position packet.now) }
         ensures frames { OnOk result (self.new.position.frames ≤ self.new.position.packets) }
         ensures decoder { OnOk result (self.new.decoder ≡ left_by (outcome_next tables.now self.old packet.now)) }
-        ensures answers { OnOk result (Answers self.new.unshown rest.now) }
+        ensures answers { OnOk result (TellsUnshown self.new.unshown rest.now) }
     {
         let bytes = packet.bytes.as_slice();
         let place = self.position.packets;

@@ -4,7 +4,7 @@ ghost use Rattle.std.specs.Prelude.{◌≡◌, ◌+◌, ◌≤◌, IfErr, IfOk, 
 ghost use Rattle.std.specs.Io.KnownBytes.{Appends};
 ghost use Rattle.stream_files.specs.Ivf.{IsIvf};
 ghost use Rattle.stream_checks.specs.Files.{findings};
-ghost use Rattle.stream_checks.specs.Checks.{Answers, IsBegun, IsChecked, IsEarlyEnd, IsPacketEnd, findings_after, text_of_check};
+ghost use Rattle.stream_checks.specs.Checks.{TellsUnshown, IsBegun, IsChecked, IsEarlyEnd, IsPacketEnd, findings_after, text_of_check};
 ghost use Rattle.stream_checks.specs.Severity.{tally_of};
 ghost use Rattle.stream_checks.specs.Texts.{texts_of};
 
@@ -32,7 +32,7 @@ fn write_packets<W: Write, P: Progress>(
     requires few { checker.position.packets + length packets.now ≤ 1048576 }
     requires frames { checker.position.frames ≤ checker.position.packets }
     requires step { 1 ≤ checker.step }
-    requires answers { Answers checker.unshown packets.now }
+    requires answers { TellsUnshown checker.unshown packets.now }
     ensures written { OnOk result (Appends (W.contents w.old) (W.contents w.new) (texts_of checker.form (findings_after tables.now checker packets.now))) }
     ensures counted { IfOk result (λ tally. tally ≡ tally_of (findings_after tables.now checker packets.now)) }
     ensures few { IfOk result (λ tally. tally.damage + tally.notes ≤ 14680064) }

@@ -139,5 +139,5 @@ line_of facts =
     ++ cause_column facts ++ file_columns facts ++ color_columns facts.tag facts.header
 
 -- the list of a stream whose first record begins at this byte: the names of the columns, and a line a packet
-abbrev pub listing_of : ℕ → List Packet → List ℕ
-listing_of begins packets = head_line ++ flat_map line_of (facts_in begins packets)
+abbrev pub list_text : ℕ → List Packet → List ℕ
+list_text begins packets = head_line ++ flat_map line_of (facts_in begins packets)

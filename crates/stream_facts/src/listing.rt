@@ -4,7 +4,7 @@ ghost use Rattle.std.specs.Prelude.{◌≡◌, ◌+◌, ◌^◌, ◌<◌, ◌≤
 ghost use Rattle.std.specs.Io.KnownBytes.{Appends};
 ghost use Rattle.stream_files.specs.Ivf.{IsIvf, header_length};
 ghost use Rattle.stream_facts.specs.Facts.{records_length};
-ghost use Rattle.stream_facts.specs.Lines.{head_line, listing_of};
+ghost use Rattle.stream_facts.specs.Lines.{head_line, list_text};
 
 use crate::facts::Position;
 use crate::lines::{write_line, write_text};
@@ -27,7 +27,7 @@ pub(crate) fn first_record(bytes: &[u8]) -> usize
 /// Writes a line for each packet, the first of whose records begins at this byte of the file.
 fn write_all<W: Write>(w: &mut W, begins: usize, packets: &[Packet]) -> Result<(), WriteFault>
     requires { begins + records_length packets.now < 2 ^ 63 }
-    ensures { OnOk result (Appends (W.contents w.old) (W.contents w.new) (listing_of begins packets.now)) }
+    ensures { OnOk result (Appends (W.contents w.old) (W.contents w.new) (list_text begins packets.now)) }
 {
     write_text(w, HEAD)?;
     let mut position = Position::first(begins);
@@ -42,7 +42,7 @@ fn write_all<W: Write>(w: &mut W, begins: usize, packets: &[Packet]) -> Result<(
 /// facts. Only headers are read.
 pub fn write_listing<W: Write>(w: &mut W, bytes: &[u8], file: &Ivf) -> Result<(), WriteFault>
     requires { IsIvf bytes.now file.now }
-    ensures { OnOk result (Appends (W.contents w.old) (W.contents w.new) (listing_of (header_length bytes.now) file.now.packets)) }
+    ensures { OnOk result (Appends (W.contents w.old) (W.contents w.new) (list_text (header_length bytes.now) file.now.packets)) }
 {
     write_all(w, first_record(bytes), file.packets.as_slice())
 }

@@ -126,8 +126,8 @@ fn make(alloc: Global, store: &mut Store, other: &Store, edit: Edit) -> Result<(
         Edit::Replace(at, bytes) => store.replace(at, bytes_of(alloc, bytes)?),
         Edit::Delete(at) => store.delete(at),
         Edit::Move(from, to) => store.move_to(from, to),
-        Edit::Copy(at, from) => store.copy_from(alloc, at, other, from),
-        Edit::CopyWithin(at, from) => store.copy_within(alloc, at, from),
+        Edit::Copy(at, from) => store.copy_from(at, other, from),
+        Edit::CopyWithin(at, from) => store.copy_within(at, from),
         Edit::Mark(place) => {
             mark_at(store, place);
             Ok(())

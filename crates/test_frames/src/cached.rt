@@ -3,11 +3,11 @@
 use crate::expected::expect_run;
 use frame_session::{Edit, Session};
 use pixel_planes::same;
-use test_fixtures::{HIDDEN, INTER, KEY, Run, ivf_of, run_packets, run_with, y4m_of};
 use std::alloc::Global;
 use std::process::Abort;
 use std::test::Fail;
 use stream_files::{Bytes, ivf_read};
+use test_fixtures::{HIDDEN, INTER, KEY, Run, ivf_of, run_packets, run_with, y4m_of};
 use vp8_tables::Tables;
 
 const LINE: &[u8] = b"YUV4MPEG2 W16 H16 F30:1 Ip C420jpeg\n";
@@ -23,6 +23,19 @@ const REPLACEMENT_BY_THE_SAME: Run = Run {
     requests: b"frame 3\nstats\nreplace 1 110000\nframe 3\nstats\n",
     replies: b"served 3\ndecoded 4\nok 4\nserved 3\ndecoded 6\n",
     frames: Some((LINE, &[&[(384, 0x80)], &[(384, 0x80)]])),
+};
+
+// A frame before the mark leaves it where it is, so the states converge at packet 2 afterwards.
+#[test]
+fn a_frame_before_the_mark(rt: HostRuntime) -> Result<(), Fail> {
+    expect_run(&rt, rt.alloc(), &FRAME_BEFORE_THE_MARK)
+}
+
+const FRAME_BEFORE_THE_MARK: Run = Run {
+    packets: &[KEY, INTER, INTER, INTER],
+    requests: b"frame 3\nreplace 1 110000\nframe 1\nframe 3\nstats\n",
+    replies: b"served 3\nok 4\nserved 1\nserved 3\ndecoded 6\n",
+    frames: Some((LINE, &[&[(384, 0x80)], &[(384, 0x80)], &[(384, 0x80)]])),
 };
 
 // A key packet is inserted, and after it the states converge.

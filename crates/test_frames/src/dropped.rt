@@ -1,8 +1,8 @@
 //! Packets of no bytes, which drop a frame: the last reference is shown again.
 
 use crate::expected::expect_run;
-use test_fixtures::{INTER, KEY, Run, run_packets, y4m_of};
 use std::test::Fail;
+use test_fixtures::{INTER, KEY, Run, run_packets, y4m_of};
 
 const LINE: &[u8] = b"YUV4MPEG2 W16 H16 F30:1 Ip C420jpeg\n";
 

@@ -1,11 +1,11 @@
 use crate::expected::expect_run;
 use frame_header::Cause;
 use frame_session::{Edit, Refusal, Session};
-use test_fixtures::{HIDDEN, INTER, KEY, Run, WIDE_KEY, ivf_of, run_over, run_packets};
 use std::alloc::Global;
 use std::process::Abort;
 use std::test::Fail;
 use stream_files::{Bytes, EMPTY, ivf_read};
+use test_fixtures::{HIDDEN, INTER, KEY, Run, WIDE_KEY, ivf_of, run_over, run_packets};
 use vp8_tables::Tables;
 
 #[test]

@@ -1,7 +1,7 @@
-use test_fixtures::{Run, replies_of};
 use std::alloc::Global;
 use std::process::Abort;
 use std::test::Fail;
+use test_fixtures::{Run, replies_of};
 
 /// Runs requests, and compares what they give. A test that only calls this is proved in a second or
 /// two.

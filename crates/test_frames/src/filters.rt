@@ -1,9 +1,9 @@
 //! Frames with a loop filter, and frames with segments.
 
 use bool_coder::Encoder;
-use test_fixtures::{INTER, filtered_packet, inter_packet_of, run_packets, write_y2, y4m_of};
 use std::alloc::Global;
 use std::test::Fail;
+use test_fixtures::{INTER, filtered_packet, inter_packet_of, run_packets, write_y2, y4m_of};
 
 /// The places of the luma modes DC and V.
 const DC: usize = 0;

@@ -1,5 +1,5 @@
-use test_fixtures::{HIDDEN, INTER, KEY, WIDE_KEY, run_over, run_packets, y4m_of};
 use std::test::Fail;
+use test_fixtures::{HIDDEN, INTER, KEY, WIDE_KEY, run_over, run_packets, y4m_of};
 
 /// The line of a stream of 16 by 16 samples at 30 frames a second.
 const LINE: &[u8] = b"YUV4MPEG2 W16 H16 F30:1 Ip C420jpeg\n";

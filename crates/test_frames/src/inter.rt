@@ -1,7 +1,9 @@
 //! Frames that are no key frames.
 
-use test_fixtures::{HIDDEN, INTER, KEY, Macroblock, inter_packet, key_packet, run_packets, y4m_of};
 use std::test::Fail;
+use test_fixtures::{
+    HIDDEN, INTER, KEY, Macroblock, inter_packet, key_packet, run_packets, y4m_of,
+};
 
 const LINE: &[u8] = b"YUV4MPEG2 W16 H16 F30:1 Ip C420jpeg\n";
 

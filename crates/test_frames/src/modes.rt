@@ -1,8 +1,8 @@
 //! Key frames of each prediction mode.
 
-use test_fixtures::{B, Macroblock, key_packet, run_packets, y4m_of};
 use std::alloc::{AllocError, Global};
 use std::test::Fail;
+use test_fixtures::{B, Macroblock, key_packet, run_packets, y4m_of};
 
 const LINE: &[u8] = b"YUV4MPEG2 W16 H16 F30:1 Ip C420jpeg\n";
 

@@ -1,9 +1,9 @@
 //! Key frames with residuals.
 
 use bool_coder::Encoder;
-use test_fixtures::{first_partition, packet_of, run_packets, write_y2, y4m_of};
 use std::alloc::{AllocError, Global};
 use std::test::Fail;
+use test_fixtures::{first_partition, packet_of, run_packets, write_y2, y4m_of};
 
 /// The Y2 coefficients of nine macroblocks, one below another.
 const FIRSTS: [i8; 9] = [1, -1, 0, 1, 1, -1, 0, -1, 1];

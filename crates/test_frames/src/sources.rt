@@ -3,11 +3,11 @@
 use crate::edits::{expect_edit, expect_refused};
 use frame_header::Cause;
 use frame_session::{Edit, Refusal, RunFault, Session};
-use test_fixtures::{INTER, KEY, Ran, WIDE_KEY, ivf_of, run_sources, y4m_of};
 use std::alloc::Global;
 use std::process::Abort;
 use std::test::Fail;
 use stream_files::{IvfFault, ivf_read};
+use test_fixtures::{INTER, KEY, Ran, WIDE_KEY, ivf_of, run_sources, y4m_of};
 use vp8_tables::Tables;
 
 const LINE: &[u8] = b"YUV4MPEG2 W16 H16 F30:1 Ip C420jpeg\n";

@@ -1,10 +1,10 @@
 use frame_session::{RunFault, run};
-use test_fixtures::{INTER, KEY, ivf_of, run_over};
 use std::alloc::{AllocError, Global};
 use std::io::{self, ErrorKind, Write};
 use std::process::Abort;
 use std::test::Fail;
 use stream_files::IvfFault;
+use test_fixtures::{INTER, KEY, ivf_of, run_over};
 use vp8_tables::Tables;
 
 // A cut last record is dropped, and its bytes are reported as spare.

@@ -3,11 +3,11 @@
 use crate::expected::expect_run;
 use crate::files::{NEVER, Refusing};
 use frame_session::{Edit, Refusal, RunFault, Session, run};
-use test_fixtures::{HIDDEN, INTER, KEY, Ran, Run, ivf_of, run_over, run_packets, y4m_of};
 use std::alloc::Global;
 use std::process::Abort;
 use std::test::Fail;
 use stream_files::{EMPTY, Ivf, Packet, WriteFault, ivf_read};
+use test_fixtures::{HIDDEN, INTER, KEY, Ran, Run, ivf_of, run_over, run_packets, y4m_of};
 use vp8_tables::Tables;
 
 const LINE: &[u8] = b"YUV4MPEG2 W16 H16 F30:1 Ip C420jpeg\n";

@@ -1,9 +1,9 @@
 use bool_coder::Encoder;
 use frame_header::key_size;
-use test_fixtures::{INTER, KEY, packet_of, run_packets, write_bits};
 use std::alloc::Global;
 use std::process::Abort;
 use std::test::Fail;
+use test_fixtures::{INTER, KEY, packet_of, run_packets, write_bits};
 
 /// Asks for frame 0 of a stream of one packet, which is refused with this cause.
 fn refuses(rt: &impl Abort, alloc: Global, packet: &[u8], reply: &str) -> Result<(), Fail> {

@@ -2,11 +2,11 @@
 
 use crate::expected::expect_run;
 use frame_session::{Refusal, Session};
-use test_fixtures::{INTER, KEY, Run, ivf_of, run_packets, y4m_of};
 use std::alloc::Global;
 use std::process::Abort;
 use std::test::Fail;
 use stream_files::ivf_read;
+use test_fixtures::{INTER, KEY, Run, ivf_of, run_packets, y4m_of};
 use vp8_tables::Tables;
 
 const LINE: &[u8] = b"YUV4MPEG2 W16 H16 F30:1 Ip C420jpeg\n";

@@ -1,11 +1,11 @@
 use frame_header::Cause;
 use frame_session::{Refusal, Session};
 use pixel_planes::{Component, Picture};
-use test_fixtures::{INTER, KEY, WIDE_KEY, ivf_of};
 use std::alloc::Global;
 use std::process::Abort;
 use std::test::Fail;
 use stream_files::ivf_read;
+use test_fixtures::{INTER, KEY, WIDE_KEY, ivf_of};
 use vp8_tables::Tables;
 
 /// Whether a picture is that of the key packet of 16 by 16 samples, by some of its rows.

@@ -1,6 +1,8 @@
-//! Worked steps: the state and picture after a packet, what forged packets decode to, the MD5s of a clip's frames, and the list of packets.
+//! Worked steps: the state and picture after a packet, states that differ in one field, what forged packets decode to, the MD5s of a clip's frames, and the list of packets.
 #![tactic(auto)]
 
+#[cfg(test)]
+mod fields;
 #[cfg(test)]
 mod forged;
 #[cfg(test)]

@@ -16,7 +16,7 @@ fn state_after(rt: &impl Abort, alloc: Global, packet: &[u8]) -> State {
 }
 
 /// The state after the key packet.
-fn key_state(rt: &impl Abort, alloc: Global) -> State {
+pub(crate) fn key_state(rt: &impl Abort, alloc: Global) -> State {
     state_after(rt, alloc, &KEY)
 }
 
@@ -24,10 +24,15 @@ fn key_state(rt: &impl Abort, alloc: Global) -> State {
 /// digits and then with zeros. Its picture is 128 throughout, which the key packet's is not.
 fn inter_packet(alloc: Global, digits: &[u8]) -> Result<Vec<u8>, NoMemory> {
     let first = first_partition(alloc, digits)?;
+    inter_packet_of(alloc, first.as_slice())
+}
+
+/// A shown packet with no key tag and this first partition, of less than 2,048 bytes.
+pub(crate) fn inter_packet_of(alloc: Global, first: &[u8]) -> Result<Vec<u8>, NoMemory> {
     let mut packet = Vec::new(alloc);
     packet.push((0x11 + first.len() % 8 * 32) as u8)?;
     packet.extend_from_slice(&[(first.len() / 8 % 256) as u8, 0])?;
-    packet.extend_from_slice(first.as_slice())?;
+    packet.extend_from_slice(first)?;
     Ok(packet)
 }
 

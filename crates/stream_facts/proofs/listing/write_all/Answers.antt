@@ -7,7 +7,7 @@ use Rattle.stream_files.specs.declared.packets.Packet.{Packet}
 use Rattle.stream_facts.specs.declared.facts.Position.{Position}
 use Rattle.stream_facts.specs.Facts.{facts_from, facts_of, position_after, records_length}
 use Rattle.stream_facts.proofs.Records.{room_after}
-use Rattle.stream_facts.specs.Lines.{line_of, listing_of}
+use Rattle.stream_facts.specs.Lines.{line_of, list_text}
 use Rattle.stream_facts.proofs.listing.write_all.Goals as goal
 
 pub loop-packet-preserved : goal.loop-packet-preserved
@@ -33,6 +33,6 @@ pub returns : goal.returns
 returns g c =
     let done = c.loop-packet.invariant.done in
     let all : drop c.loop-packet.packet-index c.args.packets.now ≡ [] = drop_all c.loop-packet.packet-index c.args.packets.now (omega (arith, c.loop-packet-test.false)) in
-    let whole : done ≡ listing_of c.args.begins c.args.packets.now =
+    let whole : done ≡ list_text c.args.begins c.args.packets.now =
     sym (append-nil done) ∙ ap (λ (packets : List Packet). done ++ flat_map line_of (facts_from c.loop-packet.position packets)) (sym all) ∙ c.loop-packet.invariant.whole in
     subst (λ (text : List ℕ). Appends (g.W.Write.contents c.args.w.now) (g.W.Write.contents c.loop-packet.w) text) whole c.loop-packet.invariant.said

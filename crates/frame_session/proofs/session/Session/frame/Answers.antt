@@ -1,6 +1,7 @@
 use Rattle.std.proofs.Common.{◌≡◌, ◌∙◌, ℕ, List, true, Some, slice_set, rules, ap, subst, sym}
 use Rattle.state_cache.specs.Costs.{Costs}
 use Rattle.state_cache.specs.Reaching.{OthersDrop}
+use Rattle.state_cache.specs.Walks.{IsWalk}
 use Rattle.script_nodes.specs.Frames.{traced}
 use Rattle.script_nodes.specs.Scripts.{origin_of}
 use Rattle.frame_session.specs.Cached.{SessionValue, store_at}
@@ -23,8 +24,8 @@ returns-clause-costs c =
     let old = c.args.self.now in
     let source = c.in-Some.source in
     let T : SessionValue → Type 0 = λ v. traced c.shown_counts-counts.result.items v.now.script c.args.n ≡ Some (origin_of source c.in-Some.frame c.in-Some.trace) in
-    let P : SessionValue → Type 0 = λ v. Costs old.now.tables source (store_at old.stores source) old.cache c.in-Some-shown_place.place true (store_at v.stores source) v.cache × (v.stores ≡ slice_set old.stores source (store_at v.stores source)) × OthersDrop source old.cache v.cache in
+    let P : SessionValue → Type 0 = λ v. Costs old.now.tables source (store_at old.stores source) old.cache c.in-Some-shown_place.place true (store_at v.stores source) v.cache × IsWalk old.now.tables source (store_at old.stores source) old.cache c.in-Some-shown_place.place true (store_at v.stores source) v.cache × (v.stores ≡ slice_set old.stores source (store_at v.stores source)) × OthersDrop source old.cache v.cache in
     let from : T old = subst T c.self.view_is (ap (λ (k : List ℕ). traced k c.self.inside.script c.args.n) (sym c.deref.ensures.0) ∙ c.in-Some.ensures.some) in
-    let reached : P c.decoded_at.new.self = (c.in_ok-picture.ensures.costs, c.in_ok-picture.ensures.packets, c.in_ok-picture.ensures.others) in
+    let reached : P c.decoded_at.new.self = (c.in_ok-picture.ensures.costs, c.in_ok-picture.ensures.walks, c.in_ok-picture.ensures.packets, c.in_ok-picture.ensures.others) in
     let so = subst P (sym c.self-2.view_is) reached in
-    frame_costs old _ c.args.n c.shown_counts-counts.result.items source c.in-Some.frame c.in-Some-shown_place.place c.in-Some.trace c.in-Ok.made c.shown_counts-counts.ensures.value from c.in-Some-shown_place.ensures.place so.0 (record { packets = so.1; outcomes = so.2 })
+    frame_costs old _ c.args.n c.shown_counts-counts.result.items source c.in-Some.frame c.in-Some-shown_place.place c.in-Some.trace c.in-Ok.made c.shown_counts-counts.ensures.value from c.in-Some-shown_place.ensures.place so.0 so.1 (record { packets = so.2; outcomes = so.3 })

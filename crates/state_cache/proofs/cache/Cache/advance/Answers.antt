@@ -18,9 +18,9 @@ returns-else-is_joined-clause-advances c =
 pub returns-then-is_joined-clause-walks : goal.returns-then-is_joined-clause-walks
 returns-then-is_joined-clause-walks c =
     step_is c.args.tables.now c.args.source c.args.store.now c.iterate.new.store c.args.self.now c.iterate.new.self c.args.place c.args.next c.after_cached.result c.in-Ok.is_joined c.in-Ok.ensures.iterated c.iterate.ensures.counted c.iterate.ensures.capacity
-    c.requires.low (returns-then-is_joined-clause-advances c) (λ off. let on = c.if-is_joined.true in cc)
+    c.requires.low (returns-then-is_joined-clause-advances c) (λ off. let on = c.if-is_joined.true in cc) c.iterate.ensures.coherent
 
 pub returns-else-is_joined-clause-walks : goal.returns-else-is_joined-clause-walks
 returns-else-is_joined-clause-walks c =
     step_is c.args.tables.now c.args.source c.args.store.now c.iterate.new.store c.args.self.now c.iterate.new.self c.args.place c.args.next (c.args.next + 1) c.in-Ok.is_joined c.in-Ok.ensures.iterated c.iterate.ensures.counted c.iterate.ensures.capacity
-    c.requires.low (returns-else-is_joined-clause-advances c) (λ off. refl)
+    c.requires.low (returns-else-is_joined-clause-advances c) (λ off. refl) c.iterate.ensures.coherent

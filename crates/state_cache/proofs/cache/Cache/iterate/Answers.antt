@@ -1,6 +1,7 @@
 use Rattle.std.proofs.Common.{◌≡◌, true, false, Ok, ap, subst, sym}
 use Rattle.packet_edits.specs.Marks.{StoreValue}
-use Rattle.state_cache.specs.Reaching.{Begins, CacheValue, IterationAnswers, view_of}
+use Rattle.state_cache.specs.Reaching.{Begins, CacheValue, view_of}
+use Rattle.state_cache.specs.ProofsOnly.{IterationAnswers}
 use Rattle.state_cache.specs.Views.{IsCoherent, View, is_usable, marked_packets}
 use Rattle.state_cache.proofs.Reached.{turn_coherent, turn_fault, turn_usable}
 use Rattle.state_cache.proofs.Shows.{id_shown}

@@ -16,7 +16,7 @@ loop-next-init c =
       coherent = c.requires.coherent;
       next = c.next_step-next.ensures;
       so_far = walk_begins c.args.tables.now c.args.source c.args.store.now c.args.self.now c.args.place c.next_step-next.result c.next_step-next.ensures c.holds_few.ensures.most;
-      walk = walking_begins c.args.source c.args.store.now c.args.self.now c.args.place c.next_step-next.result c.next_step-next.ensures;
+      walk = walking_begins c.args.tables.now c.args.source c.args.store.now c.args.self.now c.args.place c.next_step-next.result c.next_step-next.ensures;
     }
 
 pub loop-next-preserved : goal.loop-next-preserved
@@ -29,7 +29,7 @@ loop-next-preserved c =
       next = c.in-Ok.ensures.advances.first;
       so_far = walk_more c.args.tables.now c.args.source c.args.store.now c.loop-next.store c.args.self.now c.loop-next.self c.args.place c.loop-next.next inv.so_far low inv.list c.advance.new.store c.advance.new.self c.in-Ok.further c.in-Ok.ensures.advances
           c.advance.ensures.counted c.advance.ensures.capacity c.advance.ensures.list;
-      walk = walking_more c.args.source c.args.store.now c.loop-next.store c.advance.new.store c.args.self.now c.loop-next.self c.advance.new.self c.args.place c.loop-next.next c.in-Ok.further inv.walk c.in-Ok.ensures.walks;
+      walk = walking_more c.args.tables.now c.args.source c.args.store.now c.loop-next.store c.advance.new.store c.args.self.now c.loop-next.self c.advance.new.self c.args.place c.loop-next.next c.in-Ok.further inv.walk c.in-Ok.ensures.walks;
     }
 
 pub returns-in-Err-clause-reaches : goal.returns-in-Err-clause-reaches
@@ -66,16 +66,16 @@ returns-clause-costs c =
 
 pub returns-in-Err-clause-walks : goal.returns-in-Err-clause-walks
 returns-in-Err-clause-walks c =
-    refused_walk c.args.source c.args.store.now c.loop-next.store c.advance.new.store c.args.self.now c.loop-next.self c.advance.new.self c.args.place c.loop-next.next c.loop-next.invariant.walk (search (rules, arith)) c.in-Err.ensures.refused.0 c.in-Err.ensures.refused.1
+    refused_walk c.args.tables.now c.args.source c.args.store.now c.loop-next.store c.advance.new.store c.args.self.now c.loop-next.self c.advance.new.self c.args.place c.loop-next.next c.loop-next.invariant.walk (search (rules, arith)) c.in-Err.ensures.refused.0 c.in-Err.ensures.refused.1
     c.advance.ensures.capacity c.advance.ensures.counted
 
 pub returns-clause-walks : goal.returns-clause-walks
 returns-clause-walks c =
     let up : c.args.place < c.loop-next.next = search (rules, arith) in
-    walk_arrives c.args.source c.args.store.now c.loop-next.store c.args.self.now c.loop-next.self c.args.place c.loop-next.next (is_ok c.answer.result) c.loop-next.invariant.walk up
+    walk_arrives c.args.tables.now c.args.source c.args.store.now c.loop-next.store c.args.self.now c.loop-next.self c.args.place c.loop-next.next (is_ok c.answer.result) c.loop-next.invariant.walk up
 
 pub returns-in-Err-clause-others : goal.returns-in-Err-clause-others
-returns-in-Err-clause-others c = walk_others c.args.source c.args.store.now c.advance.new.store c.args.self.now c.advance.new.self c.args.place false (returns-in-Err-clause-walks c)
+returns-in-Err-clause-others c = walk_others c.args.tables.now c.args.source c.args.store.now c.advance.new.store c.args.self.now c.advance.new.self c.args.place false (returns-in-Err-clause-walks c)
 
 pub returns-clause-others : goal.returns-clause-others
-returns-clause-others c = walk_others c.args.source c.args.store.now c.loop-next.store c.args.self.now c.loop-next.self c.args.place (is_ok c.answer.result) (returns-clause-walks c)
+returns-clause-others c = walk_others c.args.tables.now c.args.source c.args.store.now c.loop-next.store c.args.self.now c.loop-next.self c.args.place (is_ok c.answer.result) (returns-clause-walks c)

@@ -11,7 +11,7 @@ invariant-loop-next l = record {
   coherent : IsCoherent l.tables (marked_packets l.store) (view_of l.source l.self);
   next : IsNext (marked_packets l.store) (view_of l.source l.self) l.place l.next;
   so_far : SoFar l.tables l.source l.fn.store l.fn.self l.place l.store l.self l.next;
-  walk : Walking l.source l.fn.store l.fn.self l.place l.store l.self l.next;
+  walk : Walking l.tables l.source l.fn.store l.fn.self l.place l.store l.self l.next;
 }
 
 abbrev pub decreases-loop-next : goal.decreases-loop-next

@@ -1,0 +1,105 @@
+#!/usr/bin/env python3
+"""Refuses each request for memory of gate_memory in turn, and counts the requests of its frames. The gate runs it.
+
+    compare/growths.py [PROGRAM]
+
+It shows what no contract can say. Each call that was refused memory is made again, and then the program must print its usual
+text. Over a key packet and three others, P, P, P:
+
+- frame 3 makes the requests of these four steps, one for each state that is cached and no more, so no step is made beside those
+  that `stats` counts;
+- frame 3 again makes none, so a script without steps copies no picture;
+- after a replacement of packet 1 frame 3 makes fewer than three steps do, so decoding stops where the states converge.
+
+It prints nothing and ends with status 0 if all this holds. It takes the program that `rt ci` built; it needs Linux on x86-64.
+"""
+
+import os
+import pathlib
+import sys
+import tempfile
+from dataclasses import dataclass
+
+sys.dont_write_bytecode = True
+from traced import Program, traced  # noqa: E402
+
+GROWTHS = pathlib.Path(__file__).resolve().parent.parent / "crates/gate_memory"
+
+
+@dataclass
+class Ran:
+    """The result of a run: its exit status, what it wrote, and the number of its requests for memory."""
+
+    status: int
+    output: bytes
+    errors: str
+    requests: int
+
+
+def run(program, refuses, changes=None):
+    """Runs the program without input."""
+    with open(os.devnull, "rb") as nothing, tempfile.TemporaryFile() as output, tempfile.TemporaryFile() as errors:
+        files = {0: nothing.fileno(), 1: output.fileno(), 2: errors.fileno()}
+        ended = traced(program, [], files, refuses, changes)
+        output.seek(0)
+        errors.seek(0)
+        return Ran(ended.status, output.read(), errors.read().decode(errors="replace"), ended.requests)
+
+
+def requests_of_lines(program):
+    """A run with ample memory, and the number of requests for memory that come before each of its lines and after the line before."""
+    writes = []
+
+    def note(call):
+        if call.descriptor == 1:
+            writes.append((call.requests, call.length))
+
+    ran = run(program, lambda n: False, note)
+    made, place, last = {}, 0, 0
+    for requests, length in writes:
+        if place == 0 or ran.output[place - 1 : place] == b"\n":
+            line = ran.output[place:].partition(b"\n")[0].decode()
+            made[line.partition(":")[0]] = requests - last
+            last = requests
+        place += length
+    return ran, made
+
+
+def count_faults(made):
+    """What is wrong with the numbers of requests."""
+    first, again, after = made["frame 3"], made["frame 3 again"], made["frame 3 after that"]
+    key, steps = made["the key packet"], made["three steps from its state"]
+    if first > key + steps + 4:
+        yield f"frame 3 makes {first} requests for memory, its four steps {key} and {steps}, its four cached states one each"
+    if again != 0:
+        yield f"frame 3 again makes {again} requests for memory"
+    if after >= steps:
+        yield f"frame 3 makes {after} requests for memory after packet 1 is replaced, three steps {steps}"
+
+
+def refusal_faults(program, whole, requests):
+    """What is wrong with the runs in which one request is refused."""
+    for first in range(1, requests + 1):
+        ran = run(program, lambda n, first=first: n == first)
+        if (ran.status, ran.output, ran.errors) != (0, whole, ""):
+            yield f"request {first} is refused: status {ran.status}, {len(ran.output)} bytes, standard error {ran.errors!r}"
+
+
+def all_faults(program):
+    """What is wrong, and the numbers of requests and of runs."""
+    whole = (GROWTHS / "stdout").read_bytes()
+    ample, made = requests_of_lines(program)
+    found = [] if (ample.status, ample.output, ample.errors) == (0, whole, "") else ["another text with ample memory"]
+    return [*found, *count_faults(made), *refusal_faults(program, whole, ample.requests)], made, ample.requests
+
+
+def main():
+    program = Program(sys.argv[1] if len(sys.argv) > 1 else str(GROWTHS / "out/gate_memory"))
+    found, _, _ = all_faults(program)
+    for fault in found:
+        print(f"gate_memory: {fault}")
+    return 1 if found else 0
+
+
+if __name__ == "__main__":
+    sys.exit(main())

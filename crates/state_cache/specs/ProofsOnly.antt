@@ -1,0 +1,66 @@
+-- For proofs only: what the contracts of private functions cite. No public contract depends on this file.
+use Rattle.std.specs.Prelude.{◌≡◌, ℕ, ◌+◌, ◌<◌, ◌≤◌, ◌⊎◌, true, false, List, ◌∷◌, length, slice_get, Option, Some, None, IsSome, Result, Ok, Err}
+use Rattle.vp8_tables.specs.Tables.{TableEntries}
+use Rattle.frame_header.specs.declared.cause.Cause.{Cause}
+use Rattle.pixel_planes.specs.Pictures.{PictureSamples}
+use Rattle.reference_frames.specs.declared.states.State.{State}
+use Rattle.reference_frames.specs.Steps.{step_of}
+use Rattle.packet_edits.specs.Edits.{Listing}
+use Rattle.packet_edits.specs.Marks.{StoreValue}
+use Rattle.packet_edits.specs.Shown.{stream_of}
+use Rattle.state_cache.specs.declared.outcomes.Kept.{Kept}
+use Rattle.state_cache.specs.declared.outcomes.ReachFault.{ReachFault}
+use Rattle.state_cache.specs.declared.outcomes.ReachFault.TheVariants.{Refused, NoMemory}
+use Rattle.state_cache.specs.Costs.{AreUnsettled, HasRoom, IsIdOf, IsOneRun, IsSettled}
+use Rattle.state_cache.specs.Decoding.{outcomes}
+use Rattle.state_cache.specs.Reaching.{CacheValue, IsNext, state_from, view_of}
+use Rattle.state_cache.specs.Views.{MarkedPacket, View, cached_at, marked_packets, outcome_at, step_result}
+
+-- the index after the one that was found, or another one
+abbrev pub next_of : Option ℕ → ℕ → ℕ
+next_of (Some found) place = found + 1
+next_of None place = place
+
+-- the answer of a step at an index: its good outcome, its cause with that index, or that there was no memory
+abbrev pub AnswersAt : ℕ → Result (State × PictureSamples) Cause → Result Kept ReachFault → Type 0
+AnswersAt place want (Ok kept) = want ≡ Ok (step_result kept)
+AnswersAt place want (Err (Refused broken)) = (want ≡ Err broken.cause) × (broken.place ≡ place)
+AnswersAt place want (Err NoMemory) = Unit {0}
+
+-- the answer is the answer of the step of the packet at an index
+abbrev pub IterationAnswers : TableEntries → List MarkedPacket → View → ℕ → Result Kept ReachFault → Type 0
+IterationAnswers tables packets kept place result = (packet : MarkedPacket) × (slice_get packets place ≡ Some packet) × AnswersAt place (step_of tables (state_from packets kept place) packet.bytes) result
+
+-- a refusal names the index at which decoding finds the stream broken
+abbrev pub Reports : TableEntries → Listing → ℕ → ReachFault → Type 0
+Reports tables list place (Refused broken) = slice_get (outcomes tables (stream_of list)) place ≡ Some (Err broken)
+Reports tables list place NoMemory = Unit {0}
+
+-- the answer is the outcome cached at an index, or that there was no memory
+abbrev pub CachedAnswers : List MarkedPacket → View → ℕ → Result Kept ReachFault → Type 0
+CachedAnswers packets kept place (Ok outcome) = outcome_at packets kept place ≡ Some outcome
+CachedAnswers packets kept place (Err (Refused broken)) = ⊥
+CachedAnswers packets kept place (Err NoMemory) = Unit {0}
+
+-- the index after the last cached one of a run, from `first` up to `place`
+pub record IsAfterCached (packets : List MarkedPacket) (kept : View) (first place next : ℕ) : Type 0 where
+  pub last : ℕ
+  pub next_is : next ≡ last + 1
+  pub from : first ≤ last
+  pub within : last ≤ place
+  pub one_run : IsOneRun packets first last
+  pub is_cached : cached_at packets kept last ≡ true
+  pub greatest : (p : ℕ) → last < p → p ≤ place → IsOneRun packets first p → cached_at packets kept p ≡ false
+
+-- a cached step on the way to an index: the walk continues after it, and exactly one index fewer is not settled
+pub record Advances (tables : TableEntries) (source : ℕ) (old : StoreValue) (before : CacheValue) (place next : ℕ) (new : StoreValue) (after : CacheValue) (further : ℕ) : Type 0 where
+  pub first : IsNext (marked_packets new) (view_of source after) place further
+  pub following : next < further
+  pub number : length before.entries ≤ length after.entries
+  pub of_packets : (id : ℕ) → IsSome (view_of source after id) → IsSome (view_of source before id) ⊎ IsIdOf old.list id
+  pub room : HasRoom source old.list before next place → HasRoom source new.list after further place
+  pub stays : HasRoom source old.list before next place → (any id : ℕ) → IsSome (view_of any before id) → IsSome (view_of any after id)
+  pub keeps : HasRoom source old.list before next place → (p : ℕ) → next ≤ p → p ≤ place → (IsSettled tables (marked_packets old) (view_of source before) place p → ⊥)
+      → (cached_at (marked_packets new) (view_of source after) p ≡ true) ⊎ ((further ≤ p) × (IsSettled tables (marked_packets new) (view_of source after) place p → ⊥))
+  pub fewer : HasRoom source old.list before next place → (places : List ℕ) → AreUnsettled tables (marked_packets old) (view_of source before) next place places
+      → (rest : List ℕ) × (places ≡ next ∷ rest) × AreUnsettled tables (marked_packets new) (view_of source after) further place rest
