@@ -182,6 +182,17 @@ class Contents:
         """The facts of packets, as vp8list has them."""
         return self.listed.of_range(self.source(source), numbers)
 
+    @property
+    def rate(self):
+        """Rate and scale of the frames that are served."""
+        head = self.inputs.all[0].head
+        return (head.rate, head.scale) if head.rate and head.scale else (30, 1)
+
+    def shown_kinds(self, source):
+        """For each shown packet of a source its kind, `key` or `inter`."""
+        tags = (self.bytes(number, 3) for number in self.streams[source])
+        return ["key" if ivf.is_key(tag) else "inter" for tag in tags if ivf.is_shown(tag)]
+
     def pieces(self, source=0):
         """The text of an IVF file of the packets of a source, piece by piece."""
         stream = self.streams[source]

@@ -67,6 +67,11 @@ def is_key(data):
     return len(data) >= 3 and not data[0] & 1
 
 
+def is_shown(data):
+    """Whether a packet is shown as a frame: bit 4 of its tag is 1, or it has no tag."""
+    return len(data) < 3 or bool(data[0] & 16)
+
+
 def key_size(data):
     """The width and height that a key packet of at least 10 bytes gives, or None."""
     if not is_key(data) or len(data) < 10 or data[3:6] != b"\x9d\x01\x2a":

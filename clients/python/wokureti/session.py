@@ -307,6 +307,18 @@ class Session:
         with self._locked(None):
             return self._edits.contents().facts(numbers, source)
 
+    @property
+    def rate(self):
+        """The frames a second of the frames that are served, as a pair: rate and scale of source 0, or 30 and 1 if either is 0."""
+        with self._locked(None):
+            return self._edits.contents().rate
+
+    def shown_kinds(self):
+        """For each shown packet of source 0 `key` or `inter`: those of the frames, if there is no script. None if there is one."""
+        with self._locked(None):
+            contents = self._edits.contents()
+            return contents.shown_kinds(0) if contents.script == "-" else None
+
     def save(self, path, pad=False, source=0):
         """Writes the current packets of a source as an IVF file now, as `--save` does at the end."""
         with self._locked(None):
