@@ -3,27 +3,26 @@
     import vapoursynth as vs
     from wokureti_source import source
 
-    clip, session = source("in.ivf", cache=64)
-    session.script("fade 0 24 24 256 0")   # before frames are asked for: VapourSynth caches frames
+    clip, session = source("in.ivf", script="fade 0 24 24 256 0", cache=64)
     clip.set_output()
+
+A session that is open can be given instead of a path, after its edits:
+
+    session = Session("in.ivf")
+    session.delete(range(0, 50))
+    clip, session = source(session)
 
 Put this folder and ../python on PYTHONPATH, and vp8serve on PATH.
 """
 
 from fractions import Fraction
 import ctypes
-import struct
-import threading
 
 import vapoursynth as vs
-from wokureti import Session
+from wokureti import Refused, Session
 
-
-def _rate(stream):
-    """The rate of an IVF file; 30 where it has none, as vp8serve takes it."""
-    with open(stream, "rb") as file:
-        rate, scale = struct.unpack("<II", file.read(24)[16:24])
-    return Fraction(rate, scale) if rate and scale else Fraction(30)
+# What VP8 is: BT.601, limited range, chroma samples in the middle of four (as in JPEG), frames that are not interlaced.
+PROPERTIES = {"_Matrix": 6, "_ColorRange": 1, "_ChromaLocation": 1, "_FieldBased": 0}
 
 
 def _write(frame, index, plane):
@@ -35,29 +34,61 @@ def _write(frame, index, plane):
         ctypes.memmove(start + row * stride, samples[row * width : (row + 1) * width], width)
 
 
-def source(stream, **options):
-    """A clip of the frames that vp8serve serves of an IVF file, and the session, for edits and scripts.
+def _first_size(session, count):
+    """The size of the first frame that is served: the program then refuses frames of another size."""
+    refused = None
+    for number in range(count):
+        try:
+            first = session.frame(number)
+            return first.width, first.height
+        except Refused as error:
+            refused = refused or error
+    if refused:
+        raise refused
+    raise ValueError("the stream has no frames: VapourSynth has no clips without frames")
 
-    The options are those of `wokureti.Session`. The sides of the frames must be even. Frames that were refused raise an error
-    with the reply.
+
+def source(stream, script=None, **options):
+    """A clip of the frames that vp8serve serves, and the session, for edits.
+
+    `stream` is the path of an IVF file, and the options are those of `wokureti.Session`; or it is a session. `script` is set before the
+    first frame is served, which fixes the size: a text, or a `wokureti.Script`. The clip has the frames that the stream has now, and
+    VapourSynth caches frames: make a new clip after an edit.
+
+    The sides of the frames must be even. A frame that is refused raises an error with the reply when it is asked for. Each frame has the
+    properties `_Matrix`, `_ColorRange`, `_ChromaLocation` and `_FieldBased`, and `_PictType` if there is no script.
     """
-    session = Session(stream, **options)
+    session = stream if isinstance(stream, Session) else Session(stream, **options)
+    try:
+        return _clip(session, script), session
+    except BaseException:
+        if session is not stream:
+            session.kill()
+        raise
+
+
+def _clip(session, script):
+    if script is not None:
+        session.script(script)
     count = session.count().frames
-    first = session.frame(0)
-    if first.width % 2 or first.height % 2:
-        raise ValueError(f"{stream} has frames of {first.width}x{first.height} samples: VapourSynth's YUV420P8 needs even sides")
-    rate = _rate(stream)
+    width, height = _first_size(session, count)
+    if width % 2 or height % 2:
+        raise ValueError(f"the frames have {width}x{height} samples: VapourSynth's YUV420P8 needs even sides")
+    rate = Fraction(*session.rate)
     blank = vs.core.std.BlankClip(
-        format=vs.YUV420P8, width=first.width, height=first.height, length=count, fpsnum=rate.numerator, fpsden=rate.denominator
+        format=vs.YUV420P8, width=width, height=height, length=count, fpsnum=rate.numerator, fpsden=rate.denominator
     )
-    one_at_a_time = threading.Lock()
+    kinds = session.shown_kinds()
 
     def serve(n, f):
-        with one_at_a_time:
-            served = session.frame(n)
+        served = session.frame(n)
         frame = f.copy()
         for index, plane in enumerate((served.y, served.u, served.v)):
             _write(frame, index, plane)
+        for name, value in PROPERTIES.items():
+            frame.props[name] = value
+        if kinds is not None:
+            frame.props["_PictType"] = "I" if kinds[n] == "key" else "P"
         return frame
 
-    return vs.core.std.ModifyFrame(blank, clips=blank, selector=serve), session
+    return vs.core.std.ModifyFrame(blank, clips=blank, selector=serve)

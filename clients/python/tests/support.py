@@ -1,0 +1,111 @@
+"""What the tests share: the programs, small clips, and a time limit for each test."""
+
+import contextlib
+import hashlib
+import os
+import pathlib
+import signal
+import subprocess
+import sys
+import tempfile
+import time
+import unittest
+
+TOP = pathlib.Path(__file__).resolve().parents[3]
+sys.path.insert(0, str(TOP / "clients/python"))
+
+from wokureti import Session, ivf, programs  # noqa: E402
+
+# The programs of this tree are tested, not others that may be on the PATH.
+for name in ("vp8serve", "vp8list"):
+    built = programs.TREE / "crates" / name / "out" / name
+    if built.is_file():
+        os.environ.setdefault(name.upper(), str(built))
+
+CLIP = TOP / "examples/mandelbrot.ivf"
+DATA = TOP / "crates/gate_clips/data"
+SMALL = DATA / "small.ivf"
+ODD = DATA / "odd-size.ivf"
+
+
+class Case(unittest.TestCase):
+    """A test that may take LIMIT seconds."""
+
+    LIMIT = 20
+
+    def setUp(self):
+        def late(number, frame):
+            raise AssertionError(f"the test took longer than {self.LIMIT} seconds")
+
+        signal.signal(signal.SIGALRM, late)
+        signal.setitimer(signal.ITIMER_REAL, self.LIMIT)
+        self.addCleanup(signal.setitimer, signal.ITIMER_REAL, 0)
+
+    def folder(self):
+        """A new folder, which goes after the test."""
+        room = tempfile.TemporaryDirectory()
+        self.addCleanup(room.cleanup)
+        return pathlib.Path(room.name)
+
+    def session(self, stream=SMALL, **options):
+        """A session that is ended after the test."""
+        session = Session(stream, **options)
+        self.addCleanup(session.kill)
+        return session
+
+    def assertGone(self, pid):
+        """The process ends within a second."""
+        limit = time.monotonic() + 1
+        while is_alive(pid):
+            self.assertLess(time.monotonic(), limit, f"process {pid} is alive")
+            time.sleep(0.01)
+
+    @contextlib.contextmanager
+    def within(self, seconds):
+        """The block takes at most this long."""
+        start = time.monotonic()
+        yield
+        self.assertLess(time.monotonic() - start, seconds)
+
+
+def is_alive(pid):
+    """Whether a process runs; one that ended and was not waited for does not."""
+    try:
+        with open(f"/proc/{pid}/stat") as file:
+            return file.read().rsplit(")", 1)[1].split()[0] != "Z"
+    except OSError:
+        return False
+
+
+def process_of(session):
+    return session._pipes.process.pid
+
+
+def digest(frame):
+    return hashlib.md5(frame.i420()).hexdigest()
+
+
+def packets_of(path):
+    """The packets of an IVF file."""
+    return [data for _, data in ivf.read_packets(path)[1]]
+
+
+def serve(stream, lines, *options, frames="-"):
+    """The replies of a run of the program on a list of requests."""
+    words = [programs.find("vp8serve"), str(stream), "-", str(frames), *map(str, options)]
+    given = "".join(f"{line}\n" for line in lines)
+    return subprocess.run(words, input=given, capture_output=True, text=True, timeout=20, check=True).stdout.splitlines()
+
+
+def frames_of(stream, numbers, *lines_before):
+    """The samples of the frames that a run of the program writes."""
+    with tempfile.TemporaryDirectory() as room:
+        out = os.path.join(room, "out.y4m")
+        serve(stream, [*lines_before, *(f"frame {number}" for number in numbers)], frames=out)
+        with open(out, "rb") as file:
+            header = file.readline()
+            rest = file.read()
+    from wokureti.frames import parse_header, size_of
+
+    size = 6 + size_of(*parse_header(header))
+    return [rest[start + 6 : start + size] for start in range(0, len(rest), size)]

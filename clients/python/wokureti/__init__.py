@@ -1,0 +1,23 @@
+"""A client of vp8serve: look at a frame, decide, edit, look again.
+
+    from wokureti import Session, Refused
+
+    with Session("in.ivf", save="out.ivf") as session:
+        for number in range(session.count().frames):
+            try:
+                session.frame(number)
+            except Refused as refused:
+                session.hold(refused.packet)
+                session.delete(refused.packet + 1)
+                break
+
+Each call writes one request line to `vp8serve --live` and waits for its reply. docs/requests.md has the requests and refusals.
+"""
+
+from .edits import EditList
+from .errors import Ended, Refused
+from .frames import Frame
+from .scripts import Script
+from .session import Count, Session
+
+__all__ = ["Count", "EditList", "Ended", "Frame", "Refused", "Script", "Session"]

@@ -1,0 +1,93 @@
+"""The arguments of a session, checked before they reach the program."""
+
+import operator
+import os
+
+MOST = (1 << 64) - 1
+
+
+def number(value):
+    """A number of a request: 0 to 2^64 - 1."""
+    value = operator.index(value)
+    if not 0 <= value <= MOST:
+        raise ValueError(f"{value} is not between 0 and {MOST}")
+    return value
+
+
+def indexes(value):
+    """The packets that a number or a range names, the last one first."""
+    if isinstance(value, range):
+        return sorted((number(index) for index in value), reverse=True)
+    return [number(value)]
+
+
+def hexadecimal(data):
+    """The bytes of a packet as a word of a request."""
+    try:
+        return bytes(memoryview(data)).hex() or "-"
+    except TypeError:
+        raise TypeError(f"a packet is bytes, not {type(data).__name__}") from None
+
+
+def node(text):
+    """The text of a node of a script, or of several."""
+    text = str(text)
+    for mark, name in (("\n", "a newline"), ("\r", "a carriage return"), ("\0", "a zero byte")):
+        if mark in text:
+            raise ValueError(f"a script is one line, and {text!r} has {name}")
+    return text
+
+
+def line(text):
+    """A request line, as bytes without its newline. Lines without a word, and comments, have no reply and are no request."""
+    if "\n" in text:
+        raise ValueError(f"not one request, but several lines: {text!r}")
+    words = (text[:-1] if text.endswith("\r") else text).strip(" ")
+    if not words or words.startswith("#"):
+        raise ValueError(f"not a request: {text!r}")
+    return text.encode()
+
+
+def path(value):
+    """A path as an argument of the program, which takes a word that begins with `-` for an option."""
+    word = os.fsdecode(value)
+    try:
+        word.encode()
+    except UnicodeEncodeError:
+        raise ValueError(f"vp8serve takes only paths in UTF-8, and {word!r} is not") from None
+    if not word or "\0" in word:
+        raise ValueError(f"not a path: {word!r}")
+    return f"./{word}" if word.startswith("-") else word
+
+
+def stream(value):
+    """The path of a stream; `-` is an empty one."""
+    return "-" if os.fsdecode(value) == "-" else path(value)
+
+
+def sources(values):
+    """The paths of source 1 and the ones after it."""
+    if isinstance(values, (str, bytes, os.PathLike)):
+        raise TypeError(f"sources is a list of paths, not the path {os.fsdecode(values)!r}")
+    words = [stream(value) for value in values]
+    if len(words) > 7:
+        raise ValueError(f"{len(words)} sources, but 7 are the most: the stream itself is source 0")
+    for word in words:
+        if ":" in word:
+            raise ValueError(f"{word!r} cannot be a source: vp8serve separates the paths of sources by `:`. Use a link with another name")
+    return words
+
+
+def outputs(path, others, name):
+    """A file that is written must be none of the others, also under another name: that one would be lost."""
+    for other in others:
+        if other != "-" and is_same_file(path, other):
+            raise ValueError(f"{os.fsdecode(path)!r} and {os.fsdecode(other)!r} are one file: name another file for {name}")
+
+
+def is_same_file(one, other):
+    """Whether two paths name one file, there or not yet. Devices and pipes, as /dev/null, may be named twice."""
+    try:
+        return os.path.samefile(one, other) and os.path.isfile(one)
+    except OSError:
+        return os.path.realpath(one) == os.path.realpath(other)

@@ -1,0 +1,209 @@
+"""The packets of a session as they are after its edits: the program has them too, but does not give them out."""
+
+from array import array
+from typing import NamedTuple
+
+from . import checks, files, ivf, runs
+from .facts import Facts
+from .inputs import is_input
+
+
+class Operation(NamedTuple):
+    """A change of the packets of a source that was made, or that takes one back. `numbers` are those of the request line; where the line
+    has the bytes of a packet, `packet` is its number in the pool."""
+
+    word: str
+    numbers: tuple
+    packet: object = None
+    text: str = ""
+
+
+class Held(NamedTuple):
+    """A packet that is read or forged when its bytes are needed."""
+
+    contents: object
+    number: int
+
+    @property
+    def stamp(self):
+        return self.contents.stamp(self.number)
+
+    def bytes(self):
+        return self.contents.bytes(self.number)
+
+
+class Contents:
+    """The packets of all sources.
+
+    Each packet has a number in a pool: those of the files first, then each one that an edit made. A stream is a list of such numbers, so
+    an edit moves numbers, and a packet's bytes are where they were.
+    """
+
+    def __init__(self, inputs, settings, edits_path):
+        self.inputs = inputs
+        self.program, self.lister, self.tables = settings
+        self.edits_path = edits_path
+        self.current = 0
+        self.script = "-"
+        self.bases, self.streams = [], []
+        count = 0
+        for item in inputs.all:
+            records = len(item.records())
+            self.bases.append(count)
+            self.streams.append(array("I", range(count, count + records)))
+            count += records
+        self.of_files = count
+        # Of the packets that edits made: the time stamp, and the bytes, or what the program makes them of.
+        self.made = []
+        self.forged = {}
+        self.listed = Facts(self)
+
+    def apply(self, line):
+        """Makes an accepted edit, and returns what takes it back."""
+        word, *rest = line.split(" ")
+        if word == "script":
+            return self.perform(Operation("script", (), None, " ".join(rest)))
+        if word in ("insert", "replace"):
+            data = b"" if rest[-1] == "-" else bytes.fromhex(rest[-1])
+            rest.pop()
+            at = int(rest[0])
+            stamp = int(rest[1]) if word == "insert" else self.stamp(self.streams[self.current][at])
+            return self.perform(Operation(word, (at,), self.make(stamp, data)))
+        numbers = tuple(map(int, rest))
+        if word == "copy":
+            source, index, at = numbers
+            return self.perform(Operation("insert", (at,), self.streams[source][index]))
+        if word in ("blank", "hold"):
+            at, *size = numbers
+            return self.perform(Operation("insert", (at,), self.forge_at(word, at, size)))
+        return self.perform(Operation(word, numbers))
+
+    def perform(self, operation):
+        """Makes a change, and returns what takes it back."""
+        word, numbers, packet, text = operation
+        stream = self.streams[self.current]
+        if word == "script":
+            before, self.script = self.script, text
+            return Operation("script", (), None, before)
+        if word == "use":
+            before, self.current = self.current, numbers[0]
+            return Operation("use", (before,))
+        if word == "move":
+            start, to = numbers
+            stream.insert(to, stream.pop(start))
+            return Operation("move", (to, start))
+        at = numbers[0]
+        if word == "insert":
+            stream.insert(at, packet)
+            return Operation("delete", (at,))
+        if word == "delete":
+            return Operation("insert", (at,), stream.pop(at))
+        before, stream[at] = stream[at], packet
+        return Operation("replace", (at,), before)
+
+    def line(self, operation):
+        """The request line of a change."""
+        word, numbers, packet, text = operation
+        words = [word, *map(str, numbers)]
+        if word == "script":
+            words.append(text)
+        if word == "insert":
+            words.append(str(self.stamp(packet)))
+        if packet is not None:
+            words.append(self.bytes(packet).hex() or "-")
+        return " ".join(words)
+
+    def make(self, stamp, data):
+        """The number of a new packet."""
+        self.made.append((stamp, data))
+        return self.of_files + len(self.made) - 1
+
+    def forge_at(self, word, at, size):
+        """The number of a forged packet, inserted at an index."""
+        stream = self.streams[self.current]
+        stamp = self.stamp(stream[at - 1]) if at else 0
+        if word == "hold":
+            keys = (stream[index] for index in range(at - 1, -1, -1))
+            size = ivf.key_size(self.bytes(next(number for number in keys if self.has_key_tag(number)), 10))
+        return self.make(stamp, (word, *size))
+
+    def where(self, number):
+        """The file and the index of a packet of a file."""
+        source = max(place for place, base in enumerate(self.bases) if base <= number and len(self.inputs.all[place].index))
+        return self.inputs.all[source], number - self.bases[source]
+
+    def stamp(self, number):
+        """The time stamp of a packet."""
+        if number >= self.of_files:
+            return self.made[number - self.of_files][0]
+        item, index = self.where(number)
+        return item.index.stamps[index]
+
+    def bytes(self, number, size=None):
+        """The bytes of a packet, or the first ones of them."""
+        if number < self.of_files:
+            item, index = self.where(number)
+            return item.read(index, size)
+        data = self.made[number - self.of_files][1]
+        data = data if isinstance(data, bytes) else self.forge(*data)
+        return data if size is None else data[:size]
+
+    def has_key_tag(self, number):
+        if number < self.of_files:
+            item, index = self.where(number)
+            return bool(item.index.keys[index])
+        data = self.made[number - self.of_files][1]
+        return ivf.is_key(data) if isinstance(data, bytes) else data[0] == "blank"
+
+    def forge(self, word, width, height):
+        """The bytes of a packet of `blank` or `hold`: those that the program saves after the same request."""
+        key = (word, width, height)
+        if key not in self.forged:
+            lines = [f"blank 0 {width} {height}"] + ["hold 1"] * (word == "hold")
+            self.forged[key] = runs.saved_packets(self.program, lines, self.tables)[-1][1]
+        return self.forged[key]
+
+    def source(self, source):
+        """The number of a source that is there; the current one if none is given."""
+        source = self.current if source is None else checks.number(source)
+        if source >= len(self.streams):
+            raise IndexError(f"there is no source {source}: the last one is {len(self.streams) - 1}")
+        return source
+
+    def packet(self, index, source=None):
+        """A packet of a stream."""
+        stream = self.streams[self.source(source)]
+        index = checks.number(index)
+        if index >= len(stream):
+            raise IndexError(f"there is no packet {index}: there are {len(stream)}")
+        return Held(self, stream[index])
+
+    def facts(self, numbers=None, source=None):
+        """The facts of packets, as vp8list has them."""
+        return self.listed.of_range(self.source(source), numbers)
+
+    @property
+    def rate(self):
+        """Rate and scale of the frames that are served."""
+        head = self.inputs.all[0].head
+        return (head.rate, head.scale) if head.rate and head.scale else (30, 1)
+
+    def shown_kinds(self, source):
+        """For each shown packet of a source its kind, `key` or `inter`."""
+        tags = (self.bytes(number, 3) for number in self.streams[source])
+        return ["key" if ivf.is_key(tag) else "inter" for tag in tags if ivf.is_shown(tag)]
+
+    def pieces(self, source=0):
+        """The text of an IVF file of the packets of a source, piece by piece."""
+        stream = self.streams[source]
+        packets = ((self.stamp(number), self.bytes(number)) for number in stream)
+        return ivf.pieces(self.inputs.all[source].head, len(stream), packets)
+
+    def save(self, path, pad=False, source=0):
+        """Writes the packets of a source as an IVF file."""
+        if is_input(path, self.inputs.paths):
+            raise ValueError(f"{path!r} is a file of the session: name another one")
+        if self.edits_path is not None and checks.is_same_file(path, self.edits_path):
+            raise ValueError(f"{path!r} is the list of the edits: name another file")
+        pieces = self.pieces(self.source(source))
+        files.write_whole(path, runs.padded(self.program, pieces) if pad else pieces)

@@ -1,0 +1,40 @@
+"""The exceptions of a session."""
+
+import re
+
+# A reply such as "refused source 2 packet 60 TokenPartition 1".
+_BROKEN = re.compile(r"refused (?:source (\d+) )?packet (\d+) (.+)")
+
+
+class Refused(Exception):
+    """The program refused a request, which changed nothing.
+
+    `word` is the name of the refusal, such as `Place`. If a frame was refused because its stream is broken, `word` is `packet`,
+    and `source`, `packet` and `cause` name the packet and why it cannot be decoded, for example 0, 60 and `ShortPacket`. `reply` is
+    the whole reply. In a session with `explain=True`, `reason` is the program's explanation, else None.
+    """
+
+    def __init__(self, reply, reason=None):
+        super().__init__(f"{reply}: {reason}" if reason else reply)
+        self.reply = reply
+        self.reason = reason
+        self.word = reply.split()[1]
+        self.source = self.packet = self.cause = None
+        broken = _BROKEN.fullmatch(reply)
+        if broken:
+            self.word = "packet"
+            self.source = int(broken.group(1) or 0)
+            self.packet = int(broken.group(2))
+            self.cause = broken.group(3)
+
+
+class Ended(Exception):
+    """The session is over: the exit status of the program (None if it is not known), and a text that says why.
+
+    The text is what the program wrote to standard error; or, if the session ended the program, the reason for it.
+    """
+
+    def __init__(self, status, text):
+        super().__init__(text or f"vp8serve ended with status {status}")
+        self.status = status
+        self.text = text

@@ -1,0 +1,53 @@
+"""Files that are written whole or not at all."""
+
+import contextlib
+import os
+import stat
+import tempfile
+
+
+def write_whole(path, pieces):
+    """Writes the pieces of bytes to a file.
+
+    A file, or the file that a link names, is replaced once all pieces are on the disk: if something fails before, it has its old bytes.
+    A pipe or a device is written to as it is.
+    """
+    with whole(path) as file:
+        for piece in pieces:
+            file.write(piece)
+
+
+@contextlib.contextmanager
+def whole(path):
+    """A file to write to that takes the place of `path` at the end of the block, unless the block is left by an exception."""
+    real = os.path.realpath(path)
+    try:
+        mode = os.stat(real).st_mode
+    except FileNotFoundError:
+        mode = None
+    if mode is not None and not stat.S_ISREG(mode):
+        with open(real, "wb") as file:
+            yield file
+        return
+    folder, name = os.path.split(real)
+    descriptor, temporary = tempfile.mkstemp(prefix=f".{name[:100]}.", suffix=".part", dir=folder)
+    try:
+        with open(descriptor, "wb") as file:
+            yield file
+            file.flush()
+            os.fsync(descriptor)
+        os.chmod(temporary, stat.S_IMODE(mode) if mode is not None else 0o666 & ~mask())
+        os.replace(temporary, real)
+    except BaseException:
+        with contextlib.suppress(OSError):
+            os.unlink(temporary)
+        raise
+
+
+def mask():
+    """The permissions that new files do not get."""
+    with open("/proc/self/status", encoding="ascii", errors="replace") as file:
+        for line in file:
+            if line.startswith("Umask:"):
+                return int(line.split()[1], 8)
+    return 0o022

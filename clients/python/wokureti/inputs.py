@@ -1,0 +1,120 @@
+"""The files that a session was opened with, kept open so that the bytes of their packets can be read later."""
+
+import os
+import shutil
+import stat
+import tempfile
+
+from . import checks, ivf
+
+
+class Input:
+    """A stream of a session: the word that the program gets for it, and its packets. Both read the same file."""
+
+    def __init__(self, path):
+        self.path = self.word = path
+        self.descriptor = None
+        self.signature = None
+        self.head = ivf.EMPTY
+        self.index = None
+        self.is_shared = False
+        if path == "-":
+            return
+        try:
+            self.descriptor = os.open(path, os.O_RDONLY | os.O_CLOEXEC)
+        except OSError:
+            # The program reports it.
+            return
+        kind = os.fstat(self.descriptor).st_mode
+        if stat.S_ISDIR(kind):
+            self.close()
+            return
+        if not stat.S_ISREG(kind):
+            self.spool()
+        if not stat.S_ISREG(kind) or os.path.abspath(path).startswith(("/dev/", "/proc/")):
+            # Another process cannot open a pipe again, and /dev/stdin is another file there.
+            self.word, self.is_shared = f"/dev/fd/{self.descriptor}", True
+        self.signature = self.sign(os.fstat(self.descriptor))
+
+    def spool(self):
+        """Copies a pipe to a file that has no name."""
+        with open(self.descriptor, "rb") as pipe, tempfile.TemporaryFile() as file:
+            shutil.copyfileobj(pipe, file, 1 << 20)
+            file.flush()
+            # Not dup: the program opens it again, and reads from the start.
+            self.descriptor = os.open(f"/dev/fd/{file.fileno()}", os.O_RDONLY | os.O_CLOEXEC)
+
+    @staticmethod
+    def sign(found):
+        return found.st_dev, found.st_ino, found.st_size, found.st_mtime_ns
+
+    def check(self):
+        """`OSError` if the file is no more the one that the program read."""
+        if self.descriptor is not None and self.sign(os.fstat(self.descriptor)) != self.signature:
+            raise OSError(f"{self.path} was changed since the session was opened")
+
+    def check_opened(self):
+        """The same right after the program read the file by its path."""
+        self.check()
+        if self.descriptor is not None and not self.is_shared and self.sign(os.stat(self.path)) != self.signature:
+            raise OSError(f"{self.path} was changed while the session was opened")
+
+    def records(self):
+        """The index of the packets, made when it is needed first."""
+        if self.index is None:
+            if self.descriptor is None:
+                self.index = ivf.Index()
+            else:
+                self.head, self.index = ivf.read_index(self.descriptor)
+                self.check()
+        return self.index
+
+    def read(self, number, size=None):
+        """The bytes of a packet, or the first ones of them."""
+        index = self.records()
+        count = index.sizes[number]
+        data = os.pread(self.descriptor, count if size is None else min(size, count), index.starts[number])
+        self.check()
+        return data
+
+    def close(self):
+        if self.descriptor is not None:
+            os.close(self.descriptor)
+            self.descriptor = None
+
+
+class Inputs:
+    """The streams of a session, source 0 first."""
+
+    def __init__(self, paths):
+        self.all = []
+        try:
+            for path in paths:
+                self.all.append(Input(path))
+        except BaseException:
+            self.close()
+            raise
+        self.paths = paths
+
+    @property
+    def words(self):
+        """What the program gets for each stream."""
+        return [item.word for item in self.all]
+
+    @property
+    def shared(self):
+        """The descriptors that the program opens by number."""
+        return tuple(item.descriptor for item in self.all if item.is_shared)
+
+    def check(self):
+        for item in self.all:
+            item.check_opened()
+
+    def close(self):
+        for item in self.all:
+            item.close()
+
+
+def is_input(path, paths):
+    """Whether a file that is to be written is one of these."""
+    return any(other != "-" and checks.is_same_file(path, other) for other in paths)

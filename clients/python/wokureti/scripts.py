@@ -1,0 +1,61 @@
+"""Texts of scripts, with nodes that are numbered as they are added.
+
+    script = Script().trim(0, 5, 10).fade(-1, 0, 10, 0, 256)
+    session.script(script)
+
+serves frames 5 to 14 of source 0, fading in from black. Node 0 is source 0, and the nodes that are added are 1, 2, and so on. A
+negative number counts from the end, so -1 is the node that was added last. `last` is its number, to name it later:
+
+    script = Script()
+    head = script.trim(0, 0, 50).fade(-1, 40, 10, 256, 0).last
+    tail = script.trim(0, 50, 50).last
+    script.splice(head, tail)
+"""
+
+import operator
+
+
+class Script:
+    """The nodes of a script. docs/requests.md says what each node serves."""
+
+    def __init__(self):
+        self.nodes = []
+
+    @property
+    def last(self):
+        """The number of the node that was added last; 0, source 0, if there is none."""
+        return len(self.nodes)
+
+    def _node(self, number):
+        number = operator.index(number)
+        known = self.last + 1
+        if not -known <= number < known:
+            raise IndexError(f"there is no node {number}: the last one is {self.last}")
+        return number % known
+
+    def _add(self, word, *numbers):
+        self.nodes.append(" ".join([word, *(str(operator.index(number)) for number in numbers)]))
+        return self
+
+    def source(self, source):
+        """The frames of another source."""
+        return self._add("source", source)
+
+    def trim(self, node, first, count):
+        """At most `count` frames of a node, starting at `first`."""
+        return self._add("trim", self._node(node), first, count)
+
+    def splice(self, node, other):
+        """The frames of a node, then those of another one."""
+        return self._add("splice", self._node(node), self._node(other))
+
+    def crop(self, node, x, y, width, height):
+        """Each frame's `width` x `height` luma samples starting at column `x` and row `y`, both even."""
+        return self._add("crop", self._node(node), x, y, width, height)
+
+    def fade(self, node, first, count, start, end):
+        """Frames mixed with black: weight `start` before `first`, `end` from `first + count` on; 256 is the picture, 0 black."""
+        return self._add("fade", self._node(node), first, count, start, end)
+
+    def __str__(self):
+        return "; ".join(self.nodes) or "-"

@@ -1,0 +1,351 @@
+"""A session of vp8serve that stays open: look at a frame, decide, edit, look again."""
+
+import threading
+import time
+from typing import NamedTuple
+
+from . import checks, programs
+from .edits import EditList
+from .errors import Ended, Refused
+from .frames import frame_of
+from .inputs import Inputs
+from .pipes import Gone, Late, Pipes, Strange
+
+EDITS = frozenset(("use", "insert", "replace", "delete", "move", "copy", "blank", "hold", "script"))
+# How the reply begins that a request has if it is not refused; that of an edit begins with `ok`.
+REPLIES = {"frame": "served", "count": "packets", "stats": "decoded"}
+
+
+class Count(NamedTuple):
+    """The number of packets of the current source, and of the frames that the script serves."""
+
+    packets: int
+    frames: int
+
+
+class Session:
+    """A running vp8serve over an IVF file, or over an empty stream if `stream` is `-`.
+
+    `sources` are the paths of sources 1 to 7, `cache` the number of cached states, `tables` a file that replaces the RFC's long tables,
+    and `save` the file that gets the packets of source 0 when the session is closed; with `pad` players that use libvpx show the
+    packets of `blank` and `hold` in it too. `program` is the path of vp8serve, `lister` that of vp8list, which `packets` needs.
+
+    `edits` is a file that the accepted edits are written to, each when it was accepted; if the file exists, its edits are made first.
+    `timeout` is the number of seconds that a call may take, if it gives none of its own. With `explain` the program says why it refuses
+    a request, in `Refused.reason`.
+
+    Threads may share a session: a call waits until the one before it has its reply and its picture. What leaves a call in the middle, as
+    an exception of a signal's handler, or a call that takes too long, ends the session, since the reply would be taken for the next
+    one's. From then on each call raises `Ended`. A session that is not closed ends when it is collected, and when Python ends; nothing
+    is saved then. In a forked child it is over, and lives on in the parent.
+    """
+
+    def __init__(
+        self,
+        stream="-",
+        sources=(),
+        cache=None,
+        tables=None,
+        save=None,
+        program=None,
+        pad=False,
+        timeout=None,
+        explain=False,
+        edits=None,
+        lister=None,
+    ):
+        self._lock = threading.RLock()
+        self._ended = None
+        self._pending = None
+        self._timeout = timeout
+        self._explain = explain
+        self._lines = 0
+        self._edits = None
+        self._settings = (program or programs.find("vp8serve"), lister or programs.find("vp8list"), tables)
+        self._inputs = Inputs([checks.stream(stream), *checks.sources(sources)])
+        try:
+            words = self._words(cache, tables, save, pad)
+            if edits is not None:
+                checks.outputs(edits, [*self._inputs.paths, *(path for path in (save, tables) if path is not None)], "edits")
+            self._edits = EditList(self, edits)
+            self._pipes = Pipes(words, self._inputs.shared)
+        except BaseException:
+            self._close_files()
+            raise
+        try:
+            # The reply comes once the files were read, so a file that is missing, or not IVF, is reported here.
+            self.request("stats")
+            self._inputs.check()
+            self._edits.load()
+        except BaseException:
+            self.kill()
+            raise
+
+    def _words(self, cache, tables, save, pad):
+        """The command line of the program."""
+        streams = self._inputs.words
+        words = [self._settings[0], streams[0], "-", "{frames}", "--live"]
+        if len(streams) > 1:
+            words += ["--sources", ":".join(streams[1:])]
+        if save is not None:
+            checks.outputs(save, [*self._inputs.paths, *([] if tables is None else [tables])], "save")
+            words += ["--save", checks.path(save)]
+        if tables is not None:
+            words += ["--tables", checks.path(tables)]
+        if cache is not None:
+            words += ["--cache", str(checks.number(cache))]
+        return words + ["--pad"] * bool(pad) + ["--explain"] * bool(self._explain)
+
+    def _close_files(self):
+        if self._edits is not None:
+            self._edits.close()
+        self._inputs.close()
+
+    def __enter__(self):
+        return self
+
+    def __exit__(self, kind, value, trace):
+        if kind is None:
+            self.close()
+        else:
+            self.kill()
+
+    def close(self, timeout=None):
+        """Ends the session; the program then saves the packets, if that was asked for. `Ended` if it failed."""
+        if not self._pipes.owner_is_here():
+            return
+        with self._locked(timeout) as deadline:
+            if self._ended:
+                return
+            self._pending = "close"
+            try:
+                status, text = self._pipes.finish(deadline)
+            except Late:
+                self._end("the program did not end in time, so it was ended: what it saved is not whole")
+                raise self._error() from None
+            except BaseException as error:
+                self._end(f"closing was left in the middle ({type(error).__name__})")
+                raise
+            self._over(status, "the session was closed" if status == 0 else text)
+            if status != 0:
+                raise self._error()
+
+    def kill(self):
+        """Ends the session now. Nothing is saved."""
+        if self._ended or not self._pipes.owner_is_here():
+            return
+        # A call that another thread makes then ends at once.
+        self._pipes.kill()
+        with self._lock:
+            if self._ended is None:
+                self._end("the session was ended")
+
+    def _end(self, text):
+        """Ends the program, which is in the middle of something, for this reason."""
+        self._pipes.kill()
+        status, said = self._pipes.collect()
+        self._over(status, text)
+
+    def _over(self, status, text):
+        self._ended = (status, text)
+        self._pending = None
+        self._close_files()
+
+    def _error(self):
+        return Ended(*self._ended)
+
+    def _locked(self, timeout):
+        if not self._pipes.owner_is_here():
+            # The lock may be held by a thread that is not in this process.
+            raise Ended(None, "the session belongs to the process that opened it")
+        return _Turn(self._lock, self._timeout if timeout is None else timeout)
+
+    def request(self, line, timeout=None, listed=True):
+        """The reply to a request line, without its newline. A picture that it serves is dropped.
+
+        `Refused` if the reply is a refusal, `Ended` if the session is over. An edit that is not `listed` is not in the list of edits.
+        """
+        reply, _ = self._ask(line, timeout, listed)
+        return reply
+
+    def _ask(self, line, timeout=None, listed=True):
+        """The reply to a request line, and the width, height and samples of its picture, if it serves one."""
+        text = checks.line(line)
+        with self._locked(timeout) as deadline:
+            reply, picture = self._exchange(text, deadline)
+            if reply.startswith("refused "):
+                raise Refused(reply, self._reason(deadline) if self._explain else None)
+            words = line.split()
+            if listed and words[0] in EDITS:
+                self._edits.accept(" ".join(words))
+            return reply, picture
+
+    def _exchange(self, text, deadline):
+        """Writes a line and reads its reply. Whatever leaves this in the middle ends the session."""
+        if self._ended:
+            raise self._error()
+        if self._pending is not None:
+            self._end(f"{self._pending} was left in the middle, so the session was ended")
+            raise self._error()
+        self._pending = shown = _shown(text)
+        try:
+            self._lines += 1
+            found = self._pipes.exchange(text + b"\n", deadline)
+        except Gone:
+            self._over(*self._pipes.collect())
+            raise self._error() from None
+        except Late:
+            self._end(f"no reply to {shown} in time, so the session was ended")
+            raise self._error() from None
+        except (Strange, ValueError) as error:
+            self._end(f"the answer to {shown} is not one of vp8serve, so the session was ended: {error}")
+            raise self._error() from None
+        except BaseException as error:
+            self._end(f"{shown} was left in the middle ({type(error).__name__}), so the session was ended")
+            raise
+        word = found[0].split(" ")[0]
+        if word not in ("refused", REPLIES.get(text.strip(b" \r").split(b" ")[0].decode(errors="replace"), "ok")):
+            self._end(f"the answer to {shown} is not one of vp8serve, so the session was ended: {found[0][:80]!r}")
+            raise self._error()
+        self._pending = None
+        return found
+
+    def _reason(self, deadline):
+        """The explanation of the last refusal. The reply to another request says that it was written."""
+        number = self._lines
+        self._exchange(b"stats", deadline)
+        return self._pipes.explanation(number)
+
+    def _number(self, line, timeout=None):
+        return int(self.request(line, timeout).split()[1])
+
+    def frame(self, number, timeout=None):
+        """Frame `number` of the current stream."""
+        number = checks.number(number)
+        _, picture = self._ask(f"frame {number}", timeout)
+        return frame_of(number, *picture)
+
+    def frames(self, numbers=None, timeout=None):
+        """The frames of a range, one after the other; without a range all of them. `timeout` is for each frame."""
+        if numbers is None:
+            numbers = range(self.count(timeout).frames)
+        for number in numbers:
+            yield self.frame(number, timeout)
+
+    def use(self, source, timeout=None):
+        """Later edits act on this source. Like every edit it returns the number of packets of the current source."""
+        return self._number(f"use {checks.number(source)}", timeout)
+
+    def insert(self, at, data, stamp=0, timeout=None):
+        """Inserts a packet of these bytes at an index, with this time stamp."""
+        return self._number(f"insert {checks.number(at)} {checks.number(stamp)} {checks.hexadecimal(data)}", timeout)
+
+    def replace(self, at, data, timeout=None):
+        """Gives a packet other bytes; it keeps its time stamp."""
+        return self._number(f"replace {checks.number(at)} {checks.hexadecimal(data)}", timeout)
+
+    def delete(self, at, timeout=None):
+        """Deletes a packet, or those of a range of indexes, which is one step for `undo`. If one is refused, none is deleted."""
+        count = None
+        with self._locked(timeout), self._edits.step():
+            # The last one comes first: if there is no such packet, nothing was deleted yet, and the others keep their indexes.
+            for index in checks.indexes(at):
+                count = self._number(f"delete {index}", timeout)
+        return self.count(timeout).packets if count is None else count
+
+    def move(self, index, to, timeout=None):
+        """Removes a packet and inserts it at index `to` of the remaining ones."""
+        return self._number(f"move {checks.number(index)} {checks.number(to)}", timeout)
+
+    def copy(self, source, index, at, timeout=None):
+        """Inserts a copy of a packet of a source, which may be the current one."""
+        return self._number(f"copy {checks.number(source)} {checks.number(index)} {checks.number(at)}", timeout)
+
+    def blank(self, at, width, height, timeout=None):
+        """Inserts a grey key frame."""
+        return self._number(f"blank {checks.number(at)} {checks.number(width)} {checks.number(height)}", timeout)
+
+    def hold(self, at, timeout=None):
+        """Inserts a packet that shows the last picture again."""
+        return self._number(f"hold {checks.number(at)}", timeout)
+
+    def script(self, *nodes, timeout=None):
+        """Sets the script: a `Script`, or a text for each node, as `script("trim 0 0 50", "fade 1 25 25 256 0")`; none: no script."""
+        return self._number("script " + ("; ".join(map(checks.node, nodes)) or "-"), timeout)
+
+    def count(self, timeout=None):
+        """The number of packets and frames."""
+        words = self.request("count", timeout).split()
+        return Count(int(words[1]), int(words[3]))
+
+    def decoded(self, timeout=None):
+        """The number of packets that were decoded so far."""
+        return self._number("stats", timeout)
+
+    @property
+    def edits(self):
+        """The list of the accepted edits, an `EditList`."""
+        return self._edits
+
+    def undo(self, timeout=None):
+        """Takes the last edit back, and returns its lines; an empty list if there is none."""
+        with self._locked(timeout):
+            return self._edits.undo(timeout)
+
+    def redo(self, timeout=None):
+        """Makes the edit again that was taken back last, and returns its lines; an empty list if there is none."""
+        with self._locked(timeout):
+            return self._edits.redo(timeout)
+
+    def packet(self, index, source=None):
+        """The bytes of a packet of the current source, or of another one."""
+        with self._locked(None):
+            return self._edits.contents().packet(index, source).bytes()
+
+    def packets(self, numbers=None, source=None):
+        """The facts of the packets of a range, or of all, as `vp8list --json` has them: a dictionary for each."""
+        with self._locked(None):
+            return self._edits.contents().facts(numbers, source)
+
+    @property
+    def rate(self):
+        """The frames a second of the frames that are served, as a pair: rate and scale of source 0, or 30 and 1 if either is 0."""
+        with self._locked(None):
+            return self._edits.contents().rate
+
+    def shown_kinds(self):
+        """For each shown packet of source 0 `key` or `inter`: those of the frames, if there is no script. None if there is one."""
+        with self._locked(None):
+            contents = self._edits.contents()
+            return contents.shown_kinds(0) if contents.script == "-" else None
+
+    def save(self, path, pad=False, source=0):
+        """Writes the current packets of a source as an IVF file now, as `--save` does at the end."""
+        with self._locked(None):
+            self._edits.contents().save(path, pad, source)
+
+
+class _Turn:
+    """The lock of a session, and the deadline of the call that has it, which counts from when the call was made."""
+
+    def __init__(self, lock, timeout):
+        self.lock = lock
+        self.timeout = timeout
+
+    def __enter__(self):
+        if self.timeout is None:
+            self.lock.acquire()
+            return None
+        deadline = time.monotonic() + self.timeout
+        if not self.lock.acquire(timeout=max(0.0, self.timeout)):
+            raise TimeoutError("another request has the session; nothing was sent")
+        return deadline
+
+    def __exit__(self, kind, value, trace):
+        self.lock.release()
+
+
+def _shown(text):
+    """A request as a message shows it."""
+    shown = text.decode(errors="replace")
+    return f"`{shown[:80]}..`" if len(shown) > 80 else f"`{shown}`"
