@@ -5,7 +5,7 @@ use std::fs::File;
 use std::io::{self, Write};
 use std::process::ExitCode;
 use std::str::Utf8Error;
-use stream_checks::{CheckFault, check};
+use stream_checks::{CheckFault, Form, check};
 use stream_files::{IvfFault, ReadFault, ivf_read, read_all};
 use stream_progress::Unwatched;
 use thiserror::Error;
@@ -35,15 +35,18 @@ fn report<O: Write>(rt: &HostRuntime, name: &str, output: &mut O) -> Result<(), 
     let bytes = read_all(rt.alloc(), &mut file, LIMIT)?;
     let file = ivf_read(rt.alloc(), bytes.as_slice())?;
     writeln!(output, "{name}")?;
-    let found = check(
+    let tally = check(
         output,
         rt.alloc(),
+        Form::Lines,
         &Tables::rfc(),
         bytes.as_slice(),
         &file,
         &mut Unwatched,
     )?;
-    writeln!(output, "returned {found}")?;
+    let damage = tally.damage;
+    let notes = tally.notes;
+    writeln!(output, "returned {damage} {notes}")?;
     Ok(())
 }
 

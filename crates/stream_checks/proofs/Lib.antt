@@ -1,4 +1,5 @@
 pub mod Steps
 pub mod Tallies
+pub mod Parts
 pub mod Ends
 pub mod Lost

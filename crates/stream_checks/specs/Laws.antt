@@ -1,7 +1,7 @@
 -- Laws about findings.
-use Rattle.std.specs.Prelude.{◌≡◌, ℕ, ◌<◌, List, [], ◌∷◌, ◌++◌, codes, map, slice_get, Option, Some, None, Result, Err}
+use Rattle.std.specs.Prelude.{◌≡◌, ℕ, ◌<◌, List, [], ◌∷◌, map, slice_get, Option, Some, None, Result, Err}
 use Rattle.vp8_tables.specs.declared.tables.Tables.{Tables}
-use Rattle.frame_header.specs.declared.cause.Cause.TheVariants.{NoKeyFrame, ShortPacket}
+use Rattle.frame_header.specs.declared.cause.Cause.TheVariants.{NoKeyFrame}
 use Rattle.stream_files.specs.declared.packets.Packet.{Packet}
 use Rattle.state_cache.specs.declared.outcomes.Broken.{Broken}
 use Rattle.state_cache.specs.Decoding.{Outcome, outcomes_from}
@@ -10,9 +10,7 @@ use Rattle.reference_frames.specs.declared.partition_ends.PartitionEnd.{Partitio
 use Rattle.stream_checks.specs.declared.finding.Finding.{Finding}
 use Rattle.stream_checks.specs.declared.finding.Spot.{Spot}
 use Rattle.stream_checks.specs.declared.finding.Trouble.{Trouble}
-use Rattle.stream_checks.specs.declared.finding.Trouble.TheVariants.{NeverShown, PastFirst, PastToken, UnreadFirst, UnreadToken, EmptyToken, Refused, StampGoesBack, StampRepeats, StampSkips}
-use Rattle.stream_checks.specs.Lines.{line_of}
-use Rattle.stream_checks.specs.Objects.{object_of}
+use Rattle.stream_checks.specs.declared.finding.Trouble.TheVariants.{NeverShown, PastFirst, PastToken, UnreadToken, EmptyToken, StampGoesBack, StampRepeats, StampSkips}
 use Rattle.stream_checks.specs.Partitions.{partition_findings}
 use Rattle.stream_checks.specs.Packets.{bytes_of, findings_from, first_position, lost_after}
 
@@ -59,9 +57,3 @@ abbrev pub WorkedEnds : Type 0
 WorkedEnds =
     partition_findings (record { packet = 12; frame = Some 10 }) (record { first = ended 30 2 0; tokens = record { items = ended 30 0 3 ∷ ended 30 3 0 ∷ ended 30 0 4 ∷ ended 0 0 0 ∷ [] } })
     ≡ map (at_packet 12 (Some 10)) (PastFirst 2 ∷ PastToken 1 3 ∷ UnreadToken 2 4 30 ∷ EmptyToken 3 ∷ [])
-
--- a finding as a line and as an object
-abbrev pub WorkedTexts : Type 0
-WorkedTexts =
-    (line_of (at_packet 60 (Some 58) (Refused ShortPacket 12)) ≡ codes "damage: packet 60: refused ShortPacket, packets lost with it: 12\n")
-    × (object_of (at_packet 60 (Some 58) (Refused ShortPacket 12)) ≡ codes "{\"packet\":60,\"frame\":58,\"kind\":\"refused\",\"cause\":\"ShortPacket\",\"lost\":12,\"severity\":\"damage\"}\n")

@@ -35,8 +35,11 @@ abbrev pub unread_members : Option ℕ → ℕ → ℕ → List ℕ
 unread_members partition bytes size =
     partition_members (codes "unread") partition ++ number_member (codes "bytes") bytes ++ number_member (codes "size") size
 
+abbrev pub cause_member : List ℕ → List ℕ
+cause_member cause = codes "\"cause\":\"" ++ cause ++ codes "\","
+
 abbrev pub refused_members : List ℕ → ℕ → List ℕ
-refused_members cause lost = kind_member (codes "refused") ++ member (codes "cause") (quoted cause) ++ number_member (codes "lost") lost
+refused_members cause lost = kind_member (codes "refused") ++ cause_member cause ++ number_member (codes "lost") lost
 
 -- two time stamps
 abbrev pub stamp_members : List ℕ → ℕ → ℕ → List ℕ

@@ -15,7 +15,7 @@ stamp_after before packet = if is_shown packet.bytes then Some packet.stamp else
 -- how far a shown packet's time stamp is above that of the shown packet before it, if it is
 abbrev pub step_to : Option ℕ → Packet → List ℕ
 step_to None packet = []
-step_to (Some before) packet = if is_shown packet.bytes && nat_lt before packet.stamp then packet.stamp - before ∷ [] else []
+step_to (Some before) packet = if is_shown packet.bytes && nat_lt before packet.stamp then (packet.stamp - before) ∷ [] else []
 
 -- the steps between the time stamps of shown packets in sequence that go forward
 abbrev pub steps_from : Option ℕ → List Packet → List ℕ

@@ -1,7 +1,7 @@
 //! Laws about the definitions of this crate. Each law is the contract of a function that does
 //! nothing.
 
-ghost use Rattle.stream_checks.specs.Laws.{LostAreBroken, WorkedEnds, WorkedOddStamps, WorkedStamps, WorkedTexts};
+ghost use Rattle.stream_checks.specs.Laws.{LostAreBroken, WorkedEnds, WorkedOddStamps, WorkedStamps};
 
 /// Each packet that is counted as lost after a break has this break as its outcome.
 pub fn lost_are_broken()
@@ -23,9 +23,4 @@ pub fn worked_odd_stamps()
 /// three bytes are not read, and one of no bytes.
 pub fn worked_ends()
     ensures { WorkedEnds }
-{}
-
-/// A finding as a line and as an object.
-pub fn worked_texts()
-    ensures { WorkedTexts }
 {}

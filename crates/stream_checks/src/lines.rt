@@ -1,6 +1,7 @@
 //! The line of a finding.
 
 ghost use Rattle.std.specs.Prelude.{◌≡◌, ◌++◌, OnOk, codes};
+ghost use Rattle.std.specs.Fmt.{decimal};
 ghost use Rattle.std.specs.Io.KnownBytes.{Appends};
 ghost use Rattle.stream_facts.specs.Lines.{cause_text};
 ghost use Rattle.stream_checks.specs.Lines.{back_text, change_text, claimed_size_text, claimed_text, count_text, counts_text, cut_start, cut_text, first_text, left_text, line_of, lost_text, partition_text, past_text, rate_text, refused_text, severity_text, size_text, skips_text, spot_text, stamp_text, summary_line, trouble_text, unread_text};
@@ -10,6 +11,12 @@ use frame_header::Cause;
 use std::io::Write;
 use stream_facts::{write_cause, write_text};
 use stream_files::WriteFault;
+
+fn write_number<W: Write>(w: &mut W, n: u64) -> Result<(), WriteFault>
+    ensures { OnOk result (Appends (W.contents w.old) (W.contents w.new) (decimal n)) }
+{
+    write!(w, "{n}").map_err(|_| WriteFault::Write)
+}
 
 fn write_severity<W: Write>(w: &mut W, trouble: Trouble) -> Result<(), WriteFault>
     ensures { OnOk result (Appends (W.contents w.old) (W.contents w.new) (severity_text trouble)) }
@@ -62,7 +69,10 @@ fn write_claimed_size<W: Write>(
 fn write_rate<W: Write>(w: &mut W, rate: u32, scale: u32) -> Result<(), WriteFault>
     ensures { OnOk result (Appends (W.contents w.old) (W.contents w.new) (rate_text rate scale)) }
 {
-    write!(w, "header: rate {rate}, scale {scale}").map_err(|_| WriteFault::Write)
+    write_text(w, "header: rate ")?;
+    write_number(w, rate as u64)?;
+    write_text(w, ", scale ")?;
+    write_number(w, scale as u64)
 }
 
 fn write_lost<W: Write>(w: &mut W, lost: usize) -> Result<(), WriteFault>
@@ -160,14 +170,16 @@ fn write_back<W: Write>(w: &mut W, stamp: u64, before: u64) -> Result<(), WriteF
     ensures { OnOk result (Appends (W.contents w.old) (W.contents w.new) (back_text stamp before)) }
 {
     write_stamp(w, stamp)?;
-    write!(w, " goes back from {before}").map_err(|_| WriteFault::Write)
+    write_text(w, " goes back from ")?;
+    write_number(w, before)
 }
 
 fn write_skips<W: Write>(w: &mut W, stamp: u64, before: u64) -> Result<(), WriteFault>
     ensures { OnOk result (Appends (W.contents w.old) (W.contents w.new) (skips_text stamp before)) }
 {
     write_stamp(w, stamp)?;
-    write!(w, " skips from {before}").map_err(|_| WriteFault::Write)
+    write_text(w, " skips from ")?;
+    write_number(w, before)
 }
 
 fn write_change<W: Write>(w: &mut W, before: (u16, u16), size: (u16, u16)) -> Result<(), WriteFault>
@@ -198,7 +210,8 @@ fn write_left<W: Write>(w: &mut W, claimed: Option<u32>, left: u64) -> Result<()
         None => write!(w, "{left} bytes are there").map_err(|_| WriteFault::Write),
         Some(claimed) => {
             write_claimed(w, claimed)?;
-            write!(w, "{left} are there").map_err(|_| WriteFault::Write)
+            write_number(w, left)?;
+            write_text(w, " are there")
         }
     }
 }
@@ -276,5 +289,9 @@ pub(crate) fn write_summary<W: Write>(
 {
     let Tally { damage, notes } = tally;
     write_counts(w, packets, frames)?;
-    write!(w, "damage: {damage}, notes: {notes}\n").map_err(|_| WriteFault::Write)
+    write_text(w, "damage: ")?;
+    write_number(w, damage)?;
+    write_text(w, ", notes: ")?;
+    write_number(w, notes)?;
+    write_text(w, "\n")
 }

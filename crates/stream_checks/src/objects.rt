@@ -4,7 +4,7 @@ ghost use Rattle.std.specs.Prelude.{◌≡◌, ◌++◌, OnOk, codes};
 ghost use Rattle.std.specs.Io.KnownBytes.{Appends};
 ghost use Rattle.stream_facts.specs.Lines.{cause_text};
 ghost use Rattle.stream_facts.specs.Json.{number_member};
-ghost use Rattle.stream_checks.specs.Objects.{cut_members, kind_member, object_of, partition_members, past_members, refused_members, severity_member, size_member, size_members, spot_members, stamp_members, trouble_members, unread_members};
+ghost use Rattle.stream_checks.specs.Objects.{cause_member, cut_members, kind_member, object_of, partition_members, past_members, refused_members, severity_member, size_member, size_members, spot_members, stamp_members, trouble_members, unread_members};
 
 use crate::finding::{Finding, Spot, Trouble};
 use frame_header::Cause;
@@ -88,7 +88,7 @@ fn write_unread<W: Write>(
 }
 
 fn write_quoted_cause<W: Write>(w: &mut W, cause: Cause) -> Result<(), WriteFault>
-    ensures { OnOk result (Appends (W.contents w.old) (W.contents w.new) (codes "\"cause\":\"" ++ cause_text cause ++ codes "\",")) }
+    ensures { OnOk result (Appends (W.contents w.old) (W.contents w.new) (cause_member (cause_text cause))) }
 {
     write_text(w, "\"cause\":\"")?;
     write_cause(w, cause)?;
@@ -129,7 +129,7 @@ fn write_count<W: Write>(w: &mut W, claimed: u32, packets: usize) -> Result<(), 
     ensures { OnOk result (Appends (W.contents w.old) (W.contents w.new) (kind_member (codes "frame_count") ++ number_member (codes "claimed") claimed ++ number_member (codes "packets") packets)) }
 {
     write_kind(w, "frame_count")?;
-    write_number(w, "claimed", u64::from(claimed))?;
+    write_number(w, "claimed", claimed as u64)?;
     write_number(w, "packets", packets as u64)
 }
 
@@ -137,8 +137,8 @@ fn write_rate<W: Write>(w: &mut W, rate: u32, scale: u32) -> Result<(), WriteFau
     ensures { OnOk result (Appends (W.contents w.old) (W.contents w.new) (kind_member (codes "no_rate") ++ number_member (codes "rate") rate ++ number_member (codes "scale") scale)) }
 {
     write_kind(w, "no_rate")?;
-    write_number(w, "rate", u64::from(rate))?;
-    write_number(w, "scale", u64::from(scale))
+    write_number(w, "rate", rate as u64)?;
+    write_number(w, "scale", scale as u64)
 }
 
 fn write_repeats<W: Write>(w: &mut W, stamp: u64) -> Result<(), WriteFault>
@@ -154,7 +154,7 @@ fn widened(n: Option<u32>) -> Option<u64>
 {
     match n {
         None => None,
-        Some(n) => Some(u64::from(n)),
+        Some(n) => Some(n as u64),
     }
 }
 

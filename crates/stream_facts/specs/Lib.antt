@@ -1,3 +1,4 @@
 pub mod Facts
 pub mod Lines
 pub mod Json
+pub mod Refusals

@@ -5,8 +5,10 @@ mod facts;
 mod json;
 mod lines;
 mod listing;
+mod refusals;
 
 pub use facts::{Facts, Position};
 pub use json::{write_member, write_number, write_objects, write_optional};
 pub use lines::{write_cause, write_text};
 pub use listing::write_listing;
+pub use refusals::{has_refused, write_refusals};

@@ -2,3 +2,4 @@ pub mod Lists
 pub mod HashedFiles
 pub mod CheckedFiles
 pub mod Objects
+pub mod Answers

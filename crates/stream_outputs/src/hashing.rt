@@ -1,25 +1,37 @@
 // The MD5 of each frame of an IVF file.
-ghost use Rattle.std.specs.Prelude.{◌≡◌, IfErr, OnOk};
-ghost use Rattle.stream_outputs.specs.HashedFiles.{IsFileHashed, IsFileHashFault};
+ghost use Rattle.std.specs.Prelude.{◌≡◌, ◌≤◌, IfErr, IfOk};
+ghost use Rattle.stream_outputs.specs.HashedFiles.{IsFileHashed, IsFileHashFault, hash_status};
 
 use crate::fault::Fault;
 use frame_hashes::{HashFault, write_hashes};
 use std::alloc::Global;
 use std::io::Write;
+use stream_facts::{has_refused, write_refusals};
 use stream_files::ivf_read;
 use stream_progress::Progress;
 use vp8_tables::Tables;
 
-/// Writes the MD5 of each frame of an IVF file, and flushes the writer.
-pub fn hash_to<O: Write, P: Progress>(
+fn hash_status(is_refused: bool) -> u8
+    ensures value { result ≡ hash_status is_refused }
+    ensures few { result ≤ 1 }
+{
+    if is_refused { 1 } else { 0 }
+}
+
+/// Writes the MD5 of each frame of an IVF file, flushes the writer, and returns the exit status: 1 if a
+/// packet is refused, else 0. A line for each such packet goes to `errors`; if it refuses the text, only
+/// the status reports them.
+pub fn hash_to<O: Write, E: Write, P: Progress>(
     alloc: Global,
     tables: &Tables,
     bytes: &[u8],
     output: &mut O,
+    errors: &mut E,
     progress: &mut P,
-) -> Result<(), Fault<'static>>
-    ensures hashed { OnOk result (IsFileHashed tables.now bytes.now (O.contents output.old) (O.contents output.new)) }
+) -> Result<u8, Fault<'static>>
+    ensures hashed { IfOk result (λ status. IsFileHashed tables.now bytes.now status (O.contents output.old) (O.contents output.new)) }
     ensures fault { IfErr result (IsFileHashFault tables.now bytes.now (O.contents output.old) (O.contents output.new)) }
+    ensures status { IfOk result (λ status. status ≤ 1) }
 {
     let file = match ivf_read(alloc, bytes) {
         Ok(file) => file,
@@ -33,5 +45,6 @@ pub fn hash_to<O: Write, P: Progress>(
     let Ok(()) = output.flush() else {
         return Err(Fault::CannotWrite);
     };
-    Ok(())
+    let _ = write_refusals(errors, bytes, &file);
+    Ok(hash_status(has_refused(bytes, &file)))
 }

@@ -2,13 +2,15 @@
 //! what is wrong with it.
 #![tactic(auto)]
 
+mod answering;
 mod checking;
 mod fault;
 mod hashing;
 mod listing;
 mod objects;
 
-pub use checking::check_to;
+pub use answering::{Output, answer_to};
+pub use checking::{Checking, check_to};
 pub use fault::Fault;
 pub use hashing::hash_to;
 pub use listing::list_to;

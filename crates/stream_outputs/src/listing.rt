@@ -17,7 +17,7 @@ pub fn list_to<O: Write>(alloc: Global, bytes: &[u8], output: &mut O) -> Result<
         Ok(file) => file,
         Err(fault) => return Err(Fault::Input(fault)),
     };
-    let Ok(()) = write_listing(output, file.packets.as_slice()) else {
+    let Ok(()) = write_listing(output, bytes, &file) else {
         return Err(Fault::CannotWrite);
     };
     let Ok(()) = output.flush() else {

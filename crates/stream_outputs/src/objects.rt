@@ -22,7 +22,7 @@ pub fn objects_to<O: Write>(
         Ok(file) => file,
         Err(fault) => return Err(Fault::Input(fault)),
     };
-    let Ok(()) = write_objects(output, file.packets.as_slice()) else {
+    let Ok(()) = write_objects(output, bytes, &file) else {
         return Err(Fault::CannotWrite);
     };
     let Ok(()) = output.flush() else {

@@ -20,7 +20,14 @@ fn start<E: Write>(rt: &HostRuntime, errors: &mut E) -> Result<u8, Fault<'static
         rt.stdout(),
     ).map_err(|_| Fault::NoMemory)?;
     let mut progress = ProgressLine::new(rt, rt.stderr());
-    Ok(program::answer(rt, words.as_slice(), &mut output, errors, &mut progress))
+    Ok(program::answer(
+        rt,
+        words.as_slice(),
+        &mut rt.stdin(),
+        &mut output,
+        errors,
+        &mut progress,
+    ))
 }
 
 fn main(rt: HostRuntime) -> ExitCode {

@@ -2,13 +2,13 @@
 ghost use Rattle.std.specs.Prelude.{◌≡◌, ◌≢◌, ◌≤◌, IfOk, Err};
 ghost use Rattle.clap.specs.Values.{kind_of};
 
-use crate::arguments::{self, Output};
-use crate::reading::{read_file, read_tables};
+use crate::arguments;
+use crate::reading::{read_stream, read_tables};
 use clap::error::ErrorKind;
 use std::convert::AsStr;
-use std::io::Write;
+use std::io::{BufWriter, Read, Write};
 use std::rt::Files;
-use stream_outputs::{Fault, check_to, hash_to, list_to, objects_to};
+use stream_outputs::{Fault, answer_to};
 use stream_progress::Progress;
 
 /// The number of bytes of the list that are buffered.
@@ -42,10 +42,20 @@ fn help_or_fault<O: Write>(error: clap::Error, output: &mut O) -> Result<(), Fau
 }
 
 /// Does what a command line asks for, and returns the exit status.
-fn answer_line<'a, R: Files + AllocGlobal, S: AsStr, O: Write, P: Progress>(
+fn answer_line<
+    'a,
+    R: Files + AllocGlobal,
+    S: AsStr,
+    I: Read,
+    O: Write + Drop,
+    E: Write,
+    P: Progress,
+>(
     rt: &R,
     words: &'a [S],
-    output: &mut O,
+    input: &mut I,
+    output: &mut BufWriter<O>,
+    errors: &mut E,
     progress: &mut P,
 ) -> Result<u8, Fault<'a>>
     ensures { IfOk result (λ status. status ≤ 1) }
@@ -61,35 +71,37 @@ fn answer_line<'a, R: Files + AllocGlobal, S: AsStr, O: Write, P: Progress>(
         return Err(Fault::CommandLine);
     };
     let tables = read_tables(rt, given.tables)?;
-    let bytes = read_file(rt, given.stream)?;
-    match kind {
-        Output::Findings => {
-            return check_to(rt.alloc(), &tables, bytes.as_slice(), output, progress);
-        }
-        Output::Hashes => hash_to(rt.alloc(), &tables, bytes.as_slice(), output, progress)?,
-        Output::Objects => objects_to(rt.alloc(), bytes.as_slice(), output)?,
-        Output::List => list_to(rt.alloc(), bytes.as_slice(), output)?,
-    }
-    Ok(0)
+    let bytes = read_stream(rt, given.stream, input)?;
+    answer_to(
+        rt.alloc(),
+        kind,
+        &tables,
+        bytes.as_slice(),
+        output,
+        errors,
+        progress,
+    )
 }
 
 /// Runs the program on a command line, whose first argument is the program's name, and returns its
-/// exit status: 0 if the list was written or a check found nothing, also for help and the version, 1
-/// if a check found something, and 2 for every error.
+/// exit status: 0 if the list was written or a check found no damage, also for help and the version, 1
+/// if a check found damage, or with `--strict` a note, or if `--hash` met a refused packet, and 2 for
+/// every error.
 ///
-/// The file is read whole, up to 1,073,741,824 bytes, before the first line is written. The list,
+/// The file, or the input for `-`, is read whole, up to 1,073,741,824 bytes, before the first line is written. The list,
 /// findings, help and the version go to `output`; the text of an error goes to `errors`. `progress` is
 /// called after each packet that is decoded.
-pub fn answer<R: Files + AllocGlobal, S: AsStr, O: Write, E: Write, P: Progress>(
+pub fn answer<R: Files + AllocGlobal, S: AsStr, I: Read, O: Write + Drop, E: Write, P: Progress>(
     rt: &R,
     words: &[S],
-    output: &mut O,
+    input: &mut I,
+    output: &mut BufWriter<O>,
     errors: &mut E,
     progress: &mut P,
 ) -> u8
     ensures { result ≤ 2 }
 {
-    match answer_line(rt, words, output, progress) {
+    match answer_line(rt, words, input, output, errors, progress) {
         Ok(status) => {
             progress.end();
             status

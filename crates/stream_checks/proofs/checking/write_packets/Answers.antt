@@ -15,6 +15,20 @@ use Rattle.stream_checks.proofs.Steps.{one_more}
 use Rattle.stream_checks.proofs.Tallies.{tally_append}
 use Rattle.stream_checks.proofs.checking.write_packets.Goals as goal
 
+pub loop-packet-init : goal.loop-packet-init
+loop-packet-init g c = record {
+  done = [];
+  whole = search rules;
+  said = Appends-nil _;
+  counted = c.none-tally.ensures;
+  few = search rules;
+  packets = search rules;
+  frames = search rules;
+  form = search rules;
+  step = search rules;
+  answers = search rules;
+}
+
 pub loop-packet-preserved : goal.loop-packet-preserved
 loop-packet-preserved g c =
     let tables = c.args.tables.now in
@@ -28,16 +42,17 @@ loop-packet-preserved g c =
     let shorter : length following + 1 ≡ length c.loop-packet.rest.now = c.in-Some.ensures.cases.1 in
     let made = c.in-Ok.ensures in
     let next : after.position.packets ≡ before.position.packets + 1 = ap (λ (p : Position). p.packets) made.position in
-    let added = subst (λ (form : Form). Appends _ _ (texts_of form found)) met.form made.written in
+    let W : Form → Type 0 = λ form. Appends (g.W.Write.contents c.loop-packet.w) (g.W.Write.contents c.next.new.w) (texts_of form found) in
+    let added : W c.args.checker.form = subst W met.form made.written in
     record {
       done = met.done ++ found;
       whole = append_assoc met.done found (findings_after tables after following)
           ∙ ap (λ (more : List Finding). met.done ++ more) (sym (one_more tables before after packet following made.step made.position made.decoder))
           ∙ ap (λ (packets : List Packet). met.done ++ findings_after tables before packets) (sym at)
           ∙ met.whole;
-      said = rw (flat_map-append (text_of c.loop-packet.initial.checker.form) met.done found) (Appends-trans _ _ _ _ _ met.said added);
-      counted = c.plus.ensures ∙ ap (λ (tally : Tally). plus tally c.in-Ok.more) met.counted ∙ ap (λ (tally : Tally). plus (tally_of met.done) tally) made.counted ∙ sym (tally_append met.done found);
-      few = omega (arith, met.few, made.few, c.plus.ensures, shorter);
+      said = rw (flat_map-append (text_of c.args.checker.form) met.done found) (Appends-trans _ _ _ _ _ met.said added);
+      counted = c.plus-tally.ensures ∙ ap (λ (tally : Tally). plus tally c.in-Ok.more) met.counted ∙ ap (λ (tally : Tally). plus (tally_of met.done) tally) made.counted ∙ sym (tally_append met.done found);
+      few = omega (arith, met.few, made.few, ap (λ (tally : Tally). tally.damage) c.plus-tally.ensures, ap (λ (tally : Tally). tally.notes) c.plus-tally.ensures, shorter);
       packets = omega (arith, met.packets, shorter, next);
       frames = made.frames;
       form = made.form ∙ met.form;

@@ -33,7 +33,7 @@ loop-end-preserved g c =
           ∙ ap (λ (rest : List PartitionEnd). met.done ++ token_findings spot partition rest) (sym at)
           ∙ met.whole;
       said = rw (flat_map-append (text_of c.args.form) met.done one) (Appends-trans _ _ _ _ _ met.said made.written);
-      counted = c.plus.ensures ∙ ap (λ (tally : Tally). plus tally c.in_ok-more.more) met.counted ∙ ap (λ (tally : Tally). plus (tally_of met.done) tally) made.counted ∙ sym (tally_append met.done one);
-      few = omega (arith, met.few, made.few, c.plus.ensures);
+      counted = c.plus-tally.ensures ∙ ap (λ (tally : Tally). plus tally c.in_ok-more.more) met.counted ∙ ap (λ (tally : Tally). plus (tally_of met.done) tally) made.counted ∙ sym (tally_append met.done one);
+      few = omega (arith, met.few, made.few, ap (λ (tally : Tally). tally.damage) c.plus-tally.ensures, ap (λ (tally : Tally). tally.notes) c.plus-tally.ensures);
       partitions = omega (arith, met.partitions, shorter);
     }

@@ -1,6 +1,5 @@
 use Rattle.std.proofs.Common.{◌∙◌, ℕ, ap}
 use Rattle.std.proofs.KnownBytes.{Appends-kept}
-use Rattle.stream_outputs.specs.CheckedFiles.{status_of}
 use Rattle.stream_outputs.proofs.checking.check_to.Goals as goal
 
 pub returns-in-Err-NoMemory-clause-fault : goal.returns-in-Err-NoMemory-clause-fault
@@ -14,6 +13,12 @@ pub returns-clause-checked : goal.returns-clause-checked
 returns-clause-checked g c = record {
   file = c.in-Ok.file;
   read = c.in-Ok.ensures;
-  written = Appends-kept _ _ _ _ c.in-Ok-check.ensures.written c.in-Ok-flush.ensures.bytes;
-  counted = c.status_of.ensures.value ∙ ap (λ (n : ℕ). status_of n) c.in-Ok-check.ensures.counted;
+  tally = c.in-Ok-check.tally;
+  checked = record {
+    step = c.in-Ok-check.ensures.step;
+    median = c.in-Ok-check.ensures.median;
+    written = Appends-kept _ _ _ _ c.in-Ok-check.ensures.written c.in-Ok-flush.ensures.bytes;
+    counted = c.in-Ok-check.ensures.counted;
+  };
+  counted = c.status_of.ensures.value;
 }
