@@ -22,6 +22,9 @@ from corrupt import padded, verdicts
 from damaged import damage, has_key_tag, is_shown
 from listed import HERE, PROGRAM, facts, records, size_of
 
+# Findings that are damage begin with one of these after their place; all others are notes.
+DAMAGE = ("refused", "first partition", "token partition", "record")
+
 
 def run_before_key(packets):
     """The packets before the first one with a key tag."""
@@ -46,18 +49,37 @@ def refusals(packets):
 def stamp_lines(rows):
     """The findings about time stamps, by index."""
     shown = [stamp for stamp, packet in rows if is_shown(packet)]
-    steps = [after - before for before, after in zip(shown, shown[1:]) if after > before]
-    before, last, found = None, None, {}
+    steps = sorted(after - before for before, after in zip(shown, shown[1:]) if after > before)
+    step = steps[(len(steps) - 1) // 2] if steps else 1
+    last = even = None
+    found = {}
     for place, (stamp, packet) in enumerate(rows):
-        if is_shown(packet) and before is not None:
-            if stamp == before:
+        if not is_shown(packet):
+            if last and stamp < last[0]:
+                found[place] = f"time stamp {stamp} goes back from {last[0]}"
+            continue
+        expected = last is None or any(0 < stamp - before < (place - at + 1) * step for before, at in (last, even))
+        if not expected:
+            if stamp == last[0]:
                 found[place] = f"time stamp {stamp} repeats"
-            elif stamp < before:
-                found[place] = f"time stamp {stamp} goes back from {before}"
-            elif stamp - last >= 2 * min(steps):
-                found[place] = f"time stamp {stamp} skips from {last}"
-        before, last = stamp if is_shown(packet) else before, stamp
+            else:
+                found[place] = f"time stamp {stamp} {'goes back' if stamp < last[0] else 'skips'} from {last[0]}"
+        last = stamp, place
+        even = last if expected else even
     return found
+
+
+def first_size(packets):
+    """The size of the first key packet that has one."""
+    for packet in packets:
+        if has_key_tag(packet) and len(packet) >= 10 and packet[3:6] == b"\x9d\x01\x2a" and 0 not in size_of(packet):
+            return size_of(packet)
+    return None
+
+
+def line_of(found):
+    """The line of a finding: damage, or a note."""
+    return ("damage: " if re.sub(r"^packet \d+: ", "", found).startswith(DAMAGE) else "note: ") + found
 
 
 def size_lines(packets):
@@ -74,17 +96,30 @@ def size_lines(packets):
 
 
 def lines(text):
-    """The lines that a check writes for a file's bytes."""
+    """The lines that a check writes for a file's bytes, except for those of partitions."""
+    return map(line_of, findings(text))
+
+
+def findings(text):
+    """What is found in a file's bytes."""
     rows = list(records(text))
     packets = [packet for _, packet in rows]
     claimed, = struct.unpack_from("<I", text, 24)
     if claimed != len(rows):
         yield f"header: {claimed} frames, {len(rows)} packets"
+    size, claimed = first_size(packets), list(struct.unpack_from("<HH", text, 12))
+    if size and size != claimed:
+        yield "header: size {}x{}, first key packet {}x{}".format(*claimed, *size)
+    rate, scale = struct.unpack_from("<II", text, 16)
+    if not rate or not scale:
+        yield f"header: rate {rate}, scale {scale}"
     refused, stamps, sizes = refusals(packets), stamp_lines(rows), size_lines(packets)
     for place, packet in enumerate(packets):
         rest = run_before_key(packets[place + 1 :])
         if place in refused:
-            yield f"packet {place}: refused {refused[place]}, {len(rest)} packets lost"
+            yield f"packet {place}: refused {refused[place]}, packets lost with it: {len(rest)}"
+        if not packet:
+            yield f"packet {place}: no bytes, at which vpxdec ends"
         for found in stamps, sizes:
             if place in found:
                 yield f"packet {place}: {found[place]}"
@@ -98,7 +133,8 @@ def lines(text):
         yield f"record {len(rows)} at byte {begins}: {left} bytes are there"
 
 
-PAST = re.compile(r"packet (\d+): (?:first|token) partition(?: (\d+))?: (\d+) bytes read past its end")
+PAST = re.compile(r"damage: packet (\d+): (?:first|token) partition(?: (\d+))?: (\d+) bytes read past its end")
+PARTITION = re.compile(r"(damage|note): packet \d+: (?:first|token) partition.*")
 
 
 def past_ends(path):
@@ -111,14 +147,16 @@ def past_ends(path):
 
 
 def differs(path):
-    """Whether the findings of a file differ, except for partitions that are read past their end; the first that does is printed."""
+    """Whether the findings of a file differ, except for those in partitions; the first that does is printed."""
     ran = subprocess.run([PROGRAM, path, "--check"], capture_output=True, text=True, check=False)
     text = path.read_bytes()
     packets, theirs = [packet for _, packet in records(text)], list(lines(text))
-    past = len(PAST.findall(ran.stdout))
-    status = 1 if theirs or past else 0
-    theirs.append(f"{len(packets)} packets, {sum(map(is_shown, packets))} frames, {len(theirs) + past} findings")
-    ours = [line for line in ran.stdout.splitlines() if not PAST.fullmatch(line)]
+    partitions = [found.group(1) for line in ran.stdout.splitlines() if (found := PARTITION.fullmatch(line))]
+    damage = sum(line.startswith("damage") for line in theirs) + partitions.count("damage")
+    notes = sum(line.startswith("note") for line in theirs) + partitions.count("note")
+    status = 1 if damage else 0
+    theirs.append(f"{len(packets)} packets, {sum(map(is_shown, packets))} frames, damage: {damage}, notes: {notes}")
+    ours = [line for line in ran.stdout.splitlines() if not PARTITION.fullmatch(line)]
     if ran.returncode == status and ours == theirs:
         return False
     pair = next((pair for pair in zip(ours, theirs) if pair[0] != pair[1]), (len(ours), len(theirs)))

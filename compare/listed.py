@@ -18,7 +18,7 @@ from damaged import damage
 
 HERE = pathlib.Path(__file__).resolve().parent
 PROGRAM = HERE.parent / "crates/vp8list/out/vp8list"
-COLUMNS = "packet frame stamp bytes kind show version size first partitions quantizer level last golden altref cause"
+COLUMNS = "packet frame stamp bytes kind show version size first partitions quantizer level last golden altref cause byte scale color clamp"
 
 
 def records(text):
@@ -38,13 +38,12 @@ def flagged(reader, count):
 
 
 def fields(packet, is_key, first):
-    """Token partitions, quantizer index, filter level and references (RFC 6386, section 19.2), or a cause."""
+    """Token partitions, quantizer index, filter level, references and the two color bits (RFC 6386, section 19.2), or a cause."""
     start = 10 if is_key else 3
     if first > len(packet) - start:
         return "FirstPartition"
     reader = Reader(packet[start : start + first])
-    if is_key:
-        reader.number(2)
+    colors = [reader.number(1), reader.number(1)] if is_key else ["-", "-"]
     if reader.number(1):
         update_map, update_data = reader.number(1), reader.number(1)
         if update_data:
@@ -80,13 +79,13 @@ def fields(packet, is_key, first):
         altref = "new" if new_altref else ["-", "last", "golden", "-"][reader.number(2)]
         reader.number(3)
         last = "new" if reader.number(1) else "-"
-    return [count, quantizer, level, last, golden, altref, "-"]
+    return [count, quantizer, level, last, golden, altref, *colors]
 
 
 def facts(packet, has_key):
     """The columns after the tag's, or a cause, and whether a header has been accepted."""
     if not packet:
-        return (["-"] * 7 if has_key else "NoKeyFrame"), has_key
+        return (["-"] * 8 if has_key else "NoKeyFrame"), has_key
     if len(packet) < 3:
         return "ShortPacket", has_key
     tag = int.from_bytes(packet[:3], "little")
@@ -112,7 +111,8 @@ def size_of(packet):
 def lines(text):
     """The list of a file's bytes."""
     yield "\t".join(COLUMNS.split())
-    frames, has_key = 0, False
+    frames, has_key, broken = 0, False, False
+    byte, = struct.unpack_from("<H", text, 6)
     for number, (stamp, packet) in enumerate(records(text)):
         tag = int.from_bytes(packet[:3], "little") if len(packet) >= 3 else None
         shown = tag is None or tag >> 4 & 1
@@ -123,7 +123,12 @@ def lines(text):
         whole = is_key and len(packet) >= 10 and packet[3:6] == b"\x9d\x01\x2a" and 0 not in size_of(packet)
         line += ["x".join(map(str, size_of(packet))) if whole else "-", "-" if tag is None else tag >> 5]
         found, has_key = facts(packet, has_key)
-        line += ["-"] * 6 + [found] if isinstance(found, str) else found
+        refused, lost = isinstance(found, str), broken and not is_key
+        columns = ["-"] * 8 if refused else found
+        line += columns[:6] + ["lost" if lost else found if refused else "-", byte + 12]
+        line += ["x".join(str(side >> 14) for side in struct.unpack_from("<HH", packet, 6)) if whole else "-"] + columns[6:]
+        broken = lost or refused
+        byte += 12 + len(packet)
         frames += bool(shown)
         yield "\t".join(map(str, line))
 

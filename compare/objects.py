@@ -23,9 +23,9 @@ def main():
     for path in paths:
         names, *rows = [line.split("\t") for line in lines(path)]
         objects = [json.loads(line) for line in lines(path, "--json")]
-        wanted = [[(name, None if text == "-" else int(text) if text.isdigit() else text) for name, text in zip(names, row)] for row in rows]
+        wanted = [{name: None if text == "-" else int(text) if text.isdigit() else text for name, text in zip(names, row)} for row in rows]
         count += len(rows)
-        if [list(found.items()) for found in objects] != wanted:
+        if objects != wanted:
             wrong += 1
             print(f"{path}: differs")
     print(f"{len(paths)} streams, {count} packets, {wrong} streams different")

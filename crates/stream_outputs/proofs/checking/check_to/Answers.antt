@@ -15,10 +15,10 @@ returns-clause-checked g c = record {
   read = c.in-Ok.ensures;
   tally = c.in-Ok-check.tally;
   checked = record {
-    step = c.in-Ok-check.ensures.step;
-    median = c.in-Ok-check.ensures.median;
-    written = Appends-kept _ _ _ _ c.in-Ok-check.ensures.written c.in-Ok-flush.ensures.bytes;
-    counted = c.in-Ok-check.ensures.counted;
+    step = c.in-Ok-check.ensures.checked.step;
+    median = c.in-Ok-check.ensures.checked.median;
+    written = Appends-kept _ _ _ _ c.in-Ok-check.ensures.checked.written c.in-Ok-flush.ensures.bytes;
+    counted = c.in-Ok-check.ensures.checked.counted;
   };
   counted = c.status_of.ensures.value;
 }
