@@ -87,9 +87,14 @@ class FrameReader:
         self.samples = None
         self.filled = 0
 
+    @property
+    def frame_size(self):
+        """The number of bytes of a frame and its mark."""
+        return len(MARK) + size_of(*self.size)
+
     def start(self):
         """Room for a frame, with its mark."""
-        self.samples = memoryview(bytearray(len(MARK) + size_of(*self.size)))
+        self.samples = memoryview(bytearray(self.frame_size))
         self.filled = 0
 
     def read(self):

@@ -5,7 +5,7 @@ import time
 from typing import NamedTuple
 
 from . import checks, programs
-from .edits import EditList
+from .edits import EditList, words_of
 from .errors import Ended, Refused
 from .frames import frame_of
 from .inputs import Inputs
@@ -175,9 +175,8 @@ class Session:
             reply, picture = self._exchange(text, deadline)
             if reply.startswith("refused "):
                 raise Refused(reply, self._reason(deadline) if self._explain else None)
-            words = line.split()
-            if listed and words[0] in EDITS:
-                self._edits.accept(" ".join(words))
+            if listed and line.split()[0] in EDITS:
+                self._edits.accept(words_of(line))
             return reply, picture
 
     def _exchange(self, text, deadline):
@@ -312,6 +311,16 @@ class Session:
         """The frames a second of the frames that are served, as a pair: rate and scale of source 0, or 30 and 1 if either is 0."""
         with self._locked(None):
             return self._edits.contents().rate
+
+    @property
+    def header(self):
+        """The first line of the frames' YUV4MPEG2 text, once a frame was served."""
+        return bytes(self._pipes.reader.header)
+
+    @property
+    def frame_size(self):
+        """The number of bytes of a frame in that text, with the word FRAME, once a frame was served."""
+        return self._pipes.reader.frame_size
 
     def shown_kinds(self):
         """For each shown packet of source 0 `key` or `inter`: those of the frames, if there is no script. None if there is one."""
