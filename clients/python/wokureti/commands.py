@@ -3,8 +3,9 @@
 import argparse
 import os
 import sys
+import tempfile
 
-from . import cat, programs
+from . import cat, convert, programs
 from .errors import Ended, Refused
 
 ABOUT = """\
@@ -19,9 +20,8 @@ def stop(text):
     return 2
 
 
-def add_stream(parser):
-    """The arguments that name a stream and its edits."""
-    parser.add_argument("stream", metavar="IN", help="IVF file")
+def add_edits(parser):
+    """The arguments that name other streams, and edits."""
     parser.add_argument("--source", action="append", default=[], metavar="B", help="another stream: source 1, 2, and so on")
     parser.add_argument("--edits", metavar="FILE", help="a list of edits, made first")
     parser.add_argument("--script", metavar="TEXT", help="the script, for example 'trim 0 0 50'")
@@ -36,7 +36,8 @@ def add_cat(commands):
         "several processes decode the parts, and the parts are joined in order as they come. Exit status 1 if a frame is refused, which is "
         "then left out; 2 for any error.",
     )
-    add_stream(parser)
+    parser.add_argument("stream", metavar="IN", help="IVF file")
+    add_edits(parser)
     parser.add_argument("out", metavar="OUT", nargs="?", default="-", help="the text; standard output if it is missing, or `-`")
     parser.add_argument("--jobs", type=int, default=0, metavar="N", help="processes on this machine; as many as processors if missing")
     parser.add_argument(
@@ -51,15 +52,19 @@ def add_cat(commands):
     parser.set_defaults(run=run_cat)
 
 
+def opened(given, folder):
+    """The session of the arguments, with their edits and script. The output may be none of the inputs."""
+    cat.check_output(given.out, [given.stream, *given.source, given.edits, given.tables])
+    stream, *sources = (convert.as_ivf(path, folder) for path in [given.stream, *given.source])
+    return cat.open_session(stream, sources, given.edits, given.script, given.tables, programs.find("vp8serve"))
+
+
 def run_cat(given):
     program = programs.find("vp8serve")
-    inputs = [given.stream, *given.source, given.edits, given.tables]
-    cat.check_output(given.out, inputs)
     jobs = given.jobs or len(os.sched_getaffinity(0))
     if jobs < 1:
         raise cat.Failed("--jobs is 1 or more")
-    session = cat.open_session(given.stream, given.source, given.edits, given.script, given.tables, program)
-    with session:
+    with tempfile.TemporaryDirectory(prefix="wokureti-") as folder, opened(given, folder) as session:
         if given.sshlogin:
             from . import machines
 
@@ -75,10 +80,89 @@ def run_cat(given):
     return 1 if refusals else 0
 
 
+def add_serve(commands):
+    parser = commands.add_parser(
+        "serve",
+        help="the edited stream on a port, for players and editors",
+        description="Starts a server on 127.0.0.1 and prints the URL of a YUV4MPEG2 file, which is made as it is read: ffplay, mpv, VLC and ffmpeg "
+        "open it and seek in it. clients/README.md has the rest of the interface, with which the stream is edited. Ctrl-C ends it.",
+    )
+    parser.add_argument("stream", metavar="IN", help="IVF file; `-` is an empty stream")
+    parser.add_argument("--source", action="append", default=[], metavar="B", help="another stream: source 1, 2, and so on")
+    parser.add_argument("--cache", type=int, metavar="N", help="number of decoded states that are cached")
+    parser.add_argument("--edits", metavar="FILE", help="the list of edits: it is made first, and each edit is written to it")
+    parser.add_argument("--save", metavar="FILE", help="the file that `save` writes, and the end, if something was edited since")
+    parser.add_argument("--port", type=int, default=0, metavar="N", help="the port; a free one if missing")
+    parser.add_argument("--tables", metavar="FILE", help="3012 bytes that replace the long tables of RFC 6386")
+    parser.set_defaults(run=run_serve)
+
+
+def run_serve(given):
+    from . import serve
+
+    with tempfile.TemporaryDirectory(prefix="wokureti-") as folder:
+        stream, *sources = (convert.as_ivf(path, folder) for path in [given.stream, *given.source])
+        options = {"stream": stream, "sources": sources, "cache": given.cache, "tables": given.tables}
+        return serve.run(options, given.edits, given.save, given.port)
+
+
+def add_compare(commands):
+    parser = commands.add_parser(
+        "compare",
+        help="where two streams of frames part",
+        description="Compares the frames of A and B, each an IVF file, a YUV4MPEG2 file, a URL, or `-`, a decoder under test on a pipe. Prints the first "
+        "frame that differs, with the first sample, how many frames and samples differ, and the PSNR. Exit status 0 if all are the same, 1 if "
+        "not, 2 for an error.",
+    )
+    parser.add_argument("one", metavar="A")
+    parser.add_argument("other", metavar="B")
+    parser.add_argument("--png", metavar="DIR", help="writes the first two frames that differ, and their difference, as PNG")
+    parser.add_argument("--tables", metavar="FILE", help="3012 bytes that replace the long tables of RFC 6386")
+    parser.set_defaults(run=run_compare)
+
+
+def run_compare(given):
+    from . import compare
+
+    found = compare.compare(given.one, given.other, given.png, given.tables)
+    for line in found.lines():
+        print(line)
+    return 0 if found.is_same else 1
+
+
+def add_png(commands):
+    parser = commands.add_parser(
+        "png",
+        help="a frame as PNG",
+        description="Writes a frame as a PNG file, with the colours of ITU-R BT.601 and luma of 16 to 235, as VP8 has them.",
+    )
+    parser.add_argument("stream", metavar="IN", help="IVF file")
+    parser.add_argument("number", metavar="N", type=int, help="the number of the frame, from 0")
+    parser.add_argument("out", metavar="OUT", help="the PNG file; standard output if it is `-`")
+    add_edits(parser)
+    parser.add_argument("--matrix", choices=("601", "709"), default="601", help="the colours: BT.601 or BT.709")
+    parser.add_argument("--full", action="store_true", help="luma has 0 to 255")
+    parser.set_defaults(run=run_png)
+
+
+def run_png(given):
+    from . import png
+
+    with tempfile.TemporaryDirectory(prefix="wokureti-") as folder:
+        with opened(given, folder) as session:
+            text = png.of_frame(session.frame(given.number), given.matrix, given.full)
+        with cat.output(given.out) as file:
+            file.write(text)
+    return 0
+
+
 def parser_of():
     parser = argparse.ArgumentParser(prog="wokureti", description=ABOUT)
     commands = parser.add_subparsers(metavar="COMMAND", required=True)
+    add_serve(commands)
+    add_compare(commands)
     add_cat(commands)
+    add_png(commands)
     return parser
 
 

@@ -170,6 +170,14 @@ class EditList:
         except Refused as refused:
             raise ValueError(f"{path}, line {number}: {line[:80]}: {refused}. The list is not of this stream") from None
 
+    def adopt(self, other):
+        """Takes over the steps of a list with the same edits, and what was undone there."""
+        if list(self) == list(other):
+            for entry, before in zip(self._entries, other._entries):
+                entry.step = before.step
+            self._step = max(self._step, other._step)
+            self._undone = other._undone
+
     def contents(self):
         """The packets after the edits, which are found when they are needed first."""
         if self._contents is None:

@@ -120,11 +120,6 @@ class FrameReader:
         """Whether a whole frame was read."""
         return self.samples is not None and self.filled == len(self.samples)
 
-    @property
-    def is_begun(self):
-        """Whether a part of a frame was read."""
-        return self.samples is not None and self.filled > 0
-
     def take(self):
         """The width, height and samples of the frame that was read."""
         samples, self.samples = self.samples, None
