@@ -5,7 +5,7 @@ import os
 import sys
 import tempfile
 
-from . import cat, convert, programs
+from . import cat, checks, convert, programs
 from .errors import Ended, Refused
 
 ABOUT = """\
@@ -106,6 +106,70 @@ def run_serve(given):
         return serve.run(options, given.edits, given.save, given.port)
 
 
+def add_repair(commands):
+    parser = commands.add_parser(
+        "repair",
+        help="finds the damage of a stream and mends it",
+        description="Reads a damaged stream, mends what can be mended without a person, and writes it to OUT. A line says what each step did. "
+        "Packets whose records are lost are searched; packets that are there twice go; packets out of order are sorted by their time stamps; "
+        "those that are missing or refused are taken from a second recording; and where packets are refused or lost, the picture before is "
+        "held up to the next key frame. Exit status 0 if the stream was clean, 1 if it was mended, 2 if something could not be mended.",
+    )
+    parser.add_argument("stream", metavar="IN", help="IVF file")
+    parser.add_argument("out", metavar="OUT", help="the mended IVF file")
+    parser.add_argument("--second", metavar="FILE", help="a second recording of the same packets")
+    parser.add_argument("--edits", metavar="FILE", help="writes the edits that make OUT of IN, which `vp8serve IN FILE - --save OUT` runs")
+    parser.add_argument("--no-scan", action="store_true", help="records that are lost are not searched")
+    parser.add_argument("--no-double", action="store_true", help="packets that are there twice stay")
+    parser.add_argument("--no-sort", action="store_true", help="packets stay in their order")
+    parser.add_argument("--no-hold", action="store_true", help="no picture is held, and nothing is removed at the beginning")
+    parser.add_argument("--tables", metavar="FILE", help="3012 bytes that replace the long tables of RFC 6386")
+    parser.set_defaults(run=run_repair)
+
+
+def run_repair(given):
+    from . import files, ivf, repair
+
+    inputs = [given.stream, given.second, given.tables]
+    for out in (given.out, given.edits):
+        if out is not None:
+            cat.check_output(out, inputs)
+    if given.edits is not None and checks.is_same_file(given.out, given.edits):
+        raise cat.Failed("OUT and the list of edits are one file")
+    steps = {name for name in ("scan", "double", "sort", "hold") if not getattr(given, f"no_{name}")}
+    with tempfile.TemporaryDirectory(prefix="wokureti-") as folder:
+        data, second = (path and read_all(convert.as_ivf(path, folder)) for path in (given.stream, given.second))
+    try:
+        found = repair.repair(data, programs.find("vp8serve"), programs.find("vp8list"), second, given.tables, steps)
+    except ivf.NotIvf as error:
+        raise cat.Failed(f"{given.stream}: {error}") from None
+    packets = [(packet.stamp, packet.data) for packet in found.packets]
+    files.write_whole(given.out, ivf.pieces(found.head, len(packets), packets))
+    if given.edits is not None:
+        lines = repair.edits_of(data, found)
+        if lines is None:
+            raise cat.Failed("vp8serve does not read IN, so no list of edits makes OUT of it; OUT was written")
+        files.write_whole(given.edits, [f"{line}\n".encode() for line in lines])
+    for line in found.lines:
+        print(line)
+    before = len(salvage_count(data))
+    print(f"{len(packets)} packets written, {before} are read without repair; {found.changes} changes")
+    return 2 if found.left else 1 if found.changes else 0
+
+
+def read_all(path):
+    with open(path, "rb") as file:
+        return file.read()
+
+
+def salvage_count(data):
+    """The packets that vp8serve reads of a file."""
+    from . import salvage
+
+    found = salvage.plain(data)
+    return found[1] if found else []
+
+
 def add_compare(commands):
     parser = commands.add_parser(
         "compare",
@@ -160,6 +224,7 @@ def parser_of():
     parser = argparse.ArgumentParser(prog="wokureti", description=ABOUT)
     commands = parser.add_subparsers(metavar="COMMAND", required=True)
     add_serve(commands)
+    add_repair(commands)
     add_compare(commands)
     add_cat(commands)
     add_png(commands)

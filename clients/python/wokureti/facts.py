@@ -1,8 +1,8 @@
 """What vp8list says of the packets of a session.
 
-It reads headers only. What it says of a packet depends on the packet's bytes, except for the number of the frame, and whether an inter frame
-may follow at all. So each packet is listed once, when it is new, and not again after each edit; of most of them only whether they
-are key, shown or refused is stored, since a stream may have a million.
+It reads headers only. What it says of a packet depends on the packet's bytes, except for the number of the frame, and whether the packets before
+it let it follow. So each packet is listed once, after a key packet, when it is new, and not again after each edit; of most of them only
+whether they are key, shown or refused is stored, since a stream may have a million.
 """
 
 import json
@@ -16,8 +16,8 @@ from .errors import Ended
 
 MOST_TIME = 300
 KEY, SHOWN, REFUSED = 1, 2, 4
-# Members of a packet's facts that depend on where the packet is.
-PLACED = ("packet", "frame", "stamp")
+# Causes that are those of the packets before.
+OF_OTHERS = ("NoKeyFrame", "lost")
 
 
 def run(lister, path, *options, pass_fds=(), statuses=(0,)):
@@ -36,23 +36,23 @@ def run(lister, path, *options, pass_fds=(), statuses=(0,)):
         yield from out
 
 
-def run_on(lister, packets, *options):
+def run_on(lister, packets, *options, statuses=(0,)):
     """The same of these packets, pairs of a time stamp and bytes."""
     with tempfile.TemporaryDirectory() as folder:
         path = os.path.join(folder, "packets.ivf")
         with open(path, "wb") as file:
             file.writelines(ivf.pieces(ivf.EMPTY, 0, packets))
-        yield from run(lister, path, *options)
+        yield from run(lister, path, *options, statuses=statuses)
 
 
 def outlines(lines):
     """For each line of a list its flags, the size of a key packet or None, and the cause against its header or None."""
-    next(lines, None)
+    names = next(lines, b"").decode("ascii").rstrip("\n").split("\t")
+    kind, show, size, cause = (names.index(name) if name in names else 0 for name in ("kind", "show", "size", "cause"))
     for line in lines:
         columns = line.decode("ascii").rstrip("\n").split("\t")
-        kind, show, size, cause = columns[4], columns[5], columns[7], columns[15]
-        flags = KEY * (kind == "key") + SHOWN * (show == "shown") + REFUSED * (cause != "-")
-        yield flags, size if size != "-" else None, cause if cause != "-" else None
+        flags = KEY * (columns[kind] == "key") + SHOWN * (columns[show] == "shown") + REFUSED * (columns[cause] != "-")
+        yield flags, columns[size] if columns[size] != "-" else None, columns[cause] if columns[cause] != "-" else None
 
 
 class Facts:
@@ -64,19 +64,19 @@ class Facts:
         self.sizes, self.causes = {}, {}
 
     def learn_files(self):
-        """Lists the files, once. Inter frames that come before all key frames are listed again, as if one came before them."""
+        """Lists the files, once. Packets that are refused because of those before them are listed again by themselves."""
         again = []
         for item in self.contents.inputs.all:
             if not len(item.records()):
                 continue
             for flags, size, cause in outlines(run(self.contents.lister, f"/dev/fd/{item.descriptor}", pass_fds=(item.descriptor,))):
-                if cause == "NoKeyFrame":
+                if cause in OF_OTHERS:
                     again.append(len(self.flags))
                 self.add(flags, size, cause)
         if len(self.flags) != self.contents.of_files:
             raise OSError("vp8list and the client do not find the same packets")
-        for number, (flags, size, cause) in zip(again, self.after_key(again)):
-            self.put(number, flags, size, cause)
+        for number, found in zip(again, self.by_themselves(again)):
+            self.put(number, *found)
 
     def add(self, flags, size, cause):
         self.flags.append(0)
@@ -91,16 +91,13 @@ class Facts:
         if cause is not None:
             self.causes[number] = cause
 
-    def after_key(self, numbers):
-        """The outlines of packets after a key packet, so that inter frames may follow."""
+    def by_themselves(self, numbers):
+        """The outlines of packets, each after a key packet, so that inter frames may follow."""
         if not numbers:
             return []
-        return list(outlines(run_on(self.contents.lister, self.packets_after_key(numbers))))[1:]
-
-    def packets_after_key(self, numbers):
-        yield 0, self.contents.forge("blank", 1, 1)
-        for number in numbers:
-            yield 0, self.contents.bytes(number)
+        key = self.contents.forge("blank", 1, 1)
+        packets = ((0, data) for number in numbers for data in (key, self.contents.bytes(number)))
+        return list(outlines(run_on(self.contents.lister, packets)))[1::2]
 
     def learn(self):
         """Lists the packets that are new."""
@@ -108,16 +105,8 @@ class Facts:
         if not self.flags:
             self.learn_files()
         new = range(len(self.flags), contents.of_files + len(contents.made))
-        for flags, size, cause in self.after_key(new):
-            self.add(flags, size, cause)
-
-    def is_first(self, number):
-        """Whether a packet is a key packet whose header is accepted."""
-        return self.flags[number] & (KEY | REFUSED) == KEY
-
-    def before_first(self, stream):
-        """How many packets come before the first key packet whose header is accepted: inter frames among them are refused."""
-        return next((place for place, number in enumerate(stream) if self.is_first(number)), len(stream))
+        for found in self.by_themselves(new):
+            self.add(*found)
 
     def of_range(self, source, numbers):
         """The facts of the packets of a range, of all if it is None, as dictionaries."""
@@ -125,26 +114,36 @@ class Facts:
         stream = self.contents.streams[source]
         numbers = range(len(stream)) if numbers is None else numbers
         wanted = [number for number in numbers if 0 <= number < len(stream)]
-        early = self.before_first(stream)
-        found = {}
-        for places, leads in (([place for place in wanted if place < early], 0), ([place for place in wanted if place >= early], 1)):
-            if places:
-                held = [stream[place] for place in places]
-                packets = self.packets_after_key(held) if leads else ((0, self.contents.bytes(number)) for number in held)
-                found.update(zip(places, list(run_on(self.contents.lister, packets, "--json"))[leads:]))
-        frames = self.frame_numbers(stream, max(wanted, default=-1) + 1)
-        return [self.placed(place, stream[place], frames[place], found[place]) for place in wanted]
+        if not wanted:
+            return []
+        first, end = min(wanted), max(wanted) + 1
+        begin = first
+        while begin and not self.flags[stream[begin]] & KEY:
+            begin -= 1
+        # Once a key frame's header was accepted, inter frames may follow.
+        follows = any(self.flags[number] & (KEY | REFUSED) == KEY for number in stream[:begin])
+        key = [(0, self.contents.forge("blank", 1, 1))] if follows else []
+        packets = (*key, *((self.contents.stamp(number), self.contents.bytes(number)) for number in stream[begin:end]))
+        lines = list(run_on(self.contents.lister, packets, "--json"))[len(key) :]
+        frames, bytes_before = self.before(stream, end)
+        shift = bytes_before[begin] - sum(ivf.RECORD.size + len(data) for _, data in key)
+        return [placed(json.loads(lines[place - begin]), place, frames[place], shift) for place in wanted]
 
-    def frame_numbers(self, stream, end):
-        """For each packet before `end` how many shown ones come before it."""
-        counts, shown = array("I"), 0
+    def before(self, stream, end):
+        """For each packet up to `end` how many shown ones, and how many bytes of records, come before it."""
+        frames, places, shown, place = array("I"), array("Q"), 0, 0
         for number in stream[:end]:
-            counts.append(shown)
+            frames.append(shown)
+            places.append(place)
             shown += bool(self.flags[number] & SHOWN)
-        return counts
+            place += ivf.RECORD.size + self.contents.size(number)
+        return frames, places
 
-    def placed(self, place, number, frame, line):
-        """The facts of a packet at an index."""
-        facts = json.loads(line)
-        placed = {"packet": place, "frame": frame if facts["show"] == "shown" else None, "stamp": self.contents.stamp(number)}
-        return {**placed, **{name: value for name, value in facts.items() if name not in PLACED}}
+
+def placed(facts, place, frame, shift):
+    """The facts of a packet that is at another index than it was listed at."""
+    facts["packet"] = place
+    facts["frame"] = frame if facts["show"] == "shown" else None
+    if "byte" in facts:
+        facts["byte"] += shift
+    return facts
