@@ -109,3 +109,35 @@ def frames_of(stream, numbers, *lines_before):
 
     size = 6 + size_of(*parse_header(header))
     return [rest[start + 6 : start + size] for start in range(0, len(rest), size)]
+
+
+def start(*words, **options):
+    """A process of the command wokureti."""
+    env = dict(os.environ, PYTHONPATH=str(TOP / "clients/python"), **options.pop("env", {}))
+    return subprocess.Popen([sys.executable, "-m", "wokureti", *map(str, words)], env=env, **options)
+
+
+def command(*words, given=b"", **options):
+    """The status of the command wokureti, and what it wrote to standard output and standard error."""
+    process = start(*words, stdin=subprocess.PIPE, stdout=subprocess.PIPE, stderr=subprocess.PIPE, **options)
+    out, errors = process.communicate(given, timeout=20)
+    return process.returncode, out, errors.decode()
+
+
+def whole_text(stream, *lines, sources=()):
+    """The text that one run of the program writes for all frames."""
+    with tempfile.TemporaryDirectory() as room:
+        out = os.path.join(room, "out.y4m")
+        options = ["--sources", ":".join(map(str, sources))] if sources else []
+        count = int(serve(stream, [*lines, "count"], *options)[-1].split()[3])
+        serve(stream, [*lines, *(f"frame {number}" for number in range(count))], *options, frames=out)
+        with open(out, "rb") as file:
+            return file.read()
+
+
+def write_packets(path, packets, rate=30, scale=1):
+    """Writes an IVF file of packets, with time stamps from 0."""
+    head = ivf.Head(16, 16, rate, scale)
+    with open(path, "wb") as file:
+        file.writelines(ivf.pieces(head, len(packets), list(enumerate(packets))))
+    return path

@@ -148,6 +148,13 @@ class Contents:
         data = data if isinstance(data, bytes) else self.forge(*data)
         return data if size is None else data[:size]
 
+    def size(self, number):
+        """The number of bytes of a packet."""
+        if number < self.of_files:
+            item, index = self.where(number)
+            return item.index.sizes[index]
+        return len(self.bytes(number))
+
     def has_key_tag(self, number):
         if number < self.of_files:
             item, index = self.where(number)

@@ -14,6 +14,17 @@ from .errors import Refused
 from .files import write_whole
 
 
+def words_of(line):
+    """A request line with one space between its words."""
+    return " ".join(word for word in line.removesuffix("\r").split(" ") if word)
+
+
+def is_edit(line):
+    """Whether a line of a list is an edit, and not a comment or another request."""
+    word = words_of(line).split(" ")[0]
+    return bool(word) and not word.startswith("#") and word not in ("frame", "count", "stats")
+
+
 class Entry:
     """An edit: its line, the lines of the file before it, the step that it belongs to, and what takes it back, once that is known."""
 
@@ -135,19 +146,37 @@ class EditList:
         before, place = "", 0
         for number, line in enumerate(text.split("\n")[:-1], 1):
             place += len(line.encode()) + 1
-            words = [word for word in line.removesuffix("\r").split(" ") if word]
-            if not words or words[0].startswith("#") or words[0] in ("frame", "count", "stats"):
+            if not is_edit(line):
                 before += f"{line}\n"
                 continue
-            try:
-                self._session.request(line, listed=False)
-            except Refused as refused:
-                raise ValueError(f"{self.path}, line {number}: {line[:80]}: {refused}. The list is not of this stream") from None
+            self._replay(line, number, self.path, listed=False)
             self._new_step()
-            self._entries.append(Entry(" ".join(words), self._step, before))
+            self._entries.append(Entry(words_of(line), self._step, before))
             self._ends.append(place)
             before = ""
         self._after = before
+
+    def run(self, path):
+        """Makes the edits of a list, which is only read."""
+        with open(path, encoding="utf-8") as file:
+            text = file.read()
+        for number, line in enumerate(text.split("\n"), 1):
+            if is_edit(line):
+                self._replay(line, number, path, listed=True)
+
+    def _replay(self, line, number, path, listed):
+        try:
+            self._session.request(line, listed=listed)
+        except Refused as refused:
+            raise ValueError(f"{path}, line {number}: {line[:80]}: {refused}. The list is not of this stream") from None
+
+    def adopt(self, other):
+        """Takes over the steps of a list with the same edits, and what was undone there."""
+        if list(self) == list(other):
+            for entry, before in zip(self._entries, other._entries):
+                entry.step = before.step
+            self._step = max(self._step, other._step)
+            self._undone = other._undone
 
     def contents(self):
         """The packets after the edits, which are found when they are needed first."""

@@ -1,35 +1,58 @@
-"""The facts of the packets of a session, as `vp8list --json` prints them.
+"""What vp8list says of the packets of a session.
 
-vp8list reads headers only, and what it says of a packet depends on the packet's bytes; what depends on the packets before it is the
-number of the frame, and whether a packet may follow at all. So each packet is listed once, and not again after each edit.
+It reads headers only. What it says of a packet depends on the packet's bytes, except for the number of the frame, and whether the packets before
+it let it follow. So each packet is listed once, after a key packet, when it is new, and not again after each edit; of most of them only
+whether they are key, shown or refused is stored, since a stream may have a million.
 """
 
 import json
 import os
 import subprocess
 import tempfile
+from array import array
 
 from . import ivf
 from .errors import Ended
 
-# Members of a packet's facts that depend on where the packet is.
-PLACED = ("packet", "frame", "stamp")
-MOST_TIME = 120
+MOST_TIME = 300
+KEY, SHOWN, REFUSED = 1, 2, 4
+# Causes that are those of the packets before.
+OF_OTHERS = ("NoKeyFrame", "lost")
 
 
-def listed(lister, packets):
-    """The objects of vp8list for these packets, pairs of a time stamp and bytes."""
+def run(lister, path, *options, pass_fds=(), statuses=(0,)):
+    """The lines that vp8list prints of a file, one after the other."""
+    with tempfile.TemporaryFile() as out:
+        words = [lister, path, *options]
+        try:
+            done = subprocess.run(
+                words, stdout=out, stderr=subprocess.PIPE, timeout=MOST_TIME, stdin=subprocess.DEVNULL, check=False, pass_fds=pass_fds
+            )
+        except subprocess.TimeoutExpired:
+            raise Ended(None, f"{lister} took longer than {MOST_TIME} seconds") from None
+        if done.returncode not in statuses:
+            raise Ended(done.returncode, done.stderr.decode(errors="replace").strip())
+        out.seek(0)
+        yield from out
+
+
+def run_on(lister, packets, *options, statuses=(0,)):
+    """The same of these packets, pairs of a time stamp and bytes."""
     with tempfile.TemporaryDirectory() as folder:
         path = os.path.join(folder, "packets.ivf")
         with open(path, "wb") as file:
             file.writelines(ivf.pieces(ivf.EMPTY, 0, packets))
-        try:
-            done = subprocess.run([lister, path, "--json"], capture_output=True, timeout=MOST_TIME, stdin=subprocess.DEVNULL, check=False)
-        except subprocess.TimeoutExpired:
-            raise Ended(None, f"{lister} took longer than {MOST_TIME} seconds") from None
-    if done.returncode != 0:
-        raise Ended(done.returncode, done.stderr.decode(errors="replace").strip())
-    return [json.loads(line) for line in done.stdout.splitlines()]
+        yield from run(lister, path, *options, statuses=statuses)
+
+
+def outlines(lines):
+    """For each line of a list its flags, the size of a key packet or None, and the cause against its header or None."""
+    names = next(lines, b"").decode("ascii").rstrip("\n").split("\t")
+    kind, show, size, cause = (names.index(name) if name in names else 0 for name in ("kind", "show", "size", "cause"))
+    for line in lines:
+        columns = line.decode("ascii").rstrip("\n").split("\t")
+        flags = KEY * (columns[kind] == "key") + SHOWN * (columns[show] == "shown") + REFUSED * (columns[cause] != "-")
+        yield flags, columns[size] if columns[size] != "-" else None, columns[cause] if columns[cause] != "-" else None
 
 
 class Facts:
@@ -37,43 +60,90 @@ class Facts:
 
     def __init__(self, contents):
         self.contents = contents
-        self.known = {}
+        self.flags = bytearray()
+        self.sizes, self.causes = {}, {}
 
-    def learn(self, numbers):
-        """Lists the packets that are not known yet, after a key packet, so that inter frames may follow."""
-        unknown = [number for number in dict.fromkeys(numbers) if number not in self.known]
-        if not unknown:
-            return
+    def learn_files(self):
+        """Lists the files, once. Packets that are refused because of those before them are listed again by themselves."""
+        again = []
+        for item in self.contents.inputs.all:
+            if not len(item.records()):
+                continue
+            for flags, size, cause in outlines(run(self.contents.lister, f"/dev/fd/{item.descriptor}", pass_fds=(item.descriptor,))):
+                if cause in OF_OTHERS:
+                    again.append(len(self.flags))
+                self.add(flags, size, cause)
+        if len(self.flags) != self.contents.of_files:
+            raise OSError("vp8list and the client do not find the same packets")
+        for number, found in zip(again, self.by_themselves(again)):
+            self.put(number, *found)
+
+    def add(self, flags, size, cause):
+        self.flags.append(0)
+        self.put(len(self.flags) - 1, flags, size, cause)
+
+    def put(self, number, flags, size, cause):
+        self.flags[number] = flags
+        self.sizes.pop(number, None)
+        self.causes.pop(number, None)
+        if size is not None:
+            self.sizes[number] = tuple(map(int, size.split("x")))
+        if cause is not None:
+            self.causes[number] = cause
+
+    def by_themselves(self, numbers):
+        """The outlines of packets, each after a key packet, so that inter frames may follow."""
+        if not numbers:
+            return []
         key = self.contents.forge("blank", 1, 1)
-        packets = ((0, key) if number is None else (0, self.contents.bytes(number)) for number in [None, *unknown])
-        for number, facts in zip(unknown, listed(self.contents.lister, packets)[1:]):
-            self.known[number] = facts
+        packets = ((0, data) for number in numbers for data in (key, self.contents.bytes(number)))
+        return list(outlines(run_on(self.contents.lister, packets)))[1::2]
 
-    def before_first(self, stream):
-        """The objects of the packets before the first one whose header is accepted: inter frames among them are refused."""
-        count = 0
-        for number in stream:
-            facts = self.known[number]
-            if facts["kind"] == "key" and facts["cause"] is None:
-                break
-            count += 1
-        packets = ((0, self.contents.bytes(number)) for number in stream[:count])
-        return listed(self.contents.lister, packets) if count else []
+    def learn(self):
+        """Lists the packets that are new."""
+        contents = self.contents
+        if not self.flags:
+            self.learn_files()
+        new = range(len(self.flags), contents.of_files + len(contents.made))
+        for found in self.by_themselves(new):
+            self.add(*found)
 
     def of_range(self, source, numbers):
-        """The facts of the packets of a range; of all if it is None."""
+        """The facts of the packets of a range, of all if it is None, as dictionaries."""
+        self.learn()
         stream = self.contents.streams[source]
         numbers = range(len(stream)) if numbers is None else numbers
-        self.learn(stream)
-        early = self.before_first(stream)
-        shown, found = 0, {}
-        wanted = set(number for number in numbers if 0 <= number < len(stream))
-        for place in range(max(wanted, default=-1) + 1):
-            number = stream[place]
-            facts = early[place] if place < len(early) else self.known[number]
-            is_shown = facts["show"] == "shown"
-            if place in wanted:
-                placed = {"packet": place, "frame": shown if is_shown else None, "stamp": self.contents.stamp(number)}
-                found[place] = {**placed, **{name: value for name, value in facts.items() if name not in PLACED}}
-            shown += is_shown
-        return [found[number] for number in numbers if number in found]
+        wanted = [number for number in numbers if 0 <= number < len(stream)]
+        if not wanted:
+            return []
+        first, end = min(wanted), max(wanted) + 1
+        begin = first
+        while begin and not self.flags[stream[begin]] & KEY:
+            begin -= 1
+        # Once a key frame's header was accepted, inter frames may follow.
+        follows = any(self.flags[number] & (KEY | REFUSED) == KEY for number in stream[:begin])
+        key = [(0, self.contents.forge("blank", 1, 1))] if follows else []
+        packets = (*key, *((self.contents.stamp(number), self.contents.bytes(number)) for number in stream[begin:end]))
+        lines = list(run_on(self.contents.lister, packets, "--json"))[len(key) :]
+        frames, bytes_before = self.before(stream, end)
+        shift = bytes_before[begin] - sum(ivf.RECORD.size + len(data) for _, data in key)
+        return [placed(json.loads(lines[place - begin]), place, frames[place], shift) for place in wanted]
+
+    def before(self, stream, end):
+        """For each packet up to `end` how many shown ones, and how many bytes of records, come before it."""
+        frames, places, shown, place = array("I"), array("Q"), 0, 0
+        for number in stream[:end]:
+            frames.append(shown)
+            places.append(place)
+            shown += bool(self.flags[number] & SHOWN)
+            place += ivf.RECORD.size + self.contents.size(number)
+        return frames, places
+
+
+def placed(facts, place, frame, shift):
+    """The facts of a packet that is at another index than it was listed at."""
+    facts["packet"] = place
+    facts["frame"] = frame if facts["show"] == "shown" else None
+    if "byte" in facts:
+        facts["byte"] += shift
+    return facts

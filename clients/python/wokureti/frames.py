@@ -87,9 +87,14 @@ class FrameReader:
         self.samples = None
         self.filled = 0
 
+    @property
+    def frame_size(self):
+        """The number of bytes of a frame and its mark."""
+        return len(MARK) + size_of(*self.size)
+
     def start(self):
         """Room for a frame, with its mark."""
-        self.samples = memoryview(bytearray(len(MARK) + size_of(*self.size)))
+        self.samples = memoryview(bytearray(self.frame_size))
         self.filled = 0
 
     def read(self):
@@ -114,11 +119,6 @@ class FrameReader:
     def is_whole(self):
         """Whether a whole frame was read."""
         return self.samples is not None and self.filled == len(self.samples)
-
-    @property
-    def is_begun(self):
-        """Whether a part of a frame was read."""
-        return self.samples is not None and self.filled > 0
 
     def take(self):
         """The width, height and samples of the frame that was read."""

@@ -99,9 +99,16 @@ class Pipes:
         self.open = {replies, errors, frames}
         Pipes.opened.add(self)
 
-    def exchange(self, line, deadline):
-        """The reply to a line, and the picture if the reply is `served`. `Gone` if the program ended, `Late` after the deadline."""
-        self.write(memoryview(line), deadline)
+    def exchange(self, lines, deadline):
+        """The reply to each of these lines, and the picture if the reply is `served`. `Gone` if the program ended, `Late` after the deadline."""
+        self.write(memoryview(b"".join(lines)), deadline)
+        found = [self.answer(deadline) for _ in lines]
+        if self.read:
+            raise Strange(f"more replies than requests: {bytes(self.read[:80])!r}")
+        return found
+
+    def answer(self, deadline):
+        """The next reply, and its picture."""
         while True:
             end = self.read.find(b"\n")
             if end >= 0:
@@ -110,11 +117,7 @@ class Pipes:
             self.wait(deadline, self.open)
         reply = bytes(self.read[:end]).decode(errors="replace")
         del self.read[: end + 1]
-        if self.read:
-            raise Strange(f"more replies than requests: {bytes(self.read[:80])!r}")
         if not reply.startswith("served "):
-            if self.reader.is_begun:
-                raise Strange(f"a frame came with the reply {reply!r}")
             return reply, None
         # The frame was written before its reply, so it is in the pipe even if the program has ended since.
         while not self.reader.is_whole:

@@ -5,7 +5,7 @@ import time
 from typing import NamedTuple
 
 from . import checks, programs
-from .edits import EditList
+from .edits import EditList, words_of
 from .errors import Ended, Refused
 from .frames import frame_of
 from .inputs import Inputs
@@ -54,6 +54,8 @@ class Session:
         edits=None,
         lister=None,
     ):
+        # Called with the line of each edit that was accepted, also with those of `undo` and `redo`.
+        self.on_edit = None
         self._lock = threading.RLock()
         self._ended = None
         self._pending = None
@@ -172,25 +174,30 @@ class Session:
         """The reply to a request line, and the width, height and samples of its picture, if it serves one."""
         text = checks.line(line)
         with self._locked(timeout) as deadline:
-            reply, picture = self._exchange(text, deadline)
+            [(reply, picture)] = self._exchange(text, deadline=deadline)
             if reply.startswith("refused "):
-                raise Refused(reply, self._reason(deadline) if self._explain else None)
-            words = line.split()
-            if listed and words[0] in EDITS:
-                self._edits.accept(" ".join(words))
+                raise self._refused(reply, self._lines, deadline)
+            if line.split()[0] in EDITS:
+                if self.on_edit is not None:
+                    self.on_edit(line)
+                if listed:
+                    self._edits.accept(words_of(line))
             return reply, picture
 
-    def _exchange(self, text, deadline):
-        """Writes a line and reads its reply. Whatever leaves this in the middle ends the session."""
+    def _exchange(self, *lines, deadline):
+        """Writes lines and reads their replies. Whatever leaves this in the middle ends the session."""
         if self._ended:
             raise self._error()
         if self._pending is not None:
             self._end(f"{self._pending} was left in the middle, so the session was ended")
             raise self._error()
-        self._pending = shown = _shown(text)
+        self._pending = shown = _shown(lines[0])
         try:
-            self._lines += 1
-            found = self._pipes.exchange(text + b"\n", deadline)
+            self._lines += len(lines)
+            found = self._pipes.exchange([line + b"\n" for line in lines], deadline)
+            for line, (reply, _) in zip(lines, found):
+                if not is_reply(reply, line):
+                    raise Strange(repr(reply[:80]))
         except Gone:
             self._over(*self._pipes.collect())
             raise self._error() from None
@@ -203,27 +210,44 @@ class Session:
         except BaseException as error:
             self._end(f"{shown} was left in the middle ({type(error).__name__}), so the session was ended")
             raise
-        word = found[0].split(" ")[0]
-        if word not in ("refused", REPLIES.get(text.strip(b" \r").split(b" ")[0].decode(errors="replace"), "ok")):
-            self._end(f"the answer to {shown} is not one of vp8serve, so the session was ended: {found[0][:80]!r}")
-            raise self._error()
         self._pending = None
         return found
 
-    def _reason(self, deadline):
-        """The explanation of the last refusal. The reply to another request says that it was written."""
-        number = self._lines
-        self._exchange(b"stats", deadline)
-        return self._pipes.explanation(number)
+    def _refused(self, reply, number, deadline):
+        """The exception of the refusal of line `number`. The reply to another request says that its explanation was written."""
+        if not self._explain:
+            return Refused(reply)
+        self._exchange(b"stats", deadline=deadline)
+        return Refused(reply, self._pipes.explanation(number))
 
     def _number(self, line, timeout=None):
         return int(self.request(line, timeout).split()[1])
 
     def frame(self, number, timeout=None):
         """Frame `number` of the current stream."""
-        number = checks.number(number)
-        _, picture = self._ask(f"frame {number}", timeout)
-        return frame_of(number, *picture)
+        return frame_of(checks.number(number), *self.picture(number, timeout))
+
+    def picture(self, number, timeout=None):
+        """The width, height and samples of a frame, the samples of the three planes one after the other."""
+        return self._ask(f"frame {checks.number(number)}", timeout)[1]
+
+    def pictures(self, numbers, timeout=None):
+        """The pictures of several frames, as `picture` has them. All are asked for before the first is read, so the program never waits.
+
+        The first one that is refused raises `Refused`.
+        """
+        lines = [f"frame {checks.number(number)}".encode() for number in numbers]
+        with self._locked(timeout) as deadline:
+            found = self._exchange(*lines, deadline=deadline) if lines else []
+            for number, (reply, picture) in enumerate(found, self._lines - len(found) + 1):
+                if picture is None:
+                    raise self._refused(reply, number, deadline)
+        return [picture for _, picture in found]
+
+    @property
+    def is_over(self):
+        """Whether the session is known to have ended."""
+        return self._ended is not None
 
     def frames(self, numbers=None, timeout=None):
         """The frames of a range, one after the other; without a range all of them. `timeout` is for each frame."""
@@ -313,6 +337,16 @@ class Session:
         with self._locked(None):
             return self._edits.contents().rate
 
+    @property
+    def header(self):
+        """The first line of the frames' YUV4MPEG2 text, once a frame was served."""
+        return bytes(self._pipes.reader.header)
+
+    @property
+    def frame_size(self):
+        """The number of bytes of a frame in that text, with the word FRAME, once a frame was served."""
+        return self._pipes.reader.frame_size
+
     def shown_kinds(self):
         """For each shown packet of source 0 `key` or `inter`: those of the frames, if there is no script. None if there is one."""
         with self._locked(None):
@@ -343,6 +377,12 @@ class _Turn:
 
     def __exit__(self, kind, value, trace):
         self.lock.release()
+
+
+def is_reply(reply, line):
+    """Whether a reply may be that of a line: a refusal, or one that begins as this request's does."""
+    word = line.strip(b" \r").split(b" ")[0].decode(errors="replace")
+    return reply.split(" ")[0] in ("refused", REPLIES.get(word, "ok"))
 
 
 def _shown(text):

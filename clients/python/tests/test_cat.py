@@ -1,0 +1,238 @@
+"""wokureti cat: the text of one vp8serve, whatever the parts are, and nothing lost when something fails."""
+
+import os
+import pty
+import signal
+import subprocess
+import threading
+import time
+import unittest
+
+from support import DATA, ODD, SMALL, Case, command, packets_of, start, whole_text, write_packets
+from wokureti import Session, programs
+
+SCENES = DATA / "scene-cuts.ivf"
+HIDDEN = DATA / "hidden-altref.ivf"
+BROKEN = b"\x10\x00"
+
+
+def program_that(folder, text):
+    """A script in place of vp8serve, which is `$real` in it."""
+    path = folder / "program"
+    path.write_text(f"#!/bin/sh\nreal='{programs.find('vp8serve')}'\n{text}\n")
+    path.chmod(0o755)
+    return {"VP8SERVE": str(path)}
+
+
+class Texts(Case):
+    def assertWhole(self, stream, status=0, lines=(), sources=(), words=()):
+        wanted = whole_text(stream, *lines, sources=sources)
+        for jobs in (1, 3):
+            found, text, errors = command("cat", stream, "--jobs", jobs, *words)
+            self.assertEqual((found, text == wanted, bool(errors)), (status, True, status != 0), errors)
+        return errors
+
+    def test_clips(self):
+        for name in ("scene-cuts", "hidden-altref", "still", "one-sample", "two-partitions"):
+            self.assertWhole(DATA / f"{name}.ivf")
+
+    def test_sizes_that_change(self):
+        small, other, still = packets_of(SMALL), packets_of(ODD)[:2], packets_of(DATA / "sharpness-1.ivf")[:1]
+        path = self.folder() / "a.ivf"
+        for packets in (
+            small + other + small + still + small,
+            other + small,
+            small[1:3] + [BROKEN] + other + small + other,
+            [BROKEN] + small + other + small[1:] + small,
+        ):
+            write_packets(path, packets)
+            self.assertIn("refused", self.assertWhole(path, 1))
+
+    def test_broken_packets_keep_their_numbers(self):
+        small = packets_of(SMALL)
+        path = write_packets(self.folder() / "a.ivf", small + small[:4] + [BROKEN] + small[5:] + small + small)
+        errors = self.assertWhole(path, 1)
+        self.assertIn("wokureti: frame 16: refused packet 16 ShortPacket\n", errors)
+        self.assertEqual(len(errors.splitlines()), 8)
+
+    def test_nothing_to_show(self):
+        self.assertWhole("-")
+        path = write_packets(self.folder() / "a.ivf", packets_of(SMALL)[1:])
+        errors = self.assertWhole(path, 1)
+        self.assertIn("frames 0 to 10: refused packet 0 NoKeyFrame", errors)
+
+    def test_edits_scripts_and_sources(self):
+        edits = self.folder() / "list"
+        lines = ["delete 3", "hold 2", "use 1", "delete 0", "delete 0"]
+        edits.write_text("".join(f"{line}\n" for line in ["# edits", *lines]))
+        script = "script trim 0 3 9; source 1; splice 1 0; fade 3 0 9 0 256"
+        words = ["--edits", edits, "--source", SCENES]
+        self.assertWhole(SCENES, lines=lines, sources=[SCENES], words=words)
+        self.assertWhole(SCENES, lines=[*lines, script], sources=[SCENES], words=[*words, "--script", script[7:]])
+        self.assertEqual(edits.read_text(), "".join(f"{line}\n" for line in ["# edits", *lines]))
+
+    def test_a_script_that_refuses(self):
+        script = "source 1; splice 0 1"
+        self.assertWhole(SMALL, 1, lines=[f"script {script}"], sources=[ODD], words=["--source", ODD, "--script", script])
+
+    def test_edits_of_another_stream(self):
+        edits = self.folder() / "list"
+        edits.write_text("delete 99\n")
+        status, text, errors = command("cat", SMALL, "--edits", edits)
+        self.assertEqual((status, text), (2, b""))
+        self.assertIn("line 1: delete 99: refused Place", errors)
+        status, text, errors = command("cat", SMALL, "--script", "trim 5 0 1")
+        self.assertEqual((status, text), (2, b""))
+        self.assertIn("refused Reference", errors)
+
+
+class Paths(Case):
+    def setUp(self):
+        super().setUp()
+        self.room = self.folder() / "a folder of 'clips' $x"
+        self.room.mkdir()
+        self.clip = self.room / "in of é.ivf"
+        self.clip.write_bytes(SCENES.read_bytes())
+        self.wanted = whole_text(SCENES)
+
+    def test_spaces_and_relative_paths(self):
+        (self.room / "tmp of it").mkdir()
+        env = {"TMPDIR": str(self.room / "tmp of it")}
+        self.assertEqual(command("cat", "in of é.ivf", "out of it.y4m", cwd=self.room, env=env), (0, b"", ""))
+        self.assertEqual((self.room / "out of it.y4m").read_bytes(), self.wanted)
+        self.assertEqual(os.listdir(self.room / "tmp of it"), [])
+        (self.room / "-x.ivf").write_bytes(SCENES.read_bytes())
+        self.assertEqual(command("cat", "--", "-x.ivf", "-y.y4m", cwd=self.room), (0, b"", ""))
+        self.assertEqual((self.room / "-y.y4m").read_bytes(), self.wanted)
+
+    def test_the_output_is_no_input(self):
+        os.link(self.clip, self.room / "b.ivf")
+        os.symlink(self.clip, self.room / "c.ivf")
+        (self.room / "list").write_text("delete 0\n")
+        for out in ("in of é.ivf", "./in of é.ivf", "b.ivf", "c.ivf"):
+            for words in (["in of é.ivf", out], ["b.ivf", out], [SMALL, out, "--source", "in of é.ivf"]):
+                status, text, errors = command("cat", *words, cwd=self.room)
+                self.assertEqual((status, text), (2, b""))
+                self.assertIn("name another file", errors)
+        self.assertEqual(command("cat", SMALL, "list", "--edits", "list", cwd=self.room)[0], 2)
+        with open(self.clip, "ab") as file:
+            process = start("cat", self.clip, stdout=file, stderr=subprocess.DEVNULL)
+            self.assertEqual(process.wait(20), 2)
+        self.assertEqual(self.clip.read_bytes(), SCENES.read_bytes())
+        self.assertEqual((self.room / "list").read_text(), "delete 0\n")
+
+    def test_pipes_and_links(self):
+        out = self.room / "pipe"
+        os.mkfifo(out)
+        found = []
+        reader = threading.Thread(target=lambda: found.append(out.read_bytes()))
+        reader.start()
+        self.assertEqual(command("cat", self.clip, out), (0, b"", ""))
+        reader.join()
+        self.assertEqual(found, [self.wanted])
+        os.symlink("target", self.room / "link")
+        self.assertEqual(command("cat", self.clip, self.room / "link"), (0, b"", ""))
+        self.assertTrue((self.room / "link").is_symlink())
+        self.assertEqual((self.room / "target").read_bytes(), self.wanted)
+        self.assertEqual(command("cat", self.clip, "/dev/null"), (0, b"", ""))
+        self.assertEqual(command("cat", "/dev/stdin", given=SCENES.read_bytes()), (0, self.wanted, ""))
+
+    def test_a_folder_that_is_not_there(self):
+        status, _, errors = command("cat", self.clip, self.room / "none" / "out.y4m")
+        self.assertEqual((status, "No such file" in errors), (2, True))
+        status, _, errors = command("cat", self.room / "none.ivf", self.room / "out.y4m")
+        self.assertEqual((status, "cannot read" in errors), (2, True))
+        self.assertEqual(sorted(os.listdir(self.room)), ["in of é.ivf"])
+
+
+class Failures(Case):
+    def setUp(self):
+        super().setUp()
+        self.room = self.folder()
+        self.out = self.room / "out.y4m"
+        self.out.write_bytes(b"old")
+        self.many = write_packets(self.room / "in.ivf", 8 * packets_of(SMALL))
+
+    def assertFails(self, env, words=()):
+        with self.within(10):
+            status, text, errors = command("cat", self.many, self.out, "--jobs", 2, *words, env=env)
+        self.assertEqual((status, text, self.out.read_bytes()), (2, b"", b"old"), errors)
+        self.assertEqual([name for name in os.listdir(self.room) if name.startswith(".")], [])
+        return errors
+
+    def test_a_part_that_fails(self):
+        env = program_that(self.room, 'case "$2" in */2.list) echo "vp8serve: no memory" >&2; exit 1;; esac\nexec "$real" "$@"')
+        self.assertIn("part 2: vp8serve: no memory", self.assertFails(env))
+
+    def test_a_part_that_is_killed(self):
+        env = program_that(self.room, 'case "$2" in */1.list) kill -9 $$;; esac\nexec "$real" "$@"')
+        self.assertIn("part 1: vp8serve ended with status -9", self.assertFails(env))
+
+    def test_a_part_that_is_too_short(self):
+        env = program_that(self.room, '"$real" "$@" || exit; case "$2" in */1.list) truncate -s -1 "$3";; esac')
+        self.assertIn("part 1 has", self.assertFails(env))
+
+    def test_no_program(self):
+        self.assertFails({"VP8SERVE": "/nowhere/vp8serve"})
+
+    def test_a_full_disk(self):
+        limit = ["sh", "-c", 'ulimit -f 8; exec "$@"', "sh"]
+        env = dict(os.environ, PYTHONPATH=str(programs.TREE / "clients/python"))
+        words = ["python3", "-m", "wokureti", "cat", str(self.many), str(self.out)]
+        done = subprocess.run(limit + words, env=env, capture_output=True, timeout=20, check=False)
+        self.assertEqual((done.returncode, self.out.read_bytes()), (2, b"old"), done.stderr)
+        self.assertEqual(sorted(os.listdir(self.room)), ["in.ivf", "out.y4m"])
+
+    def test_a_reader_that_goes_away(self):
+        env = program_that(self.room, 'echo $$ >> "$PIDS"; exec "$real" "$@"')
+        pids = self.room / "pids"
+        process = start("cat", SCENES, "--jobs", 2, stdout=subprocess.PIPE, stderr=subprocess.PIPE, env={**env, "PIDS": str(pids)})
+        process.stdout.read(10)
+        process.stdout.close()
+        with self.within(5):
+            self.assertEqual(process.wait(10), 2)
+        self.assertEqual(process.stderr.read(), b"")
+        process.stderr.close()
+        for pid in pids.read_text().split():
+            self.assertGone(int(pid))
+
+    def test_an_interrupt(self):
+        env = program_that(self.room, 'echo $$ >> "$PIDS"; case "$2" in */1.list) sleep 30;; esac; exec "$real" "$@"')
+        pids = self.room / "pids"
+        env["PIDS"], env["TMPDIR"] = str(pids), str(self.room / "tmp")
+        (self.room / "tmp").mkdir()
+        process = start("cat", SCENES, self.out, "--jobs", 2, stderr=subprocess.PIPE, env=env)
+        while not pids.exists() or len(pids.read_text().split()) < 3:
+            time.sleep(0.02)
+        process.send_signal(signal.SIGINT)
+        with self.within(5):
+            self.assertEqual(process.wait(10), 130)
+        self.assertEqual((process.stderr.read(), self.out.read_bytes(), os.listdir(self.room / "tmp")), (b"", b"old", []))
+        process.stderr.close()
+
+
+class Progress(Case):
+    def test_a_line_on_a_terminal(self):
+        room = self.folder()
+        env = program_that(room, 'case "$2" in */[1-9].list) sleep 0.6;; esac; exec "$real" "$@"')
+        many = write_packets(room / "in.ivf", 4 * packets_of(SMALL))
+        ours, theirs = pty.openpty()
+        process = start("cat", many, "/dev/null", "--jobs", 1, stderr=theirs, env=env)
+        os.close(theirs)
+        said = b""
+        try:
+            while True:
+                piece = os.read(ours, 1000)
+                if not piece:
+                    break
+                said += piece
+        except OSError:
+            pass
+        os.close(ours)
+        self.assertEqual(process.wait(10), 0)
+        self.assertRegex(said.decode(), r"\r\d+ of 48 frames")
+        self.assertTrue(said.endswith(b"\r\x1b[K"))
+
+
+if __name__ == "__main__":
+    unittest.main()

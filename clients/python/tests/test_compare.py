@@ -1,0 +1,263 @@
+"""wokureti compare and wokureti png."""
+
+import functools
+import http.server
+import math
+import os
+import subprocess
+import sys
+import threading
+import unittest
+from unittest import mock
+
+from support import DATA, ODD, SMALL, TOP, Case, command, packets_of, start, whole_text, write_packets
+from test_serve import unpacked
+from wokureti import Session, compare, frames
+
+BROKEN = b"\x10\x00"
+# 8 frames of 5x3: 15 luma samples, and 6 of each chroma plane.
+HEAD, MARK, SIZE = b"YUV4MPEG2 W5 H3 F25:1 Ip C420jpeg\n", b"FRAME\n", 27
+
+
+def text_of(pictures, head=HEAD):
+    return head + b"".join(MARK + picture for picture in pictures)
+
+
+class Compare(Case):
+    def setUp(self):
+        super().setUp()
+        self.room = self.folder()
+        self.pictures = [bytes((7 * number + place) % 256 for place in range(SIZE)) for number in range(8)]
+        self.one = self.room / "one.y4m"
+        self.one.write_bytes(text_of(self.pictures))
+
+    def changed(self, *changes):
+        """Another file, with other samples: (frame, place, difference)."""
+        pictures = [bytearray(picture) for picture in self.pictures]
+        for number, place, far in changes:
+            pictures[number][place] += far
+        path = self.room / "other.y4m"
+        path.write_bytes(text_of(pictures, b"YUV4MPEG2 W5 H3 F30:1 Ip A1:1 C420mpeg2 XCOMMENT\n"))
+        return path
+
+    def assertSays(self, status, lines, *words, **options):
+        found, out, errors = command("compare", *words, **options)
+        self.assertEqual((found, out.decode().splitlines(), errors), (status, lines, ""))
+
+    def test_the_same(self):
+        self.assertSays(0, ["8 frames, all the same"], self.one, self.changed())
+        self.assertSays(0, ["8 frames, all the same"], self.one, "-", given=self.changed().read_bytes())
+
+    def test_one_sample(self):
+        # PSNR: 10 log10(255^2 N / sum of squares), of 8 frames with 15 and 6 samples.
+        luma, chroma, whole = 8 * 15, 8 * 6, 8 * SIZE
+        for place, where, values, far, sides in (
+            (0, "plane Y, column 0, row 0 (macroblock 0, 0)", (21, 23), 2, (luma, None, None)),
+            (14, "plane Y, column 4, row 2 (macroblock 0, 0)", (35, 32), -3, (luma, None, None)),
+            (15, "plane Cb, column 0, row 0 (macroblock 0, 0)", (36, 37), 1, (None, chroma, None)),
+            (26, "plane Cr, column 2, row 1 (macroblock 0, 0)", (47, 57), 10, (None, None, chroma)),
+        ):
+            words = [f"{name} {10 * math.log10(65025 * side / far**2) if side else math.inf:.2f}" for name, side in zip(("Y", "Cb", "Cr"), sides)]
+            self.assertSays(
+                1,
+                [
+                    f"first difference: frame 3: {where}: {values[0]} in A, {values[1]} in B",
+                    "1 of 8 frames differ",
+                    f"1 of {whole} samples differ, by {abs(far)} at most",
+                    f"PSNR {', '.join(words)}, all {10 * math.log10(65025 * whole / far**2):.2f} dB",
+                ],
+                self.one,
+                self.changed((3, place, far)),
+            )
+
+    def test_many_samples(self):
+        lines = [
+            "first difference: frame 2: plane Y, column 1, row 1 (macroblock 0, 0): 20 in A, 25 in B",
+            "2 of 8 frames differ",
+            "3 of 216 samples differ, by 5 at most",
+            f"PSNR Y {10 * math.log10(65025 * 120 / 29):.2f}, Cb {10 * math.log10(65025 * 48 / 9):.2f}, Cr inf, all {10 * math.log10(65025 * 216 / 38):.2f} dB",
+        ]
+        self.assertSays(1, lines, self.one, self.changed((2, 6, 5), (2, 16, 3), (5, 0, -2)))
+
+    def test_macroblocks(self):
+        with Session(ODD) as stream:
+            width, height, samples = stream.picture(0)
+        path = self.room / "a.y4m"
+        samples = bytearray(samples)
+        for place, where in ((70 * 175 + 100, "plane Y, column 100, row 70 (macroblock 6, 4)"), (175 * 143 + 30 * 88 + 50, "plane Cb, column 50, row 30 (macroblock 6, 3)")):
+            other = bytearray(samples)
+            other[place] ^= 1
+            path.write_bytes(b"YUV4MPEG2 W175 H143\n" + MARK + other)
+            found = compare.compare(str(ODD), str(path))
+            self.assertIn(where, found.first)
+            self.assertEqual(found.counts, [12, 1])
+        self.assertEqual((width, height), (175, 143))
+
+    def test_streams(self):
+        text = whole_text(ODD)
+        path = self.room / "whole.y4m"
+        path.write_bytes(text)
+        self.assertSays(0, ["12 frames, all the same"], ODD, path)
+        self.assertSays(0, ["12 frames, all the same"], path, "-", given=ODD.read_bytes())
+        process = start("cat", ODD, stdout=subprocess.PIPE)
+        self.assertSays(0, ["12 frames, all the same"], ODD, f"/dev/fd/{process.stdout.fileno()}", pass_fds=[process.stdout.fileno()])
+        process.stdout.close()
+        self.assertEqual(process.wait(5), 0)
+        self.assertSays(1, ["first difference: frame 11: only A has it", "A has 12 frames, B has 11", "0 of 11 frames differ"] + self.last_two(ODD, 11), ODD, "-", given=text[: text.rindex(MARK)])
+
+    def last_two(self, path, count):
+        samples = count * (175 * 143 + 2 * 88 * 72)
+        return [f"0 of {samples} samples differ, by 0 at most", "PSNR Y inf, Cb inf, Cr inf, all inf dB"]
+
+    def test_frames_of_other_sizes_and_refused_ones(self):
+        small, odd = packets_of(SMALL), packets_of(ODD)[:3]
+        one = write_packets(self.room / "a.ivf", small + odd + small + [BROKEN] + small)
+        found = compare.compare(str(one), str(one))
+        self.assertEqual((found.is_same, found.frames, found.same), (True, 40, 40))
+        other = write_packets(self.room / "b.ivf", small + odd + small + small[:1] + small)
+        found = compare.compare(str(one), str(other))
+        self.assertEqual(found.first, "frame 27: A has refused packet 27 ShortPacket")
+        self.assertEqual((found.frames, found.same), (40, 39))
+        found = compare.compare(str(one), str(SMALL))
+        self.assertEqual(found.first, "frame 12: only A has it")
+        found = compare.compare(str(SMALL), str(ODD))
+        self.assertEqual(found.first, "frame 0: A has 7x5 samples, B 175x143")
+        self.assertEqual(list(found.lines())[1:], ["12 of 12 frames differ"])
+
+    def test_a_url(self):
+        handler = functools.partial(Quiet, directory=str(self.room))
+        with http.server.ThreadingHTTPServer(("127.0.0.1", 0), handler) as server:
+            thread = threading.Thread(target=server.serve_forever, daemon=True)
+            thread.start()
+            (self.room / "a.ivf").write_bytes(SMALL.read_bytes())
+            url = f"http://127.0.0.1:{server.server_port}"
+            self.assertSays(0, ["8 frames, all the same"], self.one, f"{url}/one.y4m")
+            self.assertSays(0, ["12 frames, all the same"], f"{url}/a.ivf", SMALL)
+            self.assertEqual(command("compare", SMALL, f"{url}/none")[0], 2)
+            server.shutdown()
+            thread.join()
+
+    def test_what_cannot_be_compared(self):
+        text = self.one.read_bytes()
+        for data, words in (
+            (text[:-1], "cut off"),
+            (text.replace(b"C420jpeg", b"C422"), "not of 4:2:0"),
+            (text.replace(b"W5", b"W-5"), "samples"),
+            (text.replace(b"W5 ", b""), "no size"),
+            (text.replace(MARK, b"FARCE\n", 1), "does not begin with FRAME"),
+            (b"YUV4MPEG2 " + b"x" * 10000, "no end"),
+            (b"", "no IVF file"),
+            (b"text", "no IVF file"),
+            (b"DKIF" + bytes(100), "FourCc"),
+        ):
+            status, out, errors = command("compare", self.one, "-", given=data)
+            self.assertEqual((status, out, words in errors), (2, b"", True), errors)
+        for words in (["-", "-"], [self.one, "/nowhere"], [self.one], [self.room, self.one]):
+            self.assertEqual(command("compare", *words)[0], 2)
+
+    def test_pictures(self):
+        folder = self.room / "new" / "pictures of it"
+        status, _, errors = command("compare", self.one, self.changed((3, 0, 2), (3, 14, 100), (3, 17, 5), (6, 1, 1)), "--png", folder)
+        self.assertEqual((status, errors, sorted(os.listdir(folder))), (1, "", ["frame-3-a.png", "frame-3-b.png", "frame-3-difference.png"]))
+        other = bytearray(self.pictures[3])
+        other[0], other[14], other[17] = other[0] + 2, other[14] + 100, other[17] + 5
+        for name, picture in (("a", self.pictures[3]), ("b", bytes(other))):
+            wanted = frames.frame_of(0, 5, 3, picture).rgb().tobytes()
+            self.assertEqual(unpacked((folder / f"frame-3-{name}.png").read_bytes()), (5, 3, wanted))
+        # Eight times the difference: of luma at both ends, of Cb at the pixels of column 4 in rows 0 and 1.
+        grey = bytearray(15)
+        grey[0], grey[14], grey[4], grey[9] = 16, 255, 40, 40
+        picture = (folder / "frame-3-difference.png").read_bytes()
+        self.assertEqual(picture[24:26], b"\x08\x00")
+        self.assertEqual(compare.png.text_of(5, 3, grey, 1), picture)
+
+    def test_numpy_and_plain_python_agree(self):
+        if compare.numpy is None:
+            self.skipTest("numpy is not here")
+        other = self.changed((2, 6, 5), (2, 16, 3), (5, 0, -2))
+        found = [list(compare.compare(str(self.one), str(other)).lines())]
+        with mock.patch.object(compare, "numpy", None):
+            found.append(list(compare.compare(str(self.one), str(other)).lines()))
+        self.assertEqual(found[0], found[1])
+
+
+class Quiet(http.server.SimpleHTTPRequestHandler):
+    def log_message(self, *words):
+        pass
+
+
+class Png(Case):
+    def test_a_frame(self):
+        room = self.folder()
+        with self.session(ODD) as stream:
+            frame = stream.frame(5)
+        self.assertEqual(command("png", ODD, 5, room / "a b.png"), (0, b"", ""))
+        self.assertEqual(unpacked((room / "a b.png").read_bytes()), (175, 143, frame.rgb().tobytes()))
+        status, out, _ = command("png", ODD, 5, "-", "--matrix", "709", "--full")
+        self.assertEqual((status, unpacked(out)), (0, (175, 143, frame.rgb("709", True).tobytes())))
+        (room / "list").write_text("delete 0\nblank 0 4 4\n")
+        status, out, _ = command("png", ODD, 0, "-", "--edits", room / "list", "--script", "crop 0 0 0 2 2")
+        # Samples of 128: the grey of limited range, 255 (128 - 16) / 219.
+        self.assertEqual((status, unpacked(out)), (0, (2, 2, bytes([130]) * 12)))
+
+    def test_what_is_refused(self):
+        room = self.folder()
+        path = write_packets(room / "a.ivf", packets_of(SMALL)[:2] + [BROKEN])
+        for words, text in (([path, 2, room / "x.png"], "refused packet 2 ShortPacket"), ([path, 3, room / "x.png"], "NoSuchFrame"), ([path, 0, path], "name another file"), ([path, 0, room / "none" / "x.png"], "No such file"), ([room, 0, room / "x.png"], "cannot read")):
+            status, out, errors = command("png", *words)
+            self.assertEqual((status, out, text in errors), (2, b"", True), errors)
+        self.assertEqual(os.listdir(room), ["a.ivf"])
+        for words in ([path, -1, "-"], [path, "x", "-"], [path], []):
+            self.assertEqual(command("png", *words)[0], 2)
+
+
+class Containers(Case):
+    """Other containers, with a script in place of ffmpeg, which may not be here."""
+
+    def setUp(self):
+        super().setUp()
+        self.room = self.folder()
+        self.clip = self.room / "a clip.webm"
+        self.clip.write_bytes(b"\x1a\x45\xdf\xa3" + SMALL.read_bytes())
+        (self.room / "bin").mkdir()
+        self.env = {"PATH": str(self.room / "bin")}
+
+    def tool(self, name, text):
+        path = self.room / "bin" / name
+        path.write_text(f"#!/bin/sh\nPATH=/usr/bin:/bin\n{text}\n")
+        path.chmod(0o755)
+
+    def run_it(self, *words):
+        """The command, whose PATH has only what a test puts there."""
+        env = dict(os.environ, PYTHONPATH=str(TOP / "clients/python"), **self.env)
+        done = subprocess.run([sys.executable, "-m", "wokureti", *map(str, words)], env=env, capture_output=True, timeout=20, check=False)
+        return done.returncode, done.stdout, done.stderr.decode()
+
+    def test_packets_are_taken_out(self):
+        last = "for last; do :; done\n"
+        self.tool("ffmpeg", f'{last}case "$*" in *"-i file:{self.clip} "*"-c copy"*) tail -c +5 "{self.clip}" > "$last";; *) exit 1;; esac')
+        status, out, errors = self.run_it("cat", self.clip)
+        self.assertEqual((status, out), (0, whole_text(SMALL)))
+        self.assertIn("a clip.webm is a WebM or Matroska file; ffmpeg took its packets out without coding them again", errors)
+        self.assertEqual(self.run_it("png", self.clip, 3, "-")[0], 0)
+        self.assertEqual(self.run_it("compare", self.clip, SMALL)[:2], (0, b"12 frames, all the same\n"))
+        self.tool("ffmpeg", "echo no such codec >&2; exit 1")
+        status, out, errors = self.run_it("cat", self.clip)
+        self.assertEqual((status, out, "no such codec" in errors), (2, b"", True))
+
+    def test_mkvextract(self):
+        self.tool("mkvextract", f'out=${{3#0:}}\n[ "$2" = tracks ] && tail -c +5 "$1" > "$out"')
+        status, out, errors = self.run_it("cat", self.clip)
+        self.assertEqual((status, out, "mkvextract" in errors), (0, whole_text(SMALL), True))
+
+    def test_nothing_that_takes_them_out(self):
+        for head, kind in ((b"\x1a\x45\xdf\xa3", "WebM or Matroska"), (b"RIFF1234AVI ", "AVI"), (b"1234ftypisom", "MP4")):
+            self.clip.write_bytes(head + bytes(20))
+            status, out, errors = self.run_it("cat", self.clip)
+            self.assertEqual((status, out), (2, b""))
+            self.assertIn(f"is a {kind} file: to take its packets out, install ffmpeg or mkvtoolnix", errors)
+        self.assertEqual(self.run_it("cat", DATA / "still.ivf")[0], 0)
+
+
+if __name__ == "__main__":
+    unittest.main()

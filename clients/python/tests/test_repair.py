@@ -1,0 +1,330 @@
+"""wokureti repair: damage of each kind, what is mended, and that sound streams stay as they are."""
+
+import os
+import random
+import struct
+import unittest
+
+from support import DATA, ODD, SMALL, TOP, Case, command, packets_of, serve
+from wokureti import ivf, programs, repair, salvage
+from wokureti.differences import edits_between
+
+CHECKS = TOP / "crates/gate_checks/data"
+CLEAN = CHECKS / "clean.ivf"
+BROKEN = b"\x11\x00"
+
+
+def text_of(packets, count=None, head=ivf.Head(32, 32, 30, 1)):
+    """An IVF file of pairs of a time stamp and bytes."""
+    return b"".join(ivf.pieces(head, len(packets) if count is None else count, packets))
+
+
+def record(stamp, data):
+    return struct.pack("<IQ", len(data), stamp) + data
+
+
+class RepairCase(Case):
+    def setUp(self):
+        super().setUp()
+        self.room = self.folder()
+        self.packets = ivf.read_packets(CLEAN)[1]
+        self.data = CLEAN.read_bytes()
+        self.keys = [place for place, (_, data) in enumerate(self.packets) if ivf.is_key(data)]
+        # Each packet is of its own: a packet that is found is known by its bytes and time stamp.
+        self.assertEqual((len(self.packets), len(set(self.packets))), (100, 100))
+
+    def run_it(self, data, *words, second=None):
+        """The status, the lines, and the packets of the output."""
+        (self.room / "in.ivf").write_bytes(data)
+        if second is not None:
+            (self.room / "second.ivf").write_bytes(second)
+            words = (*words, "--second", self.room / "second.ivf")
+        out = self.room / "out.ivf"
+        if out.exists():
+            out.unlink()
+        edits = self.room / "list"
+        status, text, errors = command("repair", self.room / "in.ivf", out, *words)
+        self.assertEqual(errors, "")
+        packets = ivf.read_packets(out)[1]
+        # The same with a list of edits, which makes the same packets.
+        if salvage.plain(data) is not None:
+            self.assertEqual(command("repair", self.room / "in.ivf", out, "--edits", edits, *words)[:2], (status, text))
+            serve(self.room / "in.ivf", edits.read_text().splitlines(), "--save", self.room / "edited.ivf")
+            self.assertEqual(ivf.read_packets(self.room / "edited.ivf")[1], packets)
+        lines = text.decode().splitlines()
+        self.assertRegex(lines[-1], rf"^{len(packets)} packets written, \d+ are read without repair; \d+ changes$")
+        if status != 2:
+            replies = serve(out, [f"frame {n}" for n in range(len(packets))])
+            self.assertEqual([reply for reply in replies if "packet" in reply], [])
+        return status, lines[:-1], packets
+
+
+class Sound(Case):
+    LIMIT = 40
+
+    def test_sound_streams_stay_as_they_are(self):
+        out = self.folder() / "out.ivf"
+        count = 0
+        for path in [*sorted(DATA.glob("*.ivf"))[::3], CLEAN, CHECKS / "sizes.ivf", CHECKS / "hidden.ivf"]:
+            found = repair.repair(path.read_bytes(), programs.find("vp8serve"), programs.find("vp8list"))
+            self.assertEqual((found.lines, found.changes, found.left), ([], 0, 0), path)
+            self.assertEqual([(packet.stamp, packet.data) for packet in found.packets], ivf.read_packets(path)[1])
+            count += 1
+        self.assertGreater(count, 10)
+        self.assertEqual(command("repair", CLEAN, out)[::2], (0, ""))
+        self.assertEqual(out.read_bytes(), CLEAN.read_bytes())
+
+
+class Refused(RepairCase):
+    def test_a_refused_packet(self):
+        key, end = self.keys[1:3]
+        place = key + 3
+        self.packets[place] = (place, BROKEN)
+        status, lines, packets = self.run_it(text_of(self.packets))
+        self.assertEqual(lines, [f"packets {place} to {end - 1}: refused ShortPacket, {end - place - 1} packets lost: the picture before is held"])
+        self.assertEqual((status, packets[:place], packets[end:]), (1, self.packets[:place], self.packets[end:]))
+        self.assertEqual([stamp for stamp, _ in packets], list(range(100)))
+        self.assertEqual(len({data for _, data in packets[place:end]}), 1)
+        frames = self.frames(self.room / "out.ivf")
+        self.assertEqual(set(frames[place:end]), {frames[place - 1]})
+
+    def frames(self, path):
+        with self.session(path) as stream:
+            return [frame.i420() for frame in stream.frames()]
+
+    def test_a_refused_key_packet(self):
+        key, end = self.keys[1], self.keys[2]
+        data = bytearray(self.packets[key][1])
+        data[3] = 0
+        self.packets[key] = (key, bytes(data))
+        status, lines, packets = self.run_it(text_of(self.packets))
+        self.assertEqual((status, lines), (1, [f"packets {key} to {end - 1}: refused StartCode, {end - key - 1} packets lost: the picture before is held"]))
+        self.assertEqual((packets[:key], packets[end:]), (self.packets[:key], self.packets[end:]))
+
+    def test_the_beginning(self):
+        key = self.keys[1]
+        status, lines, packets = self.run_it(text_of(self.packets[3:]))
+        self.assertEqual((status, lines, packets), (1, [f"packets 0 to {key - 4}: no key frame before: removed"], self.packets[key:]))
+
+    def test_left_as_they_are(self):
+        self.packets[50] = (50, BROKEN)
+        status, lines, packets = self.run_it(text_of(self.packets), "--no-hold")
+        self.assertEqual((status, lines, packets), (2, ["packet 50: refused ShortPacket: not mended"], self.packets))
+        status, lines, packets = self.run_it((CHECKS / "inside.ivf").read_bytes())
+        self.assertEqual((status, packets), (2, ivf.read_packets(CHECKS / "inside.ivf")[1]))
+        self.assertIn("not mended", lines[0])
+
+    def test_a_lost_packet(self):
+        status, lines, packets = self.run_it((CHECKS / "lost.ivf").read_bytes())
+        self.assertEqual((status, lines), (1, ["time stamp 30: 1 packet lost: the picture before is held"]))
+        self.assertEqual([stamp for stamp, _ in packets], list(range(100)))
+
+
+class Order(RepairCase):
+    def test_packets_that_are_there_twice(self):
+        packets = self.packets[:31] + self.packets[30:50] + [self.packets[45]] + self.packets[50:]
+        status, lines, found = self.run_it(text_of(packets))
+        self.assertEqual((status, lines, found), (1, ["packet 31: packet 30 again: removed", "packet 51: packet 46 again: removed"], self.packets))
+        status, lines, found = self.run_it(text_of(packets), "--no-double", "--no-sort", "--no-hold")
+        self.assertEqual((found, [line for line in lines if "not mended" not in line]), (packets, []))
+
+    def test_packets_out_of_order(self):
+        packets = list(self.packets)
+        packets.insert(20, packets.pop(23))
+        packets.insert(70, packets.pop(66))
+        status, lines, found = self.run_it(text_of(packets))
+        self.assertEqual((status, lines, found), (1, ["packet 20: time stamp 23: moved to 23", "packet 70: time stamp 66: moved to 66"], self.packets))
+        self.assertEqual(self.run_it(text_of(packets), "--no-sort", "--no-hold")[2], packets)
+
+    def test_time_stamps_that_say_nothing(self):
+        # One packet with another's time stamp, and repeats with the same one.
+        packets = list(self.packets)
+        packets[20] = (5, packets[20][1])
+        self.assertEqual(self.run_it(text_of(packets)), (0, ["packet 20: time stamp 5 is another packet's too: it stays"], packets))
+        hold = serve_hold(32, 32)
+        packets = self.packets[:50] + 5 * [(49, hold)] + 3 * [(49, b"")] + self.packets[50:]
+        self.assertEqual(self.run_it(text_of(packets)), (0, [], packets))
+
+    def test_clips_that_were_joined(self):
+        later = [(stamp + 1000, data) for stamp, data in self.packets]
+        joined = later + self.packets
+        status, lines, found = self.run_it(text_of(joined))
+        self.assertEqual((status, lines, found), (0, ["the time stamps go back far: the packets stay in their order"], joined))
+
+
+def serve_hold(width, height):
+    from wokureti import runs
+
+    return runs.saved_packets(programs.find("vp8serve"), [f"blank 0 {width} {height}", "hold 1"])[-1][1]
+
+
+class Second(RepairCase):
+    def test_the_packet_with_the_same_time_stamp(self):
+        packets = list(self.packets)
+        packets[42] = (42, BROKEN)
+        key = self.keys[2]
+        packets[key] = (key, b"\x10\x00\x00" + packets[key][1][3:])
+        del packets[60:63], packets[10]
+        other = [(stamp + 500, data) for stamp, data in self.packets[5:]]
+        other[20] = (other[20][0], BROKEN)
+        status, lines, found = self.run_it(text_of(packets), second=text_of(other))
+        self.assertEqual((status, found), (1, self.packets))
+        self.assertEqual(lines[:3], ["the time stamps of the second recording differ by -500", "time stamp 10: 1 packet of the second recording inserted", "time stamps 60 to 62: 3 packets of the second recording inserted"])
+        self.assertEqual(len(lines), 5)
+
+    def test_two_halves(self):
+        status, _, found = self.run_it(text_of(self.packets[:55], 100), second=text_of(self.packets[45:]))
+        self.assertEqual((status, found), (1, self.packets))
+        status, _, found = self.run_it(text_of(self.packets[45:]), second=text_of(self.packets[:50])[:-7])
+        self.assertEqual((status, found), (1, self.packets))
+
+    def test_damage_inside(self):
+        packets = ivf.read_packets(CHECKS / "inside.ivf")[1]
+        self.assertEqual([place for place in range(100) if packets[place] != self.packets[place]], [41])
+        status, lines, found = self.run_it((CHECKS / "inside.ivf").read_bytes(), second=self.data)
+        self.assertEqual((status, found), (1, self.packets))
+        self.assertEqual(lines, ["packet 41: read past its end: the packet of the second recording with its time stamp, 41"])
+
+    def test_another_stream(self):
+        (self.room / "second.ivf").write_bytes(SMALL.read_bytes())
+        status, _, errors = command("repair", CLEAN, self.room / "out.ivf", "--second", self.room / "second.ivf")
+        self.assertEqual((status, "no packet of the second recording" in errors), (2, True))
+        self.assertFalse((self.room / "out.ivf").exists())
+
+
+class Records(RepairCase):
+    """Files whose records do not follow each other."""
+
+    def places(self):
+        place, found = 32, []
+        for _, data in self.packets:
+            found.append(place)
+            place += 12 + len(data)
+        return [*found, place]
+
+    def recovered(self, data, *words):
+        """How many packets are found as they were; a frame is served for each."""
+        status, lines, packets = self.run_it(data, *words)
+        self.assertEqual(status, 1, lines)
+        self.assertTrue(lines)
+        return sum(packet in self.packets for packet in packets)
+
+    def test_each_header_that_is_lost(self):
+        places = self.places()
+        for place in (0, 1, 40, 41, 98):
+            for change in (bytes(12), b"\xff" * 12, b"\xff\xff\xff\x7f" + self.data[places[place] + 4 : places[place] + 12]):
+                data = self.data[: places[place]] + change + self.data[places[place] + 12 :]
+                found, gaps = salvage.find(data)[1:]
+                lost = set(self.packets) - {(packet.stamp, packet.data) for packet in found}
+                self.assertEqual((lost, [gap.start for gap in gaps]), ({self.packets[place]}, [places[place]]), (place, change))
+                self.assertEqual([gap.end for gap in gaps], [places[place + 1]])
+
+    def test_bytes_inserted_and_missing(self):
+        choose = random.Random(3)
+        places = self.places()
+        for _ in range(40):
+            number = choose.randrange(100)
+            at = choose.randrange(places[number], places[number + 1])
+            count = choose.randrange(1, 200)
+            for data, lost in ((self.data[:at] + choose.randbytes(count) + self.data[at:], 1), (self.data[:at] + self.data[at + count :], 3 + count // 20)):
+                found = {(packet.stamp, packet.data) for packet in salvage.find(data)[1]}
+                self.assertLessEqual(len(set(self.packets) - found), lost, (number, at, count))
+
+    def test_zeros(self):
+        for at in range(40, len(self.data) - 600, 311):
+            data = self.data[:at] + bytes(512) + self.data[at + 512 :]
+            found = {(packet.stamp, packet.data) for packet in salvage.find(data)[1]}
+            places = self.places()
+            hit = sum(places[n] < at + 512 and places[n + 1] > at for n in range(100))
+            self.assertEqual(len(set(self.packets) - found), hit, at)
+
+    def test_the_file_is_mended(self):
+        places = self.places()
+        at = places[20] + 5
+        zeros = self.data[:at] + bytes(300) + self.data[at + 300 :]
+        self.assertGreater(self.recovered(zeros), 70)
+        status, lines, packets = self.run_it(zeros)
+        self.assertEqual([stamp for stamp, _ in packets], list(range(100)))
+        self.assertRegex(lines[0], r"^byte \d+: \d+ bytes after packet 19 lead to no record: read on at byte \d+$")
+        self.assertEqual(self.run_it(zeros, second=self.data)[2], self.packets)
+        self.assertLess(self.recovered(self.data[:at] + bytes(len(self.data) - at), "--no-hold"), 40)
+
+    def test_the_end(self):
+        places = self.places()
+        for data in (self.data[: places[80] + 20], self.data[: places[80] + 5], self.data[: places[80]] + bytes(2000), self.data[: places[80]] + bytes(1999)):
+            status, lines, packets = self.run_it(data)
+            self.assertEqual((status, packets), (1, self.packets[:80]))
+            self.assertIn("dropped", lines[0])
+
+    def test_the_header(self):
+        data = bytes(512) + self.data[512:]
+        status, lines, packets = self.run_it(data)
+        self.assertEqual((status, lines[0]), (1, "the header is lost: the size is that of the first key packet, the rate 30 frames a second"))
+        self.assertTrue(set(packets) <= set(self.packets))
+        self.assertEqual(ivf.read_packets(self.room / "out.ivf")[0], ivf.Head(*ivf.key_size(self.packets[0][1]), 30, 1))
+        status, _, errors = command("repair", self.room / "in.ivf", self.room / "out.ivf", "--edits", self.room / "list")
+        self.assertEqual((status, "no list of edits" in errors), (2, True))
+        self.assertEqual(command("repair", self.room / "in.ivf", self.room / "out.ivf", "--no-scan")[0], 2)
+
+    def test_random_damage_ends(self):
+        choose = random.Random(5)
+        for turn in range(150):
+            data = bytearray(self.data)
+            for _ in range(choose.randrange(1, 6)):
+                at, count = choose.randrange(len(data)), choose.randrange(1, 400)
+                data[at : at + count] = choose.choice([b"", bytes(count), choose.randbytes(count), bytes(data[at : at + count]) * 2])
+            head, packets, gaps = salvage.find(bytes(data))
+            for packet in packets:
+                self.assertEqual(data[packet.place : packet.place + 12 + len(packet.data)], record(packet.stamp, packet.data))
+            pieces = sorted([(packet.place, packet.place + 12 + len(packet.data)) for packet in packets] + [(gap.start, gap.end) for gap in gaps])
+            # The packets and the gaps are the whole file after the header, once each.
+            place = 32 if head else 0
+            for start, end in pieces:
+                self.assertEqual((place, end > start), (start, True), turn)
+                place = end
+            self.assertEqual(place, len(data))
+
+
+class Commands(RepairCase):
+    def test_what_is_no_stream(self):
+        out = self.room / "out.ivf"
+        for data in (b"", b"text" * 100, bytes(100000), text_of([]), random.Random(1).randbytes(100000), b"\x1a\x45\xdf\xa3"):
+            (self.room / "in").write_bytes(data)
+            status, text, errors = command("repair", self.room / "in", out, env={"PATH": "/nowhere"})
+            self.assertEqual((status, text, bool(errors)), (2, b"", True))
+        self.assertEqual(command("repair", self.room / "none", out)[0], 2)
+        self.assertFalse(out.exists())
+
+    def test_the_output_is_no_input(self):
+        path = self.room / "in.ivf"
+        path.write_bytes(self.data)
+        os.link(path, self.room / "link")
+        for words in ([path, path], [path, self.room / "link"], [SMALL, path, "--second", path], [path, self.room / "x", "--edits", path], [path, self.room / "x", "--edits", self.room / "x"]):
+            status, _, errors = command("repair", *words)
+            self.assertEqual((status, "file" in errors), (2, True))
+        self.assertEqual((path.read_bytes(), (self.room / "x").exists()), (self.data, False))
+
+
+class Differences(unittest.TestCase):
+    def test_edits_make_one_list_of_another(self):
+        choose = random.Random(8)
+        for _ in range(300):
+            one = [(choose.randrange(4), bytes([choose.randrange(3)])) for _ in range(choose.randrange(12))]
+            other = [(choose.randrange(4), bytes([choose.randrange(3)])) for _ in range(choose.randrange(12))]
+            packets = list(one)
+            for line in edits_between(one, other):
+                word, at, *rest = line.split(" ")
+                at = int(at)
+                if word == "delete":
+                    del packets[at]
+                elif word == "replace":
+                    packets[at] = (packets[at][0], bytes.fromhex(rest[0]))
+                else:
+                    packets.insert(at, (int(rest[0]), bytes.fromhex(rest[1])))
+            self.assertEqual(packets, other)
+        self.assertEqual(edits_between([(1, b"a"), (2, b"b")], [(1, b"a"), (2, b"c")]), ["replace 1 63"])
+        self.assertEqual(edits_between([(1, b"a")], [(1, b"a"), (2, b"")]), ["insert 1 2 -"])
+
+
+if __name__ == "__main__":
+    unittest.main()

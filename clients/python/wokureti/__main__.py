@@ -1,0 +1,8 @@
+"""python3 -m wokureti"""
+
+import sys
+
+from .commands import main
+
+if __name__ == "__main__":
+    sys.exit(main())

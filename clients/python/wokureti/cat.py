@@ -1,0 +1,189 @@
+"""wokureti cat: all frames of a stream as one YUV4MPEG2 text, byte for byte as one vp8serve writes it, decoded by several processes.
+
+The parts are joined in order as they come, so the output may be a pipe.
+"""
+
+import os
+import re
+import subprocess
+import sys
+import tempfile
+import threading
+
+from . import checks, files, parts, programs
+from .errors import Ended
+from .progress import Progress
+
+
+class Failed(Exception):
+    """The text could not be made; the message says why."""
+
+
+def run_part(room, number, program, tables, running):
+    """Decodes a part here."""
+    words = room.words(number, program, tables)
+    with open(room.path(number, "replies"), "wb") as replies, tempfile.TemporaryFile() as errors:
+        process = subprocess.Popen(words, stdin=subprocess.DEVNULL, stdout=replies, stderr=errors)
+        running.add(process)
+        try:
+            status = process.wait()
+        finally:
+            running.discard(process)
+        if status != 0:
+            errors.seek(0)
+            said = errors.read().decode(errors="replace").strip()
+            raise Failed(f"part {number}: {said or f'vp8serve ended with status {status}'}")
+
+
+class Here:
+    """Decodes parts on this machine, at most `processes` at a time, and never far ahead of what was joined."""
+
+    def __init__(self, room, plan, processes, program, tables=None):
+        self.room, self.plan, self.processes = room, plan, processes
+        self.program, self.tables = program, tables
+        self.running, self.left = set(), iter(range(len(plan)))
+        self.done = {}
+        self.ready = threading.Condition()
+        self.joined = 0
+        self.stopped = False
+        self.error = None
+
+    def work(self):
+        """Takes one part after the other."""
+        try:
+            while True:
+                with self.ready:
+                    number = next(self.left, None)
+                    if number is None:
+                        return
+                    # Frames take room, so a part waits until those before it were joined.
+                    while number >= self.joined + 3 * self.processes and not self.stopped:
+                        self.ready.wait()
+                    if self.stopped:
+                        return
+                    # Reading the session's files from two threads at a time is avoided.
+                    self.room.write(number, self.plan[number])
+                run_part(self.room, number, self.program, self.tables, self.running)
+                with self.ready:
+                    self.done[number] = True
+                    self.ready.notify_all()
+        except BaseException as error:
+            with self.ready:
+                self.error = self.error or error
+                self.ready.notify_all()
+
+    def __iter__(self):
+        """The numbers of the parts, each when it was decoded, in order."""
+        threads = [threading.Thread(target=self.work, daemon=True) for _ in range(min(self.processes, len(self.plan)))]
+        for thread in threads:
+            thread.start()
+        try:
+            for number in range(len(self.plan)):
+                with self.ready:
+                    while number not in self.done and not self.error:
+                        self.ready.wait()
+                    if number not in self.done:
+                        raise self.error
+                yield number
+                with self.ready:
+                    self.joined = number + 1
+                    self.ready.notify_all()
+        finally:
+            with self.ready:
+                self.stopped = True
+                self.ready.notify_all()
+            for process in list(self.running):
+                process.kill()
+            for thread in threads:
+                thread.join()
+
+
+def open_session(stream, sources, edits, script, tables, program):
+    """A session with the edits of a list and a script, for finding out what the parts are."""
+    from .session import Session
+
+    session = Session(stream, sources=sources, tables=tables, program=program)
+    try:
+        if edits is not None:
+            session.edits.run(edits)
+        if script is not None:
+            session.script(script)
+        return session
+    except BaseException:
+        session.kill()
+        raise
+
+
+def check_output(out, inputs):
+    """The output must be none of the inputs."""
+    for path in inputs:
+        if path is None or path == "-":
+            continue
+        same = checks.is_same_file(out, path) if out != "-" else is_stdout(path)
+        if same:
+            raise Failed(f"the output is {path}, which is read: name another file")
+
+
+def is_stdout(path):
+    try:
+        found, other = os.fstat(1), os.stat(path)
+    except OSError:
+        return False
+    return os.path.isfile(path) and (found.st_dev, found.st_ino) == (other.st_dev, other.st_ino)
+
+
+def plain_folder():
+    """Where the files of the parts are made: the folder for temporary files, unless its path has what `:` or a shell would divide."""
+    folder = tempfile.gettempdir()
+    return folder if re.fullmatch("[A-Za-z0-9._/+-]*", folder) else "/tmp"
+
+
+class Stdout:
+    """Standard output as a file to write to, which is not closed."""
+
+    def __enter__(self):
+        return sys.stdout.buffer
+
+    def __exit__(self, kind, value, trace):
+        if kind is None:
+            sys.stdout.buffer.flush()
+
+
+def output(path):
+    return Stdout() if path == "-" else files.whole(path)
+
+
+def write(session, out, workers, name="frames"):
+    """Writes all frames of a session; `workers` makes the parts. Returns the refusals, a line for each."""
+    count = session.count().frames
+    number, refused = parts.first_frame(session)
+    if number is None:
+        # One run writes no header either.
+        with output(out):
+            pass
+        return [] if refused is None else [f"frames 0 to {count - 1}: {refused.reply}"]
+    first = parts.find_first(session, number)
+    with tempfile.TemporaryDirectory(prefix="wokureti-", dir=plain_folder()) as folder:
+        room = parts.Room(folder, session, first)
+        plan, made = workers(room, count)
+        refusals, progress = [], Progress(name, count)
+        with output(out) as file, progress:
+            file.write(first.header)
+            for number in made:
+                more = room.refusals(number, plan[number])
+                room.join(number, plan[number], len(more), file)
+                room.clear(number)
+                refusals += more
+                progress.show(plan[number].end)
+    return refusals
+
+
+def here(session, processes, program, tables):
+    """Workers on this machine."""
+
+    def workers(room, count):
+        contents = session.edits.contents()
+        plan = parts.by_packets(contents, processes) if contents.script == "-" else parts.by_frames(count, processes)
+        return plan, Here(room, plan, processes, program, tables)
+
+    return workers

@@ -1,0 +1,246 @@
+"""The command line of wokureti."""
+
+import argparse
+import os
+import sys
+import tempfile
+
+from . import cat, checks, convert, programs
+from .errors import Ended, Refused
+
+ABOUT = """\
+Shows, edits, repairs and compares VP8 streams with the programs vp8serve and vp8list. They are those of the variables VP8SERVE and
+VP8LIST, or on the PATH.
+"""
+
+
+def stop(text):
+    """Ends with a message and status 2."""
+    print(f"wokureti: {text}", file=sys.stderr)
+    return 2
+
+
+def add_edits(parser):
+    """The arguments that name other streams, and edits."""
+    parser.add_argument("--source", action="append", default=[], metavar="B", help="another stream: source 1, 2, and so on")
+    parser.add_argument("--edits", metavar="FILE", help="a list of edits, made first")
+    parser.add_argument("--script", metavar="TEXT", help="the script, for example 'trim 0 0 50'")
+    parser.add_argument("--tables", metavar="FILE", help="3012 bytes that replace the long tables of RFC 6386")
+
+
+def add_cat(commands):
+    parser = commands.add_parser(
+        "cat",
+        help="all frames as one YUV4MPEG2 text",
+        description="Writes all frames as one YUV4MPEG2 text, byte for byte as one vp8serve writes it. The packets are cut at key packets, "
+        "several processes decode the parts, and the parts are joined in order as they come. Exit status 1 if a frame is refused, which is "
+        "then left out; 2 for any error.",
+    )
+    parser.add_argument("stream", metavar="IN", help="IVF file")
+    add_edits(parser)
+    parser.add_argument("out", metavar="OUT", nargs="?", default="-", help="the text; standard output if it is missing, or `-`")
+    parser.add_argument("--jobs", type=int, default=0, metavar="N", help="processes on this machine; as many as processors if missing")
+    parser.add_argument(
+        "--sshlogin",
+        action="append",
+        default=[],
+        metavar="LIST",
+        help="machines, as GNU parallel's --sshlogin takes them: `:` is this one, `4/user@host` another one with 4 processes. Files are "
+        "carried there and back",
+    )
+    parser.add_argument("--remote", default="vp8serve", metavar="PATH", help="vp8serve on these machines; the one on their PATH if missing")
+    parser.set_defaults(run=run_cat)
+
+
+def opened(given, folder):
+    """The session of the arguments, with their edits and script. The output may be none of the inputs."""
+    cat.check_output(given.out, [given.stream, *given.source, given.edits, given.tables])
+    stream, *sources = (convert.as_ivf(path, folder) for path in [given.stream, *given.source])
+    return cat.open_session(stream, sources, given.edits, given.script, given.tables, programs.find("vp8serve"))
+
+
+def run_cat(given):
+    program = programs.find("vp8serve")
+    jobs = given.jobs or len(os.sched_getaffinity(0))
+    if jobs < 1:
+        raise cat.Failed("--jobs is 1 or more")
+    with tempfile.TemporaryDirectory(prefix="wokureti-") as folder, opened(given, folder) as session:
+        if given.sshlogin:
+            from . import machines
+
+            logins = [login for words in given.sshlogin for login in words.split(",") if login]
+            workers = machines.workers_of(session, logins, given.remote, given.tables)
+        else:
+            workers = cat.here(session, jobs, program, given.tables)
+        refusals = cat.write(session, given.out, workers)
+    for line in refusals[:10]:
+        print(f"wokureti: {line}", file=sys.stderr)
+    if len(refusals) > 10:
+        print(f"wokureti: {len(refusals) - 10} more frames were refused", file=sys.stderr)
+    return 1 if refusals else 0
+
+
+def add_serve(commands):
+    parser = commands.add_parser(
+        "serve",
+        help="the edited stream on a port, for players and editors",
+        description="Starts a server on 127.0.0.1 and prints the URL of a YUV4MPEG2 file, which is made as it is read: ffplay, mpv, VLC and ffmpeg "
+        "open it and seek in it. clients/README.md has the rest of the interface, with which the stream is edited. Ctrl-C ends it.",
+    )
+    parser.add_argument("stream", metavar="IN", help="IVF file; `-` is an empty stream")
+    parser.add_argument("--source", action="append", default=[], metavar="B", help="another stream: source 1, 2, and so on")
+    parser.add_argument("--cache", type=int, metavar="N", help="number of decoded states that are cached")
+    parser.add_argument("--edits", metavar="FILE", help="the list of edits: it is made first, and each edit is written to it")
+    parser.add_argument("--save", metavar="FILE", help="the file that `save` writes, and the end, if something was edited since")
+    parser.add_argument("--port", type=int, default=0, metavar="N", help="the port; a free one if missing")
+    parser.add_argument("--tables", metavar="FILE", help="3012 bytes that replace the long tables of RFC 6386")
+    parser.set_defaults(run=run_serve)
+
+
+def run_serve(given):
+    from . import serve
+
+    with tempfile.TemporaryDirectory(prefix="wokureti-") as folder:
+        stream, *sources = (convert.as_ivf(path, folder) for path in [given.stream, *given.source])
+        options = {"stream": stream, "sources": sources, "cache": given.cache, "tables": given.tables}
+        return serve.run(options, given.edits, given.save, given.port)
+
+
+def add_repair(commands):
+    parser = commands.add_parser(
+        "repair",
+        help="finds the damage of a stream and mends it",
+        description="Reads a damaged stream, mends what can be mended without a person, and writes it to OUT. A line says what each step did. "
+        "Packets whose records are lost are searched; packets that are there twice go; packets out of order are sorted by their time stamps; "
+        "those that are missing or refused are taken from a second recording; and where packets are refused or lost, the picture before is "
+        "held up to the next key frame. Exit status 0 if the stream was clean, 1 if it was mended, 2 if something could not be mended.",
+    )
+    parser.add_argument("stream", metavar="IN", help="IVF file")
+    parser.add_argument("out", metavar="OUT", help="the mended IVF file")
+    parser.add_argument("--second", metavar="FILE", help="a second recording of the same packets")
+    parser.add_argument("--edits", metavar="FILE", help="writes the edits that make OUT of IN, which `vp8serve IN FILE - --save OUT` runs")
+    parser.add_argument("--no-scan", action="store_true", help="records that are lost are not searched")
+    parser.add_argument("--no-double", action="store_true", help="packets that are there twice stay")
+    parser.add_argument("--no-sort", action="store_true", help="packets stay in their order")
+    parser.add_argument("--no-hold", action="store_true", help="no picture is held, and nothing is removed at the beginning")
+    parser.add_argument("--tables", metavar="FILE", help="3012 bytes that replace the long tables of RFC 6386")
+    parser.set_defaults(run=run_repair)
+
+
+def run_repair(given):
+    from . import files, ivf, repair
+
+    inputs = [given.stream, given.second, given.tables]
+    for out in (given.out, given.edits):
+        if out is not None:
+            cat.check_output(out, inputs)
+    if given.edits is not None and checks.is_same_file(given.out, given.edits):
+        raise cat.Failed("OUT and the list of edits are one file")
+    steps = {name for name in ("scan", "double", "sort", "hold") if not getattr(given, f"no_{name}")}
+    with tempfile.TemporaryDirectory(prefix="wokureti-") as folder:
+        data, second = (path and read_all(convert.as_ivf(path, folder)) for path in (given.stream, given.second))
+    try:
+        found = repair.repair(data, programs.find("vp8serve"), programs.find("vp8list"), second, given.tables, steps)
+    except ivf.NotIvf as error:
+        raise cat.Failed(f"{given.stream}: {error}") from None
+    packets = [(packet.stamp, packet.data) for packet in found.packets]
+    files.write_whole(given.out, ivf.pieces(found.head, len(packets), packets))
+    if given.edits is not None:
+        lines = repair.edits_of(data, found)
+        if lines is None:
+            raise cat.Failed("vp8serve does not read IN, so no list of edits makes OUT of it; OUT was written")
+        files.write_whole(given.edits, [f"{line}\n".encode() for line in lines])
+    for line in found.lines:
+        print(line)
+    before = len(salvage_count(data))
+    print(f"{len(packets)} packets written, {before} are read without repair; {found.changes} changes")
+    return 2 if found.left else 1 if found.changes else 0
+
+
+def read_all(path):
+    with open(path, "rb") as file:
+        return file.read()
+
+
+def salvage_count(data):
+    """The packets that vp8serve reads of a file."""
+    from . import salvage
+
+    found = salvage.plain(data)
+    return found[1] if found else []
+
+
+def add_compare(commands):
+    parser = commands.add_parser(
+        "compare",
+        help="where two streams of frames part",
+        description="Compares the frames of A and B, each an IVF file, a YUV4MPEG2 file, a URL, or `-`, a decoder under test on a pipe. Prints the first "
+        "frame that differs, with the first sample, how many frames and samples differ, and the PSNR. Exit status 0 if all are the same, 1 if "
+        "not, 2 for an error.",
+    )
+    parser.add_argument("one", metavar="A")
+    parser.add_argument("other", metavar="B")
+    parser.add_argument("--png", metavar="DIR", help="writes the first two frames that differ, and their difference, as PNG")
+    parser.add_argument("--tables", metavar="FILE", help="3012 bytes that replace the long tables of RFC 6386")
+    parser.set_defaults(run=run_compare)
+
+
+def run_compare(given):
+    from . import compare
+
+    found = compare.compare(given.one, given.other, given.png, given.tables)
+    for line in found.lines():
+        print(line)
+    return 0 if found.is_same else 1
+
+
+def add_png(commands):
+    parser = commands.add_parser(
+        "png",
+        help="a frame as PNG",
+        description="Writes a frame as a PNG file, with the colours of ITU-R BT.601 and luma of 16 to 235, as VP8 has them.",
+    )
+    parser.add_argument("stream", metavar="IN", help="IVF file")
+    parser.add_argument("number", metavar="N", type=int, help="the number of the frame, from 0")
+    parser.add_argument("out", metavar="OUT", help="the PNG file; standard output if it is `-`")
+    add_edits(parser)
+    parser.add_argument("--matrix", choices=("601", "709"), default="601", help="the colours: BT.601 or BT.709")
+    parser.add_argument("--full", action="store_true", help="luma has 0 to 255")
+    parser.set_defaults(run=run_png)
+
+
+def run_png(given):
+    from . import png
+
+    with tempfile.TemporaryDirectory(prefix="wokureti-") as folder:
+        with opened(given, folder) as session:
+            text = png.of_frame(session.frame(given.number), given.matrix, given.full)
+        with cat.output(given.out) as file:
+            file.write(text)
+    return 0
+
+
+def parser_of():
+    parser = argparse.ArgumentParser(prog="wokureti", description=ABOUT)
+    commands = parser.add_subparsers(metavar="COMMAND", required=True)
+    add_serve(commands)
+    add_repair(commands)
+    add_compare(commands)
+    add_cat(commands)
+    add_png(commands)
+    return parser
+
+
+def main(words=None):
+    """Runs a command line, and returns the exit status."""
+    given = parser_of().parse_args(words)
+    try:
+        return given.run(given)
+    except BrokenPipeError:
+        # The reader of standard output went away; nothing may be written to it when Python ends.
+        os.dup2(os.open(os.devnull, os.O_WRONLY), 1)
+        return 2
+    except KeyboardInterrupt:
+        return 130
+    except (cat.Failed, Ended, Refused, OSError, ValueError) as error:
+        return stop(error)

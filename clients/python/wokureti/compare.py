@@ -1,0 +1,259 @@
+"""wokureti compare: where two streams of frames part."""
+
+import contextlib
+import itertools
+import math
+import os
+import shutil
+import sys
+import tempfile
+import urllib.request
+
+from . import convert, files, png, y4m
+from .errors import Refused
+from .frames import frame_of, sides
+from .session import Session
+
+try:
+    import numpy
+except ImportError:
+    numpy = None
+
+PLANES = ("Y", "Cb", "Cr")
+# How much stronger a difference is in its picture.
+GAIN = 8
+
+
+class Missing:
+    """A frame that is refused."""
+
+    def __init__(self, reply):
+        self.reply = reply
+
+
+def of_stream(path, tables=None):
+    """The frames of an IVF file: (width, height, samples), or a `Missing`."""
+    session = Session(path, tables=tables, cache=1)
+    try:
+        count, number = session.count().frames, 0
+        while number < count:
+            try:
+                for picture in session.pictures(range(number, min(number + 4, count))):
+                    yield picture
+                    number += 1
+                continue
+            except Refused:
+                pass
+            try:
+                yield session.picture(number)
+            except Refused as refused:
+                if refused.word == "SizeDiffers":
+                    # A program serves frames of one size.
+                    session.kill()
+                    session = Session(path, tables=tables, cache=1)
+                    yield session.picture(number)
+                else:
+                    yield Missing(refused.reply)
+            number += 1
+    finally:
+        session.kill()
+
+
+@contextlib.contextmanager
+def opened(name, folder, tables=None):
+    """The frames of an IVF file, a Y4M file, a container, a URL, or of standard input."""
+    if name.startswith(("http://", "https://")):
+        source = urllib.request.urlopen(name, timeout=60)
+    elif name == "-":
+        source = sys.stdin.buffer
+    else:
+        path = convert.as_ivf(name, folder)
+        source = open(path, "rb")
+    with contextlib.closing(source) as file:
+        head = peek(file)
+        if head.startswith(b"YUV4MPEG2"):
+            frames = y4m.read_frames(Joined(head, file))
+        elif head.startswith(b"DKIF"):
+            if file is sys.stdin.buffer or not os.path.isfile(name):
+                # A pipe or a URL is read once, and vp8serve reads files.
+                path = os.path.join(folder, f"{len(os.listdir(folder))}.ivf")
+                with open(path, "wb") as copy:
+                    copy.write(head)
+                    shutil.copyfileobj(file, copy, 1 << 20)
+            frames = of_stream(path, tables)
+        else:
+            raise ValueError(f"{name} is no IVF file of VP8, and no YUV4MPEG2 text")
+        with contextlib.closing(frames):
+            yield frames
+
+
+def peek(file):
+    """The first bytes of a file."""
+    return y4m.read_exactly(file, 9)
+
+
+class Joined:
+    """A file whose first bytes were read."""
+
+    def __init__(self, head, file):
+        self.head, self.file = head, file
+
+    def readline(self, most):
+        head, self.head = self.head, b""
+        return head + self.file.readline(most - len(head))
+
+    def read(self, size):
+        return self.file.read(size)
+
+
+class Plane:
+    """How the planes of two frames differ: the number of samples, the first one, the greatest difference, and the sum of squares."""
+
+    def __init__(self):
+        self.count = self.most = self.squares = self.samples = 0
+
+    def add(self, one, other, width):
+        """Adds two planes, and returns the first place where they differ, or None."""
+        self.samples += len(one)
+        if one == other:
+            return None
+        if numpy is not None:
+            return self.add_arrays(numpy.frombuffer(one, numpy.uint8), numpy.frombuffer(other, numpy.uint8))
+        first = None
+        for start in range(0, len(one), width):
+            row, against = one[start : start + width], other[start : start + width]
+            if row == against:
+                continue
+            for place, (left, right) in enumerate(zip(row, against), start):
+                if left != right:
+                    first = place if first is None else first
+                    self.count += 1
+                    self.most = max(self.most, abs(left - right))
+                    self.squares += (left - right) ** 2
+        return first
+
+    def add_arrays(self, one, other):
+        far = one.astype(numpy.int32) - other
+        places = numpy.flatnonzero(far)
+        self.count += len(places)
+        self.most = max(self.most, int(numpy.abs(far).max()))
+        self.squares += int((far.astype(numpy.int64) ** 2).sum())
+        return int(places[0])
+
+
+def psnr(squares, samples):
+    """Decibels; infinite if nothing differs."""
+    return math.inf if not squares else 10 * math.log10(255 * 255 * samples / squares)
+
+
+class Comparison:
+    """Two streams, frame by frame."""
+
+    def __init__(self):
+        self.frames = self.same = 0
+        self.counts = [0, 0]
+        self.planes = [Plane() for _ in PLANES]
+        self.first = None
+        self.pair = None
+
+    def part(self, number, text, pair=None):
+        """Two frames differ."""
+        if self.first is None:
+            self.first, self.pair = f"frame {number}: {text}", (number, pair)
+
+    def add(self, number, one, other):
+        """Compares a frame of each; None is one that is not there."""
+        self.counts[0] += one is not None
+        self.counts[1] += other is not None
+        if one is None or other is None:
+            self.part(number, f"only {'B' if one is None else 'A'} has it")
+            return
+        self.frames += 1
+        missing = [isinstance(frame, Missing) for frame in (one, other)]
+        if any(missing):
+            if all(missing):
+                self.same += one.reply == other.reply
+            if not all(missing) or one.reply != other.reply:
+                self.part(number, " and ".join(f"{name} has {frame.reply}" for name, frame, lost in zip("AB", (one, other), missing) if lost))
+            return
+        if one[:2] != other[:2]:
+            self.part(number, f"A has {one[0]}x{one[1]} samples, B {other[0]}x{other[1]}")
+            return
+        self.compare(number, one, other)
+
+    def compare(self, number, one, other):
+        start, found = 0, None
+        for name, plane, (width, height) in zip(PLANES, self.planes, sides(*one[:2])):
+            end = start + width * height
+            pieces = [bytes(frame[2][start:end]) for frame in (one, other)]
+            place = plane.add(*pieces, width)
+            if place is not None and found is None:
+                column, row = place % width, place // width
+                side = 16 if name == "Y" else 8
+                found = (
+                    f"plane {name}, column {column}, row {row} (macroblock {column // side}, {row // side}): "
+                    f"{pieces[0][place]} in A, {pieces[1][place]} in B"
+                )
+            start = end
+        if found is None:
+            self.same += 1
+        else:
+            self.part(number, found, (one, other))
+
+    @property
+    def is_same(self):
+        return self.first is None
+
+    def lines(self):
+        """What is printed."""
+        if self.is_same:
+            yield f"{self.frames} frames, all the same"
+            return
+        yield f"first difference: {self.first}"
+        if self.counts[0] != self.counts[1]:
+            yield f"A has {self.counts[0]} frames, B has {self.counts[1]}"
+        yield f"{self.frames - self.same} of {self.frames} frames differ"
+        samples = sum(plane.samples for plane in self.planes)
+        if not samples:
+            return
+        count, most = sum(plane.count for plane in self.planes), max(plane.most for plane in self.planes)
+        yield f"{count} of {samples} samples differ, by {most} at most"
+        words = [f"{name} {psnr(plane.squares, plane.samples):.2f}" for name, plane in zip(PLANES, self.planes)]
+        yield f"PSNR {', '.join(words)}, all {psnr(sum(plane.squares for plane in self.planes), samples):.2f} dB"
+
+
+def difference(one, other):
+    """A grey picture: the greatest difference of each pixel's samples, made stronger."""
+    width, height, _ = one
+    frames = [frame_of(0, *picture) for picture in (one, other)]
+    grey = bytearray(width * height)
+    across = (width + 1) // 2
+    planes = [[plane.tobytes() for plane in (frame.y, frame.u, frame.v)] for frame in frames]
+    luma, cb, cr = ([abs(left - right) for left, right in zip(*pair)] for pair in zip(*planes))
+    for row in range(height):
+        for column in range(width):
+            chroma = row // 2 * across + column // 2
+            grey[row * width + column] = min(255, GAIN * max(luma[row * width + column], cb[chroma], cr[chroma]))
+    return png.text_of(width, height, grey, 1)
+
+
+def write_pair(folder, number, one, other):
+    """Writes the pictures of two frames, and of their difference."""
+    os.makedirs(folder, exist_ok=True)
+    texts = {"a": png.of_frame(frame_of(0, *one)), "b": png.of_frame(frame_of(0, *other)), "difference": difference(one, other)}
+    for name, text in texts.items():
+        files.write_whole(os.path.join(folder, f"frame-{number}-{name}.png"), [text])
+
+
+def compare(one, other, pictures=None, tables=None):
+    """Compares two streams, which are named, and returns the comparison."""
+    if one == other == "-":
+        raise ValueError("only one of the two can be standard input")
+    found = Comparison()
+    with tempfile.TemporaryDirectory(prefix="wokureti-") as folder:
+        with opened(one, folder, tables) as left, opened(other, folder, tables) as right:
+            for number, pair in enumerate(itertools.zip_longest(left, right)):
+                found.add(number, *pair)
+    if pictures is not None and found.pair is not None and found.pair[1] is not None:
+        write_pair(pictures, found.pair[0], *found.pair[1])
+    return found

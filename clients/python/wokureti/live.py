@@ -1,0 +1,233 @@
+"""An edited stream that several clients look at while it is edited: a session, its revision, and what starts it again when it ends."""
+
+import contextlib
+import os
+import secrets
+import sys
+import tempfile
+import threading
+
+from . import facts
+from .errors import Ended, Refused
+from .outcomes import Outcomes
+from .session import Session
+
+# Frames of another size than the first one that a program served are refused: so each size has a program of its own, at most so many.
+MOST_VIEWERS = 3
+# Seconds that one request may take.
+MOST_TIME = 120
+
+
+class Changed(Exception):
+    """The stream is no more that of the revision."""
+
+
+class Lost(Exception):
+    """The program ended, and could not be started again or ended again."""
+
+
+class Viewer:
+    """A session that makes the edits of another one after it, and serves frames of one size."""
+
+    def __init__(self, live):
+        self.session = Session(**live.options)
+        try:
+            for line in live.session.edits:
+                self.session.request(line, listed=False)
+        except BaseException:
+            self.session.kill()
+            raise
+        self.seen = len(live.log)
+
+    def follow(self, log):
+        """Makes the edits that were made since."""
+        for line in log[self.seen :]:
+            self.session.request(line, listed=False)
+        self.seen = len(log)
+
+
+class Live:
+    """The stream. A call waits until the one before it is done."""
+
+    def __init__(self, options, edits=None, save=None):
+        self.options = dict(options, timeout=MOST_TIME)
+        self.lock = threading.RLock()
+        self.changed = threading.Condition(self.lock)
+        self.instance, self.revision = secrets.token_hex(4), 1
+        self.saved = None
+        self.save_path = None if save is None else os.fspath(save)
+        self.room = tempfile.TemporaryDirectory(prefix="wokureti-")
+        self.edits_path = edits if edits is not None else os.path.join(self.room.name, "edits")
+        self.viewers, self.log = [], []
+        self.known, self.found = (None, None), (None, None)
+        self.checking = threading.Lock()
+        self.events = []
+        try:
+            self.session = self.open()
+        except BaseException:
+            self.room.cleanup()
+            raise
+        self.saved = self.revision
+
+    def open(self):
+        session = Session(**self.options, edits=self.edits_path, explain=True)
+        session.on_edit = self.heard
+        return session
+
+    def heard(self, line):
+        """An edit was accepted."""
+        if self.viewers:
+            self.log.append(line)
+
+    def close(self):
+        """Ends the programs. The edits are in the list; the stream is saved if it was changed since the last time."""
+        with self.lock:
+            try:
+                if self.save_path is not None and self.saved != self.revision:
+                    self.save()
+            finally:
+                self.drop_viewers()
+                self.session.kill()
+                self.room.cleanup()
+                self.changed.notify_all()
+
+    def drop_viewers(self):
+        for viewer in self.viewers:
+            viewer.session.kill()
+        self.viewers.clear()
+        self.log.clear()
+
+    def again(self, ended):
+        """Starts the program again, from the list of edits."""
+        print(f"wokureti: vp8serve ended ({ended}); it is started again from the list of edits", file=sys.stderr, flush=True)
+        self.drop_viewers()
+        before = self.session
+        before.kill()
+        try:
+            self.session = self.open()
+        except (Ended, OSError, ValueError) as error:
+            raise Lost(str(error)) from None
+        self.session.edits.adopt(before.edits)
+        self.events.append("restarted")
+        self.changed.notify_all()
+
+    def tell(self):
+        """The stream was changed."""
+        self.revision += 1
+        self.changed.notify_all()
+
+    def run(self, line):
+        """Makes an edit, `undo`, `redo` or `save`, and returns the reply, or the lines that were undone or made again."""
+        with self.lock:
+            if self.session.is_over:
+                self.again("before this edit")
+            try:
+                if line == "save":
+                    return self.save()
+                if line in ("undo", "redo"):
+                    lines = self.session.undo() if line == "undo" else self.session.redo()
+                    if lines:
+                        self.tell()
+                    return lines
+                reply = self.session.request(line)
+                self.tell()
+                return reply
+            except Ended as ended:
+                self.again(ended)
+                raise Lost("vp8serve ended; the edit was not made") from None
+            except OSError:
+                # The edit was made, and could not be written to the list.
+                self.tell()
+                raise
+
+    def save(self):
+        """Writes the packets of source 0."""
+        if self.save_path is None:
+            raise ValueError("no file was named to save to")
+        self.session.save(self.save_path)
+        self.saved = self.revision
+        return self.save_path
+
+    def picture(self, number, revision=None):
+        """The width, height and samples of a frame. `Changed` if the stream is of another revision."""
+        return self.pictures([number], revision)[0]
+
+    def pictures(self, numbers, revision=None):
+        """The same of several frames of one size."""
+        def view(session):
+            if revision is not None and revision != self.revision:
+                raise Changed
+            return self.view(session, numbers)
+
+        return self.ask(view)
+
+    def ask(self, function):
+        """What a function returns of the session. If the program ended, it is started again, and asked again once."""
+        with self.lock:
+            for last in (False, True):
+                try:
+                    return function(self.alive())
+                except Ended as ended:
+                    self.again(ended)
+                    if last:
+                        raise Lost("vp8serve ended twice at this request") from None
+            raise AssertionError
+
+    def view(self, session, numbers):
+        """Frames of the program that serves their size."""
+        try:
+            return session.pictures(numbers)
+        except Refused as refused:
+            if refused.word != "SizeDiffers":
+                raise
+        for place, viewer in enumerate(self.viewers):
+            try:
+                viewer.follow(self.log)
+                found = viewer.session.pictures(numbers)
+                self.viewers.insert(0, self.viewers.pop(place))
+                return found
+            except Refused as refused:
+                if refused.word != "SizeDiffers":
+                    raise
+        while len(self.viewers) >= MOST_VIEWERS - 1:
+            self.viewers.pop().session.kill()
+        if not self.viewers:
+            self.log.clear()
+        self.viewers.insert(0, Viewer(self))
+        return self.viewers[0].session.pictures(numbers)
+
+    def alive(self):
+        """The session, started again if it ended."""
+        if self.session.is_over:
+            self.again("before this request")
+        return self.session
+
+    def contents(self):
+        return self.alive().edits.contents()
+
+    def outcomes(self):
+        """The revision, and the outcomes of its frames."""
+        with self.lock:
+            if self.known[0] != self.revision:
+                self.known = (self.revision, Outcomes(self.contents()))
+            return self.known
+
+    def rate(self):
+        with self.lock:
+            return self.contents().rate
+
+    def findings(self):
+        """The revision, and what `vp8list --check` says of its packets of source 0, line by line."""
+        with self.checking:
+            with self.lock:
+                revision, contents = self.revision, self.contents()
+                if self.found[0] == revision:
+                    return self.found
+                path = os.path.join(self.room.name, "checked.ivf")
+                with open(path, "wb") as file:
+                    file.writelines(contents.pieces(0))
+            lines = [line.decode(errors="replace").rstrip("\n") for line in facts.run(contents.lister, path, "--check", statuses=(0, 1))]
+            with contextlib.suppress(OSError):
+                os.unlink(path)
+            self.found = (revision, lines)
+            return self.found

@@ -1,0 +1,131 @@
+"""Parts that are decoded on several machines by GNU parallel, which carries their files there and back with ssh and rsync."""
+
+import contextlib
+import os
+import shlex
+import shutil
+import subprocess
+import time
+
+from . import parts
+from .cat import Failed
+
+# A machine that does not answer for so many seconds is given up.
+ALIVE = ("-o", "BatchMode=yes", "-o", "ConnectTimeout=10", "-o", "ServerAliveInterval=5", "-o", "ServerAliveCountMax=3")
+INSTALL = "apt-get install parallel rsync openssh-client here, and rsync openssh-server on each machine"
+
+
+def check_here():
+    """What is needed on this machine."""
+    missing = [name for name in ("parallel", "rsync", "ssh") if shutil.which(name) is None]
+    if missing:
+        raise Failed(f"{' and '.join(missing)} must be installed for --sshlogin: {INSTALL}")
+
+
+class Machines:
+    """Decodes parts on machines, `logins` as parallel's --sshlogin takes them: `:` is this machine.
+
+    A part that fails on a machine, because that machine is gone, say, is decoded on another one. Files have the names that they have in
+    the folder of the parts, and lie in a folder of their own on each machine.
+    """
+
+    def __init__(self, room, plan, logins, program, tables=None):
+        self.room, self.plan, self.logins = room, plan, logins
+        self.program = program
+        self.log = os.path.join(room.folder, "log")
+        self.base = [os.path.basename(path) for path in room.sources]
+        self.tables = None
+        if tables is not None:
+            self.tables = "tables"
+            shutil.copyfile(tables, os.path.join(room.folder, self.tables))
+            self.base.append(self.tables)
+
+    def command(self):
+        """The command of a part, whose number is {}. On this machine nothing was carried, so the files are in the folder of the parts."""
+        folder = f"{self.room.folder}/"
+        words = [word.replace(folder, "") for word in self.room.words("{}", self.program, self.tables)]
+        text = " ".join(word if "{}" in word else shlex.quote(word) for word in words)
+        return f"[ -e {{}}.list ] || cd {shlex.quote(self.room.folder)} && {text} > {{}}.replies"
+
+    def words(self):
+        """The command line of parallel."""
+        there = f"/tmp/{os.path.basename(self.room.folder)}-there"
+        words = ["parallel", "--will-cite", "--retries", str(len(self.logins) + 2), "--joblog", self.log, "--workdir", there]
+        for login in self.logins:
+            words += ["--sshlogin", login]
+        for kind in ["list"] if self.room.sources else ["ivf", "list"]:
+            words += ["--transferfile", f"{{}}.{kind}"]
+        for name in self.base:
+            words += ["--basefile", name]
+        return [*words, "--return", "{}.y4m", "--return", "{}.replies", "--cleanup", self.command()]
+
+    def __iter__(self):
+        """The numbers of the parts, each when its frames are here, in order."""
+        for number, part in enumerate(self.plan):
+            self.room.write(number, part)
+        numbers = "".join(f"{number}\n" for number in range(len(self.plan)))
+        ssh = os.environ.get("PARALLEL_SSH") or " ".join(("ssh", *ALIVE))
+        env = dict(os.environ, PARALLEL_SSH=ssh, LC_ALL="C", TMPDIR=self.room.folder)
+        with open(os.path.join(self.room.folder, "errors"), "w+b") as errors:
+            process = subprocess.Popen(
+                self.words(), cwd=self.room.folder, stdin=subprocess.PIPE, stdout=subprocess.DEVNULL, stderr=errors, env=env
+            )
+            try:
+                with contextlib.suppress(BrokenPipeError):
+                    process.stdin.write(numbers.encode())
+                    process.stdin.close()
+                for number in range(len(self.plan)):
+                    self.wait(number, process, errors)
+                    yield number
+            finally:
+                end(process)
+
+    def wait(self, number, process, errors):
+        """Waits until a part is here."""
+        while True:
+            ended = process.poll() is not None
+            status = self.statuses().get(number)
+            if status == 0:
+                return
+            if ended:
+                errors.seek(0)
+                said = errors.read().decode(errors="replace").strip()
+                raise Failed(f"part {number} was not decoded on any machine: {said or f'status {status}'}")
+            time.sleep(0.02)
+
+    def statuses(self):
+        """The last exit status of each part that parallel has in its log: those of the program, or of ssh."""
+        found = {}
+        try:
+            with open(self.log, encoding="utf-8", errors="replace") as file:
+                lines = file.read().split("\n")[1:-1]
+        except FileNotFoundError:
+            return found
+        for line in lines:
+            columns = line.split("\t")
+            found[int(columns[0]) - 1] = int(columns[6]) or int(columns[7])
+        return found
+
+
+def end(process):
+    """Ends parallel, if it runs, and its jobs: it ends them at the second signal."""
+    for _ in range(2):
+        if process.poll() is None:
+            process.terminate()
+            with contextlib.suppress(subprocess.TimeoutExpired):
+                process.wait(3)
+    process.kill()
+    process.wait()
+
+
+def workers_of(session, logins, program, tables):
+    """Workers on these machines."""
+    check_here()
+
+    def workers(room, count):
+        contents = session.edits.contents()
+        processes = 4 * len(logins)
+        plan = parts.by_packets(contents, processes) if contents.script == "-" else parts.by_frames(count, processes)
+        return plan, Machines(room, plan, logins, program, tables)
+
+    return workers

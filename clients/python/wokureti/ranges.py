@@ -1,0 +1,44 @@
+"""Byte ranges of HTTP (RFC 9110, section 14)."""
+
+import re
+
+from .web import Refuse
+
+
+def parse_range(text, length):
+    """The first byte and the end of a Range header, or None if all bytes are to be sent: several ranges, or other units.
+
+    `Refuse` with 416 if the range begins after the end.
+    """
+    found = re.fullmatch(r"bytes=[ \t]*([0-9]*)-([0-9]*)[ \t]*", text)
+    if not found or found.groups() == ("", "") or max(map(len, found.groups())) > 30:
+        return None
+    first, last = found.groups()
+    if first == "":
+        first, end = max(0, length - int(last)), length
+        if int(last) == 0:
+            first = length
+    else:
+        first = int(first)
+        if last != "" and int(last) < first:
+            return None
+        end = min(length, int(last) + 1) if last != "" else length
+    if first >= length:
+        raise Refuse(416, f"the range begins after the last byte: there are {length}")
+    return first, end
+
+
+def is_etag_of(text, etag):
+    """Whether a header such as If-None-Match names this tag, or any."""
+    return text.strip() == "*" or etag in [word.strip().removeprefix("W/") for word in text.split(",")]
+
+
+def wanted(headers, length, etag):
+    """The range that is to be sent of a text with this tag, or None for all of it."""
+    text = headers.get("range")
+    if text is None:
+        return None
+    condition = headers.get("if-range")
+    if condition is not None and condition.strip() != etag:
+        return None
+    return parse_range(text, length)

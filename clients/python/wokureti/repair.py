@@ -1,0 +1,374 @@
+"""wokureti repair: finds the damage of a stream, and mends what can be mended without a person."""
+
+import collections
+import re
+from typing import NamedTuple
+
+from . import facts, ivf, runs, salvage
+from .differences import edits_between
+
+# A packet is sorted back over at most so many others: if it is further away, the time stamps begin again, as in clips that were joined.
+MOST_MOVE = 64
+# At most so many packets are put into one hole.
+MOST_HOLE = 10000
+# This part of the steps between shown packets is the same in a stream of a constant rate.
+CONSTANT = 0.8
+PAST_END = re.compile(r"\bpacket (\d+): .*bytes read past its end")
+
+
+class Packet(NamedTuple):
+    """A packet, and what is known of it: whether it comes right before bytes that are lost, and whether one or more were lost before it."""
+
+    stamp: int
+    data: bytes
+    before_gap: bool = False
+    after_gap: bool = False
+
+
+class Outline(NamedTuple):
+    """What vp8list says of a packet."""
+
+    is_key: bool
+    is_shown: bool
+    cause: object
+
+
+class Repair:
+    """The packets of a stream while they are mended, and a line for each step."""
+
+    def __init__(self, program, lister, tables=None):
+        self.program, self.lister, self.tables = program, lister, tables
+        self.head, self.packets, self.lines = ivf.EMPTY, [], []
+        # How many packets the header counts, how many changes were made, and how much is left that was not mended.
+        self.counted = self.changes = self.left = 0
+        self.forged = {}
+
+    def say(self, text, changed=True):
+        self.lines.append(text)
+        self.changes += changed
+
+    def outlines(self):
+        """The outlines of the packets, each by itself."""
+        if not self.packets:
+            return []
+        key = self.forge("blank", 1, 1)
+        packets = ((0, data) for packet in self.packets for data in (key, packet.data))
+        found = list(facts.outlines(facts.run_on(self.lister, packets)))[1::2]
+        return [Outline(bool(flags & facts.KEY), bool(flags & facts.SHOWN), cause) for flags, _, cause in found]
+
+    def past_ends(self):
+        """The packets whose partitions are read past their end."""
+        if not self.packets:
+            return set()
+        packets = ((packet.stamp, packet.data) for packet in self.packets)
+        options = ["--check"] + (["--tables", self.tables] if self.tables else [])
+        lines = facts.run_on(self.lister, packets, *options, statuses=(0, 1))
+        found = (PAST_END.search(line.decode(errors="replace")) for line in lines)
+        return {int(match.group(1)) for match in found if match}
+
+    def forge(self, word, width, height):
+        """The bytes of a grey key frame, or of a packet that shows the last picture again and is shown by libvpx too."""
+        key = (word, width, height)
+        if key not in self.forged:
+            lines = [f"blank 0 {width} {height}"] + ["hold 1"] * (word == "hold")
+            data = runs.saved_packets(self.program, lines, self.tables)[-1][1]
+            self.forged[key] = data + b"\0" * (word == "hold")
+        return self.forged[key]
+
+    # Reading
+
+    def read(self, data, scan=True):
+        """Takes the packets of a file."""
+        found = salvage.plain(data)
+        if found is not None:
+            head, packets, end = found
+            self.head = head
+            if not scan or (end == len(data) and not has_zero_tail(packets)):
+                self.packets = [Packet(packet.stamp, packet.data) for packet in packets]
+                self.counted = int.from_bytes(data[24:28], "little")
+                if end < len(data):
+                    self.say(f"byte {end}: the last {len(data) - end} bytes are no whole record: dropped")
+                return
+        elif not scan:
+            raise ivf.NotIvf("it is no IVF file of VP8, and its packets are not searched with --no-scan")
+        head, packets, gaps = salvage.find(data)
+        if not packets:
+            raise ivf.NotIvf("no packet of VP8 was found in it")
+        ends = {gap.after for gap in gaps}
+        self.packets = [Packet(packet.stamp, packet.data, place + 1 in ends, place in ends) for place, packet in enumerate(packets)]
+        if head is None:
+            self.say("the header is lost: the size is that of the first key packet, the rate 30 frames a second")
+            self.head = ivf.Head(*(self.first_size() or (0, 0)), 30, 1)
+        for gap in gaps:
+            where = f"after packet {gap.after - 1}" if gap.after else "before the first packet"
+            if gap.end == len(data):
+                self.say(f"byte {gap.start}: the last {gap.end - gap.start} bytes lead to no record: dropped")
+            else:
+                self.say(f"byte {gap.start}: {gap.end - gap.start} bytes {where} lead to no record: read on at byte {gap.end}")
+
+    def first_size(self):
+        return next(filter(None, (ivf.key_size(packet.data) for packet in self.packets)), None)
+
+    # Order
+
+    def drop_doubles(self):
+        """Packets that are there twice, with their time stamp, go."""
+        seen, kept, size = {}, [], None
+        for place, packet in enumerate(self.packets):
+            size = ivf.key_size(packet.data) or size
+            first = seen.setdefault((packet.stamp, packet.data), place)
+            if first != place and not self.is_repeat(packet.data, size):
+                self.say(f"packet {place}: packet {first} again: removed")
+            else:
+                kept.append(packet)
+        self.packets = kept
+
+    def is_repeat(self, data, size):
+        """Whether a packet only shows the last picture again: several of these may have the same time stamp and bytes."""
+        return not data or (size is not None and data in (self.forge("hold", *size), self.forge("hold", *size)[:-1]))
+
+    def sort(self):
+        """Packets that come too late or too early are sorted by their time stamps, if these are theirs alone and not far from their place."""
+        keys = [packet.stamp for packet in self.packets]
+        counts = collections.Counter(keys)
+        order = sorted(range(len(keys)), key=keys.__getitem__)
+        for place in sorted(out_of_order(order)):
+            if counts[self.packets[place].stamp] > 1:
+                self.say(f"packet {place}: time stamp {self.packets[place].stamp} is another packet's too: it stays", False)
+                keys[place] = keys[place - 1] if place else min(keys)
+        order = sorted(range(len(keys)), key=keys.__getitem__)
+        if max((abs(place - to) for to, place in enumerate(order)), default=0) > MOST_MOVE:
+            self.say("the time stamps go back far: the packets stay in their order", False)
+            return
+        out = out_of_order(order)
+        for to, place in enumerate(order):
+            if place in out:
+                self.say(f"packet {place}: time stamp {self.packets[place].stamp}: moved to {to}")
+        self.packets = [self.packets[place] for place in order]
+
+    # A second recording
+
+    def merge(self, other):
+        """Takes packets of a second recording with the same time stamps: for those that are missing, refused, or damaged."""
+        shift = shift_between(self.packets, other)
+        if shift is None:
+            raise ValueError("no packet of the second recording is one of the first")
+        counts = collections.Counter(packet.stamp for packet in other)
+        theirs = {packet.stamp + shift: packet.data for packet in other if counts[packet.stamp] == 1 and not packet.before_gap}
+        if shift:
+            self.say(f"the time stamps of the second recording differ by {shift}")
+        self.insert_missing(theirs)
+        # A damaged packet also makes those after it look damaged; once it is replaced, they are not.
+        while self.replace_one(theirs):
+            pass
+
+    def insert_missing(self, theirs):
+        known = {packet.stamp for packet in self.packets}
+        missing = sorted(stamp for stamp in theirs if stamp not in known and theirs[stamp])
+        if not missing:
+            return
+        for first, last in stretches(missing, sorted(known | set(missing))):
+            count = last - first + 1
+            names = f"time stamp {missing[first]}" if count == 1 else f"time stamps {missing[first]} to {missing[last]}"
+            self.say(f"{names}: {count} {'packet' if count == 1 else 'packets'} of the second recording inserted")
+        new = [Packet(stamp, theirs[stamp]) for stamp in missing]
+        # What was lost before a packet is there now, if it came with those.
+        filled = set(missing)
+        merged = sorted(self.packets + new, key=lambda packet: packet.stamp)
+        self.packets = [
+            packet._replace(after_gap=packet.after_gap and not (place and merged[place - 1].stamp in filled))
+            for place, packet in enumerate(merged)
+        ]
+
+    def replace_one(self, theirs):
+        """Replaces the packets that are refused, and the first one of each stretch that is read past its end. Whether there was one."""
+        outlines, past = self.outlines(), self.past_ends()
+        found = False
+        for place, packet in enumerate(self.packets):
+            data = theirs.get(packet.stamp)
+            if data is None or data == packet.data or self.is_broken(data):
+                continue
+            cause = outlines[place].cause
+            if cause or place in past or packet.before_gap:
+                why = f"refused {cause}" if cause else "read past its end" if place in past else "damaged at its end"
+                self.say(f"packet {place}: {why}: the packet of the second recording with its time stamp, {packet.stamp}")
+                self.packets[place] = Packet(packet.stamp, data)
+                found = True
+        return found
+
+    def is_broken(self, data):
+        return bool(data) and not salvage.begins_packet(data, 0, len(data))
+
+    # What is left
+
+    def drop_beginning(self):
+        """Packets before the first key frame cannot be decoded."""
+        outlines = self.outlines()
+        count = next((place for place, found in enumerate(outlines) if found.is_key and not found.cause), len(outlines))
+        if count == len(outlines):
+            return
+        if count:
+            names = "packet 0" if count == 1 else f"packets 0 to {count - 1}"
+            self.say(f"{names}: no key frame before: removed")
+            self.packets = self.packets[count:]
+
+    def step(self, outlines):
+        """The step between the time stamps of shown packets, if it is constant, else None."""
+        stamps = [packet.stamp for packet, found in zip(self.packets, outlines) if found.is_shown]
+        steps = collections.Counter(after - before for before, after in zip(stamps, stamps[1:]))
+        if not steps:
+            return None
+        step, count = steps.most_common(1)[0]
+        return step if step > 0 and count >= CONSTANT * sum(steps.values()) else None
+
+    def hold(self):
+        """Holds the last picture for packets that are refused or lost, up to the next key frame."""
+        outlines, past = self.outlines(), self.past_ends()
+        step = self.step(outlines)
+        kept, size, place = [], None, 0
+        while place < len(self.packets):
+            end = place + 1
+            while end < len(self.packets) and not outlines[end].is_key:
+                end += 1
+            if outlines[place].is_key and not outlines[place].cause:
+                size = ivf.key_size(self.packets[place].data)
+            begin, why = self.first_lost(place, end, outlines, past, step)
+            hidden = 0
+            for number in range(place, end):
+                self.fill(kept, number, step, size, past, outlines, end)
+                packet = self.packets[number]
+                if number < begin:
+                    kept.append(packet)
+                elif outlines[number].is_shown:
+                    kept.append(Packet(packet.stamp, self.forge("hold", *size)))
+                else:
+                    hidden += 1
+            if begin < end:
+                names = f"packet {begin}" if end == begin + 1 else f"packets {begin} to {end - 1}"
+                more = f", {hidden} hidden ones are removed" if hidden else ""
+                self.say(f"{names}: {why}: the picture before is held{more}")
+            place = end
+        self.packets = kept
+
+    def first_lost(self, place, end, outlines, past, step):
+        """The first packet of a stretch, from a key packet to the next, that cannot be decoded as it was coded, and why."""
+        for number in range(place, end):
+            if outlines[number].cause:
+                return number, f"refused {outlines[number].cause}" + (f", {end - number - 1} packets lost" if end > number + 1 else "")
+            # After a loss, bits that are read past an end say that the packets do not fit what was decoded before.
+            if self.is_after_loss(number, step) and not outlines[number].is_key and any(other in past for other in range(number, end)):
+                return number, "packets before it are lost, and it does not decode without them"
+        return end, None
+
+    def is_after_loss(self, number, step):
+        packet = self.packets[number]
+        if packet.after_gap:
+            return True
+        return bool(step) and number > 0 and packet.stamp - self.packets[number - 1].stamp >= 2 * step
+
+    def fill(self, kept, number, step, size, past, outlines, end):
+        """Puts packets that hold the picture where packets are missing by the time stamps, and there is a sign that they were lost."""
+        packet = self.packets[number]
+        if not kept or not step or size is None:
+            return
+        before = self.packets[number - 1].stamp
+        count = (packet.stamp - before) // step - 1
+        fewer = self.counted > len(self.packets)
+        sign = packet.after_gap or fewer or outlines[number].cause or any(other in past for other in range(number, end))
+        if 1 <= count <= MOST_HOLE and sign:
+            stamps = [before + step * turn for turn in range(1, count + 1)]
+            kept += [Packet(stamp, self.forge("hold", *self.last_size(kept) or size)) for stamp in stamps]
+            names = f"time stamp {stamps[0]}" if count == 1 else f"time stamps {stamps[0]} to {stamps[-1]}"
+            self.say(f"{names}: {count} {'packet' if count == 1 else 'packets'} lost: the picture before is held")
+
+    def last_size(self, packets):
+        """The size of the last key packet."""
+        return next(filter(None, (ivf.key_size(packet.data) for packet in reversed(packets))), None)
+
+    def check(self):
+        """What is still wrong."""
+        refused = [(place, found.cause) for place, found in enumerate(self.outlines()) if found.cause]
+        past = sorted(self.past_ends())
+        for place, cause in refused:
+            self.say(f"packet {place}: refused {cause}: not mended", False)
+        if past:
+            names = f"packet {past[0]}" if len(past) == 1 else f"packet {past[0]} and {len(past) - 1} more"
+            self.say(f"{names}: decoding reads past the end, so the pictures up to the next key frame are not right: not mended", False)
+        self.left = len(refused) + len(past)
+
+
+def has_zero_tail(packets):
+    """Whether the last records are zeros, after others that are not."""
+    last = [packet for packet in packets[-2:] if not packet.data and packet.stamp == 0]
+    return len(last) == 2 and any(packet.stamp for packet in packets)
+
+
+def out_of_order(order):
+    """The items of an order that do not ascend with the others: all but a longest ascending list of them."""
+    import bisect
+
+    tails, places, before = [], [], [None] * len(order)
+    for index, item in enumerate(order):
+        at = bisect.bisect_left(tails, item)
+        before[index] = places[at - 1] if at else None
+        if at == len(tails):
+            tails.append(item)
+            places.append(index)
+        else:
+            tails[at], places[at] = item, index
+    kept, index = set(), places[-1] if places else None
+    while index is not None:
+        kept.add(order[index])
+        index = before[index]
+    return set(order) - kept
+
+
+def stretches(missing, known):
+    """The first and last index of each run of missing stamps with no other stamp between them."""
+    place = {stamp: index for index, stamp in enumerate(known)}
+    start = 0
+    for index in range(1, len(missing) + 1):
+        if index == len(missing) or place[missing[index]] != place[missing[index - 1]] + 1:
+            yield start, index - 1
+            start = index
+
+
+def shift_between(packets, other):
+    """What to add to the time stamps of another recording of the same packets; None if they have no packet in common."""
+    stamps = {packet.data: packet.stamp for packet in packets if len(packet.data) > 16}
+    shifts = collections.Counter(stamps[packet.data] - packet.stamp for packet in other if packet.data in stamps)
+    return shifts.most_common(1)[0][0] if shifts else None
+
+
+def packets_of(data, scan=True):
+    """The packets of a second recording."""
+    reader = Repair(None, None)
+    reader.read(data, scan)
+    return reader.packets
+
+
+def repair(data, program, lister, second=None, tables=None, steps=frozenset(("scan", "double", "sort", "hold"))):
+    """Mends a stream, and returns a `Repair`."""
+    found = Repair(program, lister, tables)
+    found.read(data, "scan" in steps)
+    if "double" in steps:
+        found.drop_doubles()
+    if "sort" in steps:
+        found.sort()
+    if second is not None:
+        found.merge(packets_of(second, "scan" in steps))
+    if "hold" in steps:
+        found.drop_beginning()
+        found.hold()
+    if not found.packets:
+        raise ivf.NotIvf("no packet is left")
+    found.check()
+    return found
+
+
+def edits_of(data, found):
+    """The edits that make the mended stream of the file, or None if vp8serve does not read the file."""
+    before = salvage.plain(data)
+    if before is None:
+        return None
+    return edits_between([(packet.stamp, packet.data) for packet in before[1]], [(packet.stamp, packet.data) for packet in found.packets])

@@ -1,0 +1,39 @@
+"""wokureti serve: the edited stream on a port of this machine, for players and editors."""
+
+import secrets
+import signal
+import sys
+import threading
+
+from .live import Live
+from .routes import Routes
+from .web import Server
+
+
+def serve(live, port=0, out=None):
+    """Serves a stream until the process is interrupted."""
+    server = Server(port)
+    token = secrets.token_urlsafe(18)
+    server.routes = Routes(live, server, token)
+
+    def end(number, frame):
+        raise KeyboardInterrupt
+
+    signal.signal(signal.SIGTERM, end)
+    thread = threading.Thread(target=server.serve, daemon=True)
+    thread.start()
+    print(f"{server.origin}/{token}/clip.y4m", file=out or sys.stdout, flush=True)
+    try:
+        while thread.is_alive():
+            thread.join(3600)
+    except KeyboardInterrupt:
+        pass
+    finally:
+        server.end()
+        live.close()
+
+
+def run(options, edits, save, port):
+    """Opens the stream and serves it."""
+    serve(Live(options, edits, save), port)
+    return 0

@@ -1,0 +1,137 @@
+"""The frames of a stream as one YUV4MPEG2 file that is never written: any range of its bytes is made of the frames that it touches."""
+
+import queue
+import threading
+
+from .errors import Refused
+from .frames import MARK, size_of
+from .live import Changed, Lost
+
+# Frames that are asked for at a time, at most, and their bytes.
+AT_ONCE, BYTES_AT_ONCE = 8, 16 << 20
+MODES = ("repeat", "black")
+
+
+class Cannot(Exception):
+    """The file cannot be served: the first frame that is refused, and its reply."""
+
+    def __init__(self, frame, reply):
+        super().__init__(reply)
+        self.frame, self.reply = frame, reply
+
+
+def header_of(size, rate):
+    """The first line of the text, as vp8serve writes it."""
+    return b"YUV4MPEG2 W%d H%d F%d:%d Ip C420jpeg\n" % (*size, *rate)
+
+
+class Clip:
+    """The file of one revision. `mode` says what is in the place of a frame that is refused: None, the file cannot be served; `repeat`, the
+    frame before it; `black`, a black frame."""
+
+    def __init__(self, live, mode=None):
+        self.live, self.mode = live, mode
+        self.revision, self.outcomes = live.outcomes()
+        self.etag = f'"{live.instance}-{self.revision}{f"-{mode}" if mode else ""}"'
+        size = self.outcomes.size
+        refused = self.outcomes.first_refused()
+        if refused is not None and (mode is None or size is None):
+            raise Cannot(*refused)
+        if size is None:
+            raise Cannot(0, "refused NoSuchFrame")
+        self.header = header_of(size, live.rate())
+        self.samples = size_of(*size)
+        self.frame_size = len(MARK) + self.samples
+        self.count = self.outcomes.count
+        self.length = len(self.header) + self.count * self.frame_size
+        luma = size[0] * size[1]
+        self.black = bytes([16]) * luma + bytes([128]) * (self.samples - luma)
+
+    def source_of(self, number):
+        """The frame whose picture is served as this one, or None for a black one."""
+        if self.outcomes.is_served(self.outcomes.of_frame(number)):
+            return number
+        return self.outcomes.served_before(number) if self.mode == "repeat" else None
+
+    def frames(self, numbers):
+        """The samples of frames of the file."""
+        wanted = list(dict.fromkeys(source for source in map(self.source_of, numbers) if source is not None))
+        found = dict(zip(wanted, self.live.pictures(wanted, self.revision)))
+        for number, (width, height, _) in found.items():
+            if (width, height) != self.outcomes.size:
+                raise Lost(f"frame {number} has {width}x{height} samples")
+        sources = map(self.source_of, numbers)
+        return [self.black if source is None else found[source][2] for source in sources]
+
+    def in_order(self, first, end):
+        """The samples of a range of frames, some of them made while those before them are sent."""
+        if end - first <= 2:
+            yield from self.frames(range(first, end))
+            return
+        at_once = max(1, min(AT_ONCE, BYTES_AT_ONCE // self.frame_size))
+        groups = [range(place, min(place + at_once, end)) for place in range(first, end, at_once)]
+        made = ahead(self.frames, groups)
+        try:
+            for group in made:
+                yield from group
+        finally:
+            made.close()
+
+    def pieces(self, start, end):
+        """The bytes of a range. It stops, before the range is whole, at an edit, or if a frame cannot be made."""
+        head = len(self.header)
+        if start < head:
+            yield self.header[start:end]
+        if end <= head:
+            return
+        first, last = max(0, start - head) // self.frame_size, (end - head - 1) // self.frame_size
+        frames = self.in_order(first, last + 1)
+        try:
+            for number, samples in enumerate(frames, first):
+                place = head + number * self.frame_size
+                for piece in (MARK, samples):
+                    low, high = max(0, start - place), min(len(piece), end - place)
+                    if low < high:
+                        yield piece[low:high]
+                    place += len(piece)
+        finally:
+            frames.close()
+
+
+def ahead(make, numbers):
+    """What `make` makes of each item, in order, the next one before it is asked for."""
+    made, stopped = queue.Queue(1), threading.Event()
+
+    def put(item):
+        while not stopped.is_set():
+            try:
+                made.put(item, timeout=0.5)
+                return
+            except queue.Full:
+                pass
+
+    def work():
+        for number in numbers:
+            if stopped.is_set():
+                return
+            try:
+                item = (make(number), None)
+            except BaseException as error:
+                item = (None, error)
+            put(item)
+            if item[1] is not None:
+                return
+
+    threading.Thread(target=work, daemon=True).start()
+    try:
+        for _ in numbers:
+            item, error = made.get()
+            if error is not None:
+                raise error
+            yield item
+    finally:
+        stopped.set()
+
+
+# What ends a response in the middle: the connection is closed, so that the client sees that bytes are missing.
+ENDINGS = (Changed, Lost, Refused)

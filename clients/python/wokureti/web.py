@@ -1,0 +1,336 @@
+"""A small HTTP server for one person on one machine: requests are bounded in size, number and time.
+
+It answers on 127.0.0.1 alone. A request must name the address that was given out in its Host header, so a page of another site cannot reach it
+under a name of its own (DNS rebinding); and where a browser says in Origin which site a request comes from, it must be this one.
+"""
+
+import contextlib
+import json
+import re
+import socket
+import sys
+import threading
+import time
+import urllib.parse
+
+MOST_HEAD = 16 << 10
+MOST_BODY = 8 << 20
+MOST_CONNECTIONS = 64
+# Seconds: for the head and the body of a request; for a connection without a request; for a client that takes nothing of a response.
+READ_TIME, IDLE_TIME, WRITE_TIME = 10, 30, 600
+# A connection that made no progress for so long makes room for a new one.
+STALLED = 5
+SEND_AT_ONCE = 1 << 18
+
+SAFE = (
+    ("Content-Security-Policy", "default-src 'self'"),
+    ("X-Content-Type-Options", "nosniff"),
+    ("Referrer-Policy", "no-referrer"),
+    ("Cache-Control", "no-store"),
+    ("Cross-Origin-Resource-Policy", "same-origin"),
+)
+REASONS = {
+    200: "OK", 206: "Partial Content", 304: "Not Modified", 400: "Bad Request", 403: "Forbidden", 404: "Not Found",
+    405: "Method Not Allowed", 409: "Conflict", 411: "Length Required", 412: "Precondition Failed", 413: "Content Too Large",
+    414: "URI Too Long", 415: "Unsupported Media Type", 416: "Range Not Satisfiable", 421: "Misdirected Request",
+    431: "Request Header Fields Too Large", 500: "Internal Server Error", 501: "Not Implemented", 503: "Service Unavailable",
+    505: "HTTP Version Not Supported",
+}  # fmt: skip
+TOKEN = re.compile(rb"[!#$%&'*+.^_`|~0-9A-Za-z-]+")
+
+
+class Refuse(Exception):
+    """A request is answered with this status and a text; the connection then ends."""
+
+    def __init__(self, status, text, **more):
+        super().__init__(text)
+        self.status = status
+        self.members = {"error": text, **more}
+
+
+class Dropped(Exception):
+    """The client is gone, or too slow."""
+
+
+class Response:
+    """What is sent: a status, headers, and a body of bytes or of pieces whose length is known."""
+
+    def __init__(self, status, kind, body=b"", length=None, headers=(), pieces=None):
+        self.status, self.kind, self.body, self.headers, self.pieces = status, kind, body, list(headers), pieces
+        self.length = len(body) if length is None and pieces is None else length
+
+
+def as_json(members, status=200, headers=()):
+    """A JSON object as a response."""
+    return Response(status, "application/json", json.dumps(members).encode() + b"\n", headers=headers)
+
+
+class Request:
+    """A request: the method, the parts of the path, the query, the headers (names in small letters) and the body."""
+
+    def __init__(self, method, target, version, headers, body=b""):
+        self.method, self.version, self.headers, self.body = method, version, headers, body
+        path, _, query = target.partition("?")
+        if not path.startswith("/") or not re.fullmatch(r"[\x21-\x7e]*", target):
+            raise Refuse(400, "the target of the request is not a path")
+        # No route has a percent sign or a dot part, so none is decoded or followed.
+        self.parts = path[1:].split("/")
+        try:
+            pairs = urllib.parse.parse_qsl(query, keep_blank_values=True, strict_parsing=bool(query), max_num_fields=20)
+        except ValueError:
+            raise Refuse(400, "the query is not name=value") from None
+        self.query = dict(pairs)
+        if len(self.query) != len(pairs):
+            raise Refuse(400, "a name is twice in the query")
+
+    @property
+    def keeps(self):
+        """Whether the client wants to use the connection again."""
+        said = self.headers.get("connection", "").lower()
+        return "close" not in said and (self.version == "HTTP/1.1" or "keep-alive" in said)
+
+
+def parse_head(text):
+    """The method, target, version and headers of a request."""
+    lines = text.split(b"\r\n")
+    words = lines[0].split(b" ")
+    if len(words) != 3 or not TOKEN.fullmatch(words[0]):
+        raise Refuse(400, "not a request line")
+    if words[2] not in (b"HTTP/1.1", b"HTTP/1.0"):
+        raise Refuse(505, "only HTTP/1.1 and HTTP/1.0 are spoken")
+    headers = {}
+    for line in lines[1:]:
+        name, colon, value = line.partition(b":")
+        if not colon or not TOKEN.fullmatch(name) or b"\n" in value or b"\r" in value or b"\0" in value:
+            raise Refuse(400, "not a header")
+        name = name.decode("ascii").lower()
+        if name in headers:
+            if name in ("host", "content-length", "content-type", "origin", "range", "if-range", "transfer-encoding"):
+                raise Refuse(400, f"the header {name} is there twice")
+            headers[name] += ", " + value.decode("latin-1").strip(" \t")
+        else:
+            headers[name] = value.decode("latin-1").strip(" \t")
+    return words[0].decode("ascii"), words[1].decode("latin-1"), words[2].decode("ascii"), headers
+
+
+class Connection:
+    """A connection of a client, which has a thread of its own."""
+
+    def __init__(self, server, sock):
+        self.server, self.socket = server, sock
+        self.moved = time.monotonic()
+        self.rest = b""
+
+    def run(self):
+        try:
+            self.socket.setsockopt(socket.IPPROTO_TCP, socket.TCP_NODELAY, 1)
+            while self.answer_one():
+                pass
+        except (Dropped, OSError):
+            pass
+        except Exception as error:
+            # A mistake of this program: told where it was started, and the server goes on.
+            print(f"wokureti: {type(error).__name__}: {error}", file=sys.stderr, flush=True)
+        finally:
+            self.close()
+            self.server.forget(self)
+
+    def close(self):
+        with contextlib.suppress(OSError):
+            self.socket.shutdown(socket.SHUT_RDWR)
+        self.socket.close()
+
+    def receive(self, deadline):
+        """More bytes, before a deadline."""
+        left = deadline - time.monotonic()
+        if left <= 0:
+            raise Dropped
+        self.socket.settimeout(left)
+        try:
+            piece = self.socket.recv(1 << 16)
+        except socket.timeout:
+            raise Dropped from None
+        if not piece:
+            raise Dropped
+        return piece
+
+    def read_head(self):
+        """The head of the next request, without its empty line."""
+        deadline = time.monotonic() + IDLE_TIME
+        while b"\r\n\r\n" not in self.rest:
+            if len(self.rest) > MOST_HEAD:
+                raise Refuse(431, "the head of the request is too long")
+            begun = bool(self.rest)
+            self.rest += self.receive(deadline)
+            if not begun:
+                # A new request.
+                deadline = time.monotonic() + READ_TIME
+                self.moved = time.monotonic()
+        head, _, self.rest = self.rest.partition(b"\r\n\r\n")
+        if len(head) > MOST_HEAD:
+            raise Refuse(431, "the head of the request is too long")
+        return head
+
+    def read_request(self):
+        method, target, version, headers = parse_head(self.read_head().lstrip(b"\r\n"))
+        if "transfer-encoding" in headers:
+            raise Refuse(501, "a body must have a Content-Length")
+        text = headers.get("content-length", "0")
+        if not re.fullmatch("[0-9]{1,18}", text):
+            raise Refuse(400, "Content-Length is not a number")
+        length = int(text)
+        if length > MOST_BODY:
+            raise Refuse(413, f"a body has at most {MOST_BODY} bytes")
+        # What must not be answered is refused before its body is read.
+        request = Request(method, target, version, headers)
+        self.server.check(request)
+        if length and headers.get("expect", "").lower() == "100-continue":
+            self.send(b"HTTP/1.1 100 Continue\r\n\r\n")
+        deadline = time.monotonic() + READ_TIME
+        while len(self.rest) < length:
+            self.rest += self.receive(deadline)
+        request.body, self.rest = self.rest[:length], self.rest[length:]
+        return request
+
+    def answer_one(self):
+        """Answers a request. Whether another one may come."""
+        request = None
+        try:
+            request = self.read_request()
+            response = self.server.answer(request)
+        except Refuse as refuse:
+            response = as_json(refuse.members, refuse.status)
+            keeps = False
+        else:
+            keeps = request.keeps
+        self.respond(response, keeps, request is not None and request.method == "HEAD")
+        if not keeps:
+            self.linger()
+        return keeps
+
+    def respond(self, response, keeps, is_head):
+        head = [f"HTTP/1.1 {response.status} {REASONS[response.status]}"]
+        head += [f"{name}: {value}" for name, value in (*SAFE, *response.headers)]
+        if response.kind:
+            head.append(f"Content-Type: {response.kind}")
+        if response.length is None:
+            keeps = False
+        else:
+            head.append(f"Content-Length: {response.length}")
+        head.append(f"Connection: {'keep-alive' if keeps else 'close'}")
+        self.send("\r\n".join(head).encode("latin-1") + b"\r\n\r\n")
+        try:
+            if not is_head:
+                if response.pieces is None:
+                    self.send(response.body)
+                else:
+                    for piece in response.pieces:
+                        self.send(piece)
+                    if response.length is None:
+                        raise Dropped
+        finally:
+            if response.pieces is not None and hasattr(response.pieces, "close"):
+                response.pieces.close()
+
+    def send(self, data):
+        """Sends bytes; a client that takes none for too long is dropped."""
+        view = memoryview(data)
+        self.socket.settimeout(WRITE_TIME)
+        while view:
+            try:
+                count = self.socket.send(view[:SEND_AT_ONCE])
+            except socket.timeout:
+                raise Dropped from None
+            view = view[count:]
+            self.moved = time.monotonic()
+
+    def linger(self):
+        """Reads what the client still sends, for a moment, so that it sees the answer and not a reset."""
+        with contextlib.suppress(OSError):
+            self.socket.shutdown(socket.SHUT_WR)
+            self.socket.settimeout(0.3)
+            limit = time.monotonic() + 0.3
+            while time.monotonic() < limit and self.socket.recv(1 << 16):
+                pass
+
+
+class Server:
+    """Listens on a port of 127.0.0.1. `routes` has check(request), which raises `Refuse`, and answer(request), which returns a `Response`."""
+
+    def __init__(self, port=0):
+        self.listener = socket.create_server(("127.0.0.1", port), backlog=128)
+        self.port = self.listener.getsockname()[1]
+        self.host = f"127.0.0.1:{self.port}"
+        self.origin = f"http://{self.host}"
+        self.connections, self.lock = set(), threading.Lock()
+        self.routes = None
+        self.ended = False
+
+    def check(self, request):
+        """Refuses what is not from this machine's own client."""
+        if request.headers.get("host") != self.host:
+            raise Refuse(421, f"the Host is not {self.host}")
+        origin = request.headers.get("origin")
+        if origin is not None and origin != self.origin:
+            raise Refuse(403, "the request comes from another site")
+        if request.headers.get("sec-fetch-site", "none") not in ("same-origin", "none"):
+            raise Refuse(403, "the request comes from another site")
+        self.routes.check(request)
+
+    def answer(self, request):
+        return self.routes.answer(request)
+
+    def forget(self, connection):
+        with self.lock:
+            self.connections.discard(connection)
+
+    def make_room(self):
+        """Drops the connection that is stalled for the longest time, if there are too many."""
+        with self.lock:
+            if len(self.connections) < MOST_CONNECTIONS:
+                return True
+            oldest = min(self.connections, key=lambda one: one.moved)
+            if time.monotonic() - oldest.moved < STALLED:
+                return False
+            self.connections.discard(oldest)
+        with contextlib.suppress(OSError):
+            oldest.socket.shutdown(socket.SHUT_RDWR)
+        return True
+
+    def serve(self):
+        """Takes connections until `end` is called."""
+        while not self.ended:
+            try:
+                sock, _ = self.listener.accept()
+            except OSError:
+                if self.ended:
+                    return
+                # No descriptor is free: those of other clients will be.
+                time.sleep(0.05)
+                continue
+            if not self.make_room():
+                with contextlib.suppress(OSError):
+                    sock.settimeout(0.1)
+                    sock.send(b"HTTP/1.1 503 Service Unavailable\r\nContent-Length: 0\r\nConnection: close\r\n\r\n")
+                sock.close()
+                continue
+            connection = Connection(self, sock)
+            with self.lock:
+                self.connections.add(connection)
+            try:
+                threading.Thread(target=connection.run, daemon=True).start()
+            except RuntimeError:
+                connection.close()
+                self.forget(connection)
+
+    def end(self):
+        """Ends `serve`, and all connections."""
+        self.ended = True
+        with contextlib.suppress(OSError):
+            self.listener.shutdown(socket.SHUT_RDWR)
+        self.listener.close()
+        with self.lock:
+            connections = list(self.connections)
+        for connection in connections:
+            with contextlib.suppress(OSError):
+                connection.socket.shutdown(socket.SHUT_RDWR)
