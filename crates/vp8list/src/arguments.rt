@@ -46,7 +46,8 @@ instead of `-`:
   ffmpeg -nostdin -v error -copyts -i in.ivf -fps_mode passthrough \\
       -autoscale 0 -bitexact -f framemd5 - | diff - ours
 
-A frame that is hidden or does not decode has no line.
+A frame that is hidden or does not decode has no line. For a time stamp that
+goes back ffmpeg prints the greatest one so far, and vp8list the stamp itself.
 
 With --check every packet is decoded, and there is a line for each finding instead:
 
