@@ -1,11 +1,11 @@
 // Words of a request line in a message.
-ghost use Rattle.std.specs.Prelude.{◌≡◌, ◌<◌, OnOk};
+ghost use Rattle.std.specs.Prelude.{◌≡◌, ◌<◌, OnOk, length};
 ghost use Rattle.std.specs.Io.KnownBytes.{Appends};
 ghost use Rattle.explanations.specs.Words.{hex_digit, is_shown, shown_byte, shown_within, shown_word};
 
 use std::io::{self, Write};
 
-/// The greatest number of bytes of a word that are shown.
+/// The number of characters of a word that are shown.
 const MOST_SHOWN: usize = 200;
 
 /// Whether a byte is shown as it is.
@@ -40,7 +40,15 @@ fn write_byte<W: Write>(w: &mut W, byte: u8) -> io::Result<()>
     w.write_all(&[b'\\', b'x', hex_digit(byte / 16), hex_digit(byte % 16)])
 }
 
-/// Writes at most `room` bytes of a text, each as `write_byte` does, and dots if it has more.
+/// The number of characters that show a byte.
+fn shown_length(byte: u8) -> usize
+    ensures { result ≡ length (shown_byte byte) }
+{
+    if is_shown(byte) { 1 } else { 4 }
+}
+
+/// Writes the bytes of a text that fit into `room` characters, each as `write_byte` does, and dots if it has more. The last
+/// byte may take three characters more.
 fn write_within<W: Write>(w: &mut W, bytes: &[u8], room: usize) -> io::Result<()>
     ensures { OnOk result (Appends (W.contents w.old) (W.contents w.new) (shown_within room bytes.now)) }
 {
@@ -51,13 +59,13 @@ fn write_within<W: Write>(w: &mut W, bytes: &[u8], room: usize) -> io::Result<()
                 return write_text(w, "...");
             }
             write_byte(w, *first)?;
-            write_within(w, rest, room - 1)
+            write_within(w, rest, room.saturating_sub(shown_length(*first)))
         }
     }
 }
 
 /// Writes a word: each byte that is no printable ASCII character as `\x` and two digits, and dots after the first 200
-/// bytes of a longer one.
+/// characters of a longer one.
 pub fn write_word<W: Write>(w: &mut W, word: &[u8]) -> io::Result<()>
     ensures { OnOk result (Appends (W.contents w.old) (W.contents w.new) (shown_word word.now)) }
 {

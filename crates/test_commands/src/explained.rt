@@ -170,7 +170,7 @@ line 14: use: there is no such source
     expect(&rt, "vp8serve --explain", requests, replies, told, 0);
 }
 
-/// 200 bytes of a word are shown.
+/// 200 characters of a word are shown.
 #[test]
 fn cuts_long_words(rt: HostRuntime) {
     let requests = "\
