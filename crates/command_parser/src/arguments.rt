@@ -125,7 +125,7 @@ fn with_files<'a>(alloc: Global, command: Command<'a>) -> Result<Command<'a>, Al
             alloc,
             "save",
             "FILE",
-            "IVF file for the packets of IN after the last request",
+            "IVF file for the packets of IN after the last request, not of other sources",
         ))?
         .arg(flag(
             alloc,

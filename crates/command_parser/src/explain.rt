@@ -1,5 +1,6 @@
 // Explains the errors that end the program.
-ghost use Rattle.std.specs.Prelude.{◌≡◌, ◌≤◌, IfOk, codes, nat_eq};
+ghost use Rattle.std.specs.Prelude.{◌≡◌, ◌≤◌, ◌==◌, ◌||◌, [], IfOk, OnOk, codes, if◌then◌else◌, nat_eq};
+ghost use Rattle.std.specs.Io.KnownBytes.{Appends};
 ghost use Rattle.std.specs.Cmp.Lexicographic.{pointwise};
 ghost use Rattle.std.specs.List.{list_any};
 
@@ -19,6 +20,16 @@ pub fn is_asked<S: AsStr>(words: &[S]) -> bool
     ensures { result ≡ list_any (λ word. pointwise nat_eq (S.text word) (codes "--explain")) words.now }
 {
     words.iter().any(|word| word.as_str() == "--explain")
+}
+
+/// Names the option `--explain` after a run that ended with an error, unless it was given.
+pub fn name_explain<S: AsStr, E: Write>(words: &[S], status: u8, errors: &mut E) -> io::Result<()>
+    ensures { OnOk result (Appends (E.contents errors.old) (E.contents errors.new) (if status == 0 || list_any (λ word. pointwise nat_eq (S.text word) (codes "--explain")) words.now then [] else codes "with --explain the next line says why, and what to do\n")) }
+{
+    if status == 0 || is_asked(words) {
+        return Ok(());
+    }
+    errors.write_all(b"with --explain the next line says why, and what to do\n")
 }
 
 /// Explains the error that ends the program over these arguments. An error of `messages` is ignored.
@@ -194,9 +205,19 @@ fn explain_head<E: Write>(
     messages: &mut Messages<'_, E>,
 ) -> io::Result<()> {
     match stream_reason(head, fault) {
-        StreamReason::WebM => writeln!(
+        StreamReason::WebM => explain_webm(path, messages.errors),
+        StreamReason::Avi => explain_container(path, "is an AVI file", messages.errors),
+        StreamReason::Gzip => writeln!(
             messages.errors,
-            "{path} is a WebM file: ffmpeg -i {path} -an -c copy -bsf:v setts=ts=N:time_base=1/25 out.ivf"
+            "{path} is compressed by gzip: gzip -dc {path} > out.ivf"
+        ),
+        StreamReason::Zeros => writeln!(
+            messages.errors,
+            "{path} begins with zeros: its first bytes, where an IVF file says DKIF, are lost or were never written"
+        ),
+        StreamReason::Text => writeln!(
+            messages.errors,
+            "{path} begins as a text: IN, the IVF file, is the first argument, REQUESTS the second"
         ),
         StreamReason::Codec => explain_codec(path, head, messages),
         StreamReason::Short => writeln!(
@@ -204,9 +225,10 @@ fn explain_head<E: Write>(
             "{path} has {} bytes, an IVF header 32",
             head.len()
         ),
-        StreamReason::NoIvf => writeln!(
+        StreamReason::NoIvf => explain_container(
+            path,
+            "is not an IVF file, it does not begin with DKIF",
             messages.errors,
-            "{path} is not an IVF file, it does not begin with DKIF: ffmpeg -i {path} -an -c:v libvpx out.ivf"
         ),
         StreamReason::HeaderLength(length) => writeln!(
             messages.errors,
@@ -220,6 +242,30 @@ fn explain_head<E: Write>(
     }
 }
 
+/// Explains how the packets of a WebM file become an IVF file, with their time stamps.
+fn explain_webm<E: Write>(path: &str, errors: &mut E) -> io::Result<()> {
+    writeln!(
+        errors,
+        "{path} is a WebM or Matroska file: ffmpeg -i {path} -an -c copy -copyts out.ivf"
+    )?;
+    writeln!(
+        errors,
+        "its time stamps count milliseconds, so OUT has 1000 frames a second: ffmpeg -r 30 -i OUT reads 30"
+    )
+}
+
+/// Explains how the packets of another file become an IVF file.
+fn explain_container<E: Write>(path: &str, seen: &str, errors: &mut E) -> io::Result<()> {
+    writeln!(
+        errors,
+        "{path} {seen}; if its video is VP8: ffmpeg -i {path} -an -c copy out.ivf"
+    )?;
+    writeln!(
+        errors,
+        "any other video has to be coded again, which changes each frame: ffmpeg -i {path} -an -c:v libvpx out.ivf"
+    )
+}
+
 /// Explains which codec a file has.
 fn explain_codec<E: Write>(
     path: &str,
@@ -230,7 +276,7 @@ fn explain_codec<E: Write>(
     let codec = str::from_utf8(codec).unwrap_or("unknown");
     writeln!(
         messages.errors,
-        "{path} has the codec {codec}, not VP80: ffmpeg -i {path} -an -c:v libvpx out.ivf"
+        "{path} has the codec {codec}, not VP80, and has to be coded again, which changes each frame: ffmpeg -i {path} -an -c:v libvpx out.ivf"
     )
 }
 
@@ -256,12 +302,39 @@ fn explain_unwritten<E: Write>(words: Words<'_>, messages: &mut Messages<'_, E>)
     }
 }
 
-/// Explains the trailing bytes of sources, which the arguments name.
-pub fn explain_spare<E: Write>(
+/// Explains the end of a run without an error: the trailing bytes of sources, which the arguments name, and the edits
+/// that are not saved.
+pub fn explain_end<E: Write>(
     words: Words<'_>,
     sources: &[&[u8]],
-    errors: &mut E,
+    messages: &mut Messages<'_, E>,
 ) -> io::Result<()> {
+    explain_spare(words, sources, messages.errors)?;
+    explain_unsaved(words, sources.len(), messages)
+}
+
+/// Says which sources have edits that `--save` leaves out.
+fn explain_unsaved<E: Write>(
+    words: Words<'_>,
+    count: usize,
+    messages: &mut Messages<'_, E>,
+) -> io::Result<()> {
+    if words.saved.is_none() {
+        return Ok(());
+    }
+    for source in 1..count {
+        if messages.is_edited(source) {
+            writeln!(
+                messages.errors,
+                "the edits of source {source} are not saved: --save writes source 0"
+            )?;
+        }
+    }
+    Ok(())
+}
+
+/// Explains the trailing bytes of sources, which the arguments name.
+fn explain_spare<E: Write>(words: Words<'_>, sources: &[&[u8]], errors: &mut E) -> io::Result<()> {
     for (source, bytes) in sources.iter().enumerate() {
         if let Some(cut) = cut_record(bytes) {
             write_cut(path_of(words, source), bytes.len(), cut, errors)?;

@@ -28,7 +28,7 @@ To look at a frame before the next edit, answer each line as it comes:
 
 Type `frame 0`; `served 0` comes when the frame is in out.y4m. `hold 1` repeats
 it, `delete 1` removes the repeat. At the end of input (Ctrl-D) the
-packets are saved.
+packets are saved. Ctrl-C ends the program and saves nothing.
 
 If a request is refused or the program ends with an error, run it again with
 --explain: a line on standard error says why, and what to do.

@@ -1,18 +1,46 @@
 -- Why a file is not read as a stream, and the record that the end of a file cuts off.
-use Rattle.std.specs.Prelude.{◌≡◌, ◌+◌, ℕ, Bool, nat_le, if◌then◌else◌, List, ◌∷◌, [], length, take, Some, None}
+use Rattle.std.specs.Prelude.{◌≡◌, ◌+◌, ◌==◌, ◌&&◌, ◌||◌, not, ℕ, Bool, nat_eq, nat_le, if◌then◌else◌, List, ◌∷◌, [], length, drop, take, Option, Some, None, codes, unwrap_or}
+use Rattle.std.specs.List.{list_all, starts_with}
 use Rattle.std.specs.Str.{bytes_eq}
 use Rattle.byteorder.specs.Endian.{little_number}
 use Rattle.stream_files.specs.Ivf.{HasRecord, Records, body, header_length}
 use Rattle.stream_files.specs.declared.ivf.IvfFault.{IvfFault}
 use Rattle.stream_files.specs.declared.ivf.IvfFault.TheVariants as faults
 use Rattle.stream_files.specs.declared.packets.Packet.{Packet}
+use Rattle.explanations.specs.Lines.{is_binary}
 use Rattle.explanations.specs.declared.files.CutRecord.{CutRecord}
 use Rattle.explanations.specs.declared.files.StreamReason.{StreamReason}
-use Rattle.explanations.specs.declared.files.StreamReason.TheVariants.{Short, WebM, NoIvf, Codec, HeaderLength, TooMany, NoMemory}
+use Rattle.explanations.specs.declared.files.StreamReason.TheVariants.{Short, WebM, Avi, Gzip, Zeros, Text, NoIvf, Codec, HeaderLength, TooMany, NoMemory}
 
 -- EBML's magic number, with which WebM and Matroska files begin
 abbrev pub is_webm : List ℕ → Bool
 is_webm bytes = bytes_eq (take 4 bytes) (0x1A ∷ 0x45 ∷ 0xDF ∷ 0xA3 ∷ [])
+
+-- a RIFF file of the form AVI
+abbrev pub is_avi : List ℕ → Bool
+is_avi bytes = starts_with nat_eq bytes (codes "RIFF") && starts_with nat_eq (drop 8 bytes) (codes "AVI ")
+
+-- gzip's magic number
+abbrev pub is_gzip : List ℕ → Bool
+is_gzip bytes = starts_with nat_eq bytes (0x1F ∷ 0x8B ∷ [])
+
+abbrev pub is_zeros : List ℕ → Bool
+is_zeros bytes = list_all (λ byte. byte == 0) bytes
+
+-- characters of a text and newlines
+abbrev pub is_text : List ℕ → Bool
+is_text bytes = list_all (λ byte. byte == 10 || not (is_binary byte)) bytes
+
+-- the kind of a file that begins with these bytes and not as an IVF file, if it is known
+abbrev pub kind_of : List ℕ → Option StreamReason
+kind_of bytes =
+    if length bytes == 0 then None
+    else if is_webm bytes then Some WebM
+    else if is_avi bytes then Some Avi
+    else if is_gzip bytes then Some Gzip
+    else if is_zeros bytes then Some Zeros
+    else if is_text bytes then Some Text
+    else None
 
 -- the length that a header gives itself; 0 if the bytes have no room for it
 abbrev pub given_length : List ℕ → ℕ
@@ -20,8 +48,8 @@ given_length bytes = if nat_le 8 (length bytes) then header_length bytes else 0
 
 -- the reason of an error in a file's bytes: the name of another codec is the four bytes at byte 8
 abbrev pub stream_reason : List ℕ → IvfFault → StreamReason
-stream_reason bytes faults.Header = if is_webm bytes then WebM else Short
-stream_reason bytes faults.Magic = if is_webm bytes then WebM else NoIvf
+stream_reason bytes faults.Header = unwrap_or (kind_of bytes) Short
+stream_reason bytes faults.Magic = unwrap_or (kind_of bytes) NoIvf
 stream_reason bytes faults.FourCc = Codec
 stream_reason bytes faults.HeaderLength = HeaderLength (given_length bytes)
 stream_reason bytes faults.TooMany = TooMany

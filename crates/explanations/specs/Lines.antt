@@ -1,15 +1,16 @@
--- Why a line is refused as `Line`: the first of its words that does not fit.
-use Rattle.std.specs.Prelude.{ℕ, ◌%◌, ◌==◌, nat_eq, if◌then◌else◌, List, [], ◌∷◌, ◌++◌, length, Option, Some, None, is_some, codes}
-use Rattle.std.specs.List.{starts_with}
+-- Why a line is refused as `Line`: what it has that no text has, or the first of its words that does not fit.
+use Rattle.std.specs.Prelude.{ℕ, Bool, false, ◌%◌, ◌==◌, ◌&&◌, ◌||◌, not, nat_eq, nat_le, nat_lt, if◌then◌else◌, List, [], ◌∷◌, ◌++◌, length, Option, Some, None, is_some, option_map, codes, unwrap_or}
+use Rattle.std.specs.List.{list_any, starts_with}
 use Rattle.std.specs.Option.{option_or}
 use Rattle.std.specs.Str.{bytes_eq}
 use Rattle.text_words.specs.Words.{number_of, words_of}
 use Rattle.request_lines.specs.HexWords.{bytes_of}
+use Rattle.script_nodes.specs.Nodes.{short_number_of}
 use Rattle.explanations.specs.Words.{shown_word}
 use Rattle.explanations.specs.declared.lines.Kind.{Kind}
-use Rattle.explanations.specs.declared.lines.Kind.TheVariants.{Number, Bytes, Text}
+use Rattle.explanations.specs.declared.lines.Kind.TheVariants.{Number, Short, Bytes, Text}
 use Rattle.explanations.specs.declared.lines.Reason.{Reason}
-use Rattle.explanations.specs.declared.lines.Reason.TheVariants.{NoRequest, Missing, TooMany, NoNumber, OddDigits, NoBytes}
+use Rattle.explanations.specs.declared.lines.Reason.TheVariants.{NoText, OrderMark, Tab, NoBreakSpace, NoRequest, Missing, TooMany, NoNumber, NoShortNumber, OddDigits, NoBytes}
 
 -- the words that follow a command, if it is one: a text is the rest of the line
 abbrev pub form_of : List ℕ → Option (List Kind)
@@ -28,7 +29,35 @@ form_of command =
     else if bytes_eq command (codes "stats") then Some []
     else None
 
+-- whether no text has a byte: a control character other than tab and carriage return, or a byte that UTF-8 never has
+abbrev pub is_binary : ℕ → Bool
+is_binary byte = (nat_lt byte 32 && not (byte == 9) && not (byte == 13)) || byte == 127 || byte == 0xC0 || byte == 0xC1 || nat_le 0xF5 byte
+
+-- a byte order mark and a no-break space, in UTF-8
+abbrev pub order_mark : List ℕ
+order_mark = 0xEF ∷ 0xBB ∷ 0xBF ∷ []
+
+abbrev pub no_break_space : List ℕ
+no_break_space = 0xC2 ∷ 0xA0 ∷ []
+
+-- whether a no-break space is in a text
+abbrev pub has_no_break_space : List ℕ → Bool
+has_no_break_space [] = false
+has_no_break_space (byte ∷ rest) = starts_with nat_eq (byte ∷ rest) no_break_space || has_no_break_space rest
+
 -- each reason as a text
+abbrev pub no_text : List ℕ
+no_text = codes "the line is not text"
+
+abbrev pub begins_with_mark : List ℕ
+begins_with_mark = codes "the line begins with a byte order mark, EF BB BF: leave it out"
+
+abbrev pub has_tab : List ℕ
+has_tab = codes "the line has a tab: use spaces"
+
+abbrev pub has_hard_space : List ℕ
+has_hard_space = codes "the line has a no-break space, C2 A0: use spaces"
+
 abbrev pub no_request : List ℕ
 no_request = codes "there is no such request"
 
@@ -41,6 +70,9 @@ too_many word = shown_word word ++ codes " is one word too many"
 abbrev pub no_number : List ℕ → List ℕ
 no_number word = shown_word word ++ codes " is not a number below 2^64"
 
+abbrev pub no_short_number : List ℕ → List ℕ
+no_short_number word = shown_word word ++ codes " is not a number of 1 to 10 digits"
+
 abbrev pub odd_digits : List ℕ → List ℕ
 odd_digits word = shown_word word ++ codes " has an odd number of digits"
 
@@ -48,16 +80,22 @@ abbrev pub no_bytes : List ℕ → List ℕ
 no_bytes word = shown_word word ++ codes " is not hexadecimal"
 
 abbrev pub reason_text : Reason → List ℕ
+reason_text NoText = no_text
+reason_text OrderMark = begins_with_mark
+reason_text Tab = has_tab
+reason_text NoBreakSpace = has_hard_space
 reason_text NoRequest = no_request
 reason_text Missing = missing
 reason_text (TooMany word) = too_many word.now
 reason_text (NoNumber word) = no_number word.now
+reason_text (NoShortNumber word) = no_short_number word.now
 reason_text (OddDigits word) = odd_digits word.now
 reason_text (NoBytes word) = no_bytes word.now
 
 -- why a word is not of a kind, if it is not
 abbrev pub misfit : Kind → List ℕ → Option (List ℕ)
 misfit Number word = if is_some (number_of word) then None else Some (no_number word)
+misfit Short word = if is_some (short_number_of word) then None else Some (no_short_number word)
 misfit Bytes word = if is_some (bytes_of word) then None else if length word % 2 == 1 then Some (odd_digits word) else Some (no_bytes word)
 misfit Text word = None
 
@@ -67,6 +105,7 @@ misfits [] [] = None
 misfits [] (word ∷ words) = Some (too_many word)
 misfits (kind ∷ form) [] = Some missing
 misfits (Number ∷ form) (word ∷ words) = option_or (misfit Number word) (misfits form words)
+misfits (Short ∷ form) (word ∷ words) = option_or (misfit Short word) (misfits form words)
 misfits (Bytes ∷ form) (word ∷ words) = option_or (misfit Bytes word) (misfits form words)
 misfits (Text ∷ form) (word ∷ words) = None
 
@@ -79,6 +118,15 @@ abbrev pub reason_of_words : List (List ℕ) → Option (List ℕ)
 reason_of_words [] = None
 reason_of_words (command ∷ words) = if starts_with nat_eq command (codes "#") then None else reason_after (form_of command) words
 
--- why a line is not a request, if it is not one
+-- what a line has that an editor may not show, if it has such a thing
+abbrev pub hidden_reason : List ℕ → Option (List ℕ)
+hidden_reason line =
+    if list_any is_binary line then Some no_text
+    else if starts_with nat_eq line order_mark then Some begins_with_mark
+    else if list_any (λ byte. byte == 9) line then Some has_tab
+    else if has_no_break_space line then Some has_hard_space
+    else None
+
+-- why a line is not a request, if it is not one: what an editor may not show comes before the words
 abbrev pub reason_of : List ℕ → Option (List ℕ)
-reason_of line = reason_of_words (words_of line)
+reason_of line = option_map (λ reason. unwrap_or (hidden_reason line) reason) (reason_of_words (words_of line))

@@ -1,10 +1,11 @@
 // Why a file is not read as a stream, and the record that the end of a file cuts off.
-ghost use Rattle.std.specs.Prelude.{◌≡◌, ◌≤◌, List, IfNone, IfSome, if◌then◌else◌, length, nat_le};
+ghost use Rattle.std.specs.Prelude.{◌≡◌, ◌≤◌, ◌==◌, ◌||◌, not, List, IfNone, IfSome, if◌then◌else◌, length, nat_le};
 ghost use Rattle.byteorder.specs.Endian.{little_number};
 ghost use Rattle.stream_files.specs.Ivf.{HasRecord, Records, after_first, header_length};
 ghost use Rattle.stream_files.specs.declared.packets.Packet.{Packet};
-ghost use Rattle.explanations.specs.Files.{IsCutRecord, given_length, is_webm, stream_reason};
+ghost use Rattle.explanations.specs.Files.{IsCutRecord, given_length, is_avi, is_gzip, is_text, is_webm, is_zeros, kind_of, stream_reason};
 
+use crate::lines::is_binary;
 use byteorder::{ByteOrder, LittleEndian};
 use stream_files::IvfFault;
 
@@ -15,6 +16,14 @@ pub enum StreamReason {
     Short,
     /// A WebM or Matroska file.
     WebM,
+    /// An AVI file.
+    Avi,
+    /// A file that gzip compressed.
+    Gzip,
+    /// It begins with zeros.
+    Zeros,
+    /// It begins as a text.
+    Text,
     /// It does not begin as an IVF file.
     NoIvf,
     /// An IVF file of another codec.
@@ -44,15 +53,61 @@ fn is_webm(bytes: &[u8]) -> bool
     bytes.starts_with(&[0x1A, 0x45, 0xDF, 0xA3])
 }
 
-/// The reason of an error in the bytes of a file.
+fn is_avi(bytes: &[u8]) -> bool
+    ensures { result ≡ is_avi bytes.now }
+{
+    match bytes.get(8..) {
+        Some(form) => bytes.starts_with(b"RIFF") && form.starts_with(b"AVI "),
+        None => false,
+    }
+}
+
+fn is_gzip(bytes: &[u8]) -> bool
+    ensures { result ≡ is_gzip bytes.now }
+{
+    bytes.starts_with(&[0x1F, 0x8B])
+}
+
+fn is_zeros(bytes: &[u8]) -> bool
+    ensures { result ≡ is_zeros bytes.now }
+{
+    bytes.iter().all(|byte| *byte == 0)
+}
+
+fn is_text(bytes: &[u8]) -> bool
+    ensures { result ≡ is_text bytes.now }
+{
+    bytes.iter().all(|byte| *byte == b'\n' || !is_binary(*byte))
+}
+
+/// The kind of a file that begins with these bytes and not as an IVF file, if it is known.
+fn kind_of(bytes: &[u8]) -> Option<StreamReason>
+    ensures { result ≡ kind_of bytes.now }
+{
+    if bytes.is_empty() {
+        None
+    } else if is_webm(bytes) {
+        Some(StreamReason::WebM)
+    } else if is_avi(bytes) {
+        Some(StreamReason::Avi)
+    } else if is_gzip(bytes) {
+        Some(StreamReason::Gzip)
+    } else if is_zeros(bytes) {
+        Some(StreamReason::Zeros)
+    } else if is_text(bytes) {
+        Some(StreamReason::Text)
+    } else {
+        None
+    }
+}
+
+/// The reason of an error in the bytes of a file, which begins with these.
 pub fn stream_reason(bytes: &[u8], fault: IvfFault) -> StreamReason
     ensures { result ≡ stream_reason bytes.now fault }
 {
     match fault {
-        IvfFault::Header if is_webm(bytes) => StreamReason::WebM,
-        IvfFault::Header => StreamReason::Short,
-        IvfFault::Magic if is_webm(bytes) => StreamReason::WebM,
-        IvfFault::Magic => StreamReason::NoIvf,
+        IvfFault::Header => kind_of(bytes).unwrap_or(StreamReason::Short),
+        IvfFault::Magic => kind_of(bytes).unwrap_or(StreamReason::NoIvf),
         IvfFault::FourCc => StreamReason::Codec,
         IvfFault::HeaderLength => StreamReason::HeaderLength(header_length(bytes)),
         IvfFault::TooMany => StreamReason::TooMany,

@@ -1,13 +1,15 @@
 // Why a request was refused.
-ghost use Rattle.std.specs.Prelude.{◌≡◌, ◌++◌, ◌∷◌, [], OnOk, codes, option_map, nat_lt, if◌then◌else◌};
+ghost use Rattle.std.specs.Prelude.{◌≡◌, ◌++◌, ◌∷◌, [], OnOk, codes, nat_lt, if◌then◌else◌, unwrap_or};
 ghost use Rattle.std.specs.Fmt.{decimal};
 ghost use Rattle.std.specs.Io.KnownBytes.{Appends};
 ghost use Rattle.frame_session.specs.Replies.{source_text};
 ghost use Rattle.text_words.specs.Words.{words_of};
-ghost use Rattle.explanations.specs.Lines.{reason_of, reason_text};
-ghost use Rattle.explanations.specs.Refusals.{cause_reason, command_text, explained, refusal_reason, short_text, why_text};
+ghost use Rattle.explanations.specs.Lines.{reason_of};
+ghost use Rattle.explanations.specs.Refusals.{cause_reason, command_text, bytes_of_detail, detail_or, explained, packets_text, refusal_reason, script_reason, short_text, sides_text, why_text};
 
-use crate::lines::{Reason, line_reason, write_reason};
+use crate::details::Detail;
+use crate::lines::{hidden_reason, line_reason, write_reason};
+use crate::nodes::{write_wrong, wrong_node_of_line};
 use crate::words::{write_text, write_word};
 use frame_header::Cause;
 use frame_session::Refusal;
@@ -51,9 +53,76 @@ fn write_source<W: Write>(w: &mut W, source: usize) -> io::Result<()>
     write!(w, "source {source} ")
 }
 
-/// Writes what a refusal means. `count` is the number of bytes of the packet that it names.
-fn write_meaning<W: Write>(w: &mut W, count: Option<usize>, refusal: Refusal) -> io::Result<()>
-    ensures { OnOk result (Appends (W.contents w.old) (W.contents w.new) (refusal_reason count refusal)) }
+/// Writes a number of packets, and the source that has them.
+fn write_packets<W: Write>(w: &mut W, source: u64, count: u64) -> io::Result<()>
+    ensures { OnOk result (Appends (W.contents w.old) (W.contents w.new) (packets_text source count)) }
+{
+    write!(w, "source {source} has {count} packets")
+}
+
+/// Writes the sides of a size.
+fn write_sides<W: Write>(w: &mut W, width: u16, height: u16) -> io::Result<()>
+    ensures { OnOk result (Appends (W.contents w.old) (W.contents w.new) (sides_text width height)) }
+{
+    write!(w, "{width}x{height}")
+}
+
+/// Writes what the numbers of a refusal say, or another text if there are none.
+fn write_detail_or<W: Write>(w: &mut W, text: &str, detail: Detail) -> io::Result<()>
+    ensures { OnOk result (Appends (W.contents w.old) (W.contents w.new) (detail_or text.now detail)) }
+{
+    match detail {
+        Detail::Nothing | Detail::Bytes(_) => write_text(w, text),
+        Detail::NoPacket { at, source, count } => {
+            write!(w, "packet {at} does not exist: ")?;
+            write_packets(w, source, count)
+        }
+        Detail::PastEnd { at, source, count } => {
+            write!(w, "index {at} is past the end: ")?;
+            write_packets(w, source, count)
+        }
+        Detail::Width(width) => write!(w, "width {width} is not 1 to 16383"),
+        Detail::Height(height) => write!(w, "height {height} is not 1 to 16383"),
+        Detail::NoKey(at) => {
+            write!(
+                w,
+                "before {at} no packet has a key tag, so there is no size"
+            )
+        }
+        Detail::NoSize { key, at } => {
+            write!(
+                w,
+                "packet {key}, the last one with a key tag before {at}, has no size"
+            )
+        }
+        Detail::NoFrame { n, count } => {
+            write!(
+                w,
+                "frame {n} does not exist: the script serves {count} frames"
+            )
+        }
+        Detail::Sizes { asked, first } => {
+            write_sides(w, asked.0, asked.1)?;
+            write_text(w, " is not ")?;
+            write_sides(w, first.width, first.height)?;
+            write_text(w, ", the size of the first frame served")
+        }
+    }
+}
+
+/// The number of bytes of the packet that is broken, if it is known.
+fn bytes_of(detail: Detail) -> Option<usize>
+    ensures { result ≡ bytes_of_detail detail }
+{
+    match detail {
+        Detail::Bytes(count) => Some(count),
+        _ => None,
+    }
+}
+
+/// Writes what a refusal means.
+fn write_meaning<W: Write>(w: &mut W, detail: Detail, refusal: Refusal) -> io::Result<()>
+    ensures { OnOk result (Appends (W.contents w.old) (W.contents w.new) (refusal_reason detail refusal)) }
 {
     match refusal {
         Refusal::Packet {
@@ -63,24 +132,23 @@ fn write_meaning<W: Write>(w: &mut W, count: Option<usize>, refusal: Refusal) ->
         } => {
             write_source(w, source)?;
             write!(w, "packet {place} ")?;
-            write_cause(w, count, cause)
+            write_cause(w, bytes_of(detail), cause)
         }
         Refusal::Line => write_text(w, "the line is not a request"),
         Refusal::Source => write_text(w, "there is no such source"),
-        Refusal::Place => write_text(w, "there is no such packet"),
+        Refusal::Place => write_detail_or(w, "there is no such packet", detail),
         Refusal::Full => write_text(w, "there are 1048576 packets already"),
         Refusal::Spent => write_text(w, "no packet id is left"),
-        Refusal::Size => {
-            write_text(
-                w,
-                "a side is 0 or above 16383, or no key packet is before it, or the last one has no size",
-            )
-        }
+        Refusal::Size => write_detail_or(w, "there is no such size", detail),
         Refusal::TooLarge => write_text(w, "the first partition would have over 524287 bytes"),
-        Refusal::NoSuchFrame => write_text(w, "the script serves fewer frames"),
+        Refusal::NoSuchFrame => write_detail_or(w, "there is no such frame", detail),
         Refusal::CropOutside => write_text(w, "a crop reaches past the edge of the picture"),
         Refusal::SizeDiffers => {
-            write_text(w, "the frame has another size than the first one served")
+            write_detail_or(
+                w,
+                "the frame has another size than the first one served",
+                detail,
+            )
         }
         Refusal::Syntax => write_text(w, "the text is not a list of nodes"),
         Refusal::Nodes => write_text(w, "the script has more than 16 nodes"),
@@ -103,36 +171,55 @@ fn write_command<W: Write>(w: &mut W, line: &[u8]) -> io::Result<()>
     write_text(w, ": ")
 }
 
-/// Writes the reason of a refusal: for `Line` the reason of the line itself.
-fn write_why<W: Write>(
-    w: &mut W,
-    reason: Option<Reason<'_>>,
-    count: Option<usize>,
-    refusal: Refusal,
-) -> io::Result<()>
-    ensures { OnOk result (Appends (W.contents w.old) (W.contents w.new) (why_text (option_map reason_text reason.entry) count refusal)) }
+/// Writes why a line is not a request.
+fn write_line_reason<W: Write>(w: &mut W, line: &[u8]) -> io::Result<()>
+    ensures { OnOk result (Appends (W.contents w.old) (W.contents w.new) (unwrap_or (reason_of line.now) (codes "the line is not a request"))) }
 {
-    match (reason, refusal) {
-        (Some(reason), Refusal::Line) => write_reason(w, reason),
-        (_, refusal) => write_meaning(w, count, refusal),
+    match line_reason(line) {
+        Some(reason) => write_reason(w, reason),
+        None => write_text(w, "the line is not a request"),
+    }
+}
+
+/// Writes why the text after the first word of a line is not a list of nodes.
+fn write_script_reason<W: Write>(w: &mut W, line: &[u8]) -> io::Result<()>
+    ensures { OnOk result (Appends (W.contents w.old) (W.contents w.new) (unwrap_or (script_reason line.now) (codes "the text is not a list of nodes"))) }
+{
+    if let Some(hidden) = hidden_reason(line) {
+        return write_reason(w, hidden);
+    }
+    match wrong_node_of_line(line) {
+        Some(wrong) => write_wrong(w, wrong),
+        None => write_text(w, "the text is not a list of nodes"),
+    }
+}
+
+/// Writes the reason of a refusal: for `Line` and `Syntax` the reason of the text of the line.
+fn write_why<W: Write>(w: &mut W, line: &[u8], detail: Detail, refusal: Refusal) -> io::Result<()>
+    ensures { OnOk result (Appends (W.contents w.old) (W.contents w.new) (why_text line.now detail refusal)) }
+{
+    match refusal {
+        Refusal::Line => write_line_reason(w, line),
+        Refusal::Syntax => write_script_reason(w, line),
+        _ => write_meaning(w, detail, refusal),
     }
 }
 
 /// Writes the line that explains a refusal: the number of the request line, counted from 1, its command and the reason.
-/// `count` is the number of bytes of the packet that the refusal names, if it names one.
+/// `detail` has the numbers of the reason, if it has some.
 ///
 /// An error if the writer returns one.
 pub fn write_refused<W: Write>(
     w: &mut W,
     number: u64,
     line: &[u8],
-    count: Option<usize>,
+    detail: Detail,
     refusal: Refusal,
 ) -> io::Result<()>
-    ensures { OnOk result (Appends (W.contents w.old) (W.contents w.new) (explained number line.now count refusal)) }
+    ensures { OnOk result (Appends (W.contents w.old) (W.contents w.new) (explained number line.now detail refusal)) }
 {
     write!(w, "line {number}: ")?;
     write_command(w, line)?;
-    write_why(w, line_reason(line), count, refusal)?;
+    write_why(w, line, detail, refusal)?;
     write_text(w, "\n")
 }

@@ -1,11 +1,14 @@
 -- What an observer of a run is told.
-use Rattle.std.specs.Prelude.{ℕ, List, Option, Some, None, length, option_map, slice_get}
+use Rattle.std.specs.Prelude.{ℕ, ◌+◌, List, Option, Some, None, length, option_and_then, option_map, slice_get}
 use Rattle.std.specs.Io.KnownBytes.{Appends}
-use Rattle.packet_edits.specs.Shown.{stream_of}
+use Rattle.packet_edits.specs.Shown.{shown_indexes, stream_of}
+use Rattle.packet_edits.specs.Sizes.{size_at}
+use Rattle.script_nodes.specs.Frames.{Origin, traced}
+use Rattle.script_nodes.specs.Shown.{steps_size}
 use Rattle.frame_session.specs.declared.refusal.Refusal.{Refusal}
 use Rattle.frame_session.specs.Edits.{list_at}
 use Rattle.frame_session.specs.Replies.{refused_line}
-use Rattle.frame_session.specs.Sessions.{Now}
+use Rattle.frame_session.specs.Sessions.{Now, shown_counts}
 
 -- the refusal is the one that the reply reports: the replies gained its line
 abbrev pub Tells : (replies replies' : Option (List ℕ)) → Option Refusal → Type 0
@@ -15,3 +18,17 @@ Tells replies replies' (Some refusal) = Appends replies replies' (refused_line r
 -- the number of bytes of the packet at an index of a source, if there is one
 abbrev pub packet_len : Now → ℕ → ℕ → Option ℕ
 packet_len now source place = option_map length (slice_get (stream_of (list_at now.lists source)) place)
+
+-- the number of packets of a source; 0 if there is no such source
+abbrev pub packets_in : Now → ℕ → ℕ
+packets_in now source = length (list_at now.lists source).entries
+
+-- the size of a frame with this origin: that of the last key packet up to its own, after the crops
+abbrev pub size_from : Now → Origin → Option (ℕ × ℕ)
+size_from now from =
+    let list = list_at now.lists from.source in
+    option_and_then (λ place. option_and_then (steps_size from.steps) (size_at (place + 1) list)) (slice_get (shown_indexes (stream_of list)) from.frame)
+
+-- the size of frame n of the current script, by the key packets and the crops
+abbrev pub stated_size : Now → ℕ → Option (ℕ × ℕ)
+stated_size now n = option_and_then (size_from now) (traced (shown_counts now) now.script n)

@@ -14,6 +14,8 @@ ghost use Rattle.frame_session.specs.IsOrNoMemory.{IsOrNoMemory, IsFrameOrNoMemo
 ghost use Rattle.frame_session.specs.Edits.{EditAnswers};
 ghost use Rattle.frame_session.specs.declared.edit.Edit.TheVariants.{Insert, Replace};
 
+mod known;
+
 use crate::edit::Edit;
 use crate::keeping::{edit_cached, list_is_well_formed, picture_at};
 use crate::refusal::Refusal;

@@ -6,5 +6,5 @@ mod live;
 mod program;
 
 pub use command_lines::{Argument, Fault, SameFile, tell};
-pub use command_parser::given;
+pub use command_parser::{given, name_explain};
 pub use program::{run_to, serve};

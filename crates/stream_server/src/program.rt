@@ -13,7 +13,7 @@ use crate::live::answer_live;
 use command_lines::{
     Accepted, Argument, Fault, Inputs, NO_FILE, Words, read_inputs, slices_of, tell,
 };
-use command_parser::{Messages, explain_fault, explain_spare, help_or_fault, is_asked, parse};
+use command_parser::{Messages, explain_end, explain_fault, help_or_fault, is_asked, parse};
 use frame_session::{Observer, Session, Settings, run_observed};
 use std::alloc::Global;
 use std::convert::AsStr;
@@ -159,7 +159,7 @@ fn end<E: Write>(
 ) {
     let _ = report_spare(session, messages.errors);
     if messages.explains {
-        let _ = explain_spare(line.words, sources, messages.errors);
+        let _ = explain_end(line.words, sources, messages);
     }
 }
 

@@ -1,8 +1,11 @@
 // Refusals and errors that are explained.
 use crate::expected::{ONE, clear, expect, expect_from, put};
 use crate::live::Pieces;
+use message_writer::MessageWriter;
+use std::io::Write;
 use std::process::Abort;
 use std::rt::Files;
+use stream_server::name_explain;
 
 /// Requests that are refused, and their replies and explanations. Lines 7 and 8 have no reply.
 const REQUESTS: &str = "\
@@ -19,13 +22,13 @@ line 4: frame: 2 is one word too many
 line 5: insert: zz is not hexadecimal
 line 6: insert: abc has an odd number of digits
 line 9: delete: 18446744073709551616 is not a number below 2^64
-line 10: frame: the script serves fewer frames
+line 10: frame: frame 0 does not exist: the script serves 0 frames
 line 12: frame: packet 0 has 2 bytes, a tag needs 3
 line 14: frame: packet 0 has 5 bytes, a key frame needs 10
 line 15: use: there is no such source
-line 16: delete: there is no such packet
-line 17: blank: a side is 0 or above 16383, or no key packet is before it, or the last one has no size
-line 18: script: the text is not a list of nodes
+line 16: delete: packet 7 does not exist: source 0 has 1 packets
+line 17: blank: width 0 is not 1 to 16383
+line 18: script: node 1: x is not source, trim, splice, crop or fade
 line 19: script: a word is missing
 line 20: count: 1 is one word too many
 ";
@@ -51,19 +54,181 @@ fn explains_refusals(rt: HostRuntime) {
     expect(&rt, "vp8serve", REQUESTS, REPLIES, "", 0);
 }
 
-/// A byte of a word that is not printable is shown as `?`.
+/// A byte of a word that is not printable is shown by its two digits.
 #[test]
 fn shows_words(rt: HostRuntime) {
     let requests =
         "frame 0\r\nframe 0\r\r\nframe 01234567890123456789012345678901234567890\nframe 0\r";
     let replies = "refused NoSuchFrame\nrefused Line\nrefused Line\nrefused Line\n";
     let told = "\
-line 1: frame: the script serves fewer frames
-line 2: frame: 0? is not a number below 2^64
+line 1: frame: frame 0 does not exist: the script serves 0 frames
+line 2: frame: 0\\x0D is not a number below 2^64
 line 3: frame: 01234567890123456789012345678901234567890 is not a number below 2^64
-line 4: frame: 0? is not a number below 2^64
+line 4: frame: 0\\x0D is not a number below 2^64
 ";
     expect(&rt, "vp8serve --explain", requests, replies, told, 0);
+}
+
+/// Requests that are refused for an index, a size or a number of a frame. Packet 0 of line 14 has a key tag and no size.
+const OUTSIDE: &str = "\
+blank 0 64 48\nhold 1\nframe 0\ninsert 9 0 -\nreplace 5 -\nmove 7 0\nmove 0 2\ncopy 1 0 0\ncopy 0 0 9\nhold 3\nblank 0 16384 1\nblank 0 16 0\nhold 0\ninsert 0 0 100000\nhold 1\ndelete 0\nblank 2 16 16\nframe 2\nscript crop 0 0 0 8 6\nframe 2\nframe 3\nuse 1\ndelete 0\nblank 1 16 16\n";
+
+const OUTSIDE_REPLIES: &str = "\
+ok 1\nok 2\nserved 0\nrefused Place\nrefused Place\nrefused Place\nrefused Place\nrefused Place\nrefused Place\nrefused Place\nrefused Size\nrefused Size\nrefused Size\nok 3\nrefused Size\nok 2\nok 3\nrefused SizeDiffers\nok 3\nrefused SizeDiffers\nrefused NoSuchFrame\nok 0\nrefused Place\nrefused Place\n";
+
+const OUTSIDE_TOLD: &str = "\
+line 4: insert: index 9 is past the end: source 0 has 2 packets
+line 5: replace: packet 5 does not exist: source 0 has 2 packets
+line 6: move: packet 7 does not exist: source 0 has 2 packets
+line 7: move: packet 2 does not exist: source 0 has 2 packets
+line 8: copy: packet 0 does not exist: source 1 has 0 packets
+line 9: copy: index 9 is past the end: source 0 has 2 packets
+line 10: hold: index 3 is past the end: source 0 has 2 packets
+line 11: blank: width 16384 is not 1 to 16383
+line 12: blank: height 0 is not 1 to 16383
+line 13: hold: before 0 no packet has a key tag, so there is no size
+line 15: hold: packet 0, the last one with a key tag before 1, has no size
+line 18: frame: 16x16 is not 64x48, the size of the first frame served
+line 20: frame: 8x6 is not 64x48, the size of the first frame served
+line 21: frame: frame 3 does not exist: the script serves 3 frames
+line 23: delete: packet 0 does not exist: source 1 has 0 packets
+line 24: blank: index 1 is past the end: source 1 has 0 packets
+";
+
+#[test]
+fn names_numbers(rt: HostRuntime) {
+    expect(
+        &rt,
+        "vp8serve --explain --sources -",
+        OUTSIDE,
+        OUTSIDE_REPLIES,
+        OUTSIDE_TOLD,
+        0,
+    );
+}
+
+/// The first node that is wrong, its number and its form.
+#[test]
+fn names_nodes(rt: HostRuntime) {
+    let requests = "\
+script trm 0 0 5\nscript trim 0 0\nscript trim 0 0 5; fade 1 0\nscript source 0 1\nscript splice 0 12345678901\nscript crop 0 x 0 8 8\nscript trim 0 0 5;\nscript trim\t0 0 5\n";
+    let replies = "\
+refused Syntax\nrefused Syntax\nrefused Syntax\nrefused Syntax\nrefused Syntax\nrefused Syntax\nrefused Syntax\nrefused Syntax\n";
+    let told = "\
+line 1: script: node 1: trm is not source, trim, splice, crop or fade
+line 2: script: node 1: a word is missing: trim A FIRST COUNT
+line 3: script: node 2: a word is missing: fade A FIRST COUNT FROM TO
+line 4: script: node 1: 1 is one word too many: source S
+line 5: script: node 1: 12345678901 is not a number of 1 to 10 digits: splice A B
+line 6: script: node 1: x is not a number of 1 to 10 digits: crop A X Y W H
+line 7: script: node 2: the node is empty
+line 8: script: the line has a tab: use spaces
+";
+    expect(&rt, "vp8serve --explain", requests, replies, told, 0);
+}
+
+/// Bytes that an editor does not show.
+#[test]
+fn names_hidden_bytes(rt: HostRuntime) {
+    let requests =
+        "\u{feff}frame 0\nframe\t0\nframe\u{a0}0\nframe 0\t\n\tframe 0\ncount \u{a0}\u{e9}\n";
+    let replies =
+        "refused Line\nrefused Line\nrefused Line\nrefused Line\nrefused Line\nrefused Line\n";
+    let told = "\
+line 1: \\xEF\\xBB\\xBFframe: the line begins with a byte order mark, EF BB BF: leave it out
+line 2: frame\\x090: the line has a tab: use spaces
+line 3: frame\\xC2\\xA00: the line has a no-break space, C2 A0: use spaces
+line 4: frame: the line has a tab: use spaces
+line 5: \\x09frame: the line has a tab: use spaces
+line 6: count: the line has a no-break space, C2 A0: use spaces
+";
+    expect(&rt, "vp8serve --explain", requests, replies, told, 0);
+}
+
+/// Of a list that is no text ten lines are explained, and other refusals after them.
+#[test]
+fn explains_ten_lines_that_are_no_text(rt: HostRuntime) {
+    let requests =
+        "play\n\u{1}\nplay\n\u{1b}[A\n\u{1}\n\u{1}\n\u{1}\n\u{1}\n\u{1}\n\u{1}\n\u{1}\n\u{1}\nplay\nuse 1\n";
+    let replies = "\
+refused Line\nrefused Line\nrefused Line\nrefused Line\nrefused Line\nrefused Line\nrefused Line\nrefused Line\nrefused Line\nrefused Line\nrefused Line\nrefused Line\nrefused Line\nrefused Source\n";
+    let told = "\
+line 1: play: there is no such request
+the requests are not text: IN is the first argument, REQUESTS the second
+line 2: \\x01: the line is not text
+line 3: play: there is no such request
+line 4: \\x1B[A: the line is not text
+line 5: \\x01: the line is not text
+line 6: \\x01: the line is not text
+line 7: \\x01: the line is not text
+line 8: \\x01: the line is not text
+line 9: \\x01: the line is not text
+line 10: \\x01: the line is not text
+line 11: \\x01: the line is not text
+line 14: use: there is no such source
+";
+    expect(&rt, "vp8serve --explain", requests, replies, told, 0);
+}
+
+/// 200 characters of a word are shown.
+#[test]
+fn cuts_long_words(rt: HostRuntime) {
+    let requests = "\
+xxxxxxxxxxxxxxxxxxxxxxxxxxxxxxxxxxxxxxxxxxxxxxxxxxxxxxxxxxxxxxxxxxxxxxxxxxxxxxxxxxxxxxxxxxxxxxxxxxxxxxxxxxxxxxxxxxxxxxxxxxxxxxxxxxxxxxxxxxxxxxxxxxxxxxxxxxxxxxxxxxxxxxxxxxxxxxxxxxxxxxxxxxxxxxxxxxxxxxxx
+xxxxxxxxxxxxxxxxxxxxxxxxxxxxxxxxxxxxxxxxxxxxxxxxxxxxxxxxxxxxxxxxxxxxxxxxxxxxxxxxxxxxxxxxxxxxxxxxxxxxxxxxxxxxxxxxxxxxxxxxxxxxxxxxxxxxxxxxxxxxxxxxxxxxxxxxxxxxxxxxxxxxxxxxxxxxxxxxxxxxxxxxxxxxxxxxxxxxxxxxyy
+";
+    let told = "\
+line 1: xxxxxxxxxxxxxxxxxxxxxxxxxxxxxxxxxxxxxxxxxxxxxxxxxxxxxxxxxxxxxxxxxxxxxxxxxxxxxxxxxxxxxxxxxxxxxxxxxxxxxxxxxxxxxxxxxxxxxxxxxxxxxxxxxxxxxxxxxxxxxxxxxxxxxxxxxxxxxxxxxxxxxxxxxxxxxxxxxxxxxxxxxxxxxxxxxxxxxxxx: there is no such request
+line 2: xxxxxxxxxxxxxxxxxxxxxxxxxxxxxxxxxxxxxxxxxxxxxxxxxxxxxxxxxxxxxxxxxxxxxxxxxxxxxxxxxxxxxxxxxxxxxxxxxxxxxxxxxxxxxxxxxxxxxxxxxxxxxxxxxxxxxxxxxxxxxxxxxxxxxxxxxxxxxxxxxxxxxxxxxxxxxxxxxxxxxxxxxxxxxxxxxxxxxxxx...: there is no such request
+";
+    let replies = "refused Line\nrefused Line\n";
+    expect(&rt, "vp8serve --explain", requests, replies, told, 0);
+}
+
+/// Edits of a source that is not saved are named at the end, if packets are saved.
+#[test]
+fn names_edits_that_are_not_saved(rt: HostRuntime) {
+    let requests = "use 2\nblank 0 16 16\nuse 1\ndelete 0\n";
+    let replies = "ok 0\nok 1\nok 0\nrefused Place\n";
+    let refused = "line 4: delete: packet 0 does not exist: source 1 has 0 packets\n";
+    let told = "\
+line 4: delete: packet 0 does not exist: source 1 has 0 packets
+the edits of source 2 are not saved: --save writes source 0
+";
+    let line = "vp8serve --explain --sources -:-";
+    expect(&rt, line, requests, replies, refused, 0);
+    let line = "vp8serve --explain --sources -:- --save unsaved-edits.ivf";
+    expect(&rt, line, requests, replies, told, 0);
+    let line = "vp8serve --sources -:- --save unsaved-edits.ivf --live";
+    expect(&rt, line, requests, replies, "", 0);
+    clear(&rt, "unsaved-edits.ivf");
+}
+
+/// Checks what a user at a terminal is told after a run.
+fn expect_named<R: Abort + AllocGlobal>(rt: &R, words: &[&str], status: u8, want: &str) {
+    let mut told = Vec::new(rt.alloc());
+    let named = name_explain(words, status, &mut told);
+    assert!(rt; named.is_ok() && told.as_slice() == want.as_bytes());
+}
+
+/// `--explain` is named after an error, if it was not given.
+#[test]
+fn names_explain(rt: HostRuntime) {
+    let told = "with --explain the next line says why, and what to do\n";
+    expect_named(&rt, &["vp8serve", "--pad"], 2, told);
+    expect_named(&rt, &["vp8serve", "no.ivf"], 1, told);
+    expect_named(&rt, &["vp8serve", "--help"], 0, "");
+    expect_named(&rt, &["vp8serve", "--pad", "--explain"], 2, "");
+}
+
+/// Control characters of a message are written as `?`, newlines and other characters as they are.
+#[test]
+fn hides_control_characters(rt: HostRuntime) {
+    let mut told = Vec::new(rt.alloc());
+    let mut messages = MessageWriter::new(&mut told);
+    let text = "a\u{1b}c\u{7}\n\u{9b}1m \u{e9}\t\u{7f}\n";
+    assert!(rt; messages.write_all(text.as_bytes()).is_ok() && messages.flush().is_ok());
+    assert!(rt; told.as_slice() == "a?c?\n?1m \u{e9}??\n".as_bytes());
 }
 
 #[test]
@@ -105,19 +270,19 @@ fn explains_files(rt: HostRuntime) {
     expect_end(
         &rt,
         "vp8serve a.webm --explain",
-        "vp8serve: input Header\na.webm is a WebM file: ffmpeg -i a.webm -an -c copy -bsf:v setts=ts=N:time_base=1/25 out.ivf\n",
+        "vp8serve: input Header\na.webm is a WebM or Matroska file: ffmpeg -i a.webm -an -c copy -copyts out.ivf\nits time stamps count milliseconds, so OUT has 1000 frames a second: ffmpeg -r 30 -i OUT reads 30\n",
         1,
     );
     expect_end(
         &rt,
         "vp8serve --explain --sources -:b.webm",
-        "vp8serve: source 2 Magic\nb.webm is a WebM file: ffmpeg -i b.webm -an -c copy -bsf:v setts=ts=N:time_base=1/25 out.ivf\n",
+        "vp8serve: source 2 Magic\nb.webm is a WebM or Matroska file: ffmpeg -i b.webm -an -c copy -copyts out.ivf\nits time stamps count milliseconds, so OUT has 1000 frames a second: ffmpeg -r 30 -i OUT reads 30\n",
         1,
     );
     expect_end(
         &rt,
         "vp8serve c.ivf --explain",
-        "vp8serve: input FourCc\nc.ivf has the codec VP90, not VP80: ffmpeg -i c.ivf -an -c:v libvpx out.ivf\n",
+        "vp8serve: input FourCc\nc.ivf has the codec VP90, not VP80, and has to be coded again, which changes each frame: ffmpeg -i c.ivf -an -c:v libvpx out.ivf\n",
         1,
     );
     expect_end(
@@ -139,6 +304,66 @@ fn explains_files(rt: HostRuntime) {
         1,
     );
     clear(&rt, "a.webm b.webm c.ivf");
+}
+
+/// Checks the reason for which a file is not read.
+fn expect_kind<R: Abort + Files + AllocGlobal>(
+    rt: &R,
+    line: &str,
+    name: &str,
+    bytes: &[u8],
+    told: &str,
+) {
+    put(rt, name, bytes);
+    expect_end(rt, line, told, 1);
+    clear(rt, name);
+}
+
+/// Files of other kinds.
+#[test]
+fn explains_kinds_of_files(rt: HostRuntime) {
+    expect_kind(
+        &rt,
+        "vp8serve d.avi --explain",
+        "d.avi",
+        b"RIFF\x24\xA3\0\0AVI LIST and so on, 32 bytes and more",
+        "vp8serve: input Magic\nd.avi is an AVI file; if its video is VP8: ffmpeg -i d.avi -an -c copy out.ivf\nany other video has to be coded again, which changes each frame: ffmpeg -i d.avi -an -c:v libvpx out.ivf\n",
+    );
+    expect_kind(
+        &rt,
+        "vp8serve e.ivf.gz --explain",
+        "e.ivf.gz",
+        b"\x1F\x8B\x08\0\0",
+        "vp8serve: input Header\ne.ivf.gz is compressed by gzip: gzip -dc e.ivf.gz > out.ivf\n",
+    );
+    expect_kind(
+        &rt,
+        "vp8serve f.ivf --explain",
+        "f.ivf",
+        &[0; 64],
+        "vp8serve: input Magic\nf.ivf begins with zeros: its first bytes, where an IVF file says DKIF, are lost or were never written\n",
+    );
+    expect_kind(
+        &rt,
+        "vp8serve g.txt --explain",
+        "g.txt",
+        b"frame 0\nframe 1\n",
+        "vp8serve: input Header\ng.txt begins as a text: IN, the IVF file, is the first argument, REQUESTS the second\n",
+    );
+    expect_kind(
+        &rt,
+        "vp8serve h.mp4 --explain",
+        "h.mp4",
+        b"\0\0\0\x20ftypisom\0\0\x02\0isomiso2avc1mp41 and more",
+        "vp8serve: input Magic\nh.mp4 is not an IVF file, it does not begin with DKIF; if its video is VP8: ffmpeg -i h.mp4 -an -c copy out.ivf\nany other video has to be coded again, which changes each frame: ffmpeg -i h.mp4 -an -c:v libvpx out.ivf\n",
+    );
+    expect_kind(
+        &rt,
+        "vp8serve i.ivf --explain",
+        "i.ivf",
+        b"",
+        "vp8serve: input Header\ni.ivf has 0 bytes, an IVF header 32\n",
+    );
 }
 
 #[test]

@@ -22,7 +22,7 @@ To look at a frame before the next edit, answer each line as it comes:
 
 Type `frame 0`; `served 0` comes when the frame is in out.y4m. `hold 1` repeats
 it, `delete 1` removes the repeat. At the end of input (Ctrl-D) the
-packets are saved.
+packets are saved. Ctrl-C ends the program and saves nothing.
 
 If a request is refused or the program ends with an error, run it again with
 --explain: a line on standard error says why, and what to do.
@@ -41,7 +41,7 @@ Options:
       --sources <LIST>  IVF files of sources 1 to 7, separated by `:`
       --cache <N>       Most decoded frames to cache, 1 to 4096 [default: 32]
       --tables <FILE>   3012 bytes to use instead of RFC 6386's long tables
-      --save <FILE>     IVF file for the packets of IN after the last request
+      --save <FILE>     IVF file for the packets of IN after the last request, not of other sources
       --pad             With --save: a byte 00 after packets that other players do not show
       --live            Answer each request line as it comes, before the next is read
       --explain         Explain refusals and errors on standard error

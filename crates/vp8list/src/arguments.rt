@@ -54,6 +54,8 @@ instead of `-`:
 
 A frame that is hidden or does not decode has no line. A refused packet is named on
 standard error, and the exit status is 1 then.
+For a time stamp that
+goes back ffmpeg prints the greatest one so far, and vp8list the stamp itself.
 
 With --check every packet is decoded, and there is a line for each finding instead. Damage
 means that samples are lost, or are not those that were coded:

@@ -6,6 +6,7 @@ mod program;
 mod progress;
 mod reading;
 
+use message_writer::MessageWriter;
 use progress::ProgressLine;
 use std::io::{BufWriter, Write};
 use std::process::ExitCode;
@@ -31,7 +32,7 @@ fn start<E: Write>(rt: &HostRuntime, errors: &mut E) -> Result<u8, Fault<'static
 }
 
 fn main(rt: HostRuntime) -> ExitCode {
-    let mut errors = rt.stderr();
+    let mut errors = MessageWriter::new(rt.stderr());
     let status = match start(&rt, &mut errors) {
         Ok(status) => status,
         Err(fault) => program::tell(fault, &mut errors),

@@ -2,21 +2,31 @@
 //! replies out.
 #![tactic(auto)]
 
-use std::io::{BufWriter, Write};
+use message_writer::MessageWriter;
+use std::io::{BufWriter, IsTerminal, Write};
 use std::process::ExitCode;
-use stream_server::{Fault, given, serve, tell};
+use stream_server::{Fault, given, name_explain, serve, tell};
 
-/// Runs the program on its arguments.
-fn start<E: Write>(rt: &HostRuntime, errors: &mut E) -> Result<u8, Fault<'static>> {
+/// Runs the program on its arguments. A user at a terminal is told of `--explain` after an error.
+fn start<E: Write>(
+    rt: &HostRuntime,
+    errors: &mut E,
+    is_terminal: bool,
+) -> Result<u8, Fault<'static>> {
     let words = given(rt)?;
     let mut output = BufWriter::new(rt.alloc(), rt.stdout()).map_err(|_| Fault::NoMemory)?;
     let mut input = rt.stdin();
-    Ok(serve(rt, words.as_slice(), &mut input, &mut output, errors))
+    let status = serve(rt, words.as_slice(), &mut input, &mut output, errors);
+    if is_terminal {
+        let _ = name_explain(words.as_slice(), status, errors);
+    }
+    Ok(status)
 }
 
 fn main(rt: HostRuntime) -> ExitCode {
-    let mut errors = rt.stderr();
-    let status = match start(&rt, &mut errors) {
+    let is_terminal = rt.stderr().is_terminal();
+    let mut errors = MessageWriter::new(rt.stderr());
+    let status = match start(&rt, &mut errors, is_terminal) {
         Ok(status) => status,
         Err(fault) => tell(fault, &mut errors),
     };

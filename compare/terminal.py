@@ -1,0 +1,74 @@
+#!/usr/bin/env python3
+"""Looks at the messages of `vp8serve` on a terminal of its own and in a pipe: that `--explain` is named on the terminal only, after an error
+without it, and that no control character of a path or a file reaches it.
+
+    compare/terminal.py
+"""
+
+import os
+import pathlib
+import pty
+import subprocess
+import sys
+import tempfile
+
+PROGRAM = pathlib.Path(__file__).resolve().parent.parent / "crates/vp8serve/out/vp8serve"
+NAMED = "with --explain the next line says why, and what to do\n"
+OTHER = b"DKIF\0\0\x20\0\x1bcAB\x10\0\x10\0\x1e\0\0\0\1\0\0\0" + bytes(8)
+
+# Arguments, and the messages without the line that names `--explain`, and whether it follows on a terminal.
+CASES = [
+    (["--pad"], "vp8serve: command line\n", True),
+    (["no.ivf"], "vp8serve: cannot read no.ivf\n", True),
+    (["no\x1bc\x9b.ivf"], "vp8serve: cannot read no?c?.ivf\n", True),
+    (["other.ivf"], "vp8serve: input FourCc\n", True),
+    (
+        ["other.ivf", "--explain"],
+        "vp8serve: input FourCc\nother.ivf has the codec ?cAB, not VP80, and has to be coded again, which changes each frame: "
+        "ffmpeg -i other.ivf -an -c:v libvpx out.ivf\n",
+        False,
+    ),
+    (["--version"], "", False),
+    ([], "", False),
+]
+
+
+def on_terminal(arguments, folder):
+    """What the program writes to standard error if that is a terminal."""
+    ours, terminal = pty.openpty()
+    subprocess.run([PROGRAM, *arguments], cwd=folder, stdin=subprocess.DEVNULL, stdout=subprocess.DEVNULL, stderr=terminal)
+    os.close(terminal)
+    text = b""
+    try:
+        while part := os.read(ours, 65536):
+            text += part
+    except OSError:
+        pass
+    os.close(ours)
+    return text.decode().replace("\r\n", "\n")
+
+
+def in_pipe(arguments, folder):
+    """What the program writes to standard error if that is a pipe."""
+    ran = subprocess.run([PROGRAM, *arguments], cwd=folder, stdin=subprocess.DEVNULL, stdout=subprocess.DEVNULL, stderr=subprocess.PIPE)
+    return ran.stderr.decode()
+
+
+def main():
+    differences = 0
+    with tempfile.TemporaryDirectory() as folder:
+        pathlib.Path(folder, "other.ivf").write_bytes(OTHER)
+        for arguments, text, is_named in CASES:
+            for got, want in (
+                (on_terminal(arguments, folder), text + NAMED * is_named),
+                (in_pipe(arguments, folder), text),
+            ):
+                if got != want:
+                    differences += 1
+                    print(f"{arguments}: {got!r}, not {want!r}")
+    print(f"{2 * len(CASES)} runs, {differences} differences")
+    return 1 if differences else 0
+
+
+if __name__ == "__main__":
+    sys.exit(main())

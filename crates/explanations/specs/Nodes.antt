@@ -1,0 +1,87 @@
+-- Why the text of a script is refused as `Syntax`: the first of its parts that is not a node.
+use Rattle.std.specs.Prelude.{ℕ, ◌+◌, ◌==◌, if◌then◌else◌, List, [], ◌∷◌, ◌++◌, Option, Some, None, option_map, codes}
+use Rattle.std.specs.Fmt.{decimal}
+use Rattle.std.specs.List.{slice_split}
+use Rattle.std.specs.Option.{option_or}
+use Rattle.std.specs.Str.{bytes_eq}
+use Rattle.text_words.specs.Words.{after_word, words_of}
+use Rattle.explanations.specs.Words.{shown_word}
+use Rattle.explanations.specs.Lines.{misfits, reason_text}
+use Rattle.explanations.specs.declared.lines.Kind.{Kind}
+use Rattle.explanations.specs.declared.lines.Kind.TheVariants.{Short}
+use Rattle.explanations.specs.declared.nodes.NodeName.{NodeName}
+use Rattle.explanations.specs.declared.nodes.NodeName.TheVariants.{Source, Trim, Splice, Crop, Fade}
+use Rattle.explanations.specs.declared.nodes.NodeReason.{NodeReason}
+use Rattle.explanations.specs.declared.nodes.NodeReason.TheVariants.{Empty, NoNode, Misfit}
+
+-- the node with this name, if there is one
+abbrev pub name_of : List ℕ → Option NodeName
+name_of word =
+    if bytes_eq word (codes "source") then Some Source
+    else if bytes_eq word (codes "trim") then Some Trim
+    else if bytes_eq word (codes "splice") then Some Splice
+    else if bytes_eq word (codes "crop") then Some Crop
+    else if bytes_eq word (codes "fade") then Some Fade
+    else None
+
+-- the words after a node's name
+abbrev pub node_kinds : NodeName → List Kind
+node_kinds Source = Short ∷ []
+node_kinds Trim = Short ∷ Short ∷ Short ∷ []
+node_kinds Splice = Short ∷ Short ∷ []
+node_kinds Crop = Short ∷ Short ∷ Short ∷ Short ∷ Short ∷ []
+node_kinds Fade = Short ∷ Short ∷ Short ∷ Short ∷ Short ∷ []
+
+-- a node as it is written
+abbrev pub form_text : NodeName → List ℕ
+form_text Source = codes "source S"
+form_text Trim = codes "trim A FIRST COUNT"
+form_text Splice = codes "splice A B"
+form_text Crop = codes "crop A X Y W H"
+form_text Fade = codes "fade A FIRST COUNT FROM TO"
+
+abbrev pub empty_node : List ℕ
+empty_node = codes "the node is empty"
+
+abbrev pub no_node : List ℕ → List ℕ
+no_node word = shown_word word ++ codes " is not source, trim, splice, crop or fade"
+
+-- a reason, and the form that was meant
+abbrev pub with_form : NodeName → List ℕ → List ℕ
+with_form name text = text ++ codes ": " ++ form_text name
+
+-- each reason as a text
+abbrev pub node_reason_text : NodeReason → List ℕ
+node_reason_text Empty = empty_node
+node_reason_text (NoNode word) = no_node word.now
+node_reason_text (Misfit name reason) = with_form name (reason_text reason)
+
+-- why these words are not a node, if they are not
+abbrev pub reason_after_name : Option NodeName → List ℕ → List (List ℕ) → Option (List ℕ)
+reason_after_name None word words = Some (no_node word)
+reason_after_name (Some name) word words = option_map (with_form name) (misfits (node_kinds name) words)
+
+abbrev pub node_reason : List (List ℕ) → Option (List ℕ)
+node_reason [] = Some empty_node
+node_reason (word ∷ words) = reason_after_name (name_of word) word words
+
+-- a reason, and the number of its node
+abbrev pub numbered : ℕ → List ℕ → List ℕ
+numbered number text = codes "node " ++ decimal number ++ codes ": " ++ text
+
+-- the first of these parts that is not a node, if one is not; the first part has this number
+abbrev pub parts_reason : ℕ → List (List ℕ) → Option (List ℕ)
+parts_reason number [] = None
+parts_reason number (part ∷ parts) = option_or (option_map (numbered number) (node_reason (words_of part))) (parts_reason (number + 1) parts)
+
+-- why a text is not a list of nodes, if it is not: nodes are numbered from 1
+abbrev pub syntax_reason : List ℕ → Option (List ℕ)
+syntax_reason text = parts_reason 1 (slice_split (λ b. b == 59) text)
+
+-- the same of a line, whose text after the first word is the script
+abbrev pub script_reason_after : List ℕ → List (List ℕ) → Option (List ℕ)
+script_reason_after text [] = None
+script_reason_after text (word ∷ words) = syntax_reason text
+
+abbrev pub line_syntax_reason : List ℕ → Option (List ℕ)
+line_syntax_reason line = script_reason_after (after_word line) (words_of line)

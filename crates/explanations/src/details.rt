@@ -1,0 +1,187 @@
+// The numbers that explain a refusal.
+ghost use Rattle.std.specs.Prelude.{◌≡◌, ◌≤◌};
+ghost use Rattle.frame_session.specs.Sessions.{packet_count};
+ghost use Rattle.request_lines.specs.Requests.{asked_by};
+ghost use Rattle.explanations.specs.Details.{IsDetail, IsSizeDetail, IsUnsized, bytes_detail, copy_detail, frame_detail, is_side, no_packet_of, past_end_of, place_detail, side_detail, sizes_detail, sizes_of};
+
+use frame_session::{Refusal, Session, Size};
+use request_lines::{Line, read_line};
+
+/// The numbers that explain a refusal, if it has such numbers.
+#[derive(Clone, Copy, Debug, PartialEq, Eq)]
+pub enum Detail {
+    Nothing,
+    /// The number of bytes of the packet that is broken.
+    Bytes(usize),
+    /// There is no packet `at` in a source of `count` packets.
+    NoPacket { at: u64, source: u64, count: u64 },
+    /// Nothing can be inserted at index `at` of a source of `count` packets.
+    PastEnd { at: u64, source: u64, count: u64 },
+    /// The width of a blank packet.
+    Width(u64),
+    /// The height of a blank packet.
+    Height(u64),
+    /// No packet before this index has a key tag.
+    NoKey(u64),
+    /// Packet `key` is the last one with a key tag before an index, and has no size.
+    NoSize { key: usize, at: u64 },
+    /// There is no frame `n` among `count`.
+    NoFrame { n: u64, count: u64 },
+    /// The size of the frame, and of the first one that was served.
+    Sizes { asked: (u16, u16), first: Size },
+}
+
+/// The packet of the current source that does not exist.
+fn no_packet_of(session: &Session, at: u64) -> Detail
+    ensures { result ≡ no_packet_of session.now.now at }
+{
+    Detail::NoPacket {
+        at,
+        source: session.current() as u64,
+        count: session.count().0,
+    }
+}
+
+/// The index of the current source at which nothing can be inserted.
+fn past_end_of(session: &Session, at: u64) -> Detail
+    ensures { result ≡ past_end_of session.now.now at }
+{
+    Detail::PastEnd {
+        at,
+        source: session.current() as u64,
+        count: session.count().0,
+    }
+}
+
+/// The packet that a copy does not find, or the index that it does not.
+fn copy_detail(session: &Session, source: u64, from: u64, at: u64) -> Detail
+    ensures { result ≡ copy_detail session.now.now source from at }
+{
+    let count = session.packets_in(source);
+    if from < count {
+        past_end_of(session, at)
+    } else {
+        Detail::NoPacket {
+            at: from,
+            source,
+            count,
+        }
+    }
+}
+
+/// Which index of a request has no packet.
+fn place_detail(session: &Session, line: &Line<'_>) -> Detail
+    ensures { result ≡ place_detail session.now.now line.now }
+{
+    match line {
+        Line::Insert { at, .. } | Line::Blank { at, .. } | Line::Hold { at } => {
+            past_end_of(session, *at)
+        }
+        Line::Replace { at, .. } | Line::Delete { at } => no_packet_of(session, *at),
+        Line::Move { from, to } => {
+            let missing = if *from < session.count().0 {
+                *to
+            } else {
+                *from
+            };
+            no_packet_of(session, missing)
+        }
+        Line::Copy { source, from, at } => copy_detail(session, *source, *from, *at),
+        _ => Detail::Nothing,
+    }
+}
+
+/// The frame of a request that does not exist, and how many there are.
+fn frame_detail(session: &Session, line: &Line<'_>) -> Detail
+    ensures { result ≡ frame_detail session.now.now line.now }
+{
+    match line {
+        Line::Frame(n) => Detail::NoFrame {
+            n: *n,
+            count: session.count().1,
+        },
+        _ => Detail::Nothing,
+    }
+}
+
+/// The size of a frame, and of the first one that was served.
+fn sizes_of(asked: Option<(u16, u16)>, first: Option<Size>) -> Detail
+    ensures { result ≡ sizes_of asked first }
+{
+    match (asked, first) {
+        (Some(asked), Some(first)) => Detail::Sizes { asked, first },
+        (Some(_), None) | (None, _) => Detail::Nothing,
+    }
+}
+
+fn sizes_detail(session: &Session, line: &Line<'_>) -> Detail
+    ensures { result ≡ sizes_detail session.now.now line.now }
+{
+    match line {
+        Line::Frame(n) => sizes_of(session.stated_size(*n), session.first_size()),
+        _ => Detail::Nothing,
+    }
+}
+
+/// Whether a frame can have this width or height.
+fn is_side(side: u64) -> bool
+    ensures { result ≡ is_side side }
+{
+    0 < side && side <= 16_383
+}
+
+/// Which side is not allowed.
+fn side_detail(width: u64, height: u64) -> Detail
+    ensures { result ≡ side_detail width height }
+{
+    if is_side(width) {
+        Detail::Height(height)
+    } else {
+        Detail::Width(width)
+    }
+}
+
+/// Why there is no size before an index.
+fn unsized_detail(session: &Session, at: u64) -> Detail
+    ensures { at ≤ packet_count session.now.now → IsUnsized session.now.now at result }
+{
+    match session.key_before(at) {
+        None => Detail::NoKey(at),
+        Some(key) => Detail::NoSize { key, at },
+    }
+}
+
+/// Why a request has no size.
+fn size_detail(session: &Session, line: &Line<'_>) -> Detail
+    ensures { IsSizeDetail session.now.now line.now result }
+{
+    match line {
+        Line::Blank { width, height, .. } => side_detail(*width, *height),
+        Line::Hold { at } => unsized_detail(session, *at),
+        _ => Detail::Nothing,
+    }
+}
+
+/// The number of bytes of a packet that is broken.
+fn bytes_detail(count: Option<usize>) -> Detail
+    ensures { result ≡ bytes_detail count }
+{
+    match count {
+        Some(count) => Detail::Bytes(count),
+        None => Detail::Nothing,
+    }
+}
+
+/// The numbers that explain the refusal of a line by this session. Nothing is decoded.
+pub fn detail_of(session: &Session, line: &[u8], refusal: Refusal) -> Detail
+    ensures { IsDetail session.now.now (asked_by line.now) refusal result }
+{
+    match refusal {
+        Refusal::Place => place_detail(session, &read_line(line)),
+        Refusal::Size => size_detail(session, &read_line(line)),
+        Refusal::NoSuchFrame => frame_detail(session, &read_line(line)),
+        Refusal::SizeDiffers => sizes_detail(session, &read_line(line)),
+        Refusal::Packet { source, place, .. } => bytes_detail(session.packet_len(source, place)),
+        _ => Detail::Nothing,
+    }
+}

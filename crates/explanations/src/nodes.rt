@@ -1,0 +1,180 @@
+// Why the text of a script is not a list of nodes.
+ghost use Rattle.std.specs.Prelude.{◌≡◌, ◌<◌, ◌++◌, IfSome, OnOk, codes, length, option_map};
+ghost use Rattle.std.specs.Io.KnownBytes.{Appends};
+ghost use Rattle.script_nodes.specs.Reading.{IsCut};
+ghost use Rattle.text_words.specs.Words.{words_of};
+ghost use Rattle.explanations.specs.Nodes.{form_text, line_syntax_reason, name_of, node_kinds, node_reason, node_reason_text, numbered, syntax_reason};
+
+use crate::lines::{Kind, Reason, misfits, write_reason};
+use crate::words::{write_text, write_word};
+use std::io::{self, Write};
+use text_words::{length_before, next_word};
+
+/// The kinds of nodes.
+#[derive(Clone, Copy)]
+pub enum NodeName {
+    Source,
+    Trim,
+    Splice,
+    Crop,
+    Fade,
+}
+
+/// Why a part of a script is not a node.
+#[derive(Clone, Copy)]
+pub enum NodeReason<'a> {
+    /// It has no word.
+    Empty,
+    /// Its first word is not the name of a node.
+    NoNode(&'a [u8]),
+    /// The words after the name do not have its form.
+    Misfit { name: NodeName, reason: Reason<'a> },
+}
+
+/// The first part of a script that is not a node.
+#[derive(Clone, Copy)]
+pub struct WrongNode<'a> {
+    /// The number of the node, counted from 1.
+    pub number: u64,
+    pub reason: NodeReason<'a>,
+}
+
+const ONE: &[Kind] = &[Kind::Short];
+
+const TWO: &[Kind] = &[Kind::Short, Kind::Short];
+
+const THREE: &[Kind] = &[Kind::Short, Kind::Short, Kind::Short];
+
+const FIVE: &[Kind] = &[
+    Kind::Short,
+    Kind::Short,
+    Kind::Short,
+    Kind::Short,
+    Kind::Short,
+];
+
+impl NodeName {
+    /// The node with this name, if there is one.
+    fn of(word: &[u8]) -> Option<NodeName>
+        ensures { result ≡ name_of word.now }
+    {
+        if word == b"source".as_slice() {
+            Some(NodeName::Source)
+        } else if word == b"trim".as_slice() {
+            Some(NodeName::Trim)
+        } else if word == b"splice".as_slice() {
+            Some(NodeName::Splice)
+        } else if word == b"crop".as_slice() {
+            Some(NodeName::Crop)
+        } else if word == b"fade".as_slice() {
+            Some(NodeName::Fade)
+        } else {
+            None
+        }
+    }
+
+    /// The words after the name.
+    fn kinds(self) -> &'static [Kind]
+        ensures { result.now ≡ node_kinds self }
+    {
+        match self {
+            NodeName::Source => ONE,
+            NodeName::Trim => THREE,
+            NodeName::Splice => TWO,
+            NodeName::Crop | NodeName::Fade => FIVE,
+        }
+    }
+
+    /// The node as it is written.
+    fn form(self) -> &'static str
+        ensures { result.now ≡ form_text self }
+    {
+        match self {
+            NodeName::Source => "source S",
+            NodeName::Trim => "trim A FIRST COUNT",
+            NodeName::Splice => "splice A B",
+            NodeName::Crop => "crop A X Y W H",
+            NodeName::Fade => "fade A FIRST COUNT FROM TO",
+        }
+    }
+}
+
+/// Why a part of a script is not a node, if it is not.
+fn node_reason(part: &[u8]) -> Option<NodeReason<'_>>
+    ensures { option_map node_reason_text result ≡ node_reason (words_of part.now) }
+{
+    let Some((word, words)) = next_word(part) else {
+        return Some(NodeReason::Empty);
+    };
+    let Some(name) = NodeName::of(word) else {
+        return Some(NodeReason::NoNode(word));
+    };
+    match misfits(name.kinds(), words) {
+        Some(reason) => Some(NodeReason::Misfit { name, reason }),
+        None => None,
+    }
+}
+
+/// The text before the first `;`, and the text after it if there is one.
+fn cut_part(text: &[u8]) -> (&[u8], Option<&[u8]>)
+    ensures cut { IsCut text.now result.0.now result.1 }
+    ensures shorter { IfSome result.1 (λ rest. length rest.now < length text.now) }
+{
+    let (part, following) = text.split_at(length_before(b';', text));
+    match following {
+        [_, rest @ ..] => (part, Some(rest)),
+        [] => (part, None),
+    }
+}
+
+/// The first part of a script's text that is not a node, if one is not.
+fn wrong_node(text: &[u8]) -> Option<WrongNode<'_>>
+    ensures { option_map (λ wrong. numbered wrong.number (node_reason_text wrong.reason)) result ≡ syntax_reason text.now }
+{
+    let mut number = 1;
+    let mut left = Some(text);
+    while let Some(text) = left {
+        let (part, following) = cut_part(text);
+        if let Some(reason) = node_reason(part) {
+            return Some(WrongNode { number, reason });
+        }
+        number += 1;
+        left = following;
+    }
+    None
+}
+
+/// The first part of a line's script that is not a node; `None` also if the line has no word.
+pub fn wrong_node_of_line(line: &[u8]) -> Option<WrongNode<'_>>
+    ensures { option_map (λ wrong. numbered wrong.number (node_reason_text wrong.reason)) result ≡ line_syntax_reason line.now }
+{
+    let (_, text) = next_word(line)?;
+    wrong_node(text)
+}
+
+/// Writes why a part of a script is not a node.
+fn write_node_reason<W: Write>(w: &mut W, reason: NodeReason<'_>) -> io::Result<()>
+    ensures { OnOk result (Appends (W.contents w.old) (W.contents w.new) (node_reason_text reason.entry)) }
+{
+    match reason {
+        NodeReason::Empty => write_text(w, "the node is empty"),
+        NodeReason::NoNode(word) => {
+            write_word(w, word)?;
+            write_text(w, " is not source, trim, splice, crop or fade")
+        }
+        NodeReason::Misfit { name, reason } => {
+            write_reason(w, reason)?;
+            write_text(w, ": ")?;
+            write_text(w, name.form())
+        }
+    }
+}
+
+/// Writes the number of a node and why it is not one.
+pub fn write_wrong<W: Write>(w: &mut W, wrong: WrongNode<'_>) -> io::Result<()>
+    ensures { OnOk result (Appends (W.contents w.old) (W.contents w.new) (numbered wrong.entry.number (node_reason_text wrong.entry.reason))) }
+{
+    let WrongNode { number, reason } = wrong;
+    write!(w, "node {number}: ")?;
+    write_node_reason(w, reason)
+}
