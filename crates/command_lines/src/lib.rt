@@ -8,5 +8,5 @@ mod words;
 
 pub use fault::{Fault, tell};
 pub use files::{Argument, SameFile};
-pub use sources::{Inputs, read_inputs, read_sources, read_tables, slices_of};
+pub use sources::{FilesRead, Inputs, read_files, read_inputs, slices_of};
 pub use words::{Accepted, NO_FILE, Words};

@@ -1,5 +1,5 @@
 // The files that the program reads.
-ghost use Rattle.std.specs.Prelude.{◌≡◌, ◌+◌, ◌∷◌, IfOk, IfErr, IfSome, Ok, codes, None, false, is_some, length, map, option_map};
+ghost use Rattle.std.specs.Prelude.{◌≡◌, ◌+◌, ◌∷◌, ℕ, List, Option, IfOk, IfErr, IfSome, Ok, codes, None, false, is_some, length, map, option_map};
 ghost use Rattle.frame_session.specs.Answers.{texts_of};
 ghost use Rattle.vp8_tables.specs.Rfc.{rfc_entries};
 ghost use Rattle.vp8_tables.specs.Tables.{entries_of};
@@ -54,7 +54,7 @@ fn tables_of(bytes: &[u8]) -> Result<Tables, Fault<'static>>
 }
 
 /// The tables of a file, or the tables of RFC 6386 if none is given.
-pub fn read_tables<'a, R: Files + AllocGlobal>(
+fn read_tables<'a, R: Files + AllocGlobal>(
     rt: &R,
     path: Option<&'a str>,
 ) -> Result<Tables, Fault<'a>>
@@ -83,7 +83,7 @@ fn read_source<'a, R: Files + AllocGlobal>(rt: &R, path: &'a str) -> Result<Vec<
 }
 
 /// The bytes of the sources: of source 0, and then of those with these paths.
-pub fn read_sources<'a, R: Files + AllocGlobal>(
+fn read_sources<'a, R: Files + AllocGlobal>(
     rt: &R,
     first: &'a str,
     more: &[&'a str],
@@ -130,34 +130,49 @@ pub fn read_requests<'a, R: Files + AllocGlobal, I: Read>(
     }
 }
 
-/// What is read before the first request is answered.
+/// The files that are read before the requests.
 #[derive(Drop)]
-pub struct Inputs {
+pub struct FilesRead {
     pub tables: Tables,
     /// The bytes of each source.
     pub sources: Vec<Vec<u8>>,
+}
+
+/// What is read before the first request is answered, if requests are not answered as they come.
+#[derive(Drop)]
+pub struct Inputs {
+    pub files: FilesRead,
     pub requests: Vec<u8>,
 }
 
-/// Reads the files of an accepted command line: the tables, the sources in their order, the requests.
-#[tactic(auto, using(crate::proofs::Unread::tables_unread, crate::proofs::Unread::sources_unread, crate::proofs::Unread::requests_unread))]
+/// Reads the files of an accepted command line that come before the requests: the tables, then the sources in their order.
+#[tactic(auto, using(crate::proofs::Unread::tables_unread, crate::proofs::Unread::sources_unread))]
+pub fn read_files<'a, R: Files + AllocGlobal>(
+    rt: &R,
+    line: &Accepted<'a>,
+) -> Result<FilesRead, Fault<'a>>
+    ensures rfc { is_some line.now.words.tables ≡ false → IfOk result (λ files. files.tables ≡ rfc_entries) }
+    ensures named { IfOk result (λ files. AreNamed EMPTY (source_names line.now) (map (λ bytes. bytes.items) files.sources.items)) }
+    ensures fault { IfErr result (λ fault. (left : Option (List ℕ)) → IsInputFault (option_map (λ path. path.now) line.now.words.tables) (source_names line.now) line.now.words.requests.now left left fault) }
+{
+    let tables = read_tables(rt, line.words.tables)?;
+    let sources = read_sources(rt, line.words.stream, line.more.as_slice())?;
+    Ok(FilesRead { tables, sources })
+}
+
+/// Reads the files of an accepted command line, and then the requests.
+#[tactic(auto, using(crate::proofs::Unread::requests_unread))]
 pub fn read_inputs<'a, R: Files + AllocGlobal, I: Read>(
     rt: &R,
     line: &Accepted<'a>,
     input: &mut I,
 ) -> Result<Inputs, Fault<'a>>
-    ensures rfc { is_some line.now.words.tables ≡ false → IfOk result (λ inputs. inputs.tables ≡ rfc_entries) }
-    ensures named { IfOk result (λ inputs. AreNamed EMPTY (source_names line.now) (map (λ bytes. bytes.items) inputs.sources.items)) }
+    ensures rfc { is_some line.now.words.tables ≡ false → IfOk result (λ inputs. inputs.files.tables ≡ rfc_entries) }
+    ensures named { IfOk result (λ inputs. AreNamed EMPTY (source_names line.now) (map (λ bytes. bytes.items) inputs.files.sources.items)) }
     ensures input { line.now.words.requests.now ≡ codes "-" → IfOk result (λ inputs. IfSome (I.remaining input.old) (λ left. inputs.requests.items ≡ left)) }
     ensures fault { IfErr result (IsInputFault (option_map (λ path. path.now) line.now.words.tables) (source_names line.now) line.now.words.requests.now (I.remaining input.old) (I.remaining input.new)) }
 {
-    let words = line.words;
-    let tables = read_tables(rt, words.tables)?;
-    let sources = read_sources(rt, words.stream, line.more.as_slice())?;
-    let requests = read_requests(rt, words.requests, input)?;
-    Ok(Inputs {
-        tables,
-        sources,
-        requests,
-    })
+    let files = read_files(rt, line)?;
+    let requests = read_requests(rt, line.words.requests, input)?;
+    Ok(Inputs { files, requests })
 }

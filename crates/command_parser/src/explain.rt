@@ -76,6 +76,18 @@ fn is_live(words: Words<'_>, path: &str) -> bool {
     words.is_live && words.requests == path
 }
 
+/// Explains which lines of requests that are answered as they come were answered, and why the next one was not.
+fn explain_unanswered<E: Write>(why: &str, messages: &mut Messages<'_, E>) -> io::Result<()> {
+    let line = messages.next_line();
+    write!(messages.errors, "line {line} was not answered: {why}; ")?;
+    match line {
+        1 => {}
+        2 => write!(messages.errors, "line 1 was, and ")?,
+        _ => write!(messages.errors, "lines 1 to {} were, and ", line - 1)?,
+    }
+    writeln!(messages.errors, "nothing is saved")
+}
+
 /// Explains why a file was not read.
 fn explain_unread<R: Files + AllocGlobal, E: Write>(
     rt: &R,
@@ -89,11 +101,7 @@ fn explain_unread<R: Files + AllocGlobal, E: Write>(
         }
     }
     if is_live(words, path) {
-        let line = messages.next_line();
-        return writeln!(
-            messages.errors,
-            "line {line} was not answered: reading it failed"
-        );
+        return explain_unanswered("reading it failed", messages);
     }
     writeln!(messages.errors, "{path}: reading it failed")
 }
@@ -137,11 +145,7 @@ fn explain_long<E: Write>(
     messages: &mut Messages<'_, E>,
 ) -> io::Result<()> {
     if is_live(words, path) {
-        let line = messages.next_line();
-        return writeln!(
-            messages.errors,
-            "line {line} was not answered: it has more than 1073741824 bytes"
-        );
+        return explain_unanswered("it has more than 1073741824 bytes", messages);
     }
     writeln!(messages.errors, "{path} has more than 1073741824 bytes")
 }

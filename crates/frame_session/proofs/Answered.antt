@@ -1,5 +1,6 @@
 -- Each request list has a meaning in which nothing is out of memory.
-use Rattle.std.proofs.Common.{◌≡◌, ℕ, zero, suc, List, [], ◌∷◌, Bool, true, false, cond, Option, Some, None, Result, Ok, Err, get_or, length, option_map, refl, ap, arith}
+use Rattle.std.proofs.Common.{◌≡◌, ◌≢◌, All, ℕ, zero, suc, List, [], ◌∷◌, Bool, true, false, cond, Option, Some, None, Result, Ok, Err, get_or, length, option_map, refl, ap, arith}
+use Rattle.std.proofs.lemmas.List.Elements.{All-head, All-tail}
 use Rattle.script_nodes.specs.declared.faults.ScriptFault.TheVariants as scripts
 use Rattle.script_nodes.specs.declared.nodes.Node.{Node}
 use Rattle.script_nodes.specs.declared.traces.Step.{Step}
@@ -7,7 +8,7 @@ use Rattle.script_nodes.specs.Frames.{Origin, traced}
 use Rattle.script_nodes.specs.Nodes.{nodes_of, script_from}
 use Rattle.script_nodes.specs.Shown.{Shown, shown_in, steps_shown}
 use Rattle.request_lines.specs.declared.lines.Line.{Line}
-use Rattle.request_lines.specs.declared.lines.Line.TheVariants.{Silent, Unknown, Frame, Use, Insert, Replace, Delete, Move, Copy, Blank, Hold, Script, Count, Stats}
+use Rattle.request_lines.specs.declared.lines.Line.TheVariants.{Silent, Unknown, Frame, Use, Insert, Replace, Delete, Move, Copy, Blank, Hold, Script, Count, Stats, Lost}
 use Rattle.frame_session.specs.declared.edit.Edit.{Edit}
 use Rattle.frame_session.specs.declared.edit.Edit.TheVariants as edits
 use Rattle.frame_session.specs.declared.refusal.Refusal.{Refusal}
@@ -184,15 +185,15 @@ pub record HasAnswer (old : Now) (line : Line) : Type 0 where
   pub means : Answers old line answer new
   pub enough : answer.reply ≡ refused_line refusals.NoMemory → ⊥
 
-answered : (old : Now) (line : Line) → HasAnswer old line
-answered old Silent = record { answer = reply_only []; new = old; means = (refl, refl); enough = λ e. cc }
-answered old Unknown = record {
+answered : (old : Now) (line : Line) → line ≢ Lost → HasAnswer old line
+answered old Silent held = record { answer = reply_only []; new = old; means = (refl, refl); enough = λ e. cc }
+answered old Unknown held = record {
   answer = reply_only (refused_line refusals.Line);
   new = old;
   means = (refl, refl);
   enough = λ e. let other : 76 ≡ 78 = ap (λ (l : List ℕ). get_or l 8 0) e in absurd (omega (arith, other));
 }
-answered old (Frame n) =
+answered old (Frame n) held =
     let frame : Result Shown Refusal = frame_of old n in
     let from : Option Origin = traced (shown_counts old) old.script n in
     record {
@@ -201,52 +202,53 @@ answered old (Frame n) =
       means = (frame, wanted_given old from, refl, record { rest = refl; steps = omega arith });
       enough = tells_no_lack old n frame (wanted_some old from);
     }
-answered old (Use source) =
+answered old (Use source) held =
     let answer = choice_answer old source in
     record { answer = reply_only (edit_line answer); new = now_after_choice source old; means = (refl, refl); enough = (choice_told _ _).enough }
-answered old (Copy source from at) =
+answered old (Copy source from at) held =
     let edit = edits.Copy source from at in
     let answer = edit_answer old edit in
     let is = edit_told old.tables old.lists (current_list old) edit in
     record { answer = reply_only (edit_line answer); new = now_after_edit edit old answer; means = (answer, is.returned, (refl, refl)); enough = is.enough }
-answered old (Insert at stamp bytes) =
+answered old (Insert at stamp bytes) held =
     let edit = edits.Insert at stamp bytes in
     let answer = edit_answer old edit in
     let is = edit_told old.tables old.lists (current_list old) edit in
     record { answer = reply_only (edit_line answer); new = now_after_edit edit old answer; means = (answer, is.returned, (refl, refl)); enough = is.enough }
-answered old (Replace at bytes) =
+answered old (Replace at bytes) held =
     let edit = edits.Replace at bytes in
     let answer = edit_answer old edit in
     let is = edit_told old.tables old.lists (current_list old) edit in
     record { answer = reply_only (edit_line answer); new = now_after_edit edit old answer; means = (answer, is.returned, (refl, refl)); enough = is.enough }
-answered old (Blank at width height) =
+answered old (Blank at width height) held =
     let edit = edits.Blank at width height in
     let answer = edit_answer old edit in
     let is = edit_told old.tables old.lists (current_list old) edit in
     record { answer = reply_only (edit_line answer); new = now_after_edit edit old answer; means = (answer, is.returned, (refl, refl)); enough = is.enough }
-answered old (Hold at) =
+answered old (Hold at) held =
     let edit = edits.Hold at in
     let answer = edit_answer old edit in
     let is = edit_told old.tables old.lists (current_list old) edit in
     record { answer = reply_only (edit_line answer); new = now_after_edit edit old answer; means = (answer, is.returned, (refl, refl)); enough = is.enough }
-answered old (Delete at) =
+answered old (Delete at) held =
     let edit = edits.Delete at in
     let answer = edit_answer old edit in
     record { answer = reply_only (edit_line answer); new = now_after_edit edit old answer; means = (refl, refl); enough = (edit_told old.tables old.lists (current_list old) edit).enough }
-answered old (Move from to) =
+answered old (Move from to) held =
     let edit = edits.Move from to in
     let answer = edit_answer old edit in
     record { answer = reply_only (edit_line answer); new = now_after_edit edit old answer; means = (refl, refl); enough = (edit_told old.tables old.lists (current_list old) edit).enough }
-answered old (Script text) =
+answered old (Script text) held =
     let set = script_answer old text in
     let is = script_told (packet_count old) (length old.lists) (nodes_of text) in
     record { answer = reply_only (edit_line set); new = now_after_script text old set; means = (set, is.returned, (refl, refl)); enough = is.enough }
-answered old Count =
+answered old Count held =
     let reply = count_line (packet_count old) (frame_count old) in
     record { answer = reply_only reply; new = old; means = (refl, refl); enough = begins_otherwise reply refusals.NoMemory (λ h. omega (arith, h)) }
-answered old Stats =
+answered old Stats held =
     let reply = stats_line old.decoded in
     record { answer = reply_only reply; new = old; means = (refl, refl); enough = begins_otherwise reply refusals.NoMemory (λ h. omega (arith, h)) }
+answered old Lost held = absurd (held refl)
 
 -- answers to lines, none of which is `refused NoMemory`
 pub record HaveAnswers (old : Now) (lines : List Line) : Type 0 where
@@ -255,11 +257,11 @@ pub record HaveAnswers (old : Now) (lines : List Line) : Type 0 where
   pub run : Run old lines answers new
   pub enough : HaveMemory answers
 
-pub all_answered : (old : Now) (lines : List Line) → HaveAnswers old lines
-all_answered old [] = record { answers = []; new = old; run = refl; enough = tt }
-all_answered old (line ∷ lines) =
-    let first = answered old line in
-    let rest = all_answered first.new lines in
+pub all_answered : (old : Now) (lines : List Line) → All (λ line. line ≢ Lost) lines → HaveAnswers old lines
+all_answered old [] held = record { answers = []; new = old; run = refl; enough = tt }
+all_answered old (line ∷ lines) held =
+    let first = answered old line (All-head (λ line. line ≢ Lost) line lines held) in
+    let rest = all_answered first.new lines (All-tail (λ line. line ≢ Lost) line lines held) in
     record {
       answers = first.answer ∷ rest.answers;
       new = rest.new;
@@ -267,5 +269,5 @@ all_answered old (line ∷ lines) =
       enough = (first.enough, rest.enough);
     }
 
-pub meaning_exists : (old : Now) (lines : List Line) → (answers : List Answer) × (new : Now) × Run old lines answers new × HaveMemory answers
-meaning_exists old lines = let all = all_answered old lines in (all.answers, all.new, all.run, all.enough)
+pub meaning_exists : (old : Now) (lines : List Line) → All (λ line. line ≢ Lost) lines → (answers : List Answer) × (new : Now) × Run old lines answers new × HaveMemory answers
+meaning_exists old lines held = let all = all_answered old lines held in (all.answers, all.new, all.run, all.enough)

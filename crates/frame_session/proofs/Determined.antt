@@ -2,7 +2,7 @@
 use Rattle.std.proofs.Common.{◌≡◌, ℕ, Bool, true, false, cond, List, [], ◌∷◌, Option, Some, None, Result, Ok, Err, refl, sym, ap, ◌∙◌, subst}
 use Rattle.script_nodes.specs.Shown.{Shown}
 use Rattle.request_lines.specs.declared.lines.Line.{Line}
-use Rattle.request_lines.specs.declared.lines.Line.TheVariants.{Silent, Unknown, Frame, Use, Insert, Replace, Delete, Move, Copy, Blank, Hold, Script, Count, Stats}
+use Rattle.request_lines.specs.declared.lines.Line.TheVariants.{Silent, Unknown, Frame, Use, Insert, Replace, Delete, Move, Copy, Blank, Hold, Script, Count, Stats, Lost}
 use Rattle.frame_session.specs.declared.edit.Edit.{Edit}
 use Rattle.frame_session.specs.declared.edit.Edit.TheVariants as edits
 use Rattle.frame_session.specs.declared.refusal.Refusal.{Refusal}
@@ -126,6 +126,7 @@ one_answer old steps (Move from to) answer answer' new new' first second enough 
 one_answer old steps (Script text) answer answer' new new' first second enough enough' =
     one_script old steps text first.0 second.0 answer answer' new new' first.1 second.1 first.2 second.2 enough enough'
 one_answer old steps Count answer answer' new new' first second enough enough' = same_answer old steps answer answer' _ new new' first second
+one_answer old steps Lost answer answer' new new' first second enough enough' = same_answer old steps answer answer' _ new new' first second
 one_answer old steps Stats answer answer' new new' first second enough enough' =
     ((old.decoded, steps, first.0, second.0), second.1 ∙ ap (λ (s : Now). counted s steps) (sym first.1) ∙ ap (λ (d : ℕ). counted new d) (sym (ap (λ (s : Now). s.decoded) second.1)))
 one_answer old steps (Frame n) answer answer' new new' first second enough enough' =

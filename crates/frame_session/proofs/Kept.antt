@@ -2,7 +2,7 @@
 use Rattle.std.proofs.Common.{◌≡◌, ℕ, ◌≤◌, Bool, true, false, cond, List, [], ◌∷◌, Result, Ok, Err, sym, ap, ◌∙◌, arith}
 use Rattle.script_nodes.specs.Shown.{Shown}
 use Rattle.request_lines.specs.declared.lines.Line.{Line}
-use Rattle.request_lines.specs.declared.lines.Line.TheVariants.{Silent, Unknown, Frame, Use, Insert, Replace, Delete, Move, Copy, Blank, Hold, Script, Count, Stats}
+use Rattle.request_lines.specs.declared.lines.Line.TheVariants.{Silent, Unknown, Frame, Use, Insert, Replace, Delete, Move, Copy, Blank, Hold, Script, Count, Stats, Lost}
 use Rattle.frame_session.specs.declared.edit.Edit.{Edit}
 use Rattle.frame_session.specs.declared.edit.Edit.TheVariants as edits
 use Rattle.frame_session.specs.declared.refusal.Refusal.{Refusal}
@@ -43,6 +43,7 @@ line_counts old new (Move from to) answer means = edit_counts old new (edits.Mov
 line_counts old new (Script text) answer means = script_counts old new text means.0 means.2.1
 line_counts old new Count answer means = rw means.1 (omega arith)
 line_counts old new Stats answer means = rw means.1 (omega arith)
+line_counts old new Lost answer means = rw means.1 (omega arith)
 
 pub lines_count : (old new : Now) (lines : List Line) (answers : List Answer) → Run old lines answers new → old.decoded ≤ new.decoded
 lines_count old new [] [] ran = rw ran (omega arith)
@@ -95,3 +96,4 @@ refused_kept old new (Move from to) answer refusal means e = edit_cached old new
 refused_kept old new (Script text) answer refusal means e = script_kept old new text means.0 refusal means.2.1 (reply_of answer _ _ means.2.0 e)
 refused_kept old new Count answer refusal means e = same old new means.1
 refused_kept old new Stats answer refusal means e = same old new means.1
+refused_kept old new Lost answer refusal means e = same old new means.1

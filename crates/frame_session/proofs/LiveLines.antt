@@ -9,10 +9,9 @@ use Rattle.std.specs.List.{slice_split, onto_first}
 use Rattle.std.specs.Str.Lines.{lines, lines_of_parts, strip_carriage_return}
 use Rattle.std.specs.Io.{IsEmptyOrEndsWith}
 use Rattle.std.specs.Io.BufRead.{ends_with_byte}
-use Rattle.frame_session.specs.Answers.{requests_of}
-use Rattle.request_lines.specs.Requests.{asked_by}
-use Rattle.frame_session.specs.Live.{HasShortLines, longest_line}
-use Rattle.frame_session.specs.LiveSteps.{IsLineRead, IsShort, MayFollow}
+use Rattle.request_lines.specs.declared.lines.Line.{Line}
+use Rattle.frame_session.specs.Live.{AreAsked, HasShortLines, longest_line}
+use Rattle.frame_session.specs.LiveSteps.{IsShort}
 
 -- a list with a first element is not empty
 onto_first-append : (x : ℕ) (parts : List (List ℕ)) (more : List (List ℕ)) → 0 < length parts → onto_first x (parts ++ more) ≡ onto_first x parts ++ more
@@ -78,9 +77,19 @@ lines-append (x ∷ xs) text ends = subst (λ whole. lines (whole ++ text) ≡ l
         ∙ lines_through front text
         ∙ ap (λ ls. ls ++ lines text) (sym (append-nil (map strip_carriage_return (slice_split (λ b. b == 10) front))) ∙ sym (lines_through front []))
 
+-- the number of lines of both
+pub count-append : (whole text : List ℕ) → IsEmptyOrEndsWith whole 10 → length (lines (whole ++ text)) ≡ length (lines whole) + length (lines text)
+count-append whole text ends = ap length (lines-append whole text ends) ∙ length-append (lines whole) (lines text)
+
 -- the requests of both
-pub requests-append : (whole text : List ℕ) → IsEmptyOrEndsWith whole 10 → requests_of (whole ++ text) ≡ requests_of whole ++ requests_of text
-requests-append whole text ends = ap (map asked_by) (lines-append whole text ends) ∙ map-append asked_by (lines whole) (lines text)
+all_asked : (ls ls' : List (List ℕ)) (qs qs' : List Line) → AreAsked ls qs → AreAsked ls' qs' → AreAsked (ls ++ ls') (qs ++ qs')
+all_asked [] ls' [] qs' asked asked' = asked'
+all_asked [] ls' (q ∷ qs) qs' asked asked' = absurd asked
+all_asked (l ∷ ls) ls' [] qs' asked asked' = absurd asked
+all_asked (l ∷ ls) ls' (q ∷ qs) qs' asked asked' = (asked.0, all_asked ls ls' qs qs' asked.1 asked')
+
+pub asked-append : (whole text : List ℕ) (qs qs' : List Line) → IsEmptyOrEndsWith whole 10 → AreAsked (lines whole) qs → AreAsked (lines text) qs' → AreAsked (lines (whole ++ text)) (qs ++ qs')
+asked-append whole text qs qs' ends asked asked' = subst (λ ls. AreAsked ls (qs ++ qs')) (sym (lines-append whole text ends)) (all_asked (lines whole) (lines text) qs qs' asked asked')
 
 pub short-append : (whole text : List ℕ) → IsEmptyOrEndsWith whole 10 → HasShortLines whole → HasShortLines text → HasShortLines (whole ++ text)
 short-append whole text ends short short' = subst (All (λ line. length line ≤ longest_line)) (sym (lines-append whole text ends)) (All-append (λ line. length line ≤ longest_line) (lines whole) (lines text) short short')
@@ -111,53 +120,22 @@ module _ (line : List ℕ) (short : IsShort line) where
   unterminated : lines line ≡ cond (length line == 0) [] (line ∷ [])
   unterminated = ap lines_of_parts (slice_split_none (λ b. b == 10) line no_byte_passes)
 
--- at most one line, which is not long
-pub record IsOneLine (text : List ℕ) : Type 0 where
-  pub short : HasShortLines text
-  pub one : length (lines text) ≤ 1
+-- the only line of a text: the bytes before a newline, or all bytes
+pub record IsOnly (text line : List ℕ) : Type 0 where
+  pub one : lines text ≡ line ∷ []
+  pub few : length line ≤ longest_line
 
-one_line : (text : List ℕ) (line : List ℕ) → length line ≤ longest_line → lines text ≡ line ∷ [] → IsOneLine text
-one_line text line few is = record {
-  short = subst (All (λ line. length line ≤ longest_line)) (sym is) (All-cons (λ line. length line ≤ longest_line) line [] few (All-nil (λ line. length line ≤ longest_line)));
-  one = omega (arith, ap length is);
-}
+pub only_before_newline : (line : List ℕ) → IsShort line → IsOnly (line ++ 10 ∷ []) (strip_carriage_return line)
+only_before_newline line short = record { one = before_newline line short; few = stripped_short line short }
 
-no_line : (text : List ℕ) → lines text ≡ [] → IsOneLine text
-no_line text is = record {
-  short = subst (All (λ line. length line ≤ longest_line)) (sym is) (All-nil (λ line. length line ≤ longest_line));
-  one = omega (arith, ap length is);
-}
+pub only_last : (line : List ℕ) → IsShort line → 0 < length line → IsOnly line line
+only_last line short some = record { one = unterminated line short ∙ ap (λ (b : Bool). cond b [] (line ∷ [])) (ne_eqb (length line) 0 (λ e. omega (arith, e, some))); few = short.few }
 
-one_last : (text : List ℕ) → IsShort text → IsOneLine text
-one_last text short = by_length (length text == 0) (unterminated text short)
-  where
-    by_length : (b : Bool) → lines text ≡ cond b [] (text ∷ []) → IsOneLine text
-    by_length true is = no_line text is
-    by_length false is = one_line text text short.few is
+pub only_short : (text line : List ℕ) → IsOnly text line → HasShortLines text
+only_short text line is = subst (All (λ line. length line ≤ longest_line)) (sym is.one) (All-cons (λ line. length line ≤ longest_line) line [] is.few (All-nil (λ line. length line ≤ longest_line)))
 
-pub one_read : (left left' : Option (List ℕ)) (text : List ℕ) → IsLineRead left left' text → IsOneLine text
-one_read left left' text (inl read) = one_line text (strip_carriage_return read.0) (stripped_short read.0 read.1) (ap lines read.2 ∙ before_newline read.0 read.1)
-one_read left left' text (inr read) = one_last text read.0
-
--- whether a line may follow one that was read
-and_right : (a b : Bool) → (a && b) ≡ true → b ≡ true
-and_right true b h = h
-and_right false b h = absurd (false≢true h)
-
-both_true : (a b : Bool) → a ≡ true → b ≡ true → (a && b) ≡ true
-both_true a b e e' = rw (e, e') refl
-
-ends_with : (line : List ℕ) → ends_with_byte 10 (line ++ 10 ∷ []) ≡ true
-ends_with line =
-    let long : length (line ++ 10 ∷ []) ≡ length line + 1 = length-append line (10 ∷ []) in
-    let last : length (line ++ 10 ∷ []) - 1 ≡ length line = omega (arith, long) in
-    both_true _ _ (lt-ltb 0 (length (line ++ 10 ∷ [])) (omega (arith, long)))
-    (eq-eqb _ 10 (ap (λ k. get_or (line ++ 10 ∷ []) k 0) last ∙ get_or-append_seam line 10 [] 0))
-
-pub may_follow : (left left' : Option (List ℕ)) (text : List ℕ) → IsLineRead left left' text → MayFollow (ends_with_byte 10 text) left left' text
-may_follow left left' text read = by_end (ends_with_byte 10 text) refl read
-  where
-    by_end : (b : Bool) → ends_with_byte 10 text ≡ b → IsLineRead left left' text → MayFollow b left left' text
-    by_end true e read = λ some. eqb-true (get_or text (length text - 1) 0) 10 (and_right (nat_lt 0 (length text)) (get_or text (length text - 1) 0 == 10) e)
-    by_end false e (inl read) = absurd (false≢true (sym e ∙ ap (ends_with_byte 10) read.2 ∙ ends_with read.0))
-    by_end false e (inr read) = read.1
+-- a text that a newline ends
+pub newline_ends : (line : List ℕ) → IsEmptyOrEndsWith (line ++ 10 ∷ []) 10
+newline_ends line = λ some.
+    let last : length (line ++ 10 ∷ []) - 1 ≡ length line = omega (arith, length-append line (10 ∷ [])) in
+    ap (λ k. get_or (line ++ 10 ∷ []) k 0) last ∙ get_or-append_seam line 10 [] 0

@@ -1,23 +1,23 @@
 -- A live run, line after line.
-use Rattle.std.proofs.Common.{◌≡◌, ℕ, ◌≤◌, Bool, true, false, List, [], ◌∷◌, ◌++◌, Option, Some, None, IfSome, OnSome, length, append_assoc, append-nil, length-append, refl, sym, ap, ◌∙◌, subst, arith}
-use Rattle.std.proofs.lemmas.List.{length-map}
+use Rattle.std.proofs.Common.{◌≡◌, ℕ, ◌+◌, ◌-◌, ◌^◌, ◌<◌, ◌≤◌, Bool, true, false, cond, List, [], ◌∷◌, ◌++◌, Option, Some, None, IfSome, OnSome, Result, Ok, length, append_assoc, append-nil, refl, sym, ap, ◌∙◌, subst, arith}
+use Rattle.std.proofs.lemmas.Bool.{true≢false}
 use Rattle.std.proofs.lemmas.List.Elements.{All-nil}
 use Rattle.std.proofs.lemmas.Grind.{flat_map-append}
-use Rattle.std.specs.Io.BufRead.{ends_with_byte}
+use Rattle.std.specs.Io.{IsEmptyOrEndsWith}
 use Rattle.std.specs.Io.KnownBytes.{Appends, Consumes, IsAtEnd}
-use Rattle.std.specs.Str.Lines.{lines}
+use Rattle.std.specs.Str.Lines.{lines, strip_carriage_return}
 use Rattle.std.proofs.KnownBytes.{Appends-trans, Consumes-nil, Consumes-trans}
 use Rattle.request_lines.specs.declared.lines.Line.{Line}
 use Rattle.frame_session.specs.declared.live.LiveFault.{LiveFault}
 use Rattle.frame_session.specs.declared.live.LiveFault.TheVariants as faults
-use Rattle.request_lines.specs.Requests.{asked_by}
 use Rattle.frame_session.specs.Sessions.{Now}
-use Rattle.frame_session.specs.Answers.{Answer, Run, Runs, Stops, frames_of, replies_of, requests_of}
-use Rattle.frame_session.specs.Live.{CutsOff, IsCutOff, LiveEnds, LiveRefuses, longest_line}
-use Rattle.frame_session.specs.LiveSteps.{IsLineRead, MayFollow, RunsText}
-use Rattle.frame_session.proofs.Served.{runs_none}
+use Rattle.frame_session.specs.Answers.{Answer, Run, Runs, Serves, Stops, WritesFrameFirst, frames_of, replies_of}
+use Rattle.frame_session.specs.Live.{AnswersText, AreAsked, CutsOff, IsAsked, IsCutOff, LiveEnds, LiveRefuses, longest_line}
+use Rattle.frame_session.specs.declared.live.LineRead.{LineRead}
+use Rattle.frame_session.specs.LiveSteps.{IsRead, IsShort, MayFollow, ReadsLine, RunsText}
+use Rattle.frame_session.proofs.Served.{runs_more, runs_none}
 use Rattle.frame_session.proofs.LiveReads.{at_end}
-use Rattle.frame_session.proofs.LiveLines.{ends-append, may_follow, one_read, requests-append, short-append}
+use Rattle.frame_session.proofs.LiveLines.{IsOnly, asked-append, count-append, ends-append, newline_ends, only_before_newline, only_last, only_short, short-append}
 
 run_append : (old mid new : Now) (ls ls' : List Line) (xs ys : List Answer) → Run old ls xs mid → Run mid ls' ys new → Run old (ls ++ ls') (xs ++ ys) new
 run_append old mid new [] ls' [] ys same ran = subst (λ now. Run now ls' ys new) same ran
@@ -35,60 +35,151 @@ runs_append old mid new ls ls' f f' f'' r r' r'' ran more = record {
 }
 
 -- lines, and then lines that a writer's error stops at their last one
-pub record StopsLast (old : Now) (ls : List Line) (f f' r r' : Option (List ℕ)) : Type 0 where
-  pub stops : Stops old ls f f' r r'
-  pub last : stops.rest ≡ []
+module _ (old mid : Now) (ls ls' : List Line) (f f' f'' r r' r'' : Option (List ℕ)) (ran : Runs old ls f f' r r' mid) (s : Stops mid ls' f' f'' r' r'') where
+  abbrev stops_append : Stops old (ls ++ ls') f f'' r r''
+  stops_append = record {
+    done = ls ++ s.done;
+    line = s.line;
+    rest = s.rest;
+    whole = append_assoc ls s.done (s.line ∷ s.rest) ∙ ap (λ rest. ls ++ rest) s.whole;
+    mid = s.mid;
+    frames_mid = s.frames_mid;
+    replies_mid = s.replies_mid;
+    ran = runs_append old mid s.mid ls s.done f f' s.frames_mid r r' s.replies_mid ran s.ran;
+    new = s.new;
+    frame_first = s.frame_first;
+  }
 
-stops_append : (old mid : Now) (ls ls' all : List Line) (f f' f'' r r' r'' : Option (List ℕ)) → all ≡ ls ++ ls' → Runs old ls f f' r r' mid → StopsLast mid ls' f' f'' r' r'' → StopsLast old all f f'' r r''
-stops_append old mid ls ls' all f f' f'' r r' r'' is ran more =
-    let s = more.stops in
-    record {
-      stops = record {
-        done = ls ++ s.done;
-        line = s.line;
-        rest = s.rest;
-        whole = append_assoc ls s.done (s.line ∷ s.rest) ∙ ap (λ rest. ls ++ rest) s.whole ∙ sym is;
-        mid = s.mid;
-        frames_mid = s.frames_mid;
-        replies_mid = s.replies_mid;
-        ran = runs_append old mid s.mid ls s.done f f' s.frames_mid r r' s.replies_mid ran s.ran;
-        new = s.new;
-        frame_first = s.frame_first;
-      };
-      last = more.last;
-    }
+-- a text of no lines
+no_text : (old : Now) (f r : Option (List ℕ)) → AnswersText old [] f f r r old
+no_text old f r = record { short = All-nil (λ line. length line ≤ longest_line); requests = []; asked = tt; runs = runs_none old f r }
 
--- of at most one line nothing is left after the one that stops
-pub stops_last : (old : Now) (text : List ℕ) (f f' r r' : Option (List ℕ)) → length (lines text) ≤ 1 → (s : Stops old (requests_of text) f f' r r') → s.rest ≡ []
-stops_last old text f f' r r' one s = none_left s.rest (omega (arith, one, ap length s.whole, length-append s.done (s.line ∷ s.rest), length-map (lines text) asked_by))
+-- the lines of a text, and of a text after it
+text_append : (old mid new : Now) (whole text : List ℕ) (f f' f'' r r' r'' : Option (List ℕ)) → IsEmptyOrEndsWith whole 10 → AnswersText old whole f f' r r' mid → AnswersText mid text f' f'' r' r'' new → AnswersText old (whole ++ text) f f'' r r'' new
+text_append old mid new whole text f f' f'' r r' r'' ends x y = record {
+  short = short-append whole text ends x.short y.short;
+  requests = x.requests ++ y.requests;
+  asked = asked-append whole text x.requests y.requests ends x.asked y.asked;
+  runs = runs_append old mid new x.requests y.requests f f' f'' r r' r'' x.runs y.runs;
+}
+
+-- the only line of a text was answered, or a writer refused its answer
+module _ (old new : Now) (text line : List ℕ) (is : IsOnly text line) (request : Line) (asked : IsAsked line request) (f f' r r' : Option (List ℕ)) where
+  all_asked : AreAsked (lines text) (request ∷ [])
+  all_asked = subst (λ ls. AreAsked ls (request ∷ [])) (sym is.one) (asked, tt)
+
+  only_answered : Serves old request f f' r r' new → AnswersText old text f f' r r' new
+  only_answered served = record {
+    short = only_short text line is;
+    requests = request ∷ [];
+    asked = all_asked;
+    runs = runs_more old old new [] request f f f' r r r' (runs_none old f r) served;
+  }
+
+  only_refused : (a b : Option (List ℕ)) → Consumes a b text → WritesFrameFirst old request f f' r r' new → LiveRefuses old a b f f' r r'
+  only_refused a b taken first = record {
+    text = text;
+    taken = taken;
+    requests = request ∷ [];
+    asked = all_asked;
+    stops = record { done = []; line = request; rest = []; whole = refl; mid = old; frames_mid = f; replies_mid = r; ran = runs_none old f r; new = new; frame_first = first };
+    last = refl;
+  }
+
+-- the next line was read
+module _ (old new : Now) (a b f f' r r' : Option (List ℕ)) (line : List ℕ) (short : IsShort line) (request : Line) where
+  pub line_answered : Consumes a b (line ++ 10 ∷ []) → IsAsked (strip_carriage_return line) request → Serves old request f f' r r' new → RunsText 1 old new a b f f' r r' true
+  line_answered taken asked served =
+      let only = only_before_newline line short in
+      record {
+        text = line ++ 10 ∷ [];
+        taken = taken;
+        follows = newline_ends line;
+        many = omega (arith, ap length only.one);
+        answers = only_answered old new (line ++ 10 ∷ []) (strip_carriage_return line) only request asked f f' r r' served;
+      }
+
+  pub last_answered : Consumes a b line → OnSome a (IsAtEnd b) → 0 < length line → IsAsked line request → Serves old request f f' r r' new → RunsText 0 old new a b f f' r r' false
+  last_answered taken end some asked served = record {
+    text = line;
+    taken = taken;
+    follows = end;
+    many = omega arith;
+    answers = only_answered old new line line (only_last line short some) request asked f f' r r' served;
+  }
+
+  pub line_refused : Consumes a b (line ++ 10 ∷ []) → IsAsked (strip_carriage_return line) request → WritesFrameFirst old request f f' r r' new → LiveEnds old a b f f' r r' faults.Write
+  line_refused taken asked first = only_refused old new (line ++ 10 ∷ []) (strip_carriage_return line) (only_before_newline line short) request asked f f' r r' a b taken first
+
+  pub last_refused : Consumes a b line → 0 < length line → IsAsked line request → WritesFrameFirst old request f f' r r' new → LiveEnds old a b f f' r r' faults.Write
+  last_refused taken some asked first = only_refused old new line line (only_last line short some) request asked f f' r r' a b taken first
+
+-- no line is left
+pub none_left : (old : Now) (a b f r : Option (List ℕ)) (line : List ℕ) → line ≡ [] → Consumes a b line → OnSome a (IsAtEnd b) → RunsText 0 old old a b f f r r false
+none_left old a b f r line none taken end = record { text = []; taken = subst (Consumes a b) none taken; follows = end; many = omega arith; answers = no_text old f r }
+
+-- the next line was read, if its newline follows it (t) or it is not empty
+module _ (old new : Now) (a b f f' r r' : Option (List ℕ)) (read : LineRead) (request : Line) where
+  -- for all bytes that may have been read, the request is the line's
+  abbrev pub IsRequest : Bool → Type 0
+  IsRequest t = (line : List ℕ) → IsRead read line → IsAsked (cond t (strip_carriage_return line) line) request
+
+  some_bytes : (line : List ℕ) → IsRead read line → (read.length ≡ 0 → ⊥) → 0 < length line
+  some_bytes line is some = by_length line refl
+    where
+      by_length : (l : List ℕ) → line ≡ l → 0 < length line
+      by_length [] e = absurd (some (is.length ∙ ap length e))
+      by_length (x ∷ xs) e = omega (arith, ap length e)
+
+  pub read_answered : (t : Bool) → ReadsLine a b read (Ok t) → (t ≡ false → read.length ≡ 0 → ⊥) → IsRequest t → Serves old request f f' r r' new → RunsText (cond t 1 0) old new a b f f' r r' t
+  read_answered true x some asked served = line_answered old new a b f f' r r' x.0 x.2 request x.3 (asked x.0 x.1) served
+  read_answered false x some asked served = last_answered old new a b f f' r r' x.0 x.2 request x.3 x.4 (some_bytes x.0 x.1 (some refl)) (asked x.0 x.1) served
+
+  pub read_refused : (t : Bool) → ReadsLine a b read (Ok t) → (t ≡ false → read.length ≡ 0 → ⊥) → IsRequest t → WritesFrameFirst old request f f' r r' new → LiveEnds old a b f f' r r' faults.Write
+  read_refused true x some asked first = line_refused old new a b f f' r r' x.0 x.2 request x.3 (asked x.0 x.1) first
+  read_refused false x some asked first = last_refused old new a b f f' r r' x.0 x.2 request x.3 (some_bytes x.0 x.1 (some refl)) (asked x.0 x.1) first
+
+-- nothing was read at the end
+pub nothing_left : (old : Now) (a b f r : Option (List ℕ)) (read : LineRead) (t : Bool) → ReadsLine a b read (Ok t) → t ≡ false → read.length ≡ 0 → RunsText 0 old old a b f f r r false
+nothing_left old a b f r read true x is none = absurd (true≢false is)
+nothing_left old a b f r read false x is none = none_left old a b f r x.0 (no_bytes x.0 (sym x.1.length ∙ none)) x.3 x.4
   where
-    none_left : (rest : List Line) → length rest ≤ 0 → rest ≡ []
-    none_left [] few = refl
-    none_left (x ∷ rest) few = absurd (omega (arith, few))
+    no_bytes : (line : List ℕ) → length line ≡ 0 → line ≡ []
+    no_bytes [] e = refl
+    no_bytes (y ∷ ys) e = absurd (omega (arith, e))
 
 -- nothing was read yet
-pub text_none : (old : Now) (a f r : Option (List ℕ)) → RunsText old old a a f f r r true
+pub text_none : (old : Now) (a f r : Option (List ℕ)) → RunsText 0 old old a a f f r r true
 text_none old a f r = record {
   text = [];
   taken = Consumes-nil a;
   follows = λ some. absurd (omega (arith, some));
-  short = All-nil (λ line. length line ≤ longest_line);
-  runs = runs_none old f r;
+  many = omega arith;
+  answers = no_text old f r;
 }
 
-module _ (old mid new : Now) (a b c f f' f'' r r' r'' : Option (List ℕ)) (x : RunsText old mid a b f f' r r' true) where
+-- a line that is cut off after more lines
+cut_off_later : (before text part : List ℕ) (fault : LiveFault) → IsEmptyOrEndsWith before 10 → IsCutOff text part fault → IsCutOff (before ++ text) part fault
+cut_off_later before text part (faults.Ivf source why) ends cut = cut
+cut_off_later before text part faults.Read ends cut = cut
+cut_off_later before text part faults.TooLong ends cut = cut
+cut_off_later before text part faults.Endless ends cut = (cut.0, omega (arith, cut.1, count-append before text ends))
+cut_off_later before text part faults.Write ends cut = cut
+cut_off_later before text part faults.NoMemory ends cut = cut
+
+module _ (least : ℕ) (old mid new : Now) (a b c f f' f'' r r' r'' : Option (List ℕ)) (x : RunsText least old mid a b f f' r r' true) where
   follows_more : (more : Bool) (text : List ℕ) → MayFollow more b c text → MayFollow more a c (x.text ++ text)
   follows_more true text follows = ends-append x.text text x.follows follows
   follows_more false text follows = at_end a b c x.text x.taken follows
 
   -- one more line
-  pub text_more : (more : Bool) → RunsText mid new b c f' f'' r' r'' more → RunsText old new a c f f'' r r'' more
-  text_more more y = record {
+  pub text_more : (n : ℕ) (more : Bool) → RunsText n mid new b c f' f'' r' r'' more → RunsText (least + n) old new a c f f'' r r'' more
+  text_more n more y = record {
     text = x.text ++ y.text;
     taken = Consumes-trans a b c x.text y.text x.taken y.taken;
     follows = follows_more more y.text y.follows;
-    short = short-append x.text y.text x.follows x.short y.short;
-    runs = subst (λ ls. Runs old ls f f'' r r'' new) (sym (requests-append x.text y.text x.follows)) (runs_append old mid new (requests_of x.text) (requests_of y.text) f f' f'' r r' r'' x.runs y.runs);
+    many = omega (arith, x.many, y.many, count-append x.text y.text x.follows);
+    answers = text_append old mid new x.text y.text f f' f'' r r' r'' x.follows x.answers y.answers;
   }
 
   -- the next line is cut off
@@ -98,72 +189,66 @@ module _ (old mid new : Now) (a b c f f' f'' r r' r'' : Option (List ℕ)) (x : 
     part = y.part;
     taken = subst (Consumes a c) (sym (append_assoc x.text y.text y.part)) (Consumes-trans a b c x.text (y.text ++ y.part) x.taken y.taken);
     whole = ends-append x.text y.text x.follows y.whole;
-    short = short-append x.text y.text x.follows x.short y.short;
-    cut_off = y.cut_off;
+    cut_off = cut_off_later x.text y.text y.part fault x.follows y.cut_off;
     new = y.new;
-    runs = subst (λ ls. Runs old ls f f'' r r'' y.new) (sym (requests-append x.text y.text x.follows)) (runs_append old mid y.new (requests_of x.text) (requests_of y.text) f f' f'' r r' r'' x.runs y.runs);
+    answers = text_append old mid y.new x.text y.text f f' f'' r r' r'' x.follows x.answers y.answers;
   }
 
   -- the next answer is refused
   refused_more : LiveRefuses mid b c f' f'' r' r'' → LiveRefuses old a c f f'' r r''
-  refused_more y =
-      let both = stops_append old mid (requests_of x.text) (requests_of y.text) (requests_of (x.text ++ y.text)) f f' f'' r r' r'' (requests-append x.text y.text x.follows) x.runs (record { stops = y.stops; last = y.last }) in
-      record { text = x.text ++ y.text; taken = Consumes-trans a b c x.text y.text x.taken y.taken; stops = both.stops; last = both.last }
+  refused_more y = record {
+    text = x.text ++ y.text;
+    taken = Consumes-trans a b c x.text y.text x.taken y.taken;
+    requests = x.answers.requests ++ y.requests;
+    asked = asked-append x.text y.text x.answers.requests y.requests x.follows x.answers.asked y.asked;
+    stops = stops_append old mid x.answers.requests y.requests f f' f'' r r' r'' x.answers.runs y.stops;
+    last = y.last;
+  }
 
   pub ends_more : (fault : LiveFault) → LiveEnds mid b c f' f'' r' r'' fault → LiveEnds old a c f f'' r r'' fault
-  ends_more (faults.Ivf source why) y = absurd y
+  ends_more (faults.Ivf source why) y = cut_more (faults.Ivf source why) y
   ends_more faults.Read y = cut_more faults.Read y
   ends_more faults.TooLong y = cut_more faults.TooLong y
+  ends_more faults.Endless y = cut_more faults.Endless y
   ends_more faults.Write y = refused_more y
   ends_more faults.NoMemory y = cut_more faults.NoMemory y
 
+-- a text of at least some number of lines
+pub any_number : (n : ℕ) (more : Bool) (old new : Now) (a b f f' r r' : Option (List ℕ)) → RunsText n old new a b f f' r r' more → RunsText 0 old new a b f f' r r' more
+any_number n more old new a b f f' r r' x = record { text = x.text; taken = x.taken; follows = x.follows; many = omega arith; answers = x.answers }
+
 -- no more lines are read
-pub ends_read : (old mid : Now) (a b f f' r r' : Option (List ℕ)) → RunsText old mid a b f f' r r' true → LiveEnds old a b f f' r r' faults.Read
-ends_read old mid a b f f' r r' x = record {
+pub ends_endless : (n : ℕ) (old mid : Now) (a b f f' r r' : Option (List ℕ)) → 2 ^ 64 - 1 ≤ n → RunsText n old mid a b f f' r r' true → LiveEnds old a b f f' r r' faults.Endless
+ends_endless n old mid a b f f' r r' most x = record {
   text = x.text;
   part = [];
   taken = subst (Consumes a b) (sym (append-nil x.text)) x.taken;
   whole = x.follows;
-  short = x.short;
-  cut_off = All-nil (λ byte. byte ≡ 10 → ⊥);
+  cut_off = (refl, omega (arith, most, x.many));
   new = mid;
-  runs = x.runs;
+  answers = x.answers;
 }
 
 module _ (old : Now) (a b f r : Option (List ℕ)) (part : List ℕ) (taken : Consumes a b part) where
-  cut_first : (fault : LiveFault) → IsCutOff part fault → CutsOff old a b f f r r fault
+  cut_first : (fault : LiveFault) → IsCutOff [] part fault → CutsOff old a b f f r r fault
   cut_first fault cut = record {
     text = [];
     part = part;
     taken = taken;
     whole = λ some. absurd (omega (arith, some));
-    short = All-nil (λ line. length line ≤ longest_line);
     cut_off = cut;
     new = old;
-    runs = runs_none old f r;
+    answers = no_text old f r;
   }
 
   -- the first line was not read
-  pub ends_first : (fault : LiveFault) → IsCutOff part fault → LiveEnds old a b f f r r fault
+  pub ends_first : (fault : LiveFault) → IsCutOff [] part fault → LiveEnds old a b f f r r fault
   ends_first (faults.Ivf source why) cut = absurd cut
   ends_first faults.Read cut = cut_first faults.Read cut
   ends_first faults.TooLong cut = cut_first faults.TooLong cut
+  ends_first faults.Endless cut = cut_first faults.Endless cut
   ends_first faults.Write cut = absurd cut
-  ends_first faults.NoMemory cut = cut_first faults.NoMemory cut
-
--- a line was read and answered, or a writer refused its answer
-module _ (old new : Now) (a b f f' r r' : Option (List ℕ)) (text : List ℕ) (taken : Consumes a b text) (read : IsLineRead a b text) where
-  pub answered : (more : Bool) → more ≡ ends_with_byte 10 text → Runs old (requests_of text) f f' r r' new → RunsText old new a b f f' r r' more
-  answered more is ran = record {
-    text = text;
-    taken = taken;
-    follows = subst (λ b'. MayFollow b' a b text) (sym is) (may_follow a b text read);
-    short = (one_read a b text read).short;
-    runs = ran;
-  }
-
-  pub refused : Stops old (requests_of text) f f' r r' → LiveEnds old a b f f' r r' faults.Write
-  refused s = record { text = text; taken = taken; stops = s; last = stops_last old text f f' r r' (one_read a b text read).one s }
+  ends_first faults.NoMemory cut = absurd cut
 
 -- what was read to its end is all
 pub read_all : (a b : Option (List ℕ)) (text : List ℕ) → Consumes a b text → OnSome a (IsAtEnd b) → IfSome a (λ bytes. text ≡ bytes)

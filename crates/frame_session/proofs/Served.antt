@@ -8,7 +8,7 @@ use Rattle.pixel_planes.specs.Pictures.{PictureSamples}
 use Rattle.stream_files.specs.Y4m.{frame_text}
 use Rattle.stream_files.specs.declared.ivf.Head.{Head}
 use Rattle.request_lines.specs.declared.lines.Line.{Line}
-use Rattle.request_lines.specs.declared.lines.Line.TheVariants.{Silent, Unknown, Frame, Use, Insert, Replace, Delete, Move, Copy, Blank, Hold, Script, Count, Stats}
+use Rattle.request_lines.specs.declared.lines.Line.TheVariants.{Silent, Unknown, Frame, Use, Insert, Replace, Delete, Move, Copy, Blank, Hold, Script, Count, Stats, Lost}
 use Rattle.frame_session.specs.declared.edit.Edit.TheVariants as edits
 use Rattle.frame_session.specs.declared.refusal.Refusal.{Refusal}
 use Rattle.frame_session.specs.declared.refusal.Refusal.TheVariants as refusals
@@ -47,6 +47,9 @@ module _ (old : Now) (f f' r r' : Option (List ℕ)) where
         shown = subst (λ t. Q returned.0.width returned.0.height t) (text_same picture returned.0 returned.3 returned.2) shown';
         said = said;
       }
+
+  pub serves_lost : Appends r r' (refused_line refusals.NoMemory) → Serves old Lost f f r r' old
+  serves_lost said = record { answer = reply_only (refused_line refusals.NoMemory); means = (refl, refl); shown = Appends-nil f; said = said }
 
   pub serves_script : (text : List ℕ) (set : Result ℕ Refusal) (new : Now) → IsOrNoMemory (script_answer old text) set → new ≡ now_after_script text old set → Appends r r' (edit_line set) → Serves old (Script text) f f r r' new
   serves_script text set new returned after said = record {

@@ -78,6 +78,7 @@ Answers old (requests.Script text) answer new =
     (set : Result ℕ Refusal) × IsOrNoMemory (script_answer old text) set × AnswersScript old text set answer new
 Answers old requests.Count answer new = (answer ≡ reply_only (count_line (packet_count old) (frame_count old))) × (new ≡ old)
 Answers old requests.Stats answer new = (answer ≡ reply_only (stats_line old.decoded)) × (new ≡ old)
+Answers old requests.Lost answer new = (answer ≡ reply_only (refused_line refusals.NoMemory)) × (new ≡ old)
 
 -- lines in sequence, answers that they may have, and the state after them
 abbrev pub Run : Now → List Line → List Answer → Now → Type 0

@@ -1,7 +1,7 @@
 -- Laws that follow from the definition of a request list's meaning.
-use Rattle.std.specs.Prelude.{◌≡◌, ℕ, ◌≤◌, List, [], ◌∷◌}
+use Rattle.std.specs.Prelude.{◌≡◌, ◌≢◌, All, ℕ, ◌≤◌, List, [], ◌∷◌}
 use Rattle.request_lines.specs.declared.lines.Line.{Line}
-use Rattle.request_lines.specs.declared.lines.Line.TheVariants.{Stats}
+use Rattle.request_lines.specs.declared.lines.Line.TheVariants.{Lost, Stats}
 use Rattle.frame_session.specs.declared.refusal.Refusal.{Refusal}
 use Rattle.frame_session.specs.declared.refusal.Refusal.TheVariants as refusals
 use Rattle.frame_session.specs.Replies.{refused_line, stats_line}
@@ -38,6 +38,6 @@ abbrev pub RefusedLinesChangeNothing : Type 0
 RefusedLinesChangeNothing = (old new : Now) (line : Line) (answer : Answer) (refusal : Refusal) → Answers old line answer new → answer.reply ≡ refused_line refusal
     → new ≡ record old { decoded = new.decoded }
 
--- in every session, each list of requests has answers of which none is `refused NoMemory`
+-- in every session, each list of requests of which no line was lost has answers of which none is `refused NoMemory`
 abbrev pub AnswersExist : Type 0
-AnswersExist = (old : Now) (lines : List Line) → (answers : List Answer) × (new : Now) × Run old lines answers new × HaveMemory answers
+AnswersExist = (old : Now) (lines : List Line) → All (λ line. line ≢ Lost) lines → (answers : List Answer) × (new : Now) × Run old lines answers new × HaveMemory answers

@@ -6,6 +6,8 @@ use Rattle.frame_header.specs.declared.cause.Cause.TheVariants as causes
 use Rattle.frame_header.specs.Cause.{cause_word}
 use Rattle.frame_session.specs.declared.refusal.Refusal.{Refusal}
 use Rattle.frame_session.specs.declared.refusal.Refusal.TheVariants as refusals
+use Rattle.frame_session.specs.declared.live.LiveFault.{LiveFault}
+use Rattle.frame_session.specs.declared.live.LiveFault.TheVariants as lives
 use Rattle.frame_session.specs.declared.serving.RunFault.{RunFault}
 use Rattle.frame_session.specs.declared.serving.RunFault.TheVariants as faults
 
@@ -73,3 +75,12 @@ abbrev pub run_fault_word : RunFault → List ℕ
 run_fault_word (faults.Ivf source fault) = codes "Ivf"
 run_fault_word faults.Write = codes "Write"
 run_fault_word faults.NoMemory = codes "NoMemory"
+
+-- the name of a live run's error
+abbrev pub live_fault_word : LiveFault → List ℕ
+live_fault_word (lives.Ivf source fault) = codes "Ivf"
+live_fault_word lives.Read = codes "Read"
+live_fault_word lives.TooLong = codes "TooLong"
+live_fault_word lives.Endless = codes "Endless"
+live_fault_word lives.Write = codes "Write"
+live_fault_word lives.NoMemory = codes "NoMemory"

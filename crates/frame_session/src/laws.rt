@@ -9,7 +9,7 @@ ghost use Rattle.frame_session.specs.Laws.{AnswersAreOne, AnswersExist, RefusedL
 
 use vp8_tables::Tables;
 
-/// Each request list has a meaning in which nothing is out of memory.
+/// Each request list of which no line was lost has a meaning in which nothing is out of memory.
 pub fn answers_exist()
     ensures { AnswersExist }
 {}

@@ -1,15 +1,17 @@
 // Answers requests as they come.
-ghost use Rattle.std.specs.Prelude.{◌≡◌, ◌≤◌, ◌++◌, ℕ, List, IfOk, IfErr, OnOk, false, length};
+ghost use Rattle.std.specs.Prelude.{◌≡◌, ◌≤◌, ◌+◌, ◌++◌, ℕ, List, [], IfOk, IfErr, OnOk, false, if◌then◌else◌, length};
 ghost use Rattle.std.specs.Io.KnownBytes.{Consumes};
-ghost use Rattle.std.specs.Io.BufRead.{ends_with_byte};
+ghost use Rattle.std.specs.Str.Lines.{strip_carriage_return};
 ghost use Rattle.frame_session.specs.Answers.{texts_of};
-ghost use Rattle.frame_session.specs.Live.{LiveEnds, LiveMeans, LiveStops, reported_live};
-ghost use Rattle.frame_session.specs.LiveSteps.{IsShort, ReadsLine, ReadsPart, RunsText};
+ghost use Rattle.frame_session.specs.Live.{IsAsked, LiveEnds, LiveMeans, LiveStops, live_fault_by, longest_line};
+ghost use Rattle.frame_session.specs.LiveSteps.{IsRead, IsShort, ReadsLine, ReadsPart, RunsText};
+ghost use Rattle.frame_session.specs.Replies.{live_fault_word};
 
 use crate::observer::{Observer, Unobserved};
-use crate::serving::{Flushing, RunFault, read_sources, serve_all};
+use crate::serving::{Flushing, RunFault, read_sources, serve_line};
 use crate::session::Session;
 use crate::settings::Settings;
+use request_lines::{Beginning, Line, read_line, without_carriage_return};
 use std::alloc::Global;
 use std::io::{self, BufRead, ErrorKind, Write};
 use stream_files::IvfFault;
@@ -24,25 +26,45 @@ const LONGEST_LINE: usize = 1_073_741_824;
 #[derive(Clone, Copy, Debug, PartialEq, Eq, Error)]
 pub enum LiveFault {
     /// The bytes of a source are not an IVF file, or out of memory for its packets. It is the first such
-    /// source.
+    /// source. Nothing was read or written.
     #[error("source {source} cannot be read: {fault}")]
     Ivf { source: usize, fault: IvfFault },
-    /// The reader returned an error. The lines before it were answered.
+    /// The reader returned an error, or 2^64 - 1 times within a line that it was interrupted. The lines before it were
+    /// answered.
     #[error("the reader returned an error")]
     Read,
     /// A line has more than 1,073,741,824 bytes. The lines before it were answered.
     #[error("a line is longer than 1 GiB")]
     TooLong,
+    /// The reader has given 2^64 - 1 lines. All were answered.
+    #[error("the reader gives more lines than can be counted")]
+    Endless,
     /// A writer returned an error. How much was written is left open.
     #[error("a writer returned an error")]
     Write,
-    /// Out of memory at the start, or for the bytes of a line. The lines before it were answered.
+    /// Out of memory at the start. Nothing was read or written.
     #[error("out of memory")]
     NoMemory,
 }
 
+impl LiveFault {
+    /// The error's name; that of a file error is `Ivf`.
+    pub fn word(self) -> &'static str
+        ensures { result.now ≡ live_fault_word self }
+    {
+        match self {
+            LiveFault::Ivf { .. } => "Ivf",
+            LiveFault::Read => "Read",
+            LiveFault::TooLong => "TooLong",
+            LiveFault::Endless => "Endless",
+            LiveFault::Write => "Write",
+            LiveFault::NoMemory => "NoMemory",
+        }
+    }
+}
+
 impl From<RunFault> for LiveFault {
-    ghost from_gives = { λ run live. live ≡ reported_live run };
+    ghost from_gives = { λ run live. live ≡ live_fault_by run };
 
     fn from(fault: RunFault) -> Self {
         match fault {
@@ -53,68 +75,129 @@ impl From<RunFault> for LiveFault {
     }
 }
 
+/// How far a line is read.
+#[derive(Clone, Copy, PartialEq, Eq)]
+enum Reached {
+    /// More of its bytes may follow.
+    Within,
+    /// The newline that follows it.
+    Newline,
+    /// The end of all bytes.
+    End,
+}
+
+/// A line as far as it is read, without its newline.
+#[derive(Drop)]
+struct LineRead {
+    /// Its bytes; if memory ran out, as many of the first ones as there was memory for.
+    held: Vec<u8>,
+    /// Whether all its bytes are held.
+    is_held: bool,
+    beginning: Beginning,
+    /// The number of its bytes.
+    length: usize,
+}
+
+impl LineRead {
+    /// A line of which nothing is read.
+    fn new(alloc: Global) -> LineRead
+        ensures { IsRead result [] }
+    {
+        LineRead {
+            held: Vec::new(alloc),
+            is_held: true,
+            beginning: Beginning::empty(),
+            length: 0,
+        }
+    }
+
+    /// Takes more bytes of the line. If memory runs out, they and all later ones are dropped.
+    fn add(&mut self, part: &[u8])
+        requires { self.old.length + length part.now ≤ longest_line }
+        ensures { (line : List ℕ) → IsRead self.old line → IsRead self.new (line ++ part.now) }
+    {
+        self.beginning = self.beginning.with(part);
+        self.length += part.len();
+        if self.is_held {
+            self.is_held = self.held.extend_from_slice(part).is_ok();
+        }
+    }
+
+    /// The bytes that are held, without the carriage return before a newline.
+    fn text(&self, is_terminated: bool) -> &[u8]
+        ensures { result.now ≡ (if is_terminated then strip_carriage_return self.now.held.items else self.now.held.items) }
+    {
+        let held = self.held.as_slice();
+        if is_terminated {
+            without_carriage_return(held)
+        } else {
+            held
+        }
+    }
+
+    /// The request of the line, which is lost if not all its bytes are held.
+    fn request(&self, is_terminated: bool) -> Line<'_>
+        ensures { (line : List ℕ) → IsRead self.now line → IsAsked (if is_terminated then strip_carriage_return line else line) result }
+    {
+        if self.is_held {
+            read_line(self.text(is_terminated))
+        } else {
+            self.beginning.request(is_terminated)
+        }
+    }
+}
+
 /// The result of a read that failed: an interrupted one is repeated.
-fn unread(error: &io::Error) -> Result<bool, LiveFault>
-    ensures again { IfOk result (λ complete. complete ≡ false) }
+fn unread(error: &io::Error) -> Result<Reached, LiveFault>
+    ensures again { IfOk result (λ reached. reached ≡ Reached.Within) }
     ensures fault { IfErr result (λ fault. fault ≡ LiveFault.Read) }
 {
     if error.kind() == ErrorKind::Interrupted {
-        return Ok(false);
+        return Ok(Reached::Within);
     }
     Err(LiveFault::Read)
 }
 
-fn append(line: &mut Vec<u8>, part: &[u8]) -> Result<(), LiveFault>
-    ensures appended { OnOk result (line.new.items ≡ line.old.items ++ part.now) }
-    ensures fault { IfErr result (λ fault. fault ≡ LiveFault.NoMemory) }
-{
-    line.extend_from_slice(part)
-        .map_err(|_| LiveFault::NoMemory)
-}
-
-/// Reads the bytes that a reader has ready, up to a newline and with it, and appends them to a line that has no
-/// newline yet. Returns whether the line is complete: by its newline, or at the end of the bytes.
-fn read_part<I: BufRead>(input: &mut I, line: &mut Vec<u8>) -> Result<bool, LiveFault>
-    requires { IsShort line.old.items }
-    ensures { (part : List ℕ) × Consumes (I.remaining input.old) (I.remaining input.new) part × ReadsPart (I.remaining input.old) (I.remaining input.new) line.old.items line.new.items part result }
+/// Reads the bytes that a reader has ready, up to a newline and with it, and adds them to a line.
+fn read_part<I: BufRead>(input: &mut I, line: &mut LineRead) -> Result<Reached, LiveFault>
+    requires { line.old.length ≤ longest_line }
+    ensures { (text : List ℕ) → IsRead line.old text → IsShort text → (part : List ℕ) × Consumes (I.remaining input.old) (I.remaining input.new) part × ReadsPart (I.remaining input.old) (I.remaining input.new) line.new text part result }
 {
     let ready = match input.fill_buf() {
         Ok(ready) => ready,
         Err(error) => return unread(&error),
     };
     let end = length_before(b'\n', ready);
-    if end > LONGEST_LINE - line.len() {
+    if end > LONGEST_LINE - line.length {
         input.consume(end);
         return Err(LiveFault::TooLong);
     }
+    line.add(&ready[..end]);
     if end < ready.len() {
-        append(line, &ready[..end + 1])?;
         input.consume(end + 1);
-        return Ok(true);
+        return Ok(Reached::Newline);
     }
-    append(line, ready)?;
     input.consume(end);
-    Ok(end == 0)
+    Ok(if end == 0 {
+        Reached::End
+    } else {
+        Reached::Within
+    })
 }
 
-/// Reads a line, with its newline; the last line may be unterminated, and no bytes are left after it. At the end it
-/// is empty.
-fn read_whole_line<I: BufRead>(alloc: Global, input: &mut I) -> Result<Vec<u8>, LiveFault>
-    ensures { ReadsLine (λ line. line.items) (I.remaining input.old) (I.remaining input.new) result }
+/// Reads a line. Returns whether a newline follows it; otherwise no bytes are left.
+fn read_whole_line<I: BufRead>(input: &mut I, line: &mut LineRead) -> Result<bool, LiveFault>
+    requires { IsRead line.old [] }
+    ensures { ReadsLine (I.remaining input.old) (I.remaining input.new) line.new result }
 {
-    let mut line = Vec::new(alloc);
     'parts: for _ in 0..u64::MAX {
-        if read_part(input, &mut line)? {
-            return Ok(line);
+        match read_part(input, line)? {
+            Reached::Within => {}
+            Reached::Newline => return Ok(true),
+            Reached::End => return Ok(false),
         }
     }
     Err(LiveFault::Read)
-}
-
-fn ends_with_newline(line: &[u8]) -> bool
-    ensures { result ≡ ends_with_byte 10 line.now }
-{
-    line.last() == Some(&b'\n')
 }
 
 /// Reads the next line and answers it. Returns whether a line may follow it.
@@ -126,20 +209,21 @@ fn answer_next<I: BufRead, F: Write, R: Write, O: Observer>(
     replies: &mut R,
     observer: &mut O,
 ) -> Result<bool, LiveFault>
-    ensures ok { IfOk result (RunsText session.old.now session.new.now (I.remaining input.old) (I.remaining input.new) (F.contents frames.old) (F.contents frames.new) (R.contents replies.old) (R.contents replies.new)) }
+    ensures ok { IfOk result (λ more. RunsText (if more then 1 else 0) session.old.now session.new.now (I.remaining input.old) (I.remaining input.new) (F.contents frames.old) (F.contents frames.new) (R.contents replies.old) (R.contents replies.new) more) }
     ensures err { IfErr result (LiveEnds session.old.now (I.remaining input.old) (I.remaining input.new) (F.contents frames.old) (F.contents frames.new) (R.contents replies.old) (R.contents replies.new)) }
     ensures capacity { session.new.cache.capacity ≡ session.old.cache.capacity }
 {
-    let line = read_whole_line(alloc, input)?;
-    match serve_all(
-        session,
-        line.as_slice(),
-        frames,
-        replies,
-        Flushing::EachAnswer,
-        observer,
-    ) {
-        Ok(()) => Ok(ends_with_newline(line.as_slice())),
+    let mut line = LineRead::new(alloc);
+    let is_terminated = read_whole_line(input, &mut line)?;
+    if !is_terminated && line.length == 0 {
+        return Ok(false);
+    }
+    let request = line.request(is_terminated);
+    match serve_line(session, request, frames, replies, Flushing::EachAnswer) {
+        Ok(told) => {
+            observer.answered(session, line.text(is_terminated), told);
+            Ok(is_terminated)
+        }
         Err(_) => Err(LiveFault::Write),
     }
 }
@@ -153,16 +237,16 @@ fn serve_live<I: BufRead, F: Write, R: Write, O: Observer>(
     replies: &mut R,
     observer: &mut O,
 ) -> Result<(), LiveFault>
-    ensures ok { OnOk result (RunsText session.old.now session.new.now (I.remaining input.old) (I.remaining input.new) (F.contents frames.old) (F.contents frames.new) (R.contents replies.old) (R.contents replies.new) false) }
+    ensures ok { OnOk result (RunsText 0 session.old.now session.new.now (I.remaining input.old) (I.remaining input.new) (F.contents frames.old) (F.contents frames.new) (R.contents replies.old) (R.contents replies.new) false) }
     ensures err { IfErr result (LiveEnds session.old.now (I.remaining input.old) (I.remaining input.new) (F.contents frames.old) (F.contents frames.new) (R.contents replies.old) (R.contents replies.new)) }
     ensures capacity { session.new.cache.capacity ≡ session.old.cache.capacity }
 {
-    'lines: for _ in 0..u64::MAX {
+    'lines: for _answered in 0..u64::MAX {
         if !answer_next(alloc, session, input, frames, replies, observer)? {
             return Ok(());
         }
     }
-    Err(LiveFault::Read)
+    Err(LiveFault::Endless)
 }
 
 /// Runs requests as `run_live` does, and tells an observer of each line after its reply was written and flushed.
@@ -195,13 +279,14 @@ pub fn run_live_observed<I: BufRead, F: Write, R: Write, O: Observer>(
 /// its frame is written and flushed, then its reply is written and flushed, and only then the next line is read.
 ///
 /// The last line may be unterminated. A line has at most 1,073,741,824 bytes, its newline not counted. The memory
-/// is that of the session and of one line, however many lines there are.
+/// is that of the session and of one line, however many lines there are. A line for which there is no memory is refused as
+/// NoMemory, its bytes are dropped, and the next line is answered.
 ///
 /// `LiveFault::Ivf` with the first source whose bytes are not an IVF file, or for whose packets there is no
-/// memory: nothing is read or written then. `LiveFault::Read` if the reader fails (or has given 2^64 - 1 lines),
-/// `LiveFault::TooLong` if a line is too long, and `LiveFault::NoMemory` if out of memory for the session or for a
-/// line: the lines before it were answered. `LiveFault::Write` if a writer fails: nothing was read after the line
-/// whose answer could not be written.
+/// memory, and `LiveFault::NoMemory` if out of memory for the session: nothing is read or written then. `LiveFault::Read` if the
+/// reader fails, `LiveFault::TooLong` if a line is too long, and `LiveFault::Endless` after 2^64 - 1 lines: the lines
+/// before that were answered. `LiveFault::Write` if a writer fails: nothing was read after the line whose answer could not be
+/// written.
 pub fn run_live<I: BufRead, F: Write, R: Write>(
     alloc: Global,
     settings: Settings,

@@ -215,12 +215,13 @@ fn serve<F: Write, R: Write>(
         }
         Line::Count => report_count(session, replies),
         Line::Stats => write_stats(replies, session.decoded()),
+        Line::Lost => write_refused(replies, Refusal::NoMemory),
     }
 }
 
 /// Answers one line, and flushes the reply if that is due. Returns the refusal that the reply reports, if it reports one.
 #[tactic(auto, using(crate::proofs::ToldKept::tells_kept))]
-fn serve_line<F: Write, R: Write>(
+pub(crate) fn serve_line<F: Write, R: Write>(
     session: &mut Session,
     line: Line<'_>,
     frames: &mut F,

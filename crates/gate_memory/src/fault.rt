@@ -1,6 +1,6 @@
 //! Why the program ends early.
 
-use frame_session::Refusal;
+use frame_session::{LiveFault, Refusal};
 use packet_edits::EditFault;
 use reference_frames::StepFault;
 use std::io;
@@ -16,6 +16,9 @@ pub enum Fault {
     List(EditFault),
     Step(StepFault),
     Session(Refusal),
+    Live(LiveFault),
+    /// A live line was answered otherwise although it was not refused.
+    Replies,
     NoMemory,
 }
 
@@ -52,5 +55,11 @@ impl From<StepFault> for Fault {
 impl From<Refusal> for Fault {
     fn from(refusal: Refusal) -> Fault {
         Fault::Session(refusal)
+    }
+}
+
+impl From<LiveFault> for Fault {
+    fn from(fault: LiveFault) -> Fault {
+        Fault::Live(fault)
     }
 }

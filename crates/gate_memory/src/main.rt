@@ -1,4 +1,4 @@
-//! Makes each call of a packet list and of a session that takes memory, and makes it again if memory is refused: it must
+//! Makes each call of a packet list, a live run and a session that takes memory, and makes it again if memory is refused: it must
 //! then answer as if it had not been made before.
 //!
 //! It prints the same with ample memory and with one refused request (`compare/growths.py`). That script also counts
@@ -8,6 +8,7 @@
 mod fault;
 mod frames;
 mod lists;
+mod live;
 mod sessions;
 
 use fault::Fault;
@@ -31,6 +32,7 @@ fn run_session<O: Write>(
 /// Makes all calls.
 fn make_all<O: Write>(alloc: Global, output: &mut O) -> Result<(), Fault> {
     lists::grow(alloc, output)?;
+    live::run(alloc, output)?;
     let mut session = sessions::start(alloc)?;
     run_session(alloc, &mut session, output)
 }

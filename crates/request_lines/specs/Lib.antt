@@ -1,2 +1,3 @@
 pub mod HexWords
 pub mod Requests
+pub mod Lost

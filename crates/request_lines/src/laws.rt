@@ -1,6 +1,7 @@
 // Worked lines, as functions without code.
 ghost use Rattle.std.specs.Prelude.{◌≡◌, ◌∷◌, [], codes};
 ghost use Rattle.request_lines.specs.declared.lines.Line.TheVariants as requests;
+ghost use Rattle.request_lines.specs.Lost.{lost_by};
 ghost use Rattle.request_lines.specs.Requests.{asked_by};
 
 /// The requests of worked lines.
@@ -23,4 +24,13 @@ pub fn worked_lines()
     ensures odd { asked_by (codes "insert 0 0 1") ≡ requests.Unknown }
     ensures wide { asked_by (codes "delete 18446744073709551616") ≡ requests.Unknown }
     ensures long { asked_by (codes "delete 000000000000000000001") ≡ requests.Unknown }
+{}
+
+/// The requests of worked lines that are not held.
+pub fn worked_lost_lines()
+    ensures empty { lost_by [] ≡ requests.Silent }
+    ensures spaces { lost_by (codes "   ") ≡ requests.Silent }
+    ensures comment { lost_by (codes "  # x") ≡ requests.Silent }
+    ensures count { lost_by (codes "count") ≡ requests.Lost }
+    ensures unknown { lost_by (codes " play #") ≡ requests.Lost }
 {}

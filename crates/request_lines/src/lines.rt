@@ -41,6 +41,8 @@ pub enum Line<'a> {
     Count,
     /// Reports the number of decoding steps made.
     Stats,
+    /// A line whose bytes are not held: refused for want of memory.
+    Lost,
 }
 
 /// The first line of a text and the text after it, or `None` if no line is left.
@@ -62,7 +64,8 @@ pub fn next_line(text: &[u8]) -> Option<(&[u8], &[u8])>
     }
 }
 
-fn without_carriage_return(line: &[u8]) -> &[u8]
+/// A line without the carriage return at its end, if it has one.
+pub fn without_carriage_return(line: &[u8]) -> &[u8]
     ensures { result.now ≡ strip_carriage_return line.now }
 {
     line.strip_suffix(b"\r").unwrap_or(line)

@@ -1,10 +1,9 @@
 -- Why the program exits, part by part.
-use Rattle.std.proofs.Common.{ℕ, List, Option, refl}
+use Rattle.std.proofs.Common.{ℕ, List, Option, None, refl}
 use Rattle.command_lines.specs.Readings.{AreNamed, IsInputFault}
 use Rattle.command_lines.specs.declared.fault.Fault.{Fault}
 use Rattle.command_lines.specs.declared.fault.Fault.TheVariants.{CommandLine, NamedTwice, CannotRead, TooLong, Tables, Input, CannotWrite, NoMemory}
-use Rattle.vp8_tables.specs.Tables.{TableEntries}
-use Rattle.stream_server.specs.Endings.{IsEnded, IsLiveRefused, IsRefused, IsSaveFault}
+use Rattle.stream_server.specs.Endings.{IsEnded, IsRefused, IsSaveFault}
 
 module _ (unnamed : List ℕ) (tables : Option (List ℕ)) (names : List (List ℕ)) (requests : List ℕ) where
   -- a file was not read
@@ -19,13 +18,13 @@ module _ (unnamed : List ℕ) (tables : Option (List ℕ)) (names : List (List �
   unread_ended left left' replies NoMemory why = tt
 
   -- the requests were not answered
-  pub run_ended : (left left' replies replies' : Option (List ℕ)) (sources : List (List ℕ)) (fault : Fault) → AreNamed unnamed names sources → IsRefused sources replies replies' fault → IsEnded unnamed tables names requests left left' replies replies' fault
+  pub run_ended : (left left' replies replies' : Option (List ℕ)) (sources : List (List ℕ)) (fault : Fault) → AreNamed unnamed names sources → IsRefused sources None None replies replies' fault → IsEnded unnamed tables names requests left left' replies replies' fault
   run_ended left left' replies replies' sources CommandLine named why = absurd why
   run_ended left left' replies replies' sources (NamedTwice same) named why = absurd why
   run_ended left left' replies replies' sources (CannotRead path) named why = absurd why
   run_ended left left' replies replies' sources (TooLong path) named why = absurd why
   run_ended left left' replies replies' sources Tables named why = absurd why
-  run_ended left left' replies replies' sources (Input source fault) named why = (sources, named, why.0, why.1)
+  run_ended left left' replies replies' sources (Input source fault) named why = (sources, named, why.0, why.2)
   run_ended left left' replies replies' sources CannotWrite named why = tt
   run_ended left left' replies replies' sources NoMemory named why = tt
 
@@ -39,14 +38,3 @@ module _ (unnamed : List ℕ) (tables : Option (List ℕ)) (names : List (List �
   save_ended left left' replies replies' (Input source fault) why = absurd why
   save_ended left left' replies replies' CannotWrite why = tt
   save_ended left left' replies replies' NoMemory why = tt
-
--- after live requests the packets were not saved
-pub save_refused : (tables : TableEntries) (sources : List (List ℕ)) (requests : List ℕ) (left replies replies' : Option (List ℕ)) (fault : Fault) → IsSaveFault fault → IsLiveRefused tables sources requests left replies replies' fault
-save_refused tables sources requests left replies replies' CommandLine why = absurd why
-save_refused tables sources requests left replies replies' (NamedTwice same) why = absurd why
-save_refused tables sources requests left replies replies' (CannotRead path) why = absurd why
-save_refused tables sources requests left replies replies' (TooLong path) why = absurd why
-save_refused tables sources requests left replies replies' Tables why = absurd why
-save_refused tables sources requests left replies replies' (Input source fault) why = absurd why
-save_refused tables sources requests left replies replies' CannotWrite why = tt
-save_refused tables sources requests left replies replies' NoMemory why = tt

@@ -1,12 +1,11 @@
 // Requests that are answered as they come.
-ghost use Rattle.std.specs.Prelude.{◌≡◌, ◌≤◌, ℕ, IfErr, IfOk, List, OnOk, Option, is_some, length, map, option_map};
+ghost use Rattle.std.specs.Prelude.{◌≡◌, ◌≤◌, ◌⊎◌, IfErr, IfOk, is_some, length, map, option_map};
 ghost use Rattle.frame_session.specs.Answers.{texts_of};
-ghost use Rattle.frame_session.specs.Sessions.{Now};
 ghost use Rattle.command_lines.specs.CommandLines.{source_names};
-ghost use Rattle.stream_server.specs.Endings.{IsInput, IsLiveEnded, IsLiveFault, IsLiveRefused, IsLiveReplied, IsServed, reported_live};
+ghost use Rattle.stream_server.specs.Endings.{AreLiveReplied, IsLiveEnded, IsLiveFault, IsLiveRefused, IsLiveReplied, IsSaveFault, IsServed, fault_by_live};
 
 use crate::program::{BYTES_AT_ONCE, finish};
-use command_lines::{Accepted, Fault, NO_FILE, read_sources, read_tables, slices_of};
+use command_lines::{Accepted, Fault, FilesRead, NO_FILE, read_files, slices_of};
 use command_parser::Messages;
 use frame_session::{LiveFault, Session, Settings, run_live_observed};
 use std::fs::File;
@@ -93,18 +92,19 @@ fn run_over<R: Files + AllocGlobal, I: Read, P: Write, E: Write>(
 
 /// The error of a live run for the user, who names its requests `path`.
 fn live_fault(fault: LiveFault, path: &str) -> Fault<'_>
-    ensures { result ≡ reported_live path.entry fault }
+    ensures { result ≡ fault_by_live path.entry fault }
 {
     match fault {
         LiveFault::Ivf { source, fault } => Fault::Input { source, fault },
         LiveFault::Read => Fault::CannotRead(path),
-        LiveFault::TooLong => Fault::TooLong(path),
+        LiveFault::TooLong | LiveFault::Endless => Fault::TooLong(path),
         LiveFault::Write => Fault::CannotWrite,
         LiveFault::NoMemory => Fault::NoMemory,
     }
 }
 
 /// Answers the request lines as they come: those of `input` if no file is given.
+#[tactic(auto, using(crate::proofs::LiveEnded::requests_refused))]
 fn run_requests<'a, R: Files + AllocGlobal, I: Read, P: Write, E: Write>(
     rt: &R,
     line: &Accepted<'a>,
@@ -116,40 +116,47 @@ fn run_requests<'a, R: Files + AllocGlobal, I: Read, P: Write, E: Write>(
 ) -> Result<Session, Fault<'a>>
     requires capacity { (1 ≤ settings.capacity) × (settings.capacity ≤ 4096) }
     requires sources { (1 ≤ length sources.now) × (length sources.now ≤ 8) }
-    ensures replied { IfOk result (λ session. (given : Option (List ℕ)) × IsInput line.now.words.requests.now (I.remaining input.old) given × IsLiveReplied settings.tables (texts_of sources.now) given (P.contents replies.old) (P.contents replies.new) session.now) }
+    ensures replied { IfOk result (λ session. AreLiveReplied line.now.words.requests.now (I.remaining input.old) (P.contents replies.old) (P.contents replies.new) session.now settings.tables (texts_of sources.now)) }
     ensures capacity { IfOk result (λ session. session.cache.capacity ≡ settings.capacity) }
-    ensures fault { IfErr result (IsLiveRefused settings.tables (texts_of sources.now) line.now.words.requests.now (I.remaining input.old) (P.contents replies.old) (P.contents replies.new)) }
+    ensures refused { IfErr result (IsLiveRefused settings.tables (texts_of sources.now) line.now.words.requests.now (I.remaining input.old) (P.contents replies.old) (P.contents replies.new)) }
 {
     let path = line.words.requests;
     let frames = line.words.frames;
     if path == NO_FILE {
-        return run_over(rt, settings, sources, input, frames, replies, messages).map_err(
-            |fault| live_fault(fault, path),
-        );
+        return match run_over(rt, settings, sources, input, frames, replies, messages) {
+            Ok(session) => Ok(session),
+            Err(fault) => Err(live_fault(fault, path)),
+        };
     }
     let mut file = File::open(rt, path).map_err(|_| Fault::CannotRead(path))?;
-    run_over(rt, settings, sources, &mut file, frames, replies, messages).map_err(
-        |fault| live_fault(fault, path),
-    )
+    match run_over(rt, settings, sources, &mut file, frames, replies, messages) {
+        Ok(session) => Ok(session),
+        Err(fault) => Err(live_fault(fault, path)),
+    }
 }
 
-/// Answers the request lines over the files of the sources as they come, and saves the packets of source 0 if that is asked for.
-#[tactic(auto, using(crate::proofs::Ended::save_refused))]
-fn answer_over<'a, R: Files + AllocGlobal, I: Read, O: Write, E: Write>(
+/// Answers the request lines over the files that were read, as they come, and saves the packets of source 0 if that is asked for.
+/// Returns the session after the last line.
+fn answer_files<'a, R: Files + AllocGlobal, I: Read, O: Write, E: Write>(
     rt: &R,
     line: &Accepted<'a>,
-    settings: Settings,
-    sources: &[Vec<u8>],
+    files: FilesRead,
     input: &mut I,
     output: &mut O,
     messages: &mut Messages<'_, E>,
-) -> Result<(), Fault<'a>>
-    requires capacity { (1 ≤ settings.capacity) × (settings.capacity ≤ 4096) }
-    requires sources { (1 ≤ length sources.now) × (length sources.now ≤ 8) }
-    ensures replied { OnOk result ((given : Option (List ℕ)) × (end : Now) × IsInput line.now.words.requests.now (I.remaining input.old) given × IsLiveReplied settings.tables (map (λ bytes. bytes.items) sources.now) given (O.contents output.old) (O.contents output.new) end) }
-    ensures refused { IfErr result (IsLiveRefused settings.tables (map (λ bytes. bytes.items) sources.now) line.now.words.requests.now (I.remaining input.old) (O.contents output.old) (O.contents output.new)) }
+) -> Result<Session, Fault<'a>>
+    requires capacity { (1 ≤ line.now.capacity) × (line.now.capacity ≤ 4096) }
+    requires sources { (1 ≤ length files.sources.items) × (length files.sources.items ≤ 8) }
+    ensures replied { IfOk result (λ session. AreLiveReplied line.now.words.requests.now (I.remaining input.old) (O.contents output.old) (O.contents output.new) session.now files.tables (map (λ bytes. bytes.items) files.sources.items)) }
+    ensures capacity { IfOk result (λ session. session.cache.capacity ≡ line.now.capacity) }
+    ensures refused { IfErr result (λ fault. IsLiveRefused files.tables (map (λ bytes. bytes.items) files.sources.items) line.now.words.requests.now (I.remaining input.old) (O.contents output.old) (O.contents output.new) fault ⊎ IsSaveFault fault) }
 {
-    let slices = slices_of(rt.alloc(), sources)?;
+    let FilesRead { tables, sources } = files;
+    let slices = slices_of(rt.alloc(), sources.as_slice())?;
+    let settings = Settings {
+        tables,
+        capacity: line.capacity,
+    };
     let session = run_requests(
         rt,
         line,
@@ -159,35 +166,24 @@ fn answer_over<'a, R: Files + AllocGlobal, I: Read, O: Write, E: Write>(
         output,
         messages,
     )?;
-    finish(rt, &session, line, slices.as_slice(), messages)
+    finish(rt, &session, line, slices.as_slice(), messages)?;
+    Ok(session)
 }
 
-/// Does what an accepted command line with `--live` asks for.
+/// Does what an accepted command line with `--live` asks for. Returns the session after the last line.
 pub fn answer_live<'a, R: Files + AllocGlobal, I: Read, O: Write, E: Write>(
     rt: &R,
     line: &Accepted<'a>,
     input: &mut I,
     output: &mut O,
     messages: &mut Messages<'_, E>,
-) -> Result<(), Fault<'a>>
+) -> Result<Session, Fault<'a>>
     requires capacity { (1 ≤ line.now.capacity) × (line.now.capacity ≤ 4096) }
     requires paths { length line.now.more.items ≤ 7 }
-    ensures served { OnOk result (IsServed EMPTY (source_names line.now) line.now.words.requests.now (is_some line.now.words.tables) (I.remaining input.old) (O.contents output.old) (O.contents output.new)) }
+    ensures served { IfOk result (λ session. IsServed EMPTY (source_names line.now) (is_some line.now.words.tables) (AreLiveReplied line.now.words.requests.now (I.remaining input.old) (O.contents output.old) (O.contents output.new) session.now)) }
+    ensures capacity { IfOk result (λ session. session.cache.capacity ≡ line.now.capacity) }
     ensures ended { IfErr result (IsLiveEnded EMPTY (option_map (λ path. path.now) line.now.words.tables) (source_names line.now) line.now.words.requests.now (I.remaining input.old) (I.remaining input.new) (O.contents output.old) (O.contents output.new)) }
 {
-    let tables = read_tables(rt, line.words.tables)?;
-    let sources = read_sources(rt, line.words.stream, line.more.as_slice())?;
-    let settings = Settings {
-        tables,
-        capacity: line.capacity,
-    };
-    answer_over(
-        rt,
-        line,
-        settings,
-        sources.as_slice(),
-        input,
-        output,
-        messages,
-    )
+    let files = read_files(rt, line)?;
+    answer_files(rt, line, files, input, output, messages)
 }

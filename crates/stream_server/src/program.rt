@@ -1,17 +1,16 @@
 // The program over a reader and two writers.
-ghost use Rattle.std.specs.Prelude.{◌≡◌, ◌≤◌, [], ℕ, IfOk, IfErr, List, OnOk, Option, is_some, length, map, option_map};
+ghost use Rattle.std.specs.Prelude.{◌≡◌, ◌≤◌, [], ℕ, IfOk, IfErr, List, None, OnOk, Option, is_some, length, map, option_map};
 ghost use Rattle.std.specs.Io.Buffered.{writer_buffer, writer_contents};
 ghost use Rattle.std.specs.Io.KnownBytes.{Appends};
 ghost use Rattle.frame_session.specs.Answers.{Means, texts_of};
-ghost use Rattle.frame_session.specs.Sessions.{Now};
 ghost use Rattle.command_lines.specs.CommandLines.{source_names};
 ghost use Rattle.command_lines.specs.Readings.{AreNamed};
 ghost use Rattle.command_lines.specs.Statuses.{exit_status};
-ghost use Rattle.stream_server.specs.Endings.{IsEnded, IsRefused, IsReplied, IsRunFault, IsSaveFault, IsServed, saved_text, spare_text};
+ghost use Rattle.stream_server.specs.Endings.{AreReplied, IsEnded, IsRefused, IsReplied, IsSaveFault, IsServed, saved_text, spare_text};
 
 use crate::live::answer_live;
 use command_lines::{
-    Accepted, Argument, Fault, Inputs, NO_FILE, Words, read_inputs, slices_of, tell,
+    Accepted, Argument, Fault, FilesRead, Inputs, NO_FILE, Words, read_inputs, slices_of, tell,
 };
 use command_parser::{Messages, explain_end, explain_fault, help_or_fault, is_asked, parse};
 use frame_session::{Observer, Session, Settings, run_observed};
@@ -40,7 +39,7 @@ pub fn run_to<F: Write, P: Write, O: Observer>(
     requires sources { (1 ≤ length sources.now) × (length sources.now ≤ 8) }
     ensures answered { IfOk result (λ session. Means settings.tables (texts_of sources.now) requests.now (F.contents frames.old) (F.contents frames.new) (P.contents replies.old) (P.contents replies.new) session.now) }
     ensures capacity { IfOk result (λ session. session.cache.capacity ≡ settings.capacity) }
-    ensures refused { IfErr result (IsRunFault (texts_of sources.now) (F.contents frames.old) (F.contents frames.new) (P.contents replies.old) (P.contents replies.new)) }
+    ensures refused { IfErr result (IsRefused (texts_of sources.now) (F.contents frames.old) (F.contents frames.new) (P.contents replies.old) (P.contents replies.new)) }
 {
     let session = run_observed(
         alloc, settings, sources, requests, frames, replies, observer,
@@ -64,7 +63,7 @@ fn run_to_path<R: Files + AllocGlobal, P: Write, E: Write>(
     requires sources { (1 ≤ length sources.now) × (length sources.now ≤ 8) }
     ensures replied { IfOk result (λ session. IsReplied settings.tables (texts_of sources.now) requests.now (P.contents replies.old) (P.contents replies.new) session.now) }
     ensures capacity { IfOk result (λ session. session.cache.capacity ≡ settings.capacity) }
-    ensures refused { IfErr result (IsRefused (texts_of sources.now) (P.contents replies.old) (P.contents replies.new)) }
+    ensures refused { IfErr result (IsRefused (texts_of sources.now) None None (P.contents replies.old) (P.contents replies.new)) }
 {
     let alloc = rt.alloc();
     if path == NO_FILE {
@@ -178,7 +177,8 @@ pub fn finish<R: Files + AllocGlobal, E: Write>(
     Ok(())
 }
 
-/// Answers the requests over what was read, and saves the packets of source 0 if that is asked for.
+/// Answers the requests over what was read, and saves the packets of source 0 if that is asked for. Returns the session after the
+/// last request.
 #[tactic(auto, using(crate::proofs::Ended::run_ended, crate::proofs::Ended::save_ended))]
 fn answer_inputs<R: Files + AllocGlobal, O: Write, E: Write>(
     rt: &R,
@@ -186,18 +186,16 @@ fn answer_inputs<R: Files + AllocGlobal, O: Write, E: Write>(
     inputs: Inputs,
     output: &mut O,
     messages: &mut Messages<'_, E>,
-) -> Result<(), Fault<'static>>
+) -> Result<Session, Fault<'static>>
     requires capacity { (1 ≤ line.now.capacity) × (line.now.capacity ≤ 4096) }
     requires paths { length line.now.more.items ≤ 7 }
-    requires named { AreNamed EMPTY (source_names line.now) (map (λ bytes. bytes.items) inputs.sources.items) }
-    ensures replied { OnOk result ((end : Now) × IsReplied inputs.tables (map (λ bytes. bytes.items) inputs.sources.items) inputs.requests.items (O.contents output.old) (O.contents output.new) end) }
+    requires named { AreNamed EMPTY (source_names line.now) (map (λ bytes. bytes.items) inputs.files.sources.items) }
+    ensures replied { IfOk result (λ session. IsReplied inputs.files.tables (map (λ bytes. bytes.items) inputs.files.sources.items) inputs.requests.items (O.contents output.old) (O.contents output.new) session.now) }
+    ensures capacity { IfOk result (λ session. session.cache.capacity ≡ line.now.capacity) }
     ensures ended { IfErr result (λ fault. (left : Option (List ℕ)) → (left' : Option (List ℕ)) → IsEnded EMPTY (option_map (λ path. path.now) line.now.words.tables) (source_names line.now) line.now.words.requests.now left left' (O.contents output.old) (O.contents output.new) fault) }
 {
-    let Inputs {
-        tables,
-        sources,
-        requests,
-    } = inputs;
+    let Inputs { files, requests } = inputs;
+    let FilesRead { tables, sources } = files;
     let slices = slices_of(rt.alloc(), sources.as_slice())?;
     let settings = Settings {
         tables,
@@ -212,10 +210,11 @@ fn answer_inputs<R: Files + AllocGlobal, O: Write, E: Write>(
         output,
         messages,
     )?;
-    finish(rt, &session, line, slices.as_slice(), messages)
+    finish(rt, &session, line, slices.as_slice(), messages)?;
+    Ok(session)
 }
 
-/// Does what an accepted command line asks for.
+/// Does what an accepted command line asks for. Returns the session after the last request.
 #[tactic(auto, using(crate::proofs::Ended::unread_ended))]
 fn answer<'a, R: Files + AllocGlobal, I: Read, O: Write, E: Write>(
     rt: &R,
@@ -223,10 +222,11 @@ fn answer<'a, R: Files + AllocGlobal, I: Read, O: Write, E: Write>(
     input: &mut I,
     output: &mut O,
     messages: &mut Messages<'_, E>,
-) -> Result<(), Fault<'a>>
+) -> Result<Session, Fault<'a>>
     requires capacity { (1 ≤ line.now.capacity) × (line.now.capacity ≤ 4096) }
     requires paths { length line.now.more.items ≤ 7 }
-    ensures served { OnOk result (IsServed EMPTY (source_names line.now) line.now.words.requests.now (is_some line.now.words.tables) (I.remaining input.old) (O.contents output.old) (O.contents output.new)) }
+    ensures served { IfOk result (λ session. IsServed EMPTY (source_names line.now) (is_some line.now.words.tables) (AreReplied line.now.words.requests.now (I.remaining input.old) (O.contents output.old) (O.contents output.new) session.now)) }
+    ensures capacity { IfOk result (λ session. session.cache.capacity ≡ line.now.capacity) }
     ensures ended { IfErr result (IsEnded EMPTY (option_map (λ path. path.now) line.now.words.tables) (source_names line.now) line.now.words.requests.now (I.remaining input.old) (I.remaining input.new) (O.contents output.old) (O.contents output.new)) }
 {
     let inputs = read_inputs(rt, line, input)?;
@@ -245,10 +245,11 @@ fn answer_line<'a, R: Files + AllocGlobal, S: AsStr, I: Read, O: Write, E: Write
         Ok(words) => {
             let line = words.accept(rt.alloc())?;
             if line.words.is_live {
-                answer_live(rt, &line, input, output, messages)
+                answer_live(rt, &line, input, output, messages)?;
             } else {
-                answer(rt, &line, input, output, messages)
+                answer(rt, &line, input, output, messages)?;
             }
+            Ok(())
         }
         Err(error) => help_or_fault(error, output),
     }

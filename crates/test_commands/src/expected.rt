@@ -73,25 +73,29 @@ pub fn run_line<R: Abort + Files + AllocGlobal, I: Read, O: Write, E: Write>(
     serve(rt, words.as_slice(), requests, output, errors)
 }
 
-/// Checks that a command line is refused with this text, before any request is answered.
+/// Checks that a command line is refused with this text, before any request is answered, and the same with `--live`.
 pub fn expect_fault<R: Abort + Files + AllocGlobal>(rt: &R, line: &str, text: &str) {
+    let words: Result<Vec<&str>, AllocError> = line.split(' ').collect(rt.alloc());
+    let mut words = words.expect(rt, "memory for the words");
+    expect_refused(rt, words.as_slice(), text);
+    words.insert(1, "--live").expect(rt, "memory for a word");
+    expect_refused(rt, words.as_slice(), text);
+}
+
+/// Checks that the words of a command line are refused with this text.
+fn expect_refused<R: Abort + Files + AllocGlobal>(rt: &R, words: &[&str], text: &str) {
     let mut output = Vec::new(rt.alloc());
     let mut told = Vec::new(rt.alloc());
-    let ended = run_line(
-        rt,
-        line,
-        &mut b"frame 0\n".as_slice(),
-        &mut output,
-        &mut told,
-    );
+    let mut requests = b"frame 0\n".as_slice();
+    let ended = serve(rt, words, &mut requests, &mut output, &mut told);
     let status = if text.starts_with("command line") {
         2
     } else {
         1
     };
-    assert!(rt; is_told(told.as_slice(), text), "{line}: {text}");
-    assert!(rt; ended == status, "status of {line}");
-    assert!(rt; output.is_empty(), "replies of {line}");
+    assert!(rt; is_told(told.as_slice(), text), "{text}");
+    assert!(rt; ended == status, "status at {text}");
+    assert!(rt; output.is_empty(), "replies at {text}");
 }
 
 /// Whether a message has this text after the program's name.

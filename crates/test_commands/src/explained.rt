@@ -1,5 +1,5 @@
 // Refusals and errors that are explained.
-use crate::expected::{ONE, clear, expect, expect_from, put};
+use crate::expected::{ONE, clear, expect, expect_from, put, run_line};
 use crate::live::Pieces;
 use message_writer::MessageWriter;
 use std::io::Write;
@@ -238,7 +238,8 @@ fn names_the_line_that_was_not_answered(rt: HostRuntime) {
         fails: true,
     };
     let replies = "packets 0 frames 0\ndecoded 0\n";
-    let told = "vp8serve: cannot read -\nline 4 was not answered: reading it failed\n";
+    let told =
+        "vp8serve: cannot read -\nline 4 was not answered: reading it failed; lines 1 to 3 were, and nothing is saved\n";
     expect_from(
         &rt,
         "vp8serve --live --explain",
@@ -247,6 +248,42 @@ fn names_the_line_that_was_not_answered(rt: HostRuntime) {
         told,
         1,
     );
+    expect_cut_off(
+        &rt,
+        &["stats\nhold"],
+        "decoded 0\n",
+        "line 2 was not answered: reading it failed; line 1 was, and nothing is saved\n",
+    );
+    expect_cut_off(
+        &rt,
+        &["hold"],
+        "",
+        "line 1 was not answered: reading it failed; nothing is saved\n",
+    );
+}
+
+/// Checks the explanation of a run whose reader fails after some pieces.
+fn expect_cut_off<R: Abort + Files + AllocGlobal>(
+    rt: &R,
+    pieces: &[&str],
+    replies: &str,
+    told: &str,
+) {
+    let mut input = Pieces {
+        pieces,
+        fails: true,
+    };
+    let mut output = Vec::new(rt.alloc());
+    let mut errors = Vec::new(rt.alloc());
+    let status = run_line(
+        rt,
+        "vp8serve --live --explain",
+        &mut input,
+        &mut output,
+        &mut errors,
+    );
+    assert!(rt; status == 1 && output.as_slice() == replies.as_bytes());
+    assert!(rt; errors.strip_prefix(b"vp8serve: cannot read -\n") == Some(told.as_bytes()));
 }
 
 /// Checks the message of an error and the line after it.

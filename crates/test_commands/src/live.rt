@@ -1,9 +1,11 @@
 // Tests of requests that are answered as they come.
 use crate::expected::{check, clear, expect, expect_from, put, run_line};
+use std::alloc::{AllocError, Global};
 use std::cell::Cell;
 use std::io::{self, ErrorKind, Read, Write};
 use std::process::Abort;
 use std::rt::Files;
+use std::test::Fail;
 use stream_files::EMPTY;
 
 /// A writer of replies that counts the lines that are flushed.
@@ -169,6 +171,81 @@ fn joins_lines_that_span_reads(rt: HostRuntime) {
         rest: LINES.as_bytes(),
     };
     expect_from(&rt, "vp8serve --live", &mut bytes, ANSWERS, "", 0);
+}
+
+/// A reader that gives each line in a read of its own, and is interrupted before each read.
+#[derive(Drop)]
+struct Interrupted<'a> {
+    lines: &'a [&'a str],
+    was_interrupted: bool,
+}
+
+impl Read for Interrupted<'_> {
+    fn read(&mut self, buf: &mut [u8]) -> io::Result<usize> {
+        self.was_interrupted = !self.was_interrupted;
+        if self.was_interrupted {
+            return Err(ErrorKind::Interrupted.into());
+        }
+        let [line, rest @ ..] = self.lines else {
+            return Ok(0);
+        };
+        let count = line.len().min(buf.len());
+        buf[..count].copy_from_slice(&line.as_bytes()[..count]);
+        self.lines = rest;
+        Ok(count)
+    }
+}
+
+/// A read that a signal interrupts is made again.
+#[test]
+fn reads_again_after_an_interruption(rt: HostRuntime) {
+    let mut input = Interrupted {
+        lines: &["blank 0 16 16\n", "frame", " 0\nhold 1\n", "count"],
+        was_interrupted: false,
+    };
+    let replies = "ok 1\nserved 0\nok 2\npackets 2 frames 2\n";
+    expect_from(&rt, "vp8serve --live", &mut input, replies, "", 0);
+}
+
+/// A number of lines, and of bytes of a line, that no counter of 16 bits has.
+const MANY: usize = 70_000;
+
+/// A text some number of times.
+fn repeated(alloc: Global, text: &[u8], times: usize) -> Result<Vec<u8>, AllocError> {
+    let mut all = Vec::new(alloc);
+    for _ in 0..times {
+        all.extend_from_slice(text)?;
+    }
+    Ok(all)
+}
+
+/// Answers requests that one read after another gives one byte of, and returns the replies.
+fn replies_to<R: Abort + Files + AllocGlobal>(rt: &R, requests: &[u8]) -> Vec<u8> {
+    let mut input = Bytewise { rest: requests };
+    let mut replies = Vec::new(rt.alloc());
+    let mut errors = Vec::new(rt.alloc());
+    let status = run_line(rt, "vp8serve --live", &mut input, &mut replies, &mut errors);
+    assert!(rt; errors.is_empty() && status == 0);
+    replies
+}
+
+#[test]
+fn answers_many_lines(rt: HostRuntime) -> Result<(), Fail> {
+    let requests = repeated(rt.alloc(), b"stats\n", MANY)?;
+    let want = repeated(rt.alloc(), b"decoded 0\n", MANY)?;
+    let replies = replies_to(&rt, requests.as_slice());
+    assert!(rt; replies.as_slice() == want.as_slice());
+    Ok(())
+}
+
+/// The spaces before a word come in as many reads as there are.
+#[test]
+fn answers_a_line_of_many_reads(rt: HostRuntime) -> Result<(), Fail> {
+    let mut requests = repeated(rt.alloc(), b" ", MANY)?;
+    requests.extend_from_slice(b"stats\n")?;
+    let replies = replies_to(&rt, requests.as_slice());
+    assert!(rt; replies.as_slice() == b"decoded 0\n".as_slice());
+    Ok(())
 }
 
 /// The lines before a read error are answered, the line that it cuts off is not, and nothing is saved.

@@ -14,17 +14,16 @@ fn serves_a_frame(rt: HostRuntime) -> Result<(), Fail> {
     put(&rt, "frame.ivf", ONE);
     put(&rt, "frame.txt", b"# the first\n\nframe 0\nframe 1\nplay");
     let replies = "served 0\nrefused NoSuchFrame\nrefused Line\n";
-    expect(
-        &rt,
-        "vp8serve frame.ivf frame.txt frame.y4m",
-        "",
-        replies,
-        "",
-        0,
-    );
     let mut want = Vec::from_slice(rt.alloc(), OPENING)?;
     push_frame(&mut want)?;
-    check(&rt, "frame.y4m", want.as_slice());
+    for line in [
+        "vp8serve frame.ivf frame.txt frame.y4m",
+        "vp8serve frame.ivf frame.txt frame.y4m --live",
+    ] {
+        put(&rt, "frame.y4m", b"");
+        expect(&rt, line, "", replies, "", 0);
+        check(&rt, "frame.y4m", want.as_slice());
+    }
     clear(&rt, "frame.ivf frame.txt frame.y4m");
     Ok(())
 }
@@ -159,6 +158,8 @@ fn takes_numbers_of_cached_states(rt: HostRuntime) {
     let cached = "ok 1\nok 2\nserved 1\nserved 0\ndecoded 2\n";
     expect(&rt, "vp8serve --cache 1", requests, again, "", 0);
     expect(&rt, "vp8serve --cache 4096", requests, cached, "", 0);
+    expect(&rt, "vp8serve --cache 1 --live", requests, again, "", 0);
+    expect(&rt, "vp8serve --cache 4096 --live", requests, cached, "", 0);
 }
 
 /// The frame of `CODED`, as written with these tables.
@@ -182,6 +183,9 @@ fn coded_frame<R: Abort + Files + AllocGlobal>(rt: &R, entry: u8) -> Result<Vec<
     let frame = frame_with(rt.alloc(), Tables::read(&[entry; 3012])?)?;
     put(rt, "entries.bin", &[entry; 3012]);
     let line = "vp8serve coded.ivf - coded.y4m --tables entries.bin";
+    expect(rt, line, "frame 0\n", "served 0\n", "", 0);
+    check(rt, "coded.y4m", frame.as_slice());
+    let line = "vp8serve coded.ivf - coded.y4m --tables entries.bin --live";
     expect(rt, line, "frame 0\n", "served 0\n", "", 0);
     check(rt, "coded.y4m", frame.as_slice());
     Ok(frame)
@@ -209,13 +213,18 @@ ok 1\nserved 0\nok 0\nok 1\nok 2\nok 1\nok 1\npackets 1 frames 3\nserved 0\nserv
 fn serves_sources(rt: HostRuntime) -> Result<(), Fail> {
     put(&rt, "first.ivf", ONE);
     put(&rt, "second.ivf", CODED);
-    let line = "vp8serve first.ivf - sources.y4m --sources second.ivf:- --save sources.ivf";
-    expect(&rt, line, OF_SOURCES, REPLIES_OF_SOURCES, "", 0);
     let mut want = frame_with(rt.alloc(), Tables::rfc())?;
     push_frame(&mut want)?;
     push_frame(&mut want)?;
-    check(&rt, "sources.y4m", want.as_slice());
-    check(&rt, "sources.ivf", ONE);
-    clear(&rt, "first.ivf second.ivf sources.y4m sources.ivf");
+    for line in [
+        "vp8serve first.ivf - sources.y4m --sources second.ivf:- --save sources.ivf",
+        "vp8serve first.ivf - sources.y4m --sources second.ivf:- --save sources.ivf --live",
+    ] {
+        expect(&rt, line, OF_SOURCES, REPLIES_OF_SOURCES, "", 0);
+        check(&rt, "sources.y4m", want.as_slice());
+        check(&rt, "sources.ivf", ONE);
+        clear(&rt, "sources.y4m sources.ivf");
+    }
+    clear(&rt, "first.ivf second.ivf");
     Ok(())
 }

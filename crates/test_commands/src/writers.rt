@@ -1,7 +1,8 @@
 // Readers and writers that fail.
-use crate::expected::{Broken, ONE, run_line};
+use crate::expected::{Broken, ONE, OPENING, run_line};
 use frame_session::{LiveFault, Settings, Unobserved, run_live};
-use std::io::{BufWriter, Read, Write};
+use std::cell::Cell;
+use std::io::{self, BufWriter, Read, Write};
 use std::process::Abort;
 use std::rt::Files;
 use std::test::Fail;
@@ -113,4 +114,72 @@ fn stops_at_a_writer_that_fails(rt: HostRuntime) {
     assert!(rt; run.err() == Some(LiveFault::Write));
     assert!(rt; replies.as_slice() == b"ok 1\n".as_slice());
     assert!(rt; requests == b"count\n".as_slice());
+}
+
+/// A writer that counts the bytes that it took.
+#[derive(Drop)]
+struct Counted<'a> {
+    taken: &'a Cell<usize>,
+}
+
+impl Write for Counted<'_> {
+    fn write(&mut self, buf: &[u8]) -> io::Result<usize> {
+        self.taken.set(self.taken.get().saturating_add(buf.len()));
+        Ok(buf.len())
+    }
+
+    fn flush(&mut self) -> io::Result<()> {
+        Ok(())
+    }
+}
+
+/// A writer of replies. At each flush it notes how many bytes of frames have left their buffer.
+#[derive(Drop)]
+struct Noting<'a> {
+    frames: &'a Cell<usize>,
+    noted: &'a Cell<usize>,
+    is_begun: bool,
+}
+
+impl Write for Noting<'_> {
+    fn write(&mut self, buf: &[u8]) -> io::Result<usize> {
+        if !self.is_begun {
+            self.noted.set(self.frames.get());
+        }
+        self.is_begun = true;
+        Ok(buf.len())
+    }
+
+    fn flush(&mut self) -> io::Result<()> {
+        self.is_begun = false;
+        Ok(())
+    }
+}
+
+/// In a live run the bytes of a frame have left a buffered writer when its reply begins.
+#[test]
+fn flushes_a_frame_before_its_reply(rt: HostRuntime) -> Result<(), Fail> {
+    let taken = Cell::new(0);
+    let noted = Cell::new(0);
+    let mut frames = BufWriter::with_capacity(rt.alloc(), 65_536, Counted { taken: &taken })?;
+    let mut replies = Noting {
+        frames: &taken,
+        noted: &noted,
+        is_begun: false,
+    };
+    let settings = Settings {
+        tables: Tables::rfc(),
+        capacity: 1,
+    };
+    let run = run_live(
+        rt.alloc(),
+        settings,
+        &[ONE],
+        &mut b"frame 0\nframe 0\n".as_slice(),
+        &mut frames,
+        &mut replies,
+    );
+    assert!(rt; run.is_ok());
+    assert!(rt; noted.get() == OPENING.len() + 2 * 390);
+    Ok(())
 }

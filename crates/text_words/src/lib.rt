@@ -3,4 +3,4 @@
 
 mod words;
 
-pub use words::{length_before, next_word, number};
+pub use words::{leading_spaces, length_before, next_word, number};

@@ -33,7 +33,8 @@ pub fn next_word(text: &[u8]) -> Option<(&[u8], &[u8])>
     Some(words.split_at(length_before(b' ', words)))
 }
 
-fn leading_spaces(text: &[u8]) -> usize
+/// The number of spaces at the start of a text.
+pub fn leading_spaces(text: &[u8]) -> usize
     ensures value { result ≡ prefix_len (λ b. b == 32) text.now }
     ensures within { result ≤ length text.now }
 {

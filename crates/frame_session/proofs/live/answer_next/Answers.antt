@@ -1,23 +1,45 @@
-use Rattle.std.proofs.Common.{rules}
-use Rattle.frame_session.proofs.LiveRuns.{answered, ends_first, refused}
+use Rattle.std.proofs.Common.{◌≡◌, Bool, true, false, rules}
+use Rattle.std.proofs.lemmas.Bool.{true≢false}
+use Rattle.frame_session.proofs.LiveRuns.{ends_first, nothing_left, read_answered, read_refused}
 use Rattle.frame_session.proofs.live.answer_next.Goals as goal
+use Rattle.frame_session.proofs.live.answer_next.Goals.{else-not-is_terminated-via-then-not-is_terminated+else-line-eq0, else-not-is_terminated-via-else-not-is_terminated}
 
-pub returns-in_err-line-clause-err : goal.returns-in_err-line-clause-err
-returns-in_err-line-clause-err g c =
+never : (t : Bool) → t ≡ true → t ≡ false → ⊥
+never true e e' = true≢false e'
+never false e e' = true≢false (cc)
+
+pub returns-in_err-is_terminated-clause-err : goal.returns-in_err-is_terminated-clause-err
+returns-in_err-is_terminated-clause-err g c =
     let i = g.I.Read.remaining in
-    let why = ends_first c.args.session.now.now (i c.args.input.now) (i c.read_whole_line.new.input) (g.F.Write.contents c.args.frames.now) (g.R.Write.contents c.args.replies.now) c.in_err-line.ensures.0 c.in_err-line.ensures.1 c.in_err-line.field-0.0 c.in_err-line.ensures.2 in
+    let x = c.in_err-is_terminated.ensures in
+    let why = ends_first c.args.session.now.now (i c.args.input.now) (i c.read_whole_line.new.input) (g.F.Write.contents c.args.frames.now) (g.R.Write.contents c.args.replies.now) x.0 x.1 c.in_err-is_terminated.field-0.0 x.2 in
     search rules
 
-pub returns-clause-err : goal.returns-clause-err
-returns-clause-err g c =
+pub returns-then-line-eq0-clause-ok : goal.returns-then-line-eq0-clause-ok
+returns-then-line-eq0-clause-ok g c =
     let i = g.I.Read.remaining in
-    let f = g.F.Write.contents in
-    let r = g.R.Write.contents in
-    refused c.args.session.now.now c.args.session.now.now (i c.args.input.now) (i c.read_whole_line.new.input) (f c.args.frames.now) (f c.serve_all.new.frames) (r c.args.replies.now) (r c.serve_all.new.replies) c.in_ok-line.line.items c.in_ok-line.ensures.0 c.in_ok-line.ensures.1 (rw c.as_slice.ensures.value at c.in-Err.ensures.stops)
+    nothing_left c.args.session.now.now (i c.args.input.now) (i c.read_whole_line.new.input) (g.F.Write.contents c.args.frames.now) (g.R.Write.contents c.args.replies.now) c.read_whole_line.new.line c.in_ok-is_terminated.is_terminated c.in_ok-is_terminated.ensures c.if-not-is_terminated.true c.if-line-eq0.true
 
 pub returns-in-Ok-clause-ok : goal.returns-in-Ok-clause-ok
 returns-in-Ok-clause-ok g c =
     let i = g.I.Read.remaining in
     let f = g.F.Write.contents in
     let r = g.R.Write.contents in
-    answered c.args.session.now.now c.serve_all.new.session.now (i c.args.input.now) (i c.read_whole_line.new.input) (f c.args.frames.now) (f c.serve_all.new.frames) (r c.args.replies.now) (r c.serve_all.new.replies) c.in_ok-line.line.items c.in_ok-line.ensures.0 c.in_ok-line.ensures.1 c.ends_with_newline.result (search rules) (rw c.as_slice.ensures.value at c.in-Ok.ensures.runs)
+    let t = c.in_ok-is_terminated.is_terminated in
+    let some : t ≡ false → c.read_whole_line.new.line.length ≡ 0 → ⊥ = elim c.else-not-is_terminated.branch [
+      | else-not-is_terminated-via-then-not-is_terminated+else-line-eq0 w ↦ λ e none. w.if-line-eq0.false none
+      | else-not-is_terminated-via-else-not-is_terminated w ↦ λ e none. never t w.if-not-is_terminated.false e
+    ] in
+    read_answered c.args.session.now.now c.serve_line.new.session.now (i c.args.input.now) (i c.read_whole_line.new.input) (f c.args.frames.now) (f c.serve_line.new.frames) (r c.args.replies.now) (r c.serve_line.new.replies) c.read_whole_line.new.line c.request-request.result t c.in_ok-is_terminated.ensures some c.request-request.ensures c.in-Ok.ensures.serves
+
+pub returns-clause-err : goal.returns-clause-err
+returns-clause-err g c =
+    let i = g.I.Read.remaining in
+    let f = g.F.Write.contents in
+    let r = g.R.Write.contents in
+    let t = c.in_ok-is_terminated.is_terminated in
+    let some : t ≡ false → c.read_whole_line.new.line.length ≡ 0 → ⊥ = elim c.else-not-is_terminated.branch [
+      | else-not-is_terminated-via-then-not-is_terminated+else-line-eq0 w ↦ λ e none. w.if-line-eq0.false none
+      | else-not-is_terminated-via-else-not-is_terminated w ↦ λ e none. never t w.if-not-is_terminated.false e
+    ] in
+    read_refused c.args.session.now.now c.serve_line.new.session.now (i c.args.input.now) (i c.read_whole_line.new.input) (f c.args.frames.now) (f c.serve_line.new.frames) (r c.args.replies.now) (r c.serve_line.new.replies) c.read_whole_line.new.line c.request-request.result t c.in_ok-is_terminated.ensures some c.request-request.ensures c.serve_line.ensures.frame_first

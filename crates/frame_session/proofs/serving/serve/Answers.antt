@@ -2,7 +2,7 @@ use Rattle.std.proofs.Common.{None, inr, ap}
 use Rattle.std.proofs.lemmas.Result.{on_ok_weaker}
 use Rattle.frame_session.specs.Cached.{SessionValue}
 use Rattle.frame_session.specs.Sessions.{now_after_choice}
-use Rattle.frame_session.proofs.Served.{serves_silent, serves_unknown, serves_chosen, serves_copied, serves_inserted, serves_replaced, serves_deleted, serves_moved, serves_blanked, serves_held, serves_script, serves_count, serves_stats}
+use Rattle.frame_session.proofs.Served.{serves_silent, serves_unknown, serves_chosen, serves_copied, serves_inserted, serves_replaced, serves_deleted, serves_moved, serves_blanked, serves_held, serves_script, serves_count, serves_stats, serves_lost}
 use Rattle.frame_session.proofs.serving.serve.Goals as goal
 
 pub returns-in-Silent-clause-serves : goal.returns-in-Silent-clause-serves
@@ -159,3 +159,15 @@ pub returns-in-Stats-clause-frame_first : goal.returns-in-Stats-clause-frame_fir
 returns-in-Stats-clause-frame_first g c =
     let f = g.F.Write.contents c.args.frames.now in
     rw c.in-Stats.is (inr (serves_stats c.args.session.now.now f f None None tt))
+
+pub returns-in-Lost-clause-serves : goal.returns-in-Lost-clause-serves
+returns-in-Lost-clause-serves g c =
+    let f = g.F.Write.contents c.args.frames.now in
+    let r = g.R.Write.contents c.args.replies.now in
+    let r' = g.R.Write.contents c.write_refused-in-Lost.new.w in
+    rw c.in-Lost.is (on_ok_weaker c.write_refused-in-Lost.result (λ said. serves_lost c.args.session.now.now f f r r' said) c.write_refused-in-Lost.ensures.wrote)
+
+pub returns-in-Lost-clause-frame_first : goal.returns-in-Lost-clause-frame_first
+returns-in-Lost-clause-frame_first g c =
+    let f = g.F.Write.contents c.args.frames.now in
+    rw c.in-Lost.is (inr (serves_lost c.args.session.now.now f f None None tt))
