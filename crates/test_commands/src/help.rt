@@ -65,7 +65,7 @@ Packets, frames and sources are numbered from 0; source 0 is IN. Edits and K are
 of the current source: 0 at first, then the one of the last `use`. STAMP is a
 packet's time stamp, HEX its bytes as hexadecimal digits, or `-` for none. Empty
 lines and lines that begin with # have no reply.
-A refused request changes nothing; the reply gives the reason:
+A refused edit changes nothing. The reply to a refused request gives the reason:
   refused Line | Source | Place | Full | Spent | Size | TooLarge | NoMemory
   refused Syntax | Nodes | Reference | Number             (script)
   refused NoSuchFrame | CropOutside | SizeDiffers         (frame)
