@@ -22,7 +22,7 @@ ends_from tables place progress [] = []
 ends_from tables place progress (packet ∷ packets) =
     ends_at tables progress packet ∷ ends_from tables (place + 1) (left_by (outcome tables place progress packet)) packets
 
--- encoders leave bytes at the end of a partition that decoding does not need: 180 sound clips leave at most one
+-- encoders leave bytes at the end of a partition that decoding does not need: 186 sound clips leave at most one
 abbrev pub most_unread : ℕ
 most_unread = 3
 
