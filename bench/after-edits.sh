@@ -3,7 +3,7 @@
 # ffmpeg's own seek. README.md says more.
 set -eu
 here=$(cd "$(dirname "$0")" && pwd)
-program=$here/../crates/vp8serve/out/vp8serve
+program=$here/../bin/vp8serve
 clips=${XDG_CACHE_HOME:-$HOME/.cache}/wokureti
 clip=$clips/640x360-one-key.ivf
 for tool in vpxenc vpxdec ffmpeg; do

@@ -2,7 +2,7 @@
 # Times random edits of a long packet list, next to the same on a plain vector. README.md says more.
 set -eu
 here=$(cd "$(dirname "$0")" && pwd)
-program=$here/../crates/vp8serve/out/vp8serve
+program=$here/../bin/vp8serve
 count=${1:-100000}
 edits=${2:-20000}
 room=$(mktemp -d)

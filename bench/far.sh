@@ -2,7 +2,7 @@
 # Times a cached frame: far from the only key packet, and in streams with a key packet every 30 to 300 packets. README.md says more.
 set -eu
 here=$(cd "$(dirname "$0")" && pwd)
-program=${PROGRAM:-$here/../crates/vp8serve/out/vp8serve}
+program=${PROGRAM:-$here/../bin/vp8serve}
 room=$(mktemp -d)
 trap 'rm -rf "$room"' EXIT
 [ -n "${PROGRAM:-}" ] || "$here/../serve.sh" < /dev/null

@@ -3,7 +3,7 @@
 # same frame in a list of requests; 100,000 edits whose replies are waited for; and the memory of 1,000,000 piped requests.
 set -eu
 here=$(cd "$(dirname "$0")" && pwd)
-program=$here/../crates/vp8serve/out/vp8serve
+program=$here/../bin/vp8serve
 for tool in ffmpeg python3; do
     command -v "$tool" > /dev/null || { echo "$tool is not here" >&2; exit 1; }
 done

@@ -2,7 +2,7 @@
 # Times the serving of a 1920x1080 key frame, and a plain fill of planes of its size next to it. README.md says more.
 set -eu
 here=$(cd "$(dirname "$0")" && pwd)
-program=$here/../crates/vp8serve/out/vp8serve
+program=$here/../bin/vp8serve
 frames=${1:-200}
 room=$(mktemp -d)
 trap 'rm -rf "$room"' EXIT

@@ -36,7 +36,7 @@ def run(path, folder):
     wrong = 0
     commands = blocks(path.read_text(encoding="utf-8"))
     script = "".join(f"{command}\necho '--end--' \n" for command, _ in commands)
-    programs = f"{TOP}/crates/vp8serve/out:{TOP}/crates/vp8list/out"
+    programs = f"{TOP}/bin"
     path_of_programs = f"{folder}/bin:{programs}:{os.environ['PATH']}"
     env = dict(os.environ, PATH=path_of_programs, PYTHONPATH=str(TOP / "clients/python"), PYTHONDONTWRITEBYTECODE="1")
     ran = subprocess.run(["bash", "-c", script], cwd=folder, env=env, capture_output=True, text=True, stdin=subprocess.DEVNULL)

@@ -13,7 +13,7 @@ import subprocess
 import sys
 import tempfile
 
-PROGRAM = pathlib.Path(__file__).resolve().parent.parent / "crates/vp8serve/out/vp8serve"
+PROGRAM = pathlib.Path(__file__).resolve().parent.parent / "bin/vp8serve"
 TOP = 2**64
 
 

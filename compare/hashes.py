@@ -14,7 +14,7 @@ import sys
 import tempfile
 
 HERE = pathlib.Path(__file__).resolve().parent
-PROGRAM = HERE.parent / "crates/vp8list/out/vp8list"
+PROGRAM = HERE.parent / "bin/vp8list"
 CLIPS = HERE.parent / "crates/gate_clips/data"
 # The time stamps of the file, each frame once at its own size, and no line with ffmpeg's version.
 FLAGS = ["-fps_mode", "passthrough", "-autoscale", "0", "-bitexact", "-f", "framemd5", "-"]

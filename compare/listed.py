@@ -17,7 +17,7 @@ from bits import Reader
 from damaged import damage
 
 HERE = pathlib.Path(__file__).resolve().parent
-PROGRAM = HERE.parent / "crates/vp8list/out/vp8list"
+PROGRAM = HERE.parent / "bin/vp8list"
 COLUMNS = "packet frame stamp bytes kind show version size first partitions quantizer level last golden altref cause byte scale color clamp"
 
 

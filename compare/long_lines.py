@@ -14,7 +14,7 @@ import tempfile
 
 from bits import ivf
 
-PROGRAM = pathlib.Path(__file__).resolve().parent.parent / "crates/vp8serve/out/vp8serve"
+PROGRAM = pathlib.Path(__file__).resolve().parent.parent / "bin/vp8serve"
 LIMIT = 1 << 30
 PIECE = 1 << 20
 MEMORY = 300 << 20

@@ -10,7 +10,7 @@ import subprocess
 import sys
 
 TOP = pathlib.Path(__file__).resolve().parent.parent
-PROGRAM = TOP / "crates/vp8list/out/vp8list"
+PROGRAM = TOP / "bin/vp8list"
 
 
 def lines(*arguments):

@@ -13,7 +13,7 @@ import sys
 import tempfile
 
 HERE = pathlib.Path(__file__).resolve().parent
-PROGRAM = HERE.parent / "crates" / "vp8serve" / "out" / "vp8serve"
+PROGRAM = HERE.parent / "bin/vp8serve"
 SIZES = [(1, 1), (2, 3), (16, 16), (17, 33), (64, 48), (175, 143), (176, 144), (1920, 1080)]
 
 

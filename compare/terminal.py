@@ -12,7 +12,7 @@ import subprocess
 import sys
 import tempfile
 
-PROGRAM = pathlib.Path(__file__).resolve().parent.parent / "crates/vp8serve/out/vp8serve"
+PROGRAM = pathlib.Path(__file__).resolve().parent.parent / "bin/vp8serve"
 NAMED = "with --explain the next line says why, and what to do\n"
 OTHER = b"DKIF\0\0\x20\0\x1bcAB\x10\0\x10\0\x1e\0\0\0\1\0\0\0" + bytes(8)
 
