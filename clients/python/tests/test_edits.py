@@ -203,7 +203,7 @@ class Packets(Case):
         with self.session() as stream:
             stream.delete(0)
             facts = stream.packets()
-            self.assertEqual([facts[0]["cause"], facts[1]["cause"]], ["NoKeyFrame", "NoKeyFrame"])
+            self.assertEqual([facts[0]["cause"], facts[1]["cause"]], ["NoKeyFrame", "lost"])
             stream.blank(1, 7, 5)
             facts = stream.packets()
             self.assertEqual([facts[0]["cause"], facts[1]["cause"], facts[2]["cause"]], ["NoKeyFrame", None, None])

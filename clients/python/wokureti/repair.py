@@ -2,7 +2,7 @@
 
 import bisect
 import collections
-import re
+import json
 from typing import NamedTuple
 
 from . import facts, ivf, runs, salvage
@@ -14,7 +14,8 @@ MOST_MOVE = 64
 MOST_HOLE = 10000
 # This part of the steps between shown packets is the same in a stream of a constant rate.
 CONSTANT = 0.8
-PAST_END = re.compile(r"\bpacket (\d+): .*bytes read past its end")
+# What a kind of finding means.
+DAMAGE = {"past_end": "read past its end", "unread": "not read to its end"}
 
 
 class Packet(NamedTuple):
@@ -57,15 +58,18 @@ class Repair:
         found = list(facts.outlines(facts.run_on(self.lister, packets)))[1::2]
         return [Outline(bool(flags & facts.KEY), bool(flags & facts.SHOWN), cause) for flags, _, cause in found]
 
-    def past_ends(self):
-        """The packets whose partitions are read past their end."""
+    def damaged(self):
+        """The packets whose decoding ends too early or reads past an end, and for each of them what vp8list says."""
         if not self.packets:
-            return set()
+            return {}
         packets = ((packet.stamp, packet.data) for packet in self.packets)
-        options = ["--check"] + (["--tables", self.tables] if self.tables else [])
+        options = ["--check", "--json"] + (["--tables", self.tables] if self.tables else [])
         lines = facts.run_on(self.lister, packets, *options, statuses=(0, 1))
-        found = (PAST_END.search(line.decode(errors="replace")) for line in lines)
-        return {int(match.group(1)) for match in found if match}
+        found = {}
+        for finding in map(json.loads, lines):
+            if finding["severity"] == "damage" and finding["packet"] is not None and finding["kind"] != "refused":
+                found.setdefault(finding["packet"], DAMAGE.get(finding["kind"], "damaged"))
+        return found
 
     def forge(self, word, width, height):
         """The bytes of a grey key frame, or of a packet that shows the last picture again and is shown by libvpx too."""
@@ -198,7 +202,7 @@ class Repair:
 
     def replace_some(self, theirs):
         """Replaces packets that are refused or damaged. Whether there was one."""
-        outlines, past, found = self.outlines(), self.past_ends(), False
+        outlines, past, found = self.outlines(), self.damaged(), False
         ranks = collections.Counter()
         for place, packet in enumerate(self.packets):
             group, rank = theirs.get(packet.stamp, ()), ranks[packet.stamp]
@@ -209,7 +213,7 @@ class Repair:
             cause = outlines[place].cause
             has_zeros = bytes(salvage.ZEROS) in packet.data and bytes(salvage.ZEROS) not in data
             if cause or place in past or packet.before_gap or has_zeros:
-                why = f"refused {cause}" if cause else "read past its end" if place in past else "zeros in it" if has_zeros else "damaged at its end"
+                why = f"refused {cause}" if cause else past[place] if place in past else "zeros in it" if has_zeros else "damaged at its end"
                 self.say(f"packet {place}: {why}: the packet of the second recording with its time stamp, {packet.stamp}")
                 self.packets[place] = Packet(packet.stamp, data)
                 found = True
@@ -242,7 +246,7 @@ class Repair:
 
     def hold(self):
         """Holds the last picture for packets that are refused or lost, up to the next key frame."""
-        outlines, past = self.outlines(), self.past_ends()
+        outlines, past = self.outlines(), self.damaged()
         step = self.step(outlines)
         kept, size, place = [], None, 0
         while place < len(self.packets):
@@ -274,7 +278,7 @@ class Repair:
         for number in range(place, end):
             if outlines[number].cause:
                 return number, f"refused {outlines[number].cause}" + (f", {end - number - 1} packets lost" if end > number + 1 else "")
-            # After a loss, bits that are read past an end say that the packets do not fit what was decoded before.
+            # After a loss, decoding that ends too early or too late says that the packets do not fit what was decoded before.
             if self.is_after_loss(number, step) and not outlines[number].is_key and any(other in past for other in range(number, end)):
                 return number, "packets before it are lost, and it does not decode without them"
         return end, None
@@ -307,12 +311,12 @@ class Repair:
     def check(self):
         """What is still wrong."""
         refused = [(place, found.cause) for place, found in enumerate(self.outlines()) if found.cause]
-        past = sorted(self.past_ends())
+        past = sorted(self.damaged())
         for place, cause in refused:
             self.say(f"packet {place}: refused {cause}: not mended", False)
         if past:
             names = f"packet {past[0]}" if len(past) == 1 else f"packet {past[0]} and {len(past) - 1} more"
-            self.say(f"{names}: decoding reads past the end, so the pictures up to the next key frame are not right: not mended", False)
+            self.say(f"{names}: damaged inside, so the pictures up to the next key frame are not right: not mended", False)
         self.left = len(refused) + len(past)
 
 
