@@ -8,7 +8,7 @@ import threading
 import time
 import unittest
 
-from support import DATA, ODD, SMALL, Case, command, packets_of, start, whole_text, write_packets
+from support import DATA, ODD, SLOW, SMALL, Case, command, packets_of, start, whole_text, write_packets
 from wokureti import Session, programs
 
 SCENES = DATA / "scene-cuts.ivf"
@@ -117,7 +117,7 @@ class Paths(Case):
         self.assertEqual(command("cat", SMALL, "list", "--edits", "list", cwd=self.room)[0], 2)
         with open(self.clip, "ab") as file:
             process = start("cat", self.clip, stdout=file, stderr=subprocess.DEVNULL)
-            self.assertEqual(process.wait(20), 2)
+            self.assertEqual(process.wait(20 * SLOW), 2)
         self.assertEqual(self.clip.read_bytes(), SCENES.read_bytes())
         self.assertEqual((self.room / "list").read_text(), "delete 0\n")
 
@@ -179,7 +179,7 @@ class Failures(Case):
         limit = ["sh", "-c", 'ulimit -f 8; exec "$@"', "sh"]
         env = dict(os.environ, PYTHONPATH=str(programs.TREE / "clients/python"))
         words = ["python3", "-m", "wokureti", "cat", str(self.many), str(self.out)]
-        done = subprocess.run(limit + words, env=env, capture_output=True, timeout=20, check=False)
+        done = subprocess.run(limit + words, env=env, capture_output=True, timeout=20 * SLOW, check=False)
         self.assertEqual((done.returncode, self.out.read_bytes()), (2, b"old"), done.stderr)
         self.assertEqual(sorted(os.listdir(self.room)), ["in.ivf", "out.y4m"])
 
@@ -190,7 +190,7 @@ class Failures(Case):
         process.stdout.read(10)
         process.stdout.close()
         with self.within(5):
-            self.assertEqual(process.wait(10), 2)
+            self.assertEqual(process.wait(10 * SLOW), 2)
         self.assertEqual(process.stderr.read(), b"")
         process.stderr.close()
         for pid in pids.read_text().split():
@@ -206,7 +206,7 @@ class Failures(Case):
             time.sleep(0.02)
         process.send_signal(signal.SIGINT)
         with self.within(5):
-            self.assertEqual(process.wait(10), 130)
+            self.assertEqual(process.wait(10 * SLOW), 130)
         self.assertEqual((process.stderr.read(), self.out.read_bytes(), os.listdir(self.room / "tmp")), (b"", b"old", []))
         process.stderr.close()
 
@@ -229,7 +229,7 @@ class Progress(Case):
         except OSError:
             pass
         os.close(ours)
-        self.assertEqual(process.wait(10), 0)
+        self.assertEqual(process.wait(10 * SLOW), 0)
         self.assertRegex(said.decode(), r"\r\d+ of 48 frames")
         self.assertTrue(said.endswith(b"\r\x1b[K"))
 

@@ -10,7 +10,7 @@ import threading
 import unittest
 from unittest import mock
 
-from support import DATA, ODD, SMALL, TOP, Case, command, packets_of, start, whole_text, write_packets
+from support import DATA, ODD, SLOW, SMALL, TOP, Case, command, packets_of, start, whole_text, write_packets
 from test_serve import unpacked
 from wokureti import Session, compare, frames
 
@@ -102,7 +102,7 @@ class Compare(Case):
         process = start("cat", ODD, stdout=subprocess.PIPE)
         self.assertSays(0, ["12 frames, all the same"], ODD, f"/dev/fd/{process.stdout.fileno()}", pass_fds=[process.stdout.fileno()])
         process.stdout.close()
-        self.assertEqual(process.wait(5), 0)
+        self.assertEqual(process.wait(5 * SLOW), 0)
         self.assertSays(1, ["first difference: frame 11: only A has it", "A has 12 frames, B has 11", "0 of 11 frames differ"] + self.last_two(ODD, 11), ODD, "-", given=text[: text.rindex(MARK)])
 
     def last_two(self, path, count):
@@ -230,7 +230,7 @@ class Containers(Case):
     def run_it(self, *words):
         """The command, whose PATH has only what a test puts there."""
         env = dict(os.environ, PYTHONPATH=str(TOP / "clients/python"), **self.env)
-        done = subprocess.run([sys.executable, "-m", "wokureti", *map(str, words)], env=env, capture_output=True, timeout=20, check=False)
+        done = subprocess.run([sys.executable, "-m", "wokureti", *map(str, words)], env=env, capture_output=True, timeout=20 * SLOW, check=False)
         return done.returncode, done.stdout, done.stderr.decode()
 
     def test_packets_are_taken_out(self):

@@ -15,7 +15,7 @@ import unittest
 import zlib
 from unittest import mock
 
-from support import DATA, ODD, SMALL, Case, is_alive, packets_of, process_of, start, whole_text, write_packets
+from support import DATA, ODD, SLOW, SMALL, Case, is_alive, packets_of, process_of, start, whole_text, write_packets
 from test_edits import edit
 from wokureti import Refused, Script, Session, web
 from wokureti.live import Live
@@ -50,7 +50,7 @@ class ServerCase(Case):
 
     def ask(self, path, method="GET", headers=(), body=None, connection=None):
         """The status, headers and body of a response."""
-        one = connection or http.client.HTTPConnection(self.server.host, timeout=20)
+        one = connection or http.client.HTTPConnection(self.server.host, timeout=20 * SLOW)
         try:
             one.request(method, f"/{TOKEN}{path}", body, dict(headers))
             response = one.getresponse()
@@ -116,7 +116,7 @@ class VirtualFile(ServerCase):
         for frame in (0, 1, 2, 5, 11):
             start = head + frame * size
             places |= {start - 1, start, start + 1, start + 5, start + 6, start + 7, start + size - 1}
-        one = http.client.HTTPConnection(self.server.host, timeout=20)
+        one = http.client.HTTPConnection(self.server.host, timeout=20 * SLOW)
         for first in sorted(places):
             for last in sorted(places):
                 if first <= last:
@@ -138,7 +138,7 @@ class VirtualFile(ServerCase):
         choose = random.Random(9110)
         self.serve(SCENES, cache=32)
         wanted = whole_text(SCENES)
-        one = http.client.HTTPConnection(self.server.host, timeout=20)
+        one = http.client.HTTPConnection(self.server.host, timeout=20 * SLOW)
         for _ in range(1000):
             first = choose.randrange(len(wanted))
             length = choose.choice([1, 100, 20000, 70000])
@@ -201,7 +201,7 @@ class VirtualFile(ServerCase):
         for mode, other in (("repeat", frames[3]), ("black", black)):
             wanted = good[:head] + b"".join(frames + frames[:4] + 8 * [other] + frames)
             self.assertEqual(self.ask(f"/clip.y4m?refused={mode}")[::2], (200, wanted))
-            one = http.client.HTTPConnection(self.server.host, timeout=20)
+            one = http.client.HTTPConnection(self.server.host, timeout=20 * SLOW)
             for first in range(head + 15 * size, head + 25 * size, 37):
                 status, _, body = self.ask(f"/clip.y4m?refused={mode}", headers={"Range": f"bytes={first}-{first + 150}"}, connection=one)
                 self.assertEqual((status, body), (206, wanted[first : first + 151]))
@@ -246,7 +246,7 @@ class VirtualFile(ServerCase):
         self.change(f"script {script}")
         length = int(self.ask("/clip.y4m", "HEAD")[1]["Content-Length"])
         self.assertGreater(length, 300_000_000)
-        with socket.create_connection(("127.0.0.1", self.server.port), timeout=10) as sock:
+        with socket.create_connection(("127.0.0.1", self.server.port), timeout=10 * SLOW) as sock:
             sock.sendall(self.head(f"GET /{TOKEN}/clip.y4m HTTP/1.1"))
             count = len(sock.recv(1000))
             self.change("delete 1")
@@ -419,7 +419,7 @@ class Interface(ServerCase):
 
     def test_events(self):
         self.serve()
-        with socket.create_connection(("127.0.0.1", self.server.port), timeout=5) as sock:
+        with socket.create_connection(("127.0.0.1", self.server.port), timeout=5 * SLOW) as sock:
             sock.sendall(self.head(f"GET /{TOKEN}/events HTTP/1.1"))
             file = sock.makefile("rb")
             while file.readline().strip():
@@ -611,7 +611,7 @@ class Hostile(ServerCase):
         with mock.patch.object(web, "STALLED", 0.2):
             socks = []
             for _ in range(200):
-                sock = socket.create_connection(("127.0.0.1", self.server.port), timeout=5)
+                sock = socket.create_connection(("127.0.0.1", self.server.port), timeout=5 * SLOW)
                 sock.sendall(b"GET /")
                 socks.append(sock)
             time.sleep(0.5)
@@ -628,7 +628,7 @@ class Hostile(ServerCase):
         self.change(f"script {script}")
         socks = []
         for _ in range(20):
-            sock = socket.create_connection(("127.0.0.1", self.server.port), timeout=5)
+            sock = socket.create_connection(("127.0.0.1", self.server.port), timeout=5 * SLOW)
             sock.sendall(self.head(f"GET /{TOKEN}/clip.y4m HTTP/1.1"))
             socks.append(sock)
         time.sleep(0.3)
@@ -671,7 +671,7 @@ class TheCommand(Case):
             self.addCleanup(process.kill)
             url = process.stdout.readline().decode().strip()
             host, token = re.fullmatch(r"http://(127\.0\.0\.1:\d+)/([\w-]{20,})/clip\.y4m", url).groups()
-            one = http.client.HTTPConnection(host, timeout=10)
+            one = http.client.HTTPConnection(host, timeout=10 * SLOW)
             one.request("GET", f"/{token}/clip.y4m")
             self.assertEqual(one.getresponse().read(), whole_text(SMALL, *(number * ["delete 3"])))
             headers = {"Origin": f"http://{host}", "Content-Type": "application/json"}
@@ -682,7 +682,7 @@ class TheCommand(Case):
             self.assertEqual(len(children), 1)
             process.send_signal(ending)
             with self.within(5):
-                self.assertEqual(process.wait(10), 0)
+                self.assertEqual(process.wait(10 * SLOW), 0)
             self.assertEqual((process.stdout.read(), process.stderr.read()), (b"", b""))
             process.stdout.close()
             process.stderr.close()

@@ -11,7 +11,7 @@ import time
 import unittest
 from unittest import mock
 
-from support import CLIP, DATA, ODD, SMALL, TOP, Case, digest, frames_of, is_alive, packets_of, process_of
+from support import CLIP, DATA, ODD, SLOW, SMALL, TOP, Case, digest, frames_of, is_alive, packets_of, process_of
 from wokureti import Count, Ended, Refused, Session
 from wokureti.frames import FrameReader
 
@@ -364,7 +364,7 @@ class Broken(Case):
         code = f"from wokureti import Session\nall = [Session({str(SMALL)!r}) for _ in range(20)]\n"
         code += "print(*[one._pipes.process.pid for one in all])\n"
         env = dict(os.environ, PYTHONPATH=str(TOP / "clients/python"))
-        done = subprocess.run([sys.executable, "-c", code], env=env, capture_output=True, text=True, timeout=20, check=True)
+        done = subprocess.run([sys.executable, "-c", code], env=env, capture_output=True, text=True, timeout=20 * SLOW, check=True)
         pids = done.stdout.split()
         self.assertEqual((len(pids), done.stderr), (20, ""))
         for pid in pids:

@@ -6,7 +6,6 @@ The parts are joined in order as they come, so the output may be a pipe.
 import os
 import re
 import subprocess
-import sys
 import tempfile
 import threading
 
@@ -138,19 +137,9 @@ def plain_folder():
     return folder if re.fullmatch("[A-Za-z0-9._/+-]*", folder) else "/tmp"
 
 
-class Stdout:
-    """Standard output as a file to write to, which is not closed."""
-
-    def __enter__(self):
-        return sys.stdout.buffer
-
-    def __exit__(self, kind, value, trace):
-        if kind is None:
-            sys.stdout.buffer.flush()
-
-
 def output(path):
-    return Stdout() if path == "-" else files.whole(path)
+    """A file to write to. Standard output is opened again: with PYTHONUNBUFFERED sys.stdout may write a part of what it is given."""
+    return open(os.dup(1), "wb") if path == "-" else files.whole(path)
 
 
 def write(session, out, workers, name="frames"):

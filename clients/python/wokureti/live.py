@@ -61,6 +61,7 @@ class Live:
         self.viewers, self.log = [], []
         self.known, self.found = (None, None), (None, None)
         self.checking = threading.Lock()
+        self.closed = False
         self.events = []
         try:
             self.session = self.open()
@@ -82,6 +83,7 @@ class Live:
     def close(self):
         """Ends the programs. The edits are in the list; the stream is saved if it was changed since the last time."""
         with self.lock:
+            self.closed = True
             try:
                 if self.save_path is not None and self.saved != self.revision:
                     self.save()
@@ -99,6 +101,8 @@ class Live:
 
     def again(self, ended):
         """Starts the program again, from the list of edits."""
+        if self.closed:
+            raise Lost("the server ends")
         print(f"wokureti: vp8serve ended ({ended}); it is started again from the list of edits", file=sys.stderr, flush=True)
         self.drop_viewers()
         before = self.session

@@ -1,7 +1,8 @@
 """wokureti repair: finds the damage of a stream, and mends what can be mended without a person."""
 
+import bisect
 import collections
-import re
+import json
 from typing import NamedTuple
 
 from . import facts, ivf, runs, salvage
@@ -13,7 +14,8 @@ MOST_MOVE = 64
 MOST_HOLE = 10000
 # This part of the steps between shown packets is the same in a stream of a constant rate.
 CONSTANT = 0.8
-PAST_END = re.compile(r"\bpacket (\d+): .*bytes read past its end")
+# What a kind of finding means.
+DAMAGE = {"past_end": "read past its end", "unread": "not read to its end"}
 
 
 class Packet(NamedTuple):
@@ -56,15 +58,18 @@ class Repair:
         found = list(facts.outlines(facts.run_on(self.lister, packets)))[1::2]
         return [Outline(bool(flags & facts.KEY), bool(flags & facts.SHOWN), cause) for flags, _, cause in found]
 
-    def past_ends(self):
-        """The packets whose partitions are read past their end."""
+    def damaged(self):
+        """The packets whose decoding ends too early or reads past an end, and for each of them what vp8list says."""
         if not self.packets:
-            return set()
+            return {}
         packets = ((packet.stamp, packet.data) for packet in self.packets)
-        options = ["--check"] + (["--tables", self.tables] if self.tables else [])
+        options = ["--check", "--json"] + (["--tables", self.tables] if self.tables else [])
         lines = facts.run_on(self.lister, packets, *options, statuses=(0, 1))
-        found = (PAST_END.search(line.decode(errors="replace")) for line in lines)
-        return {int(match.group(1)) for match in found if match}
+        found = {}
+        for finding in map(json.loads, lines):
+            if finding["severity"] == "damage" and finding["packet"] is not None and finding["kind"] != "refused":
+                found.setdefault(finding["packet"], DAMAGE.get(finding["kind"], "damaged"))
+        return found
 
     def forge(self, word, width, height):
         """The bytes of a grey key frame, or of a packet that shows the last picture again and is shown by libvpx too."""
@@ -129,12 +134,18 @@ class Repair:
 
     def sort(self):
         """Packets that come too late or too early are sorted by their time stamps, if these are theirs alone and not far from their place."""
-        keys = [packet.stamp for packet in self.packets]
+        stamps = [packet.stamp for packet in self.packets]
+        if all(before <= after for before, after in zip(stamps, stamps[1:])):
+            return
+        # A hidden packet mostly has the time stamp of the shown one after it.
+        keys = [(packet.stamp, ivf.is_shown(packet.data)) for packet in self.packets]
+        if not hidden_first(keys):
+            keys = [(stamp, False) for stamp in stamps]
         counts = collections.Counter(keys)
         order = sorted(range(len(keys)), key=keys.__getitem__)
         for place in sorted(out_of_order(order)):
-            if counts[self.packets[place].stamp] > 1:
-                self.say(f"packet {place}: time stamp {self.packets[place].stamp} is another packet's too: it stays", False)
+            if counts[keys[place]] > 1:
+                self.say(f"packet {place}: time stamp {stamps[place]} is another packet's too: it stays", False)
                 keys[place] = keys[place - 1] if place else min(keys)
         order = sorted(range(len(keys)), key=keys.__getitem__)
         if max((abs(place - to) for to, place in enumerate(order)), default=0) > MOST_MOVE:
@@ -143,7 +154,7 @@ class Repair:
         out = out_of_order(order)
         for to, place in enumerate(order):
             if place in out:
-                self.say(f"packet {place}: time stamp {self.packets[place].stamp}: moved to {to}")
+                self.say(f"packet {place}: time stamp {stamps[place]}: moved to {to}")
         self.packets = [self.packets[place] for place in order]
 
     # A second recording
@@ -153,44 +164,56 @@ class Repair:
         shift = shift_between(self.packets, other)
         if shift is None:
             raise ValueError("no packet of the second recording is one of the first")
-        counts = collections.Counter(packet.stamp for packet in other)
-        theirs = {packet.stamp + shift: packet.data for packet in other if counts[packet.stamp] == 1 and not packet.before_gap}
+        theirs = {
+            stamp + shift: [packet.data for packet in group]
+            for stamp, group in groups_of(other).items()
+            if not any(packet.before_gap or packet.after_gap or self.is_broken(packet.data) for packet in group)
+        }
         if shift:
-            self.say(f"the time stamps of the second recording differ by {shift}")
+            self.say(f"the time stamps of the second recording differ by {shift}", False)
         self.insert_missing(theirs)
         # A damaged packet also makes those after it look damaged; once it is replaced, they are not.
-        while self.replace_one(theirs):
+        while self.replace_some(theirs):
             pass
 
     def insert_missing(self, theirs):
-        known = {packet.stamp for packet in self.packets}
-        missing = sorted(stamp for stamp in theirs if stamp not in known and theirs[stamp])
+        """Inserts the packets of each time stamp that has more packets there."""
+        stamps = [packet.stamp for packet in self.packets]
+        if any(after < before for before, after in zip(stamps, stamps[1:])):
+            self.say("the time stamps go back: no packets of the second recording are inserted", False)
+            return
+        ours = groups_of(self.packets)
+        missing = {stamp: len(group) - len(ours.get(stamp, ())) for stamp, group in theirs.items() if len(group) > len(ours.get(stamp, ()))}
         if not missing:
             return
-        for first, last in stretches(missing, sorted(known | set(missing))):
-            count = last - first + 1
-            names = f"time stamp {missing[first]}" if count == 1 else f"time stamps {missing[first]} to {missing[last]}"
+        order = sorted(set(ours) | set(missing))
+        for run in stretches(sorted(missing), order):
+            count = sum(missing[stamp] for stamp in run)
+            names = f"time stamp {run[0]}" if len(run) == 1 else f"time stamps {run[0]} to {run[-1]}"
             self.say(f"{names}: {count} {'packet' if count == 1 else 'packets'} of the second recording inserted")
-        new = [Packet(stamp, theirs[stamp]) for stamp in missing]
-        # What was lost before a packet is there now, if it came with those.
-        filled = set(missing)
-        merged = sorted(self.packets + new, key=lambda packet: packet.stamp)
-        self.packets = [
-            packet._replace(after_gap=packet.after_gap and not (place and merged[place - 1].stamp in filled))
-            for place, packet in enumerate(merged)
-        ]
+        self.packets, before = [], None
+        for stamp in order:
+            if stamp in missing:
+                self.packets += [Packet(stamp, data) for data in theirs[stamp]]
+            else:
+                # What was lost before these is there now, if the packets before them came with it.
+                self.packets += [packet._replace(after_gap=packet.after_gap and before not in missing) for packet in ours[stamp]]
+            before = stamp
 
-    def replace_one(self, theirs):
-        """Replaces the packets that are refused, and the first one of each stretch that is read past its end. Whether there was one."""
-        outlines, past = self.outlines(), self.past_ends()
-        found = False
+    def replace_some(self, theirs):
+        """Replaces packets that are refused or damaged. Whether there was one."""
+        outlines, past, found = self.outlines(), self.damaged(), False
+        ranks = collections.Counter()
         for place, packet in enumerate(self.packets):
-            data = theirs.get(packet.stamp)
-            if data is None or data == packet.data or self.is_broken(data):
+            group, rank = theirs.get(packet.stamp, ()), ranks[packet.stamp]
+            ranks[packet.stamp] += 1
+            data = group[rank] if rank < len(group) else packet.data
+            if data == packet.data:
                 continue
             cause = outlines[place].cause
-            if cause or place in past or packet.before_gap:
-                why = f"refused {cause}" if cause else "read past its end" if place in past else "damaged at its end"
+            has_zeros = bytes(salvage.ZEROS) in packet.data and bytes(salvage.ZEROS) not in data
+            if cause or place in past or packet.before_gap or has_zeros:
+                why = f"refused {cause}" if cause else past[place] if place in past else "zeros in it" if has_zeros else "damaged at its end"
                 self.say(f"packet {place}: {why}: the packet of the second recording with its time stamp, {packet.stamp}")
                 self.packets[place] = Packet(packet.stamp, data)
                 found = True
@@ -223,7 +246,7 @@ class Repair:
 
     def hold(self):
         """Holds the last picture for packets that are refused or lost, up to the next key frame."""
-        outlines, past = self.outlines(), self.past_ends()
+        outlines, past = self.outlines(), self.damaged()
         step = self.step(outlines)
         kept, size, place = [], None, 0
         while place < len(self.packets):
@@ -255,7 +278,7 @@ class Repair:
         for number in range(place, end):
             if outlines[number].cause:
                 return number, f"refused {outlines[number].cause}" + (f", {end - number - 1} packets lost" if end > number + 1 else "")
-            # After a loss, bits that are read past an end say that the packets do not fit what was decoded before.
+            # After a loss, decoding that ends too early or too late says that the packets do not fit what was decoded before.
             if self.is_after_loss(number, step) and not outlines[number].is_key and any(other in past for other in range(number, end)):
                 return number, "packets before it are lost, and it does not decode without them"
         return end, None
@@ -288,12 +311,12 @@ class Repair:
     def check(self):
         """What is still wrong."""
         refused = [(place, found.cause) for place, found in enumerate(self.outlines()) if found.cause]
-        past = sorted(self.past_ends())
+        past = sorted(self.damaged())
         for place, cause in refused:
             self.say(f"packet {place}: refused {cause}: not mended", False)
         if past:
             names = f"packet {past[0]}" if len(past) == 1 else f"packet {past[0]} and {len(past) - 1} more"
-            self.say(f"{names}: decoding reads past the end, so the pictures up to the next key frame are not right: not mended", False)
+            self.say(f"{names}: damaged inside, so the pictures up to the next key frame are not right: not mended", False)
         self.left = len(refused) + len(past)
 
 
@@ -303,10 +326,14 @@ def has_zero_tail(packets):
     return len(last) == 2 and any(packet.stamp for packet in packets)
 
 
+def hidden_first(keys):
+    """Whether of two packets with one time stamp, a hidden one mostly comes before a shown one."""
+    pairs = collections.Counter((before[1], after[1]) for before, after in zip(keys, keys[1:]) if before[0] == after[0])
+    return pairs[False, True] >= pairs[True, False]
+
+
 def out_of_order(order):
     """The items of an order that do not ascend with the others: all but a longest ascending list of them."""
-    import bisect
-
     tails, places, before = [], [], [None] * len(order)
     for index, item in enumerate(order):
         at = bisect.bisect_left(tails, item)
@@ -323,14 +350,28 @@ def out_of_order(order):
     return set(order) - kept
 
 
+def groups_of(packets):
+    """The packets of each time stamp: a hidden packet mostly has that of the next one. Stamps that come back later are left out."""
+    found, last, again = {}, None, set()
+    for packet in packets:
+        if packet.stamp != last and packet.stamp in found:
+            again.add(packet.stamp)
+        found.setdefault(packet.stamp, []).append(packet)
+        last = packet.stamp
+    return {stamp: group for stamp, group in found.items() if stamp not in again}
+
+
 def stretches(missing, known):
-    """The first and last index of each run of missing stamps with no other stamp between them."""
+    """Runs of missing time stamps with no other stamp between them."""
     place = {stamp: index for index, stamp in enumerate(known)}
-    start = 0
-    for index in range(1, len(missing) + 1):
-        if index == len(missing) or place[missing[index]] != place[missing[index - 1]] + 1:
-            yield start, index - 1
-            start = index
+    run = []
+    for stamp in missing:
+        if run and place[stamp] != place[run[-1]] + 1:
+            yield run
+            run = []
+        run.append(stamp)
+    if run:
+        yield run
 
 
 def shift_between(packets, other):
