@@ -1,0 +1,131 @@
+#!/usr/bin/env python3
+"""Runs vp8list with each of its options, and compares texts and exit statuses: options.py
+
+The gate runs it after `rt ci`; it prints nothing if all is as it should be. The streams are those of gate_checks and the damaged one of
+vp8list. Lists and findings are compared with those that listed.py and checked.py find from headers, objects with the lines, and hashes
+with the samples that vp8serve serves. VP8LIST and VP8SERVE name other programs than those that `rt ci` built.
+"""
+
+import hashlib
+import json
+import os
+import pathlib
+import subprocess
+import sys
+import tempfile
+
+from checked import PARTITION, lines as findings
+from listed import lines as listed
+
+TOP = pathlib.Path(__file__).resolve().parent.parent
+LIST = os.environ.get("VP8LIST", str(TOP / "crates/vp8list/out/vp8list"))
+SERVE = os.environ.get("VP8SERVE", str(TOP / "crates/vp8serve/out/vp8serve"))
+DATA = TOP / "crates/gate_checks/data"
+STREAMS = [*sorted(DATA.glob("*.ivf")), TOP / "crates/vp8list/data/damaged.ivf"]
+# Entries of the RFC's long tables, so that a file of tables can be made of zeros that differs from them.
+ENTRIES = 3012
+
+wrong = []
+
+
+def ran(*words, stdin=b""):
+    """The exit status and the two outputs of vp8list."""
+    done = subprocess.run([LIST, *map(str, words)], input=stdin, capture_output=True, timeout=60, check=False)
+    return done.returncode, done.stdout.decode(), done.stderr.decode()
+
+
+def expect(what, found, wanted):
+    if found != wanted:
+        wrong.append(f"{what}: {found!r:.400} instead of {wanted!r:.400}")
+
+
+def check_lists(path):
+    status, text, errors = ran(path)
+    expect(f"{path.name} list", (status, text.splitlines(), errors), (0, list(listed(path.read_bytes())), ""))
+    names, *rows = [line.split("\t") for line in text.splitlines()]
+    values = [{name: None if text == "-" else int(text) if text.isdigit() else text for name, text in zip(names, row)} for row in rows]
+    status, text, errors = ran(path, "--json")
+    expect(f"{path.name} --json", (status, [json.loads(line) for line in text.splitlines()], errors), (0, values, ""))
+    expect(f"{path.name} from standard input", ran("-", stdin=path.read_bytes())[1].splitlines(), list(listed(path.read_bytes())))
+
+
+def check_findings(path):
+    status, text, errors = ran(path, "--check")
+    said = [line for line in text.splitlines()[:-1]]
+    around = [line for line in said if not PARTITION.fullmatch(line)]
+    expect(f"{path.name} --check", (around, errors), (list(findings(path.read_bytes())), ""))
+    damage = sum(line.startswith("damage: ") for line in said)
+    notes = sum(line.startswith("note: ") for line in said)
+    expect(f"{path.name} summary", text.splitlines()[-1].split(" frames, ")[1], f"damage: {damage}, notes: {notes}")
+    expect(f"{path.name} status of --check", status, 1 if damage else 0)
+    expect(f"{path.name} --check --strict", ran(path, "--check", "--strict"), (1 if damage or notes else 0, text, ""))
+    status, text, errors = ran(path, "--check", "--json")
+    objects = [json.loads(line) for line in text.splitlines()]
+    expect(f"{path.name} --check --json", (status, len(objects), errors), (1 if damage else 0, damage + notes, ""))
+    for line, found in zip(said, objects):
+        expect(f"{path.name} severity of {line}", line.split(":")[0], found["severity"])
+        expect(f"{path.name} packet of {line}", line.startswith(f"{found['severity']}: packet {found['packet']}: "), found["packet"] is not None)
+
+
+def served(path, *words):
+    """The MD5 of each frame that vp8serve serves, in order."""
+    count = int(subprocess.run([SERVE, path], input=b"count\n", capture_output=True, timeout=60, check=True).stdout.split()[3])
+    with tempfile.TemporaryDirectory() as folder:
+        out = pathlib.Path(folder) / "out.y4m"
+        requests = "".join(f"frame {number}\n" for number in range(count)).encode()
+        subprocess.run([SERVE, path, "-", out, *words], input=requests, capture_output=True, timeout=60, check=True)
+        text = out.read_bytes()
+    head, _, text = text.partition(b"\n")
+    width, height = (int(next(word[1:] for word in head.split() if word[:1] == side)) for side in (b"W", b"H"))
+    size = width * height + 2 * ((width + 1) // 2) * ((height + 1) // 2)
+    step = len(b"FRAME\n") + size
+    return [hashlib.md5(text[at + 6 : at + step]).hexdigest() for at in range(0, len(text), step)]
+
+
+def hashes(text):
+    return [line.rsplit(", ", 1)[1] for line in text.splitlines() if not line.startswith("#")]
+
+
+def check_hashes():
+    clean, cut = DATA / "clean.ivf", DATA / "cut.ivf"
+    status, text, errors = ran(clean, "--hash")
+    expect("clean.ivf --hash", (status, hashes(text), errors), (0, served(clean), ""))
+    status, text, errors = ran(cut, "--hash")
+    expect("cut.ivf --hash", (status, errors), (1, "vp8list: packet 60: refused ShortPacket\n"))
+    expect("cut.ivf hashes", hashes(text), served(cut))
+    with tempfile.TemporaryDirectory() as folder:
+        tables = pathlib.Path(folder) / "tables"
+        tables.write_bytes(bytes([128]) * ENTRIES)
+        status, text, errors = ran(clean, "--hash", "--tables", tables)
+        expect("--tables of --hash", (status, hashes(text)), (0, served(clean, "--tables", tables)))
+        expect("--tables changes frames", hashes(text) != served(clean), True)
+        expect("--tables of --check", ran(clean, "--check", "--tables", tables)[0], 1)
+        tables.write_bytes(b"short")
+        expect("short tables", ran(clean, "--tables", tables), (2, "", "vp8list: tables are not 3012 bytes\n"))
+
+
+def check_errors():
+    with tempfile.TemporaryDirectory() as folder:
+        text = pathlib.Path(folder) / "text.ivf"
+        text.write_bytes(b"no stream, but as long as the header of one is\n")
+        for words in (), ("--json",), ("--hash",), ("--check",), ("--check", "--json"):
+            expect(f"a text {words}", ran(text, *words), (2, "", "vp8list: input Magic\n"))
+        gone = pathlib.Path(folder) / "gone.ivf"
+        expect("no file", ran(gone), (2, "", f"vp8list: cannot read {gone}\n"))
+    for words in ("--hash", "--check"), ("--hash", "--json"), ("--strict",), ("--json", "--strict"), ("--nonsense",):
+        status, text, errors = ran(DATA / "clean.ivf", *words)
+        expect(f"{words}", (status, text, errors.splitlines()[:1]), (2, "", ["vp8list: command line"]))
+
+
+def main():
+    for path in STREAMS:
+        check_lists(path)
+        check_findings(path)
+    check_hashes()
+    check_errors()
+    print(*wrong, sep="\n", end="\n" if wrong else "")
+    return 1 if wrong else 0
+
+
+if __name__ == "__main__":
+    sys.exit(main())
