@@ -22,7 +22,8 @@ FLAGS = ["-fps_mode", "passthrough", "-autoscale", "0", "-bitexact", "-f", "fram
 
 def ours(path):
     run = subprocess.run([PROGRAM, path, "--hash"], capture_output=True, text=True)
-    if run.returncode != 0:
+    refused = run.stderr and all(line.startswith("vp8list: packet ") for line in run.stderr.splitlines())
+    if run.returncode != (1 if refused else 0):
         sys.exit(f"{path}: status {run.returncode}: {run.stderr}")
     return run.stdout
 

@@ -18,7 +18,7 @@ from clips import packets_of
 from damaged import decoded, has_key_tag, padded, partition_count
 from run import PROGRAM
 
-DATA = PROGRAM.parent.parent.parent / "gate_clips" / "data"
+DATA = PROGRAM.parent.parent / "crates/gate_clips/data"
 CLIPS = ["small.ivf", "still.ivf", "two-partitions.ivf"]
 
 
