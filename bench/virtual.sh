@@ -18,7 +18,7 @@ clip() {
 small=${1:-$(clip 640x360 1500k)}
 large=${2:-$(clip 1920x1080 6M)}
 PYTHONPATH="$here/../clients/python" PYTHONDONTWRITEBYTECODE=1 exec python3 - "$small" "$large" <<'END_OF_PYTHON'
-import http.client, os, random, statistics, struct, subprocess, sys, tempfile, time
+import atexit, http.client, os, random, statistics, struct, subprocess, sys, tempfile, time
 from wokureti import Session, programs
 
 TURNS = int(os.environ.get("TURNS", "5"))
@@ -28,6 +28,7 @@ serve = [sys.executable, "-m", "wokureti", "serve"]
 class Server:
     def __init__(self, *words):
         self.process = subprocess.Popen([*serve, *words], stdout=subprocess.PIPE)
+        atexit.register(self.process.terminate)
         self.url = self.process.stdout.readline().decode().strip()
         self.host, self.token = self.url.split("/")[2:4]
         self.http = http.client.HTTPConnection(self.host)
