@@ -1,8 +1,8 @@
 #!/usr/bin/env python3
 """Runs vp8list with each of its options, and compares texts and exit statuses: options.py
 
-The gate runs it after `rt ci`; it prints nothing if all is as it should be. The streams are those of gate_checks and the damaged one of
-vp8list. Lists and findings are compared with those that listed.py and checked.py find from headers, objects with the lines, and hashes
+The gate runs it after `rt ci`; it prints nothing if all is as it should be. The streams are those of gate_checks, the damaged one of
+vp8list and one of 640x360 with a packet of 7,303 bytes, so each call is made with ample memory for a stream of that size. Lists and findings are compared with those that listed.py and checked.py find from headers, objects with the lines, and hashes
 with the samples that vp8serve serves. VP8LIST and VP8SERVE name other programs than those that `rt ci` built.
 """
 
@@ -21,7 +21,8 @@ TOP = pathlib.Path(__file__).resolve().parent.parent
 LIST = os.environ.get("VP8LIST", str(TOP / "crates/vp8list/out/vp8list"))
 SERVE = os.environ.get("VP8SERVE", str(TOP / "crates/vp8serve/out/vp8serve"))
 DATA = TOP / "crates/gate_checks/data"
-STREAMS = [*sorted(DATA.glob("*.ivf")), TOP / "crates/vp8list/data/damaged.ivf"]
+LARGE = TOP / "examples/large.ivf"
+STREAMS = [*sorted(DATA.glob("*.ivf")), TOP / "crates/vp8list/data/damaged.ivf", LARGE]
 # Entries of the RFC's long tables, so that a file of tables can be made of zeros that differs from them.
 ENTRIES = 3012
 
@@ -88,8 +89,9 @@ def hashes(text):
 
 def check_hashes():
     clean, cut = DATA / "clean.ivf", DATA / "cut.ivf"
-    status, text, errors = ran(clean, "--hash")
-    expect("clean.ivf --hash", (status, hashes(text), errors), (0, served(clean), ""))
+    for path in clean, LARGE:
+        status, text, errors = ran(path, "--hash")
+        expect(f"{path.name} --hash", (status, hashes(text), errors), (0, served(path), ""))
     status, text, errors = ran(cut, "--hash")
     expect("cut.ivf --hash", (status, errors), (1, "vp8list: packet 60: refused ShortPacket\n"))
     expect("cut.ivf hashes", hashes(text), served(cut))
