@@ -9,8 +9,8 @@ TREE = pathlib.Path(__file__).resolve().parents[3]
 
 def find(name):
     """The path of a program: that of the variable VP8SERVE or VP8LIST, or found on the PATH, or built in this tree."""
-    given = os.environ.get(name.upper())
-    if given:
-        return given
-    built = TREE / "crates" / name / "out" / name
-    return shutil.which(name) or (str(built) if built.is_file() else name)
+    found = os.environ.get(name.upper()) or shutil.which(name)
+    if found:
+        return found
+    built = (TREE / "bin" / name, TREE / "crates" / name / "out" / name)
+    return next((str(path) for path in built if path.is_file()), name)
