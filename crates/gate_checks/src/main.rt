@@ -5,9 +5,8 @@ use std::fs::File;
 use std::io::{self, Write};
 use std::process::ExitCode;
 use std::str::Utf8Error;
-use stream_checks::{CheckFault, Form, check};
+use stream_checks::{CheckFault, Form, Unwatched, check};
 use stream_files::{IvfFault, ReadFault, ivf_read, read_all};
-use stream_progress::Unwatched;
 use thiserror::Error;
 use vp8_tables::Tables;
 

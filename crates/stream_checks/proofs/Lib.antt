@@ -3,3 +3,7 @@ pub mod Tallies
 pub mod Parts
 pub mod Ends
 pub mod Lost
+mod HashAligned
+mod HashHeads
+mod HashLengths
+mod HashTexts

@@ -10,3 +10,7 @@ pub mod Objects
 pub mod Texts
 pub mod Checks
 pub mod Laws
+pub mod HashLines
+pub mod Frames
+pub mod TimeBases
+pub mod Hashes

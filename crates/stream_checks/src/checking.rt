@@ -13,12 +13,12 @@ use crate::fault::CheckFault;
 use crate::file::{write_cut, write_head};
 use crate::finding::Tally;
 use crate::packets::frames_of;
+use crate::progress::Progress;
 use crate::stamps::median_step;
 use crate::texts::{Form, write_end};
 use std::alloc::Global;
 use std::io::Write;
 use stream_files::{Ivf, Packet};
-use stream_progress::Progress;
 use vp8_tables::Tables;
 
 /// Decodes the packets after a checker's position and writes their findings, and returns their tally.

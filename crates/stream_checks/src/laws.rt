@@ -1,6 +1,10 @@
 //! Laws about the definitions of this crate. Each law is the contract of a function that does
 //! nothing.
 
+ghost use Rattle.std.specs.Prelude.{◌≡◌, ◌∷◌, ◌++◌, [], codes};
+ghost use Rattle.pixel_planes.specs.Pictures.{PictureSamples};
+ghost use Rattle.stream_files.specs.Y4m.{frame_text};
+ghost use Rattle.stream_checks.specs.HashLines.{samples_of};
 ghost use Rattle.stream_checks.specs.Laws.{LostAreBroken, WorkedEnds, WorkedOddStamps, WorkedStamps};
 
 /// Each packet that is counted as lost after a break has this break as its outcome.
@@ -23,4 +27,9 @@ pub fn worked_odd_stamps()
 /// three bytes are not read, and one of no bytes.
 pub fn worked_ends()
     ensures { WorkedEnds }
+{}
+
+/// The YUV4MPEG2 text of a frame is its mark and its samples.
+pub fn samples_follow_the_mark()
+    ensures { (picture : PictureSamples) → frame_text picture ≡ (codes "FRAME" ++ 10 ∷ []) ++ samples_of picture }
 {}

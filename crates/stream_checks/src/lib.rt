@@ -1,22 +1,30 @@
-//! The findings of a stream: what is wrong with an IVF file and its packets, and the lines that
-//! report it.
+//! What decoding a whole stream shows: the MD5 of each frame, in the text of ffmpeg's muxer `framemd5`, and what is wrong with
+//! an IVF file and its packets.
 #![tactic(auto)]
 
 mod checker;
 mod checking;
 mod decoder;
+mod decoding;
 mod fault;
 mod file;
 mod finding;
+mod hash_lines;
+mod hashes;
 pub mod laws;
 mod lines;
 mod objects;
 mod packets;
 mod partitions;
+mod progress;
+mod samples;
 mod stamps;
 mod texts;
+mod time_bases;
 
 pub use checking::check;
 pub use fault::CheckFault;
 pub use finding::{Finding, Spot, Tally, Trouble};
+pub use hashes::{HashFault, write_hashes};
+pub use progress::{Progress, Unwatched};
 pub use texts::Form;

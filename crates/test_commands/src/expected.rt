@@ -4,7 +4,7 @@ use std::fs;
 use std::io::{self, ErrorKind, Read, Write};
 use std::process::Abort;
 use std::rt::Files;
-use stream_server::serve;
+use serve_program::serve;
 
 /// A file of one 16x16 key frame whose bits are 0.
 pub const ONE: &[u8] =

@@ -5,7 +5,7 @@ use message_writer::MessageWriter;
 use std::io::Write;
 use std::process::Abort;
 use std::rt::Files;
-use stream_server::name_explain;
+use serve_program::name_explain;
 
 /// Requests that are refused, and their replies and explanations. Lines 7 and 8 have no reply.
 const REQUESTS: &str = "\

@@ -4,7 +4,7 @@ use std::process::Abort;
 use std::rt::Files;
 use std::test::Fail;
 use stream_files::{EMPTY, IvfFault};
-use stream_server::{Argument, Fault, SameFile, tell};
+use serve_program::{Argument, Fault, SameFile, tell};
 
 /// Checks the message of an error, and its status also where the message cannot be written.
 fn expect_told<R: Abort + Files + AllocGlobal>(rt: &R, fault: Fault<'_>, status: u8, text: &str) {

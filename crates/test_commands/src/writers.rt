@@ -7,7 +7,7 @@ use std::process::Abort;
 use std::rt::Files;
 use std::test::Fail;
 use stream_files::EMPTY;
-use stream_server::{Fault, run_to};
+use serve_program::{Fault, run_to};
 use vp8_tables::Tables;
 
 /// Checks the message of a run whose replies go to this writer.

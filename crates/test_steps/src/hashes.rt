@@ -1,12 +1,11 @@
 //! The MD5s of a clip's frames.
 
-use frame_hashes::{HashFault, write_hashes};
+use stream_checks::{HashFault, Unwatched, write_hashes};
 use std::alloc::Global;
 use std::io::{self, ErrorKind, Write};
 use std::process::Abort;
 use std::test::Fail;
 use stream_files::{Bytes, Head, Ivf, Packet, Packets};
-use stream_progress::Unwatched;
 use vp8_tables::Tables;
 
 /// A key packet of 7x5 samples, from vpxenc.

@@ -1,27 +1,21 @@
 //! Lists the packets of a VP8 stream: an IVF file in, a line a packet out.
 #![tactic(auto)]
 
-mod arguments;
-mod program;
-mod progress;
-mod reading;
-
+use list_program::{BYTES_AT_ONCE, Fault, ProgressLine, answer, given, tell};
 use message_writer::MessageWriter;
-use progress::ProgressLine;
 use std::io::{BufWriter, Write};
 use std::process::ExitCode;
-use stream_outputs::Fault;
 
 /// Runs the program on its arguments.
 fn start<E: Write>(rt: &HostRuntime, errors: &mut E) -> Result<u8, Fault<'static>> {
-    let words = arguments::given(rt)?;
+    let words = given(rt)?;
     let mut output = BufWriter::with_capacity(
         rt.alloc(),
-        program::BYTES_AT_ONCE,
+        BYTES_AT_ONCE,
         rt.stdout(),
     ).map_err(|_| Fault::NoMemory)?;
     let mut progress = ProgressLine::new(rt, rt.stderr());
-    Ok(program::answer(
+    Ok(answer(
         rt,
         words.as_slice(),
         &mut rt.stdin(),
@@ -35,7 +29,7 @@ fn main(rt: HostRuntime) -> ExitCode {
     let mut errors = MessageWriter::new(rt.stderr());
     let status = match start(&rt, &mut errors) {
         Ok(status) => status,
-        Err(fault) => program::tell(fault, &mut errors),
+        Err(fault) => tell(fault, &mut errors),
     };
     ExitCode::from(status)
 }

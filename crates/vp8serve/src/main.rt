@@ -5,7 +5,7 @@
 use message_writer::MessageWriter;
 use std::io::{BufWriter, IsTerminal, Write};
 use std::process::ExitCode;
-use stream_server::{Fault, given, name_explain, serve, tell};
+use serve_program::{Fault, given, name_explain, serve, tell};
 
 /// Runs the program on its arguments. A user at a terminal is told of `--explain` after an error.
 fn start<E: Write>(

@@ -1,6 +1,0 @@
-use Rattle.std.proofs.Common.{◌≢◌, All, Some, map, take}
-use Rattle.command_lines.specs.CommandLines.{named_file}
-use Rattle.command_lines.proofs.files.check_apart.Given as goal
-
-abbrev pub invariant-loop-other : goal.invariant-loop-other
-invariant-loop-other l = All (λ other. other.1 ≢ Some l.path) (map named_file (take l.other-index l.others))

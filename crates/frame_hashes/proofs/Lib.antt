@@ -1,4 +1,0 @@
-mod Aligned
-mod Heads
-mod Lengths
-mod Texts

@@ -1,4 +1,0 @@
-pub mod Frames
-pub mod Lines
-pub mod TimeBases
-pub mod Hashes

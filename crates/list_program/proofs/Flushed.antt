@@ -1,0 +1,33 @@
+-- An answer whose writer keeps its bytes is the same answer.
+use Rattle.std.proofs.Common.{ℕ, List, Option}
+use Rattle.std.proofs.KnownBytes.{Appends-kept}
+use Rattle.std.specs.Io.KnownBytes.{Keeps}
+use Rattle.vp8_tables.specs.Tables.{TableEntries}
+use Rattle.list_program.specs.declared.answering.Output.{Output}
+use Rattle.list_program.specs.declared.answering.Output.TheVariants.{List as Lines, Objects, Hashes, Findings}
+use Rattle.list_program.specs.Answers.{IsAnswered}
+
+pub answer_kept : (output : Output) (tables : TableEntries) (bytes : List ℕ) (status : ℕ) (w w' w'' : Option (List ℕ))
+    → IsAnswered output tables bytes status w w' → Keeps w' w'' → IsAnswered output tables bytes status w w''
+answer_kept Lines tables bytes status w w' w'' (answer, zero) kept =
+    (record { file = answer.file; read = answer.read; listed = Appends-kept _ _ _ _ answer.listed kept }, zero)
+answer_kept Objects tables bytes status w w' w'' (answer, zero) kept =
+    (record { file = answer.file; read = answer.read; listed = Appends-kept _ _ _ _ answer.listed kept }, zero)
+answer_kept Hashes tables bytes status w w' w'' answer kept = record {
+  file = answer.file;
+  read = answer.read;
+  hashed = record { base = answer.hashed.base; unit = answer.hashed.unit; written = Appends-kept _ _ _ _ answer.hashed.written kept };
+  counted = answer.counted;
+}
+answer_kept (Findings checking) tables bytes status w w' w'' answer kept = record {
+  file = answer.file;
+  read = answer.read;
+  tally = answer.tally;
+  checked = record {
+    step = answer.checked.step;
+    median = answer.checked.median;
+    written = Appends-kept _ _ _ _ answer.checked.written kept;
+    counted = answer.checked.counted;
+  };
+  counted = answer.counted;
+}

@@ -1,0 +1,24 @@
+use Rattle.std.proofs.Common.{◌∙◌, ℕ, ap}
+use Rattle.std.proofs.KnownBytes.{Appends-kept}
+use Rattle.list_program.proofs.checking.check_to.Goals as goal
+
+pub returns-in-Err-NoMemory-clause-fault : goal.returns-in-Err-NoMemory-clause-fault
+returns-in-Err-NoMemory-clause-fault g c = record {
+  file = c.in-Ok.file;
+  read = c.in-Ok.ensures;
+  begun = rw c.in-Err-NoMemory.field-0-is at c.in-Err-NoMemory.ensures.early;
+}
+
+pub returns-clause-checked : goal.returns-clause-checked
+returns-clause-checked g c = record {
+  file = c.in-Ok.file;
+  read = c.in-Ok.ensures;
+  tally = c.in-Ok-check.tally;
+  checked = record {
+    step = c.in-Ok-check.ensures.checked.step;
+    median = c.in-Ok-check.ensures.checked.median;
+    written = Appends-kept _ _ _ _ c.in-Ok-check.ensures.checked.written c.in-Ok-flush.ensures.bytes;
+    counted = c.in-Ok-check.ensures.checked.counted;
+  };
+  counted = c.status_of.ensures.value;
+}

@@ -1,0 +1,83 @@
+// Everything that the program writes for the bytes of a file.
+ghost use Rattle.std.specs.Prelude.{◌≡◌, ◌≤◌, [], IfErr, IfOk, OnOk};
+ghost use Rattle.std.specs.Io.Buffered.{writer_buffer, writer_contents};
+ghost use Rattle.list_program.specs.Answers.{IsAnswered, IsAnswerFault};
+
+use crate::checking::{Checking, check_to};
+use crate::fault::Fault;
+use crate::hashing::hash_to;
+use crate::listing::list_to;
+use crate::objects::objects_to;
+use std::alloc::Global;
+use std::io::{BufWriter, Write};
+use stream_checks::Progress;
+use vp8_tables::Tables;
+
+/// What is written of a file.
+#[derive(Clone, Copy, Debug, PartialEq, Eq)]
+pub enum Output {
+    /// A line for each packet.
+    List,
+    /// A JSON object for each packet.
+    Objects,
+    /// The MD5 of each frame.
+    Hashes,
+    /// What is wrong with the stream.
+    Findings(Checking),
+}
+
+/// Writes an output of a file and returns the exit status.
+fn write_output<O: Write, E: Write, P: Progress>(
+    alloc: Global,
+    output: Output,
+    tables: &Tables,
+    bytes: &[u8],
+    w: &mut O,
+    errors: &mut E,
+    progress: &mut P,
+) -> Result<u8, Fault<'static>>
+    ensures answered { IfOk result (λ status. IsAnswered output tables.now bytes.now status (O.contents w.old) (O.contents w.new)) }
+    ensures fault { IfErr result (IsAnswerFault output tables.now bytes.now (O.contents w.old) (O.contents w.new)) }
+    ensures status { IfOk result (λ status. status ≤ 1) }
+{
+    match output {
+        Output::List => {
+            list_to(alloc, bytes, w)?;
+            Ok(0)
+        }
+        Output::Objects => {
+            objects_to(alloc, bytes, w)?;
+            Ok(0)
+        }
+        Output::Hashes => hash_to(alloc, tables, bytes, w, errors, progress),
+        Output::Findings(checking) => check_to(alloc, checking, tables, bytes, w, progress),
+    }
+}
+
+/// Writes an output of the bytes of a file through a buffer, flushes it, and returns the exit status: 1
+/// for damage that a check finds, for a note if it is strict, and for a packet without a frame in the
+/// list of hashes; else 0. Lines that name such packets go to `errors`.
+///
+/// `Fault::Input` if the bytes are not an IVF file: nothing is written then. `Fault::NoMemory` if memory
+/// runs out: the begin of the output was written, and is not flushed. `Fault::CannotWrite` if the writer
+/// returns an error.
+pub fn answer_to<W: Write + Drop, E: Write, P: Progress>(
+    alloc: Global,
+    output: Output,
+    tables: &Tables,
+    bytes: &[u8],
+    w: &mut BufWriter<W>,
+    errors: &mut E,
+    progress: &mut P,
+) -> Result<u8, Fault<'static>>
+    ensures answered { IfOk result (λ status. IsAnswered output tables.now bytes.now status (writer_contents W.contents w.old) (writer_contents W.contents w.new)) }
+    ensures flushed { OnOk result (writer_buffer w.new ≡ []) }
+    ensures fault { IfErr result (IsAnswerFault output tables.now bytes.now (writer_contents W.contents w.old) (writer_contents W.contents w.new)) }
+    ensures status { IfOk result (λ status. status ≤ 1) }
+{
+    let status = write_output(alloc, output, tables, bytes, w, errors, progress)?;
+    let Ok(()) = w.flush() else {
+        return Err(Fault::CannotWrite);
+    };
+    Ok(status)
+}

@@ -1,0 +1,214 @@
+// The arguments of the command line.
+use crate::answering::Output;
+use crate::checking::Checking;
+use crate::fault::Fault;
+use clap::{Arg, ArgAction, ArgMatches, Command};
+use std::alloc::{AllocError, Global};
+use std::convert::AsStr;
+use std::env::{self, Env};
+use std::io::ErrorKind;
+use stream_checks::Form;
+
+/// The program's version.
+const VERSION: &str = "0.1.0";
+
+/// The purpose of the program.
+const ABOUT: &str = "\
+Lists the packets of a VP8 stream (IVF): a line with the names of the columns,
+and a line a packet, with tabs between columns. Only headers are read.
+Each of --json, --hash and --check replaces the list; give one of them, or --check --json.
+
+  vp8list in.ivf | column -t
+  vp8list in.ivf | awk '$5 == \"key\" { print $1, $8 }'
+
+  packet      index of the packet, from 0
+  frame       index of the frame that it is shown as, `-` if it is hidden
+  stamp       time stamp
+  bytes       length
+  kind        `key` or `inter`, `-` with fewer than 3 bytes
+  show        `shown` or `hidden`
+  version     0 to 7
+  size        width x height of a key packet
+  first       length of the first partition, as the tag gives it
+  partitions  number of token partitions
+  quantizer   quantizer index, 0 to 127
+  level       loop filter level, 0 to 63
+  last, golden, altref
+              `new` if the frame becomes that reference; `last`, `golden` or
+              `altref` if it becomes a copy of that one; `-` if it stays
+  cause       why decoding refuses the packet: a name, or `lost` if it is because of an
+              earlier packet; else `-`
+  byte        index of the packet's first byte in the file
+  scale       horizontal x vertical scale of a key packet, 0 to 3
+  color       color space bit of a key packet, 0 or 1
+  clamp       clamping type bit of a key packet, 0 or 1
+
+--json prints a line a packet, an object with a member for each column, null
+instead of `-`:
+
+  vp8list in.ivf --json | jq 'select(.kind == \"key\") | .packet'
+
+--hash prints what ffmpeg prints for the same stream:
+
+  vp8list in.ivf --hash > ours
+  ffmpeg -nostdin -v error -copyts -i in.ivf -fps_mode passthrough \\
+      -autoscale 0 -bitexact -f framemd5 - | diff - ours
+
+A frame that is hidden or does not decode has no line. A refused packet is named on
+standard error, and the exit status is 1 then.
+For a time stamp that
+goes back ffmpeg prints the greatest one so far, and vp8list the stamp itself.
+
+With --check every packet is decoded, and there is a line for each finding instead. Damage
+means that samples are lost, or are not those that were coded:
+
+  damage: packet 60: refused ShortPacket, packets lost with it: 12
+              why a packet is not decoded, and how many packets before the next
+              key packet are lost with it
+  damage: packet 12: first partition: 2 bytes read past its end
+  damage: packet 12: token partition 0: 5 bytes read past its end
+              decoding reads zeros after the end of a partition, as it does if
+              the packet was cut or changed; libvpx calls the frame corrupt
+  damage: packet 12: token partition 0: 40 of 900 bytes are not read
+              decoding ends too early, as it does if the packet was changed; up
+              to 3 bytes are left in sound streams
+  damage: record 100 at byte 51234: claims 12 + 900 bytes, 324 are there
+              the file ends within a record; 12 bytes are the record's head
+
+Anything else is a note:
+
+  note: header: 100 frames, 99 packets
+  note: header: size 320x180, first key packet 640x360
+  note: header: rate 0, scale 1
+              the header of the file is not that of its packets
+  note: packet 12: token partition 0: no bytes, which libvpx calls corrupt
+  note: packet 12: no bytes, at which vpxdec ends
+  note: packet 31: time stamp 30 repeats
+  note: packet 31: time stamp 28 goes back from 30
+              against the shown packet before it
+  note: packet 31: time stamp 35 skips from 33
+              two or more steps: the median of the steps between shown packets,
+              one for each packet
+  note: packet 48: size 320x180 changes to 640x360
+              against the key packet before it
+  note: packet 7: hidden, never shown
+              no shown packet comes before the next key packet, or the end
+  100 packets, 99 frames, damage: 1, notes: 2
+
+--check --json prints a line a finding, an object:
+
+  vp8list in.ivf --check --json | jq 'select(.severity == \"damage\") | .packet'
+
+Exit status: 0; 1 if --check finds damage, with --strict also a note, or if --hash meets a refused
+packet; 2 for a mistake on the command line, a file that is not IVF and any other error.";
+
+/// The values of the arguments.
+#[derive(Clone, Copy)]
+pub struct Arguments<'a> {
+    /// The IVF file; `-` is standard input.
+    pub stream: &'a str,
+    /// The file of the long tables, if given.
+    pub tables: Option<&'a str>,
+    /// What is written; `None` if the options do not go together.
+    pub output: Option<Output>,
+}
+
+/// The program's arguments, its name first.
+///
+/// `CommandLine` if one of them is not UTF-8.
+pub fn given<R: Env + AllocGlobal>(rt: &R) -> Result<Vec<String>, Fault<'static>> {
+    let words = match env::args(rt) {
+        Ok(words) => words,
+        Err(error) if error.kind() == ErrorKind::OutOfMemory => return Err(Fault::NoMemory),
+        Err(_) => return Err(Fault::CommandLine),
+    };
+    words.collect(rt.alloc()).map_err(|_| Fault::NoMemory)
+}
+
+/// The argument that has a place.
+fn stream<'a>(alloc: Global) -> Arg<'a> {
+    Arg::new(alloc, "IN")
+        .required(true)
+        .help("IVF file; - reads standard input")
+}
+
+/// The option for the file of the long tables.
+fn tables_option<'a>(alloc: Global) -> Arg<'a> {
+    Arg::new(alloc, "tables")
+        .long("tables")
+        .value_name("FILE")
+        .help("3012 bytes to use instead of RFC 6386's long tables")
+}
+
+/// An option that has no value.
+fn flag<'a>(alloc: Global, id: &'a str, help: &'a str) -> Arg<'a> {
+    Arg::new(alloc, id)
+        .long(id)
+        .action(ArgAction::SetTrue)
+        .help(help)
+}
+
+/// Adds the options that ask for something else than the list.
+fn with_outputs<'a>(alloc: Global, command: Command<'a>) -> Result<Command<'a>, AllocError> {
+    command
+        .arg(flag(alloc, "hash", "The MD5 of each frame, as ffmpeg's framemd5"))?
+        .arg(flag(alloc, "json", "A JSON object a packet"))?
+        .arg(flag(
+            alloc,
+            "check",
+            "Report what is wrong with the stream instead",
+        ))?
+        .arg(flag(alloc, "strict", "With --check: a note is as bad as damage"))
+}
+
+/// The program's arguments.
+fn command<'a>(alloc: Global) -> Result<Command<'a>, AllocError> {
+    let command = Command::new(alloc, "vp8list")
+        .version(VERSION)
+        .about(ABOUT)
+        .arg(stream(alloc))?
+        .arg(tables_option(alloc))?;
+    with_outputs(alloc, command)
+}
+
+/// The output that `--json`, `--hash`, `--check` and `--strict` ask for; `None` if they do not go
+/// together.
+fn output_by(is_json: bool, is_hash: bool, is_check: bool, is_strict: bool) -> Option<Output> {
+    let form = if is_json { Form::Objects } else { Form::Lines };
+    match (is_hash, is_check) {
+        (true, true) => None,
+        (false, true) => Some(Output::Findings(Checking { form, is_strict })),
+        (true, false) if !is_json && !is_strict => Some(Output::Hashes),
+        (false, false) if !is_strict => Some(if is_json {
+            Output::Objects
+        } else {
+            Output::List
+        }),
+        _ => None,
+    }
+}
+
+/// The output that the options ask for.
+fn output_of(matches: &ArgMatches<'_>) -> Option<Output> {
+    output_by(
+        matches.get_flag("json"),
+        matches.get_flag("hash"),
+        matches.get_flag("check"),
+        matches.get_flag("strict"),
+    )
+}
+
+/// The values in a command line that was parsed.
+fn values_of<'a>(matches: &ArgMatches<'a>) -> Arguments<'a> {
+    Arguments {
+        stream: matches.get_str("IN").unwrap_or(""),
+        tables: matches.get_str("tables"),
+        output: output_of(matches),
+    }
+}
+
+/// Parses the command line, whose first argument is the program's name.
+pub fn parse<'a, S: AsStr>(alloc: Global, words: &'a [S]) -> Result<Arguments<'a>, clap::Error> {
+    let matches = command(alloc)?.try_get_matches_from(words)?;
+    Ok(values_of(&matches))
+}

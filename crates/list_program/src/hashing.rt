@@ -1,0 +1,49 @@
+// The MD5 of each frame of an IVF file.
+ghost use Rattle.std.specs.Prelude.{◌≡◌, ◌≤◌, IfErr, IfOk};
+ghost use Rattle.list_program.specs.HashedFiles.{IsFileHashed, IsFileHashFault, hash_status};
+
+use crate::fault::Fault;
+use std::alloc::Global;
+use std::io::Write;
+use stream_checks::{HashFault, Progress, write_hashes};
+use stream_facts::{has_refused, write_refusals};
+use stream_files::ivf_read;
+use vp8_tables::Tables;
+
+fn hash_status(is_refused: bool) -> u8
+    ensures value { result ≡ hash_status is_refused }
+    ensures few { result ≤ 1 }
+{
+    if is_refused { 1 } else { 0 }
+}
+
+/// Writes the MD5 of each frame of an IVF file, flushes the writer, and returns the exit status: 1 if a
+/// packet is refused, else 0. A line for each such packet goes to `errors`; if it refuses the text, only
+/// the status reports them.
+pub fn hash_to<O: Write, E: Write, P: Progress>(
+    alloc: Global,
+    tables: &Tables,
+    bytes: &[u8],
+    output: &mut O,
+    errors: &mut E,
+    progress: &mut P,
+) -> Result<u8, Fault<'static>>
+    ensures hashed { IfOk result (λ status. IsFileHashed tables.now bytes.now status (O.contents output.old) (O.contents output.new)) }
+    ensures fault { IfErr result (IsFileHashFault tables.now bytes.now (O.contents output.old) (O.contents output.new)) }
+    ensures status { IfOk result (λ status. status ≤ 1) }
+{
+    let file = match ivf_read(alloc, bytes) {
+        Ok(file) => file,
+        Err(fault) => return Err(Fault::Input(fault)),
+    };
+    match write_hashes(output, alloc, tables, &file, progress) {
+        Ok(()) => {}
+        Err(HashFault::NoMemory) => return Err(Fault::NoMemory),
+        Err(HashFault::Write) => return Err(Fault::CannotWrite),
+    }
+    let Ok(()) = output.flush() else {
+        return Err(Fault::CannotWrite);
+    };
+    let _ = write_refusals(errors, bytes, &file);
+    Ok(hash_status(has_refused(bytes, &file)))
+}

@@ -1,0 +1,32 @@
+// The packets of an IVF file as JSON.
+ghost use Rattle.std.specs.Prelude.{◌≡◌, IfErr, OnOk};
+ghost use Rattle.list_program.specs.Lists.{IsListFault};
+ghost use Rattle.list_program.specs.Objects.{IsListedAsJson};
+
+use crate::fault::Fault;
+use std::alloc::Global;
+use std::io::Write;
+use stream_facts::write_objects;
+use stream_files::ivf_read;
+
+/// Writes a JSON object for each packet of an IVF file, and flushes the writer.
+pub fn objects_to<O: Write>(
+    alloc: Global,
+    bytes: &[u8],
+    output: &mut O,
+) -> Result<(), Fault<'static>>
+    ensures listed { OnOk result (IsListedAsJson bytes.now (O.contents output.old) (O.contents output.new)) }
+    ensures fault { IfErr result (IsListFault bytes.now (O.contents output.old) (O.contents output.new)) }
+{
+    let file = match ivf_read(alloc, bytes) {
+        Ok(file) => file,
+        Err(fault) => return Err(Fault::Input(fault)),
+    };
+    let Ok(()) = write_objects(output, bytes, &file) else {
+        return Err(Fault::CannotWrite);
+    };
+    let Ok(()) = output.flush() else {
+        return Err(Fault::CannotWrite);
+    };
+    Ok(())
+}

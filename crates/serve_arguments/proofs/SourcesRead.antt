@@ -1,0 +1,35 @@
+-- Lists with one element for each path of `--sources`.
+use Rattle.std.proofs.Common.{◌≡◌, ℕ, zero, suc, ◌+◌, ◌<◌, List, [], ◌∷◌, ◌++◌, Option, length, take, refl, sym, subst, arith}
+use Rattle.std.specs.Prelude.{Contains, codes, slice_index_or}
+use Rattle.std.specs.Borrow.{Bor}
+use Rattle.std.proofs.lemmas.List.{map_more}
+use Rattle.std.proofs.lemmas.List.Elements.{AllZip-push}
+use Rattle.serve_arguments.specs.CommandLines.{names_of}
+use Rattle.serve_arguments.specs.Readings.{AreNamed, AreUnread, IsReadFault}
+use Rattle.serve_arguments.specs.declared.fault.Fault.{Fault}
+use Rattle.serve_arguments.specs.declared.fault.Fault.TheVariants.{CommandLine, NamedTwice, CannotRead, TooLong, Tables, Input, CannotWrite, NoMemory}
+
+-- the bytes of one more source
+pub named_more : (unnamed first : List ℕ) (more : List (Bor (List ℕ))) (n : ℕ) (d : Bor (List ℕ)) (sources : List (List ℕ)) (bytes : List ℕ) → n < length more → AreNamed unnamed (first ∷ names_of (take n more)) sources → ((slice_index_or more n d).now ≡ codes "-" → bytes ≡ unnamed) → AreNamed unnamed (first ∷ names_of (take (n + 1) more)) (sources ++ bytes ∷ [])
+named_more unnamed first more n d sources bytes within named is =
+    subst (λ (names : List (List ℕ)). AreNamed unnamed (first ∷ names) (sources ++ bytes ∷ [])) (sym (map_more (λ (path : Bor (List ℕ)). path.now) more n d within))
+    (AllZip-push (λ (name bytes : List ℕ). name ≡ codes "-" → bytes ≡ unnamed) (first ∷ names_of (take n more)) sources (slice_index_or more n d).now bytes named is)
+
+-- a path is the name of a source
+pub named_at : (first : List ℕ) (more : List (Bor (List ℕ))) (n : ℕ) (d : Bor (List ℕ)) → n < length more → Contains (first ∷ names_of more) (slice_index_or more n d).now
+named_at first [] n d within = absurd (omega (arith, within))
+named_at first (path ∷ more) zero d within = (1, omega arith, refl)
+named_at first (path ∷ more) (suc n) d within =
+    let later : Contains (path.now ∷ names_of more) (slice_index_or more n d).now = named_at path.now more n d (omega (arith, within)) in
+    (suc later.0, omega (arith, later.1), later.2)
+
+-- why a source was not read
+pub source_unread : (names : List (List ℕ)) (name : List ℕ) (known : Option (List ℕ)) (fault : Fault) → Contains names name → IsReadFault name known fault → AreUnread names fault
+source_unread names name known CommandLine is why = absurd why
+source_unread names name known (NamedTwice same) is why = absurd why
+source_unread names name known (CannotRead path) is why = subst (Contains names) (sym why) is
+source_unread names name known (TooLong path) is why = subst (Contains names) (sym why.0) is
+source_unread names name known Tables is why = absurd why
+source_unread names name known (Input source fault) is why = absurd why
+source_unread names name known CannotWrite is why = absurd why
+source_unread names name known NoMemory is why = tt

@@ -1,0 +1,127 @@
+-- Which command lines are accepted.
+use Rattle.std.specs.Prelude.{◌≡◌, ◌≢◌, ◌⊎◌, ℕ, ◌<◌, ◌≤◌, ◌==◌, Bool, true, false, ◌&&◌, is_none, nat_eq, List, [], ◌∷◌, ◌++◌, length, map, All, Contains, Option, Some, None, option_map, codes, if◌then◌else◌}
+use Rattle.std.specs.Cmp.Lexicographic.{pointwise}
+use Rattle.std.specs.Borrow.{Bor}
+use Rattle.std.specs.List.{slice_split, starts_with}
+use Rattle.serve_arguments.specs.Capacities.{capacity_given}
+use Rattle.serve_arguments.specs.declared.files.Argument.{Argument}
+use Rattle.serve_arguments.specs.declared.files.Argument.TheVariants.{In, Sources, Requests, Out, Tables, Save}
+use Rattle.serve_arguments.specs.declared.files.Named.{Named}
+use Rattle.serve_arguments.specs.declared.files.SameFile.{SameFile}
+use Rattle.serve_arguments.specs.declared.fault.Fault.{Fault}
+use Rattle.serve_arguments.specs.declared.fault.Fault.TheVariants as faults
+use Rattle.serve_arguments.specs.declared.words.Accepted.{Accepted}
+use Rattle.serve_arguments.specs.declared.words.Words.{Words}
+
+abbrev pub names_of : List (Bor (List ℕ)) → List (List ℕ)
+names_of paths = map (λ path. path.now) paths
+
+-- the paths of a list, which `:` separates; without a list there are none
+abbrev pub paths_in : Option (List ℕ) → List (List ℕ)
+paths_in None = []
+paths_in (Some list) = slice_split (λ b. b == 58) list
+
+-- the paths of `--sources`: source 1 is the first
+abbrev pub more_paths : Words → List (List ℕ)
+more_paths words = paths_in (option_map (λ list. list.now) words.sources)
+
+-- the paths are those of sources 1 to 7
+pub record ArePaths (paths : List (List ℕ)) : Type 0 where
+  pub few : length paths ≤ 7
+  pub named : All (λ path. path ≢ []) paths
+
+-- there are too many paths, or one is empty
+abbrev pub AreNoPaths : List (List ℕ) → Type 0
+AreNoPaths paths = (7 < length paths) ⊎ Contains paths []
+
+-- the name of an argument in help
+abbrev pub argument_name : Argument → List ℕ
+argument_name In = codes "IN"
+argument_name Sources = codes "--sources"
+argument_name Requests = codes "REQUESTS"
+argument_name Out = codes "OUT"
+argument_name Tables = codes "--tables"
+argument_name Save = codes "--save"
+
+-- an argument, and the path of the file that it names, if it names one
+abbrev pub NamedFile : Type 0
+NamedFile = Argument × Option (List ℕ)
+
+abbrev pub named_file : Named → NamedFile
+named_file named = (named.argument, option_map (λ path. path.now) named.path)
+
+-- whether a path is a device's, for example `/dev/null` or `/dev/fd/3`
+abbrev pub is_device : List ℕ → Bool
+is_device path = starts_with nat_eq path (codes "/dev/")
+
+-- the file that an argument names: `-` names none
+abbrev pub file_of : List ℕ → Option (List ℕ)
+file_of word = if pointwise nat_eq word (codes "-") then None else Some word
+
+-- the file of a path of `--sources`
+abbrev pub source_file : List ℕ → NamedFile
+source_file path = (Sources, file_of path)
+
+-- the arguments whose files are only read, with these paths of `--sources`
+abbrev pub read_files : Words → List (List ℕ) → List NamedFile
+read_files words more =
+    ((In, file_of words.stream.now) ∷ (Requests, file_of words.requests.now) ∷ (Tables, option_map (λ path. path.now) words.tables) ∷ []) ++ map source_file more
+
+-- the arguments whose files are written
+abbrev pub out_file : Words → NamedFile
+out_file words = (Out, file_of words.frames.now)
+
+abbrev pub saved_file : Words → NamedFile
+saved_file words = (Save, option_map (λ path. path.now) words.saved)
+
+-- a file that is written is none of these others; a device may be named twice
+abbrev pub IsApart : NamedFile → List NamedFile → Type 0
+IsApart written others = (path : List ℕ) → written.1 ≡ Some path → is_device path ≡ false → All (λ other. other.1 ≢ Some path) others
+
+-- two arguments that name one file, which is written for the first and is not a device
+pub record IsSameFile (written : NamedFile) (others : List NamedFile) (one : SameFile) : Type 0 where
+  pub argument : written.0 ≡ one.written
+  pub path : written.1 ≡ Some one.path.now
+  pub other : Contains others (one.other, Some one.path.now)
+  pub is_no_device : is_device one.path.now ≡ false
+
+-- no file that is written is named twice, if these are only read
+pub record AreApart (words : Words) (read : List NamedFile) : Type 0 where
+  pub out : IsApart (out_file words) read
+  pub saved : IsApart (saved_file words) read
+  pub both : IsApart (saved_file words) (out_file words ∷ [])
+
+-- a file that is written is named twice, if these are only read
+abbrev pub IsNamedTwice : Words → List NamedFile → SameFile → Type 0
+IsNamedTwice words read one =
+    IsSameFile (out_file words) read one ⊎ IsSameFile (saved_file words) read one ⊎ IsSameFile (saved_file words) (out_file words ∷ []) one
+
+-- why the files are not apart
+abbrev pub IsFileFault : Words → List NamedFile → Fault → Type 0
+IsFileFault words read (faults.NamedTwice same) = IsNamedTwice words read same
+IsFileFault words read faults.NoMemory = Unit {0}
+IsFileFault words read _ = ⊥
+
+-- packets are to be padded, but not saved
+abbrev pub pads_nothing : Words → Bool
+pads_nothing words = words.pads && is_none words.saved
+
+-- the command line is accepted, with this number of cached states and these paths of sources
+pub record IsAccepted (given : Words) (line : Accepted) : Type 0 where
+  pub words : line.words ≡ given
+  pub capacity : capacity_given given.cache ≡ Some line.capacity
+  pub pads : pads_nothing given ≡ false
+  pub more : names_of line.more.items ≡ more_paths given
+  pub paths : ArePaths (more_paths given)
+  pub apart : AreApart given (read_files given (more_paths given))
+
+-- the names of the sources of an accepted command line: IN, and then the paths of `--sources`
+abbrev pub source_names : Accepted → List (List ℕ)
+source_names line = line.words.stream.now ∷ names_of line.more.items
+
+-- why the command line is not accepted
+abbrev pub IsMistake : Words → Fault → Type 0
+IsMistake words faults.CommandLine = (capacity_given words.cache ≡ None) ⊎ (pads_nothing words ≡ true) ⊎ AreNoPaths (more_paths words)
+IsMistake words (faults.NamedTwice same) = IsNamedTwice words (read_files words (more_paths words)) same
+IsMistake words faults.NoMemory = Unit {0}
+IsMistake words _ = ⊥

@@ -1,0 +1,74 @@
+// The errors that end the program early.
+ghost use Rattle.std.specs.Prelude.{◌≡◌, ◌≤◌};
+ghost use Rattle.serve_arguments.specs.Statuses.{status_of};
+
+use crate::files::SameFile;
+use std::fmt;
+use std::io::Write;
+use stream_files::IvfFault;
+use thiserror::Error;
+
+/// A source as the text of an error names it: `input` for source 0, which is IN.
+#[derive(Clone, Copy)]
+struct SourceName(usize);
+
+impl fmt::Display for SourceName {
+    fn fmt<W: fmt::Write>(&self, f: &mut fmt::Formatter<W>) -> fmt::Result {
+        match self.0 {
+            0 => f.write_str("input"),
+            number => write!(f, "source {number}"),
+        }
+    }
+}
+
+/// Why the program exits before all requests were answered. Its `Display` is the text that the user
+/// sees after the program's name. A path is the argument as given, `-` for standard input.
+#[derive(Clone, Copy, Debug, PartialEq, Eq, Error)]
+pub enum Fault<'a> {
+    /// The arguments are not the program's.
+    #[error("command line")]
+    CommandLine,
+    /// A file that would be written is named by another argument too.
+    #[error("command line: {0}")]
+    NamedTwice(SameFile<'a>),
+    /// A file cannot be opened, or reading it failed.
+    #[error("cannot read {0}")]
+    CannotRead(&'a str),
+    /// A file has more bytes than are allowed.
+    #[error("{0} is too long")]
+    TooLong(&'a str),
+    /// The file of the tables does not have 3012 bytes.
+    #[error("tables are not 3012 bytes")]
+    Tables,
+    /// The bytes of a source are not an IVF file, or out of memory for its packets. It is the first such
+    /// source.
+    #[error("{name} {word}", name = SourceName(*.source), word = .fault.word())]
+    Input { source: usize, fault: IvfFault },
+    /// The file for the frames or for the packets cannot be created, or a writer returned an error.
+    #[error("cannot write")]
+    CannotWrite,
+    /// Out of memory.
+    #[error("no memory")]
+    NoMemory,
+}
+
+impl Fault<'_> {
+    /// The program's exit status: 2 for the command line, 1 for all else.
+    pub fn status(self) -> u8
+        ensures { result ≡ status_of self.entry }
+    {
+        match self {
+            Fault::CommandLine | Fault::NamedTwice(_) => 2,
+            _ => 1,
+        }
+    }
+}
+
+/// Shows an error to the user, and returns its exit status. If `errors` refuses the
+/// text, only the status reports it.
+pub fn tell<E: Write>(fault: Fault<'_>, errors: &mut E) -> u8
+    ensures { result ≡ status_of fault.entry }
+{
+    let _ = writeln!(errors, "vp8serve: {fault}");
+    fault.status()
+}

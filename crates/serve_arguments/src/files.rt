@@ -1,0 +1,187 @@
+// The files that the command line names: a file that is written is not named twice.
+ghost use Rattle.std.specs.Prelude.{◌≡◌, ◌↔◌, IfErr, IfOk, IsTrue, OnOk, Some, map, option_map};
+ghost use Rattle.serve_arguments.specs.CommandLines.{AreApart, argument_name, IsApart, IsFileFault, IsNamedTwice, IsSameFile, file_of, is_device, named_file, names_of, out_file, read_files, saved_file};
+
+use crate::fault::Fault;
+use crate::words::{NO_FILE, Words};
+use std::alloc::{AllocError, Global};
+use std::fmt;
+
+/// An argument of the command line that names a file.
+#[derive(Clone, Copy, Debug, PartialEq, Eq)]
+pub enum Argument {
+    In,
+    Sources,
+    Requests,
+    Out,
+    Tables,
+    Save,
+}
+
+impl Argument {
+    /// The name that help gives it.
+    pub fn name(self) -> &'static str
+        ensures { result.now ≡ argument_name self }
+    {
+        match self {
+            Argument::In => "IN",
+            Argument::Sources => "--sources",
+            Argument::Requests => "REQUESTS",
+            Argument::Out => "OUT",
+            Argument::Tables => "--tables",
+            Argument::Save => "--save",
+        }
+    }
+}
+
+/// An argument, and the path of the file that it names, if it names one.
+#[derive(Clone, Copy)]
+pub struct Named<'a> {
+    pub argument: Argument,
+    pub path: Option<&'a str>,
+}
+
+impl Named<'_> {
+    /// Whether the file is the one at `path`.
+    fn is_at(self, path: &str) -> bool
+        ensures { IsTrue result ↔ ((named_file self.entry).1 ≡ Some path.now) }
+    {
+        match self.path {
+            Some(own) => own == path,
+            None => false,
+        }
+    }
+}
+
+/// Two arguments that name one file, which would be written for the first. `Display` says so to the user.
+#[derive(Clone, Copy, Debug, PartialEq, Eq)]
+pub struct SameFile<'a> {
+    pub written: Argument,
+    pub other: Argument,
+    pub path: &'a str,
+}
+
+impl fmt::Display for SameFile<'_> {
+    fn fmt<W: fmt::Write>(&self, f: &mut fmt::Formatter<W>) -> fmt::Result {
+        let written = self.written.name();
+        let other = self.other.name();
+        let path = self.path;
+        write!(
+            f,
+            "{written} and {other} are both {path}: name another file for {written}"
+        )
+    }
+}
+
+/// The file that an argument names: `-` names none.
+fn file_of(word: &str) -> Option<&str>
+    ensures { option_map (λ path. path.now) result ≡ file_of word.now }
+{
+    if word == NO_FILE { None } else { Some(word) }
+}
+
+/// Whether a path is a device's, for example `/dev/null` or `/dev/fd/3`.
+fn is_device(path: &str) -> bool
+    ensures { result ≡ is_device path.now }
+{
+    path.as_bytes().starts_with(b"/dev/")
+}
+
+/// Checks that none of some arguments names the file that is written for another. If one does, the first
+/// that does is returned.
+fn check_apart<'a>(written: Named<'a>, others: &[Named<'a>]) -> Result<(), SameFile<'a>>
+    ensures apart { OnOk result (IsApart (named_file written.entry) (map named_file others.now)) }
+    ensures found { IfErr result (IsSameFile (named_file written.entry) (map named_file others.now)) }
+{
+    let Some(path) = written.path else {
+        return Ok(());
+    };
+    if is_device(path) {
+        return Ok(());
+    }
+    for other in others {
+        if other.is_at(path) {
+            return Err(SameFile {
+                written: written.argument,
+                other: other.argument,
+                path,
+            });
+        }
+    }
+    Ok(())
+}
+
+/// The arguments whose files are only read, with these paths of `--sources`.
+fn read_files<'a>(
+    alloc: Global,
+    words: Words<'a>,
+    more: &[&'a str],
+) -> Result<Vec<Named<'a>>, AllocError>
+    ensures { IfOk result (λ named. map named_file named.items ≡ read_files words.entry (names_of more.now)) }
+{
+    let mut files = vec![in alloc;
+        Named {
+            argument: Argument::In,
+            path: file_of(words.stream),
+        },
+        Named {
+            argument: Argument::Requests,
+            path: file_of(words.requests),
+        },
+        Named {
+            argument: Argument::Tables,
+            path: words.tables,
+        },
+    ]?;
+    for path in more {
+        files.push(Named {
+            argument: Argument::Sources,
+            path: file_of(path),
+        })?;
+    }
+    Ok(files)
+}
+
+/// The file for the frames.
+fn out_file(words: Words<'_>) -> Named<'_>
+    ensures { named_file result ≡ out_file words.entry }
+{
+    Named {
+        argument: Argument::Out,
+        path: file_of(words.frames),
+    }
+}
+
+/// The file for the packets after the run.
+fn saved_file(words: Words<'_>) -> Named<'_>
+    ensures { named_file result ≡ saved_file words.entry }
+{
+    Named {
+        argument: Argument::Save,
+        path: words.saved,
+    }
+}
+
+/// Checks that no file that is written is the file of one of these arguments, or written twice.
+fn check_written<'a>(words: Words<'a>, read: &[Named<'a>]) -> Result<(), SameFile<'a>>
+    ensures apart { OnOk result (AreApart words.entry (map named_file read.now)) }
+    ensures found { IfErr result (IsNamedTwice words.entry (map named_file read.now)) }
+{
+    let out = out_file(words);
+    let saved = saved_file(words);
+    check_apart(out, read)?;
+    check_apart(saved, read)?;
+    check_apart(saved, &[out])?;
+    Ok(())
+}
+
+/// Checks that no file that is written is named twice, with these paths of `--sources`.
+///
+/// `NamedTwice` with two arguments that name one; `NoMemory`.
+pub fn check_files<'a>(alloc: Global, words: Words<'a>, more: &[&'a str]) -> Result<(), Fault<'a>>
+    ensures apart { OnOk result (AreApart words.entry (read_files words.entry (names_of more.now))) }
+    ensures fault { IfErr result (IsFileFault words.entry (read_files words.entry (names_of more.now))) }
+{
+    let read = read_files(alloc, words, more).map_err(|_| Fault::NoMemory)?;
+    check_written(words, read.as_slice()).map_err(Fault::NamedTwice)
+}

@@ -1,0 +1,16 @@
+//! What a command line of vp8serve asks for: its arguments and help, the files that they name, and the program's errors.
+#![tactic(auto)]
+
+mod arguments;
+mod fault;
+mod files;
+mod help;
+mod sources;
+mod words;
+
+pub use arguments::{given, parse};
+pub use fault::{Fault, tell};
+pub use files::{Argument, SameFile};
+pub use help::help_or_fault;
+pub use sources::{FilesRead, Inputs, read_files, read_inputs};
+pub use words::{Accepted, NO_FILE, Words};

@@ -1,0 +1,141 @@
+// The values of the command line, and which of them are accepted.
+ghost use Rattle.std.specs.Prelude.{◌≡◌, ◌≤◌, ◌==◌, IfErr, IfOk, IfSome, OnOk, length, option_map};
+ghost use Rattle.std.specs.List.{slice_split};
+ghost use Rattle.serve_arguments.specs.Capacities.{capacity_given};
+ghost use Rattle.serve_arguments.specs.CommandLines.{AreNoPaths, ArePaths, IsAccepted, IsMistake, names_of, pads_nothing, paths_in};
+
+use crate::fault::Fault;
+use crate::files::check_files;
+use std::alloc::{AllocError, Global};
+
+/// The argument for no file, which is also the default.
+pub const NO_FILE: &str = "-";
+
+/// The character between the paths of `--sources`.
+const SEPARATOR: char = ':';
+
+/// The most paths of `--sources`.
+const MOST_PATHS: usize = 7;
+
+/// The default for the most cached states of a session.
+const CAPACITY: u16 = 32;
+
+/// The values of the arguments.
+#[derive(Clone, Copy)]
+pub struct Words<'a> {
+    /// The IVF file; `-` for a stream with no packets.
+    pub stream: &'a str,
+    /// The IVF files of sources 1 to 7, separated by `:`, if given; a path `-` for a stream with no packets.
+    pub sources: Option<&'a str>,
+    /// The requests; `-` for standard input.
+    pub requests: &'a str,
+    /// The file for the frames; `-` drops them.
+    pub frames: &'a str,
+    /// The most cached states, if given.
+    pub cache: Option<u16>,
+    /// The file of the long tables, if given.
+    pub tables: Option<&'a str>,
+    /// The file for the packets after the run, if given.
+    pub saved: Option<&'a str>,
+    /// Whether saved packets whose last token partition is empty are padded.
+    pub pads: bool,
+    /// Whether each request line is answered as it comes.
+    pub is_live: bool,
+    /// Whether refusals and errors are explained.
+    pub explains: bool,
+}
+
+impl Words<'_> {
+    /// The most cached states of a session: the number given, or 32. `None` if it is not 1
+    /// to 4,096.
+    fn capacity(self) -> Option<u16>
+        ensures given { result ≡ capacity_given self.entry.cache }
+        ensures range { IfSome result (λ count. (1 ≤ count) × (count ≤ 4096)) }
+    {
+        match self.cache {
+            None => Some(CAPACITY),
+            Some(count) if 1 <= count && count <= 4_096 => Some(count),
+            Some(_) => None,
+        }
+    }
+
+    /// Whether packets are to be padded, but not saved.
+    pub fn pads_nothing(self) -> bool
+        ensures { result ≡ pads_nothing self.entry }
+    {
+        self.pads && self.saved.is_none()
+    }
+}
+
+/// An accepted command line.
+#[derive(Drop)]
+pub struct Accepted<'a> {
+    pub words: Words<'a>,
+    /// The most cached states of a session.
+    pub capacity: u16,
+    /// The IVF files of the sources after source 0.
+    pub more: Vec<&'a str>,
+}
+
+/// The paths of a list.
+fn split_paths(alloc: Global, list: &str) -> Result<Vec<&str>, AllocError>
+    ensures { IfOk result (λ paths. names_of paths.items ≡ slice_split (λ b. b == 58) list.now) }
+{
+    list.split(SEPARATOR).collect(alloc)
+}
+
+/// The paths of a list, if there is one.
+fn paths_in<'a>(alloc: Global, list: Option<&'a str>) -> Result<Vec<&'a str>, AllocError>
+    ensures { IfOk result (λ paths. names_of paths.items ≡ paths_in (option_map (λ list. list.now) list.entry)) }
+{
+    match list {
+        None => Ok(Vec::new(alloc)),
+        Some(list) => split_paths(alloc, list),
+    }
+}
+
+/// Checks the paths of the sources after source 0: at most 7, and none is empty.
+fn check_paths(paths: &[&str]) -> Result<(), Fault<'static>>
+    ensures paths { OnOk result (ArePaths (names_of paths.now)) }
+    ensures fault { IfErr result (λ fault. fault ≡ Fault.CommandLine) }
+    ensures mistake { IfErr result (λ fault. AreNoPaths (names_of paths.now)) }
+{
+    if MOST_PATHS < paths.len() {
+        return Err(Fault::CommandLine);
+    }
+    for path in paths {
+        if path.is_empty() {
+            return Err(Fault::CommandLine);
+        }
+    }
+    Ok(())
+}
+
+impl<'a> Words<'a> {
+    /// Checks the command line before any file is read.
+    ///
+    /// `CommandLine` if the number of cached states is not 1 to 4,096, if `--pad` is given without `--save`,
+    /// if `--sources` has more than seven paths, or an empty one; `NamedTwice` if OUT or the file of `--save` is the file of another argument;
+    /// `NoMemory`. Paths under `/dev/` may be named twice.
+    pub fn accept(self, alloc: Global) -> Result<Accepted<'a>, Fault<'a>>
+        ensures accepted { IfOk result (IsAccepted self.entry) }
+        ensures mistake { IfErr result (IsMistake self.entry) }
+        ensures capacity { IfOk result (λ line. (1 ≤ line.capacity) × (line.capacity ≤ 4096)) }
+        ensures paths { IfOk result (λ line. length line.more.items ≤ 7) }
+    {
+        let Some(capacity) = self.capacity() else {
+            return Err(Fault::CommandLine);
+        };
+        if self.pads_nothing() {
+            return Err(Fault::CommandLine);
+        }
+        let more = paths_in(alloc, self.sources).map_err(|_| Fault::NoMemory)?;
+        check_paths(more.as_slice())?;
+        check_files(alloc, self, more.as_slice())?;
+        Ok(Accepted {
+            words: self,
+            capacity,
+            more,
+        })
+    }
+}

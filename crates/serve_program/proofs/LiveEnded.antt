@@ -1,0 +1,53 @@
+-- Why the program exits with requests that are answered as they come.
+use Rattle.std.proofs.Common.{◌≡◌, ◌⊎◌, inl, inr, ℕ, List, Option, None, refl, sym}
+use Rattle.std.specs.Borrow.{Bor}
+use Rattle.vp8_tables.specs.Tables.{TableEntries}
+use Rattle.serve_arguments.specs.Readings.{AreNamed, IsInputFault}
+use Rattle.serve_arguments.specs.declared.fault.Fault.{Fault}
+use Rattle.serve_arguments.specs.declared.fault.Fault.TheVariants.{CommandLine, NamedTwice, CannotRead, TooLong, Tables, Input, CannotWrite, NoMemory}
+use Rattle.frame_session.specs.declared.live.LiveFault.{LiveFault}
+use Rattle.frame_session.specs.declared.live.LiveFault.TheVariants as lives
+use Rattle.serve_program.specs.Endings.{IsCutShort, IsEnded, IsInput, IsInterrupted, IsLiveEnded, IsLiveFault, IsLiveRefused, IsSaveFault, IsUnopened, fault_by_live}
+use Rattle.serve_program.proofs.Ended.{run_ended, save_ended, unread_ended}
+
+module _ (tables : TableEntries) (sources : List (List ℕ)) (requests : List ℕ) (path : Bor (List ℕ)) (left given replies replies' : Option (List ℕ)) (theirs : path.now ≡ requests) (input : IsInput requests left given) where
+  interrupted : (why : LiveFault) → IsInterrupted tables sources given replies replies' why → IsLiveRefused tables sources requests left replies replies' (fault_by_live path why)
+  interrupted why is = inr (inr (record { path = path; is_theirs = theirs; why = why; reported = refl; given = given; input = input; interrupted = is }))
+
+  -- the lines of a reader were not all answered
+  pub requests_refused : (why : LiveFault) (fault : Fault) → fault ≡ fault_by_live path why → IsLiveFault tables sources given replies replies' why → IsLiveRefused tables sources requests left replies replies' fault
+  requests_refused why fault is refused = rw is (by_fault why refused)
+    where
+      by_fault : (why : LiveFault) → IsLiveFault tables sources given replies replies' why → IsLiveRefused tables sources requests left replies replies' (fault_by_live path why)
+      by_fault (lives.Ivf source fault) refused = inl (refused.0, tt, refused.1)
+      by_fault lives.Read refused = interrupted lives.Read refused
+      by_fault lives.TooLong refused = interrupted lives.TooLong refused
+      by_fault lives.Endless refused = interrupted lives.Endless refused
+      by_fault lives.Write refused = inl tt
+      by_fault lives.NoMemory refused = inl (tt, refused)
+
+-- the file of the requests was not opened
+pub unopened : (tables : TableEntries) (sources : List (List ℕ)) (requests : List ℕ) (path : Bor (List ℕ)) (left replies : Option (List ℕ)) → path.now ≡ requests → IsLiveRefused tables sources requests left replies replies (CannotRead path)
+unopened tables sources requests path left replies theirs = inr (inl (theirs, refl))
+
+-- a file that comes before the requests was not read
+pub files_ended : (unnamed : List ℕ) (named : Option (List ℕ)) (names : List (List ℕ)) (requests : List ℕ) (left replies : Option (List ℕ)) (fault : Fault) → ((left : Option (List ℕ)) → IsInputFault named names requests left left fault) → IsLiveEnded unnamed named names requests left left replies replies fault
+files_ended unnamed named names requests left replies fault why = inl (unread_ended unnamed named names requests left left replies fault (why left))
+
+unopened_ended : (unnamed : List ℕ) (named : Option (List ℕ)) (names : List (List ℕ)) (requests : List ℕ) (left left' replies replies' : Option (List ℕ)) (fault : Fault) → IsUnopened requests replies replies' fault → IsEnded unnamed named names requests left left' replies replies' fault
+unopened_ended unnamed named names requests left left' replies replies' (CannotRead path) why = (inr (sym why.0), why.1)
+unopened_ended unnamed named names requests left left' replies replies' (TooLong path) why = absurd why
+unopened_ended unnamed named names requests left left' replies replies' Tables why = absurd why
+unopened_ended unnamed named names requests left left' replies replies' (Input source fault) why = absurd why
+unopened_ended unnamed named names requests left left' replies replies' CannotWrite why = absurd why
+unopened_ended unnamed named names requests left left' replies replies' NoMemory why = absurd why
+unopened_ended unnamed named names requests left left' replies replies' CommandLine why = absurd why
+unopened_ended unnamed named names requests left left' replies replies' (NamedTwice same) why = absurd why
+
+module _ (unnamed : List ℕ) (named : Option (List ℕ)) (names : List (List ℕ)) (requests : List ℕ) (left left' replies replies' : Option (List ℕ)) (fault : Fault) where
+  -- the requests were not answered, or the packets not saved
+  pub live_ended : (tables : TableEntries) (sources : List (List ℕ)) → AreNamed unnamed names sources → IsLiveRefused tables sources requests left replies replies' fault ⊎ IsSaveFault fault → IsLiveEnded unnamed named names requests left left' replies replies' fault
+  live_ended tables sources are (inl (inl refused)) = inl (run_ended unnamed named names requests left left' replies replies' sources fault are refused)
+  live_ended tables sources are (inl (inr (inl shut))) = inl (unopened_ended unnamed named names requests left left' replies replies' fault shut)
+  live_ended tables sources are (inl (inr (inr cut))) = inr (tables, sources, are, cut)
+  live_ended tables sources are (inr unsaved) = inl (save_ended unnamed named names requests left left' replies replies' fault unsaved)

@@ -1,0 +1,372 @@
+// Explains the errors that end the program.
+ghost use Rattle.std.specs.Prelude.{◌≡◌, ◌≤◌, ◌==◌, ◌||◌, [], IfOk, OnOk, codes, if◌then◌else◌, nat_eq};
+ghost use Rattle.std.specs.Io.KnownBytes.{Appends};
+ghost use Rattle.std.specs.Cmp.Lexicographic.{pointwise};
+ghost use Rattle.std.specs.List.{list_any};
+
+use crate::messages::Messages;
+use explanations::{CutRecord, StreamReason, cut_record, stream_reason};
+use serve_arguments::{Argument, Fault, NO_FILE, Words, parse};
+use std::convert::AsStr;
+use std::fs::{self, File};
+use std::io::{self, Read, Write};
+use std::rt::Files;
+use std::str;
+use stream_files::{IvfFault, read_all};
+
+/// Whether the option `--explain` is among the arguments.
+pub fn is_asked<S: AsStr>(words: &[S]) -> bool
+    ensures { result ≡ list_any (λ word. pointwise nat_eq (S.text word) (codes "--explain")) words.now }
+{
+    words.iter().any(|word| word.as_str() == "--explain")
+}
+
+/// Names the option `--explain` after a run that ended with an error, unless it was given.
+pub fn name_explain<S: AsStr, E: Write>(words: &[S], status: u8, errors: &mut E) -> io::Result<()>
+    ensures { OnOk result (Appends (E.contents errors.old) (E.contents errors.new) (if status == 0 || list_any (λ word. pointwise nat_eq (S.text word) (codes "--explain")) words.now then [] else codes "with --explain the next line says why, and what to do\n")) }
+{
+    if status == 0 || is_asked(words) {
+        return Ok(());
+    }
+    errors.write_all(b"with --explain the next line says why, and what to do\n")
+}
+
+/// Explains the error that ends the program over these arguments. An error of `messages` is ignored.
+pub fn explain_fault<R: Files + AllocGlobal, S: AsStr, E: Write>(
+    rt: &R,
+    words: &[S],
+    fault: Fault<'_>,
+    messages: &mut Messages<'_, E>,
+) {
+    let _ = match parse(rt.alloc(), words) {
+        Ok(words) => explain_in(rt, words, fault, messages),
+        Err(error) => writeln!(messages.errors, "{error}try vp8serve --help"),
+    };
+}
+
+/// The same with the values of the arguments.
+fn explain_in<R: Files + AllocGlobal, E: Write>(
+    rt: &R,
+    words: Words<'_>,
+    fault: Fault<'_>,
+    messages: &mut Messages<'_, E>,
+) -> io::Result<()> {
+    match fault {
+        Fault::CommandLine if words.pads_nothing() => writeln!(
+            messages.errors,
+            "--pad is for the packets of --save: name a file for them by --save FILE"
+        ),
+        Fault::CommandLine => writeln!(
+            messages.errors,
+            "--sources takes 1 to 7 paths, none of them empty: try vp8serve --help"
+        ),
+        Fault::NamedTwice(_) => writeln!(messages.errors, "try vp8serve --help"),
+        Fault::CannotRead(path) => explain_unread(rt, words, path, messages),
+        Fault::TooLong(path) => explain_long(words, path, messages),
+        Fault::Tables => explain_tables(rt, words, messages),
+        Fault::Input { source, fault } => explain_input(rt, words, source, fault, messages),
+        Fault::CannotWrite => explain_unwritten(words, messages),
+        Fault::NoMemory => writeln!(messages.errors, "try a smaller --cache, or shorter files"),
+    }
+}
+
+/// Whether these are requests that are answered as they come.
+fn is_live(words: Words<'_>, path: &str) -> bool {
+    words.is_live && words.requests == path
+}
+
+/// Explains which lines of requests that are answered as they come were answered, and why the next one was not.
+fn explain_unanswered<E: Write>(why: &str, messages: &mut Messages<'_, E>) -> io::Result<()> {
+    let line = messages.next_line();
+    write!(messages.errors, "line {line} was not answered: {why}; ")?;
+    match line {
+        1 => {}
+        2 => write!(messages.errors, "line 1 was, and ")?,
+        _ => write!(messages.errors, "lines 1 to {} were, and ", line - 1)?,
+    }
+    writeln!(messages.errors, "nothing is saved")
+}
+
+/// Explains why a file was not read.
+fn explain_unread<R: Files + AllocGlobal, E: Write>(
+    rt: &R,
+    words: Words<'_>,
+    path: &str,
+    messages: &mut Messages<'_, E>,
+) -> io::Result<()> {
+    if path != NO_FILE && !is_read_once(rt, path) {
+        if let Err(error) = probe(rt, path) {
+            return writeln!(messages.errors, "{path}: {error}");
+        }
+    }
+    if is_live(words, path) {
+        return explain_unanswered("reading it failed", messages);
+    }
+    writeln!(messages.errors, "{path}: reading it failed")
+}
+
+/// Whether this is a pipe or a device: its bytes may be gone, and opening a pipe may wait for a writer.
+fn is_read_once<R: Files>(rt: &R, path: &str) -> bool {
+    match fs::metadata(rt, path) {
+        Ok(known) => !known.is_file() && !known.is_dir(),
+        Err(_) => false,
+    }
+}
+
+/// Says that a pipe or a device is not looked at.
+fn explain_read_once<E: Write>(path: &str, errors: &mut E) -> io::Result<()> {
+    writeln!(
+        errors,
+        "{path} is a pipe or a device and is not read again: copy it to a file, and try that"
+    )
+}
+
+/// Opens a file, and reads a byte.
+fn probe<R: Files>(rt: &R, path: &str) -> io::Result<()> {
+    let mut file = File::open(rt, path)?;
+    let mut byte = [0];
+    file.read(&mut byte)?;
+    Ok(())
+}
+
+/// Reads the first bytes of a file, and returns their number.
+fn read_head<R: Files>(rt: &R, path: &str, head: &mut [u8; 32]) -> io::Result<usize>
+    ensures { IfOk result (λ count. count ≤ 32) }
+{
+    let mut file = File::open(rt, path)?;
+    file.read(head)
+}
+
+/// Explains what was too long.
+fn explain_long<E: Write>(
+    words: Words<'_>,
+    path: &str,
+    messages: &mut Messages<'_, E>,
+) -> io::Result<()> {
+    if is_live(words, path) {
+        return explain_unanswered("it has more than 1073741824 bytes", messages);
+    }
+    writeln!(messages.errors, "{path} has more than 1073741824 bytes")
+}
+
+/// Explains what the file of the tables is.
+fn explain_tables<R: Files + AllocGlobal, E: Write>(
+    rt: &R,
+    words: Words<'_>,
+    messages: &mut Messages<'_, E>,
+) -> io::Result<()> {
+    let Some(path) = words.tables else {
+        return Ok(());
+    };
+    if is_read_once(rt, path) {
+        return explain_read_once(path, messages.errors);
+    }
+    let mut file = File::open(rt, path)?;
+    match read_all(rt.alloc(), &mut file, 1_073_741_824) {
+        Ok(bytes) => {
+            let count = bytes.len();
+            writeln!(messages.errors, "{path} has {count} bytes")
+        }
+        Err(_) => writeln!(messages.errors, "{path} has too many bytes"),
+    }
+}
+
+/// The path of a source, which the arguments name.
+fn path_of<'a>(words: Words<'a>, source: usize) -> &'a str {
+    if source == 0 {
+        return words.stream;
+    }
+    match words.sources {
+        Some(list) => list.split(':').nth(source - 1).unwrap_or(NO_FILE),
+        None => NO_FILE,
+    }
+}
+
+/// Explains why the bytes of a source are not a stream, with the first bytes of its file, which is opened
+/// again.
+fn explain_input<R: Files + AllocGlobal, E: Write>(
+    rt: &R,
+    words: Words<'_>,
+    source: usize,
+    fault: IvfFault,
+    messages: &mut Messages<'_, E>,
+) -> io::Result<()> {
+    let path = path_of(words, source);
+    if is_read_once(rt, path) {
+        return explain_read_once(path, messages.errors);
+    }
+    let mut bytes = [0; 32];
+    let count = read_head(rt, path, &mut bytes)?;
+    explain_head(path, &bytes[..count], fault, messages)
+}
+
+/// Explains why the bytes of a file that begins like this are not a stream.
+fn explain_head<E: Write>(
+    path: &str,
+    head: &[u8],
+    fault: IvfFault,
+    messages: &mut Messages<'_, E>,
+) -> io::Result<()> {
+    match stream_reason(head, fault) {
+        StreamReason::WebM => explain_webm(path, messages.errors),
+        StreamReason::Avi => explain_container(path, "is an AVI file", messages.errors),
+        StreamReason::Gzip => writeln!(
+            messages.errors,
+            "{path} is compressed by gzip: gzip -dc {path} > out.ivf"
+        ),
+        StreamReason::Zeros => writeln!(
+            messages.errors,
+            "{path} begins with zeros: its first bytes, where an IVF file says DKIF, are lost or were never written"
+        ),
+        StreamReason::Text => writeln!(
+            messages.errors,
+            "{path} begins as a text: IN, the IVF file, is the first argument, REQUESTS the second"
+        ),
+        StreamReason::Codec => explain_codec(path, head, messages),
+        StreamReason::Short => writeln!(
+            messages.errors,
+            "{path} has {} bytes, an IVF header 32",
+            head.len()
+        ),
+        StreamReason::NoIvf => explain_container(
+            path,
+            "is not an IVF file, it does not begin with DKIF",
+            messages.errors,
+        ),
+        StreamReason::HeaderLength(length) => writeln!(
+            messages.errors,
+            "{path} claims a header of {length} bytes, not 32 to the length of the file"
+        ),
+        StreamReason::TooMany => writeln!(messages.errors, "{path} has more than 1048576 packets"),
+        StreamReason::NoMemory => writeln!(
+            messages.errors,
+            "{path}: out of memory for its packets"
+        ),
+    }
+}
+
+/// Explains how the packets of a WebM file become an IVF file, with their time stamps.
+fn explain_webm<E: Write>(path: &str, errors: &mut E) -> io::Result<()> {
+    writeln!(
+        errors,
+        "{path} is a WebM or Matroska file: ffmpeg -i {path} -an -c copy -copyts out.ivf"
+    )?;
+    writeln!(
+        errors,
+        "its time stamps count milliseconds, so OUT has 1000 frames a second: ffmpeg -r 30 -i OUT reads 30"
+    )
+}
+
+/// Explains how the packets of another file become an IVF file.
+fn explain_container<E: Write>(path: &str, seen: &str, errors: &mut E) -> io::Result<()> {
+    writeln!(
+        errors,
+        "{path} {seen}; if its video is VP8: ffmpeg -i {path} -an -c copy out.ivf"
+    )?;
+    writeln!(
+        errors,
+        "any other video has to be coded again, which changes each frame: ffmpeg -i {path} -an -c:v libvpx out.ivf"
+    )
+}
+
+/// Explains which codec a file has.
+fn explain_codec<E: Write>(
+    path: &str,
+    head: &[u8],
+    messages: &mut Messages<'_, E>,
+) -> io::Result<()> {
+    let codec = head.get(8..12).unwrap_or(b"");
+    let codec = str::from_utf8(codec).unwrap_or("unknown");
+    writeln!(
+        messages.errors,
+        "{path} has the codec {codec}, not VP80, and has to be coded again, which changes each frame: ffmpeg -i {path} -an -c:v libvpx out.ivf"
+    )
+}
+
+/// Explains which file was not written.
+fn explain_unwritten<E: Write>(words: Words<'_>, messages: &mut Messages<'_, E>) -> io::Result<()> {
+    let name = messages.writes.name();
+    let path = match messages.writes {
+        Argument::Save => words.saved.unwrap_or(NO_FILE),
+        _ => words.frames,
+    };
+    match &messages.refused {
+        Some(error) => writeln!(messages.errors, "{name} {path} cannot be created: {error}"),
+        None if messages.writes == Argument::Save => {
+            writeln!(
+                messages.errors,
+                "{name} {path} was not written whole: the disk may be full"
+            )
+        }
+        None => writeln!(
+            messages.errors,
+            "standard output or {name} {path} takes no more bytes: its reader has gone, or the disk is full"
+        ),
+    }
+}
+
+/// Explains the end of a run without an error: the trailing bytes of sources, which the arguments name, and the edits
+/// that are not saved.
+pub fn explain_end<E: Write>(
+    words: Words<'_>,
+    sources: &[&[u8]],
+    messages: &mut Messages<'_, E>,
+) -> io::Result<()> {
+    explain_spare(words, sources, messages.errors)?;
+    explain_unsaved(words, sources.len(), messages)
+}
+
+/// Says which sources have edits that `--save` leaves out.
+fn explain_unsaved<E: Write>(
+    words: Words<'_>,
+    count: usize,
+    messages: &mut Messages<'_, E>,
+) -> io::Result<()> {
+    if words.saved.is_none() {
+        return Ok(());
+    }
+    for source in 1..count {
+        if messages.is_edited(source) {
+            writeln!(
+                messages.errors,
+                "the edits of source {source} are not saved: --save writes source 0"
+            )?;
+        }
+    }
+    Ok(())
+}
+
+/// Explains the trailing bytes of sources, which the arguments name.
+fn explain_spare<E: Write>(words: Words<'_>, sources: &[&[u8]], errors: &mut E) -> io::Result<()> {
+    for (source, bytes) in sources.iter().enumerate() {
+        if let Some(cut) = cut_record(bytes) {
+            write_cut(path_of(words, source), bytes.len(), cut, errors)?;
+        }
+    }
+    Ok(())
+}
+
+/// Writes which record the end of a file of this length cuts off.
+fn write_cut<E: Write>(
+    path: &str,
+    length: usize,
+    cut: CutRecord,
+    errors: &mut E,
+) -> io::Result<()> {
+    let CutRecord {
+        number,
+        begins,
+        size,
+    } = cut;
+    let left = length.saturating_sub(begins);
+    match size {
+        Some(size) => writeln!(
+            errors,
+            "{path}: record {number} begins at byte {begins} and claims 12 + {size} bytes, {left} are left"
+        ),
+        None => writeln!(
+            errors,
+            "{path}: record {number} begins at byte {begins}, {left} bytes are left"
+        ),
+    }
+}

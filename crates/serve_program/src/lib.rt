@@ -1,0 +1,13 @@
+//! The program vp8serve over its arguments, a reader and two writers: IVF files and request lines in, a YUV4MPEG2 text and
+//! replies out, and on standard error why a request or the program failed.
+#![tactic(auto)]
+
+mod explain;
+mod live;
+mod messages;
+mod program;
+mod runs;
+
+pub use explain::name_explain;
+pub use program::{run_to, serve};
+pub use serve_arguments::{Argument, Fault, SameFile, given, tell};

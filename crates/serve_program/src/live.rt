@@ -1,0 +1,177 @@
+// Requests that are answered as they come.
+ghost use Rattle.std.specs.Prelude.{◌≡◌, ◌≤◌, ◌⊎◌, IfErr, IfOk, is_some, length, map, option_map};
+ghost use Rattle.frame_session.specs.Answers.{texts_of};
+ghost use Rattle.serve_arguments.specs.CommandLines.{source_names};
+ghost use Rattle.serve_program.specs.Endings.{AreLiveReplied, IsLiveEnded, IsLiveFault, IsLiveRefused, IsLiveReplied, IsSaveFault, IsServed};
+
+use crate::messages::Messages;
+use crate::program::{BYTES_AT_ONCE, finish};
+use crate::runs::{live_fault, slices_of};
+use frame_session::{LiveFault, Session, Settings, run_live_observed};
+use serve_arguments::{Accepted, Fault, FilesRead, NO_FILE, read_files};
+use std::fs::File;
+use std::io::{self, BufRead, BufReader, BufWriter, Read, Write};
+use std::rt::Files;
+use stream_files::EMPTY;
+
+/// Answers the lines of `requests` with frames that go to the file at `path`, which is created now, or nowhere.
+fn run_to_path<R: Files + AllocGlobal, I: BufRead, P: Write, E: Write>(
+    rt: &R,
+    settings: Settings,
+    sources: &[&[u8]],
+    requests: &mut I,
+    path: &str,
+    replies: &mut P,
+    messages: &mut Messages<'_, E>,
+) -> Result<Session, LiveFault>
+    requires capacity { (1 ≤ settings.capacity) × (settings.capacity ≤ 4096) }
+    requires sources { (1 ≤ length sources.now) × (length sources.now ≤ 8) }
+    ensures replied { IfOk result (λ session. IsLiveReplied settings.tables (texts_of sources.now) (I.remaining requests.old) (P.contents replies.old) (P.contents replies.new) session.now) }
+    ensures capacity { IfOk result (λ session. session.cache.capacity ≡ settings.capacity) }
+    ensures fault { IfErr result (IsLiveFault settings.tables (texts_of sources.now) (I.remaining requests.old) (P.contents replies.old) (P.contents replies.new)) }
+{
+    let alloc = rt.alloc();
+    if path == NO_FILE {
+        return run_live_observed(
+            alloc,
+            settings,
+            sources,
+            requests,
+            &mut io::sink(),
+            replies,
+            messages,
+        );
+    }
+    let file = match File::create(rt, path) {
+        Ok(file) => file,
+        Err(error) => {
+            messages.cannot_create(error);
+            return Err(LiveFault::Write);
+        }
+    };
+    let mut frames = BufWriter::with_capacity(alloc, BYTES_AT_ONCE, file).map_err(
+        |_| LiveFault::NoMemory,
+    )?;
+    run_live_observed(
+        alloc,
+        settings,
+        sources,
+        requests,
+        &mut frames,
+        replies,
+        messages,
+    )
+}
+
+/// The same for the lines of a reader that is not buffered.
+fn run_over<R: Files + AllocGlobal, I: Read, P: Write, E: Write>(
+    rt: &R,
+    settings: Settings,
+    sources: &[&[u8]],
+    reader: &mut I,
+    path: &str,
+    replies: &mut P,
+    messages: &mut Messages<'_, E>,
+) -> Result<Session, LiveFault>
+    requires capacity { (1 ≤ settings.capacity) × (settings.capacity ≤ 4096) }
+    requires sources { (1 ≤ length sources.now) × (length sources.now ≤ 8) }
+    ensures replied { IfOk result (λ session. IsLiveReplied settings.tables (texts_of sources.now) (I.remaining reader.old) (P.contents replies.old) (P.contents replies.new) session.now) }
+    ensures capacity { IfOk result (λ session. session.cache.capacity ≡ settings.capacity) }
+    ensures fault { IfErr result (IsLiveFault settings.tables (texts_of sources.now) (I.remaining reader.old) (P.contents replies.old) (P.contents replies.new)) }
+{
+    let mut requests = BufReader::new(rt.alloc(), reader).map_err(|_| LiveFault::NoMemory)?;
+    run_to_path(
+        rt,
+        settings,
+        sources,
+        &mut requests,
+        path,
+        replies,
+        messages,
+    )
+}
+
+/// Answers the request lines as they come: those of `input` if no file is given.
+#[tactic(auto, using(crate::proofs::LiveEnded::requests_refused))]
+fn run_requests<'a, R: Files + AllocGlobal, I: Read, P: Write, E: Write>(
+    rt: &R,
+    line: &Accepted<'a>,
+    settings: Settings,
+    sources: &[&[u8]],
+    input: &mut I,
+    replies: &mut P,
+    messages: &mut Messages<'_, E>,
+) -> Result<Session, Fault<'a>>
+    requires capacity { (1 ≤ settings.capacity) × (settings.capacity ≤ 4096) }
+    requires sources { (1 ≤ length sources.now) × (length sources.now ≤ 8) }
+    ensures replied { IfOk result (λ session. AreLiveReplied line.now.words.requests.now (I.remaining input.old) (P.contents replies.old) (P.contents replies.new) session.now settings.tables (texts_of sources.now)) }
+    ensures capacity { IfOk result (λ session. session.cache.capacity ≡ settings.capacity) }
+    ensures refused { IfErr result (IsLiveRefused settings.tables (texts_of sources.now) line.now.words.requests.now (I.remaining input.old) (P.contents replies.old) (P.contents replies.new)) }
+{
+    let path = line.words.requests;
+    let frames = line.words.frames;
+    if path == NO_FILE {
+        return match run_over(rt, settings, sources, input, frames, replies, messages) {
+            Ok(session) => Ok(session),
+            Err(fault) => Err(live_fault(fault, path)),
+        };
+    }
+    let mut file = File::open(rt, path).map_err(|_| Fault::CannotRead(path))?;
+    match run_over(rt, settings, sources, &mut file, frames, replies, messages) {
+        Ok(session) => Ok(session),
+        Err(fault) => Err(live_fault(fault, path)),
+    }
+}
+
+/// Answers the request lines over the files that were read, as they come, and saves the packets of source 0 if that is asked for.
+/// Returns the session after the last line.
+fn answer_files<'a, R: Files + AllocGlobal, I: Read, O: Write, E: Write>(
+    rt: &R,
+    line: &Accepted<'a>,
+    files: FilesRead,
+    input: &mut I,
+    output: &mut O,
+    messages: &mut Messages<'_, E>,
+) -> Result<Session, Fault<'a>>
+    requires capacity { (1 ≤ line.now.capacity) × (line.now.capacity ≤ 4096) }
+    requires sources { (1 ≤ length files.sources.items) × (length files.sources.items ≤ 8) }
+    ensures replied { IfOk result (λ session. AreLiveReplied line.now.words.requests.now (I.remaining input.old) (O.contents output.old) (O.contents output.new) session.now files.tables (map (λ bytes. bytes.items) files.sources.items)) }
+    ensures capacity { IfOk result (λ session. session.cache.capacity ≡ line.now.capacity) }
+    ensures refused { IfErr result (λ fault. IsLiveRefused files.tables (map (λ bytes. bytes.items) files.sources.items) line.now.words.requests.now (I.remaining input.old) (O.contents output.old) (O.contents output.new) fault ⊎ IsSaveFault fault) }
+{
+    let FilesRead { tables, sources } = files;
+    let slices = slices_of(rt.alloc(), sources.as_slice())?;
+    let settings = Settings {
+        tables,
+        capacity: line.capacity,
+    };
+    let session = run_requests(
+        rt,
+        line,
+        settings,
+        slices.as_slice(),
+        input,
+        output,
+        messages,
+    )?;
+    finish(rt, &session, line, slices.as_slice(), messages)?;
+    Ok(session)
+}
+
+/// Does what an accepted command line with `--live` asks for. Returns the session after the last line.
+pub fn answer_live<'a, R: Files + AllocGlobal, I: Read, O: Write, E: Write>(
+    rt: &R,
+    line: &Accepted<'a>,
+    input: &mut I,
+    output: &mut O,
+    messages: &mut Messages<'_, E>,
+) -> Result<Session, Fault<'a>>
+    requires capacity { (1 ≤ line.now.capacity) × (line.now.capacity ≤ 4096) }
+    requires paths { length line.now.more.items ≤ 7 }
+    ensures served { IfOk result (λ session. IsServed EMPTY (source_names line.now) (is_some line.now.words.tables) (AreLiveReplied line.now.words.requests.now (I.remaining input.old) (O.contents output.old) (O.contents output.new) session.now)) }
+    ensures capacity { IfOk result (λ session. session.cache.capacity ≡ line.now.capacity) }
+    ensures ended { IfErr result (IsLiveEnded EMPTY (option_map (λ path. path.now) line.now.words.tables) (source_names line.now) line.now.words.requests.now (I.remaining input.old) (I.remaining input.new) (O.contents output.old) (O.contents output.new)) }
+{
+    let files = read_files(rt, line)?;
+    answer_files(rt, line, files, input, output, messages)
+}

@@ -1,0 +1,299 @@
+// The program over a reader and two writers.
+ghost use Rattle.std.specs.Prelude.{◌≡◌, ◌≤◌, [], ℕ, IfOk, IfErr, List, None, OnOk, Option, is_some, length, map, option_map};
+ghost use Rattle.std.specs.Io.Buffered.{writer_buffer, writer_contents};
+ghost use Rattle.std.specs.Io.KnownBytes.{Appends};
+ghost use Rattle.frame_session.specs.Answers.{Means, texts_of};
+ghost use Rattle.serve_arguments.specs.CommandLines.{source_names};
+ghost use Rattle.serve_arguments.specs.Readings.{AreNamed};
+ghost use Rattle.serve_arguments.specs.Statuses.{exit_status};
+ghost use Rattle.serve_program.specs.Endings.{AreReplied, IsEnded, IsRefused, IsReplied, IsSaveFault, IsServed, saved_text, spare_text};
+
+use crate::explain::{explain_end, explain_fault, is_asked};
+use crate::live::answer_live;
+use crate::messages::Messages;
+use crate::runs::{run_fault, slices_of};
+use frame_session::{Observer, Session, Settings, run_observed};
+use serve_arguments::{
+    Accepted, Argument, Fault, FilesRead, Inputs, NO_FILE, Words, help_or_fault, parse, read_inputs,
+    tell,
+};
+use std::alloc::Global;
+use std::convert::AsStr;
+use std::fs::File;
+use std::io::{self, BufWriter, Read, Write};
+use std::rt::Files;
+use stream_files::EMPTY;
+
+/// The number of bytes of frames or packets that are buffered.
+pub const BYTES_AT_ONCE: usize = 65_536;
+
+/// Runs the requests over the files of the sources, 1 to 8, and flushes both writers. Returns the session after the last
+/// request.
+pub fn run_to<F: Write, P: Write, O: Observer>(
+    alloc: Global,
+    settings: Settings,
+    sources: &[&[u8]],
+    requests: &[u8],
+    frames: &mut F,
+    replies: &mut P,
+    observer: &mut O,
+) -> Result<Session, Fault<'static>>
+    requires capacity { (1 ≤ settings.capacity) × (settings.capacity ≤ 4096) }
+    requires sources { (1 ≤ length sources.now) × (length sources.now ≤ 8) }
+    ensures answered { IfOk result (λ session. Means settings.tables (texts_of sources.now) requests.now (F.contents frames.old) (F.contents frames.new) (P.contents replies.old) (P.contents replies.new) session.now) }
+    ensures capacity { IfOk result (λ session. session.cache.capacity ≡ settings.capacity) }
+    ensures refused { IfErr result (IsRefused (texts_of sources.now) (F.contents frames.old) (F.contents frames.new) (P.contents replies.old) (P.contents replies.new)) }
+{
+    let session = run_observed(
+        alloc, settings, sources, requests, frames, replies, observer,
+    ).map_err(run_fault)?;
+    frames.flush().map_err(|_| Fault::CannotWrite)?;
+    replies.flush().map_err(|_| Fault::CannotWrite)?;
+    Ok(session)
+}
+
+/// The same, with frames that go to the file at `path`, which is created now, or nowhere.
+fn run_to_path<R: Files + AllocGlobal, P: Write, E: Write>(
+    rt: &R,
+    settings: Settings,
+    sources: &[&[u8]],
+    requests: &[u8],
+    path: &str,
+    replies: &mut P,
+    messages: &mut Messages<'_, E>,
+) -> Result<Session, Fault<'static>>
+    requires capacity { (1 ≤ settings.capacity) × (settings.capacity ≤ 4096) }
+    requires sources { (1 ≤ length sources.now) × (length sources.now ≤ 8) }
+    ensures replied { IfOk result (λ session. IsReplied settings.tables (texts_of sources.now) requests.now (P.contents replies.old) (P.contents replies.new) session.now) }
+    ensures capacity { IfOk result (λ session. session.cache.capacity ≡ settings.capacity) }
+    ensures refused { IfErr result (IsRefused (texts_of sources.now) None None (P.contents replies.old) (P.contents replies.new)) }
+{
+    let alloc = rt.alloc();
+    if path == NO_FILE {
+        return run_to(
+            alloc,
+            settings,
+            sources,
+            requests,
+            &mut io::sink(),
+            replies,
+            messages,
+        );
+    }
+    let file = match File::create(rt, path) {
+        Ok(file) => file,
+        Err(error) => return Err(messages.cannot_create(error)),
+    };
+    let mut frames = BufWriter::with_capacity(alloc, BYTES_AT_ONCE, file).map_err(
+        |_| Fault::NoMemory,
+    )?;
+    run_to(
+        alloc,
+        settings,
+        sources,
+        requests,
+        &mut frames,
+        replies,
+        messages,
+    )
+}
+
+/// Writes the current packets of source 0, padded if that is asked for, through a buffer, and flushes
+/// it.
+pub fn save_to<W: Write + Drop>(
+    session: &Session,
+    pads: bool,
+    w: &mut BufWriter<W>,
+) -> Result<(), Fault<'static>>
+    ensures saved { OnOk result (Appends (writer_contents W.contents w.old) (writer_contents W.contents w.new) (saved_text pads session.now.now)) }
+    ensures flushed { OnOk result (writer_buffer w.new ≡ []) }
+    ensures fault { IfErr result (λ fault. fault ≡ Fault.CannotWrite) }
+{
+    let saved = if pads {
+        session.save_padded(w)
+    } else {
+        session.save(w)
+    };
+    saved.map_err(|_| Fault::CannotWrite)?;
+    w.flush().map_err(|_| Fault::CannotWrite)
+}
+
+/// The same to the file of `--save`, which is created now, if the arguments name one.
+fn save_to_path<R: Files + AllocGlobal, E: Write>(
+    rt: &R,
+    session: &Session,
+    words: Words<'_>,
+    messages: &mut Messages<'_, E>,
+) -> Result<(), Fault<'static>>
+    ensures { IfErr result IsSaveFault }
+{
+    let Some(path) = words.saved else {
+        return Ok(());
+    };
+    messages.writes = Argument::Save;
+    let file = match File::create(rt, path) {
+        Ok(file) => file,
+        Err(error) => return Err(messages.cannot_create(error)),
+    };
+    let mut saved = BufWriter::with_capacity(rt.alloc(), BYTES_AT_ONCE, file).map_err(
+        |_| Fault::NoMemory,
+    )?;
+    save_to(session, words.pads, &mut saved)
+}
+
+/// Reports the number of trailing bytes of all sources, if there are any.
+pub fn report_spare<E: Write>(session: &Session, errors: &mut E) -> io::Result<()>
+    ensures { OnOk result (Appends (E.contents errors.old) (E.contents errors.new) (spare_text session.now.now.spare)) }
+{
+    let spare = session.spare();
+    if spare == 0 {
+        return Ok(());
+    }
+    writeln!(errors, "spare {spare}")
+}
+
+/// Reports trailing bytes after a run without an error. If `errors` refuses the text, they are not reported.
+fn end<E: Write>(
+    session: &Session,
+    line: &Accepted<'_>,
+    sources: &[&[u8]],
+    messages: &mut Messages<'_, E>,
+) {
+    let _ = report_spare(session, messages.errors);
+    if messages.explains {
+        let _ = explain_end(line.words, sources, messages);
+    }
+}
+
+/// Saves the packets of source 0 if that is asked for, and reports trailing bytes.
+pub fn finish<R: Files + AllocGlobal, E: Write>(
+    rt: &R,
+    session: &Session,
+    line: &Accepted<'_>,
+    sources: &[&[u8]],
+    messages: &mut Messages<'_, E>,
+) -> Result<(), Fault<'static>>
+    ensures { IfErr result IsSaveFault }
+{
+    save_to_path(rt, session, line.words, messages)?;
+    end(session, line, sources, messages);
+    Ok(())
+}
+
+/// Answers the requests over what was read, and saves the packets of source 0 if that is asked for. Returns the session after the
+/// last request.
+#[tactic(auto, using(crate::proofs::Ended::run_ended, crate::proofs::Ended::save_ended))]
+fn answer_inputs<R: Files + AllocGlobal, O: Write, E: Write>(
+    rt: &R,
+    line: &Accepted<'_>,
+    inputs: Inputs,
+    output: &mut O,
+    messages: &mut Messages<'_, E>,
+) -> Result<Session, Fault<'static>>
+    requires capacity { (1 ≤ line.now.capacity) × (line.now.capacity ≤ 4096) }
+    requires paths { length line.now.more.items ≤ 7 }
+    requires named { AreNamed EMPTY (source_names line.now) (map (λ bytes. bytes.items) inputs.files.sources.items) }
+    ensures replied { IfOk result (λ session. IsReplied inputs.files.tables (map (λ bytes. bytes.items) inputs.files.sources.items) inputs.requests.items (O.contents output.old) (O.contents output.new) session.now) }
+    ensures capacity { IfOk result (λ session. session.cache.capacity ≡ line.now.capacity) }
+    ensures ended { IfErr result (λ fault. (left : Option (List ℕ)) → (left' : Option (List ℕ)) → IsEnded EMPTY (option_map (λ path. path.now) line.now.words.tables) (source_names line.now) line.now.words.requests.now left left' (O.contents output.old) (O.contents output.new) fault) }
+{
+    let Inputs { files, requests } = inputs;
+    let FilesRead { tables, sources } = files;
+    let slices = slices_of(rt.alloc(), sources.as_slice())?;
+    let settings = Settings {
+        tables,
+        capacity: line.capacity,
+    };
+    let session = run_to_path(
+        rt,
+        settings,
+        slices.as_slice(),
+        requests.as_slice(),
+        line.words.frames,
+        output,
+        messages,
+    )?;
+    finish(rt, &session, line, slices.as_slice(), messages)?;
+    Ok(session)
+}
+
+/// Does what an accepted command line asks for. Returns the session after the last request.
+#[tactic(auto, using(crate::proofs::Ended::unread_ended))]
+fn answer<'a, R: Files + AllocGlobal, I: Read, O: Write, E: Write>(
+    rt: &R,
+    line: &Accepted<'a>,
+    input: &mut I,
+    output: &mut O,
+    messages: &mut Messages<'_, E>,
+) -> Result<Session, Fault<'a>>
+    requires capacity { (1 ≤ line.now.capacity) × (line.now.capacity ≤ 4096) }
+    requires paths { length line.now.more.items ≤ 7 }
+    ensures served { IfOk result (λ session. IsServed EMPTY (source_names line.now) (is_some line.now.words.tables) (AreReplied line.now.words.requests.now (I.remaining input.old) (O.contents output.old) (O.contents output.new) session.now)) }
+    ensures capacity { IfOk result (λ session. session.cache.capacity ≡ line.now.capacity) }
+    ensures ended { IfErr result (IsEnded EMPTY (option_map (λ path. path.now) line.now.words.tables) (source_names line.now) line.now.words.requests.now (I.remaining input.old) (I.remaining input.new) (O.contents output.old) (O.contents output.new)) }
+{
+    let inputs = read_inputs(rt, line, input)?;
+    answer_inputs(rt, line, inputs, output, messages)
+}
+
+/// Does what a command line asks for.
+fn answer_line<'a, R: Files + AllocGlobal, S: AsStr, I: Read, O: Write, E: Write>(
+    rt: &R,
+    words: &'a [S],
+    input: &mut I,
+    output: &mut O,
+    messages: &mut Messages<'_, E>,
+) -> Result<(), Fault<'a>> {
+    match parse(rt.alloc(), words) {
+        Ok(words) => {
+            let line = words.accept(rt.alloc())?;
+            if line.words.is_live {
+                answer_live(rt, &line, input, output, messages)?;
+            } else {
+                answer(rt, &line, input, output, messages)?;
+            }
+            Ok(())
+        }
+        Err(error) => help_or_fault(error, output),
+    }
+}
+
+/// The exit status of the program's result; an error is shown to the user.
+fn exit_status<E: Write>(answer: Result<(), Fault<'_>>, errors: &mut E) -> u8
+    ensures { result ≡ exit_status answer.entry }
+{
+    match answer {
+        Ok(()) => 0,
+        Err(fault) => tell(fault, errors),
+    }
+}
+
+/// Runs the program on a command line, whose first argument is the program's name, and returns its exit
+/// status: 0 if every request was answered, also by a refusal, and for help and the version; 2 for a
+/// mistake on the command line; 1 for every other error.
+///
+/// All files are read whole, up to 1,073,741,824 bytes each, before the file for the frames is created: the
+/// tables, IN, the files of `--sources` in their order, the requests. The file for the packets of source 0
+/// is created after the last request. With `--live` the requests are not read before: each line is answered when its
+/// newline is read, and a line has at most 1,073,741,824 bytes. Replies, help and the version go to `output`; the text of an error, and after a
+/// run without one the number of trailing bytes of all sources together, if there are any, go to `errors`. With `--explain`
+/// each of them is followed by a line that explains it, and each refused request has a line.
+pub fn serve<R: Files + AllocGlobal, S: AsStr, I: Read, O: Write, E: Write>(
+    rt: &R,
+    words: &[S],
+    input: &mut I,
+    output: &mut O,
+    errors: &mut E,
+) -> u8
+    ensures { result ≤ 2 }
+{
+    let mut messages = Messages::new(errors, is_asked(words));
+    let answer = answer_line(rt, words, input, output, &mut messages);
+    let status = exit_status(answer, messages.errors);
+    if messages.explains {
+        if let Err(fault) = answer {
+            explain_fault(rt, words, fault, &mut messages);
+        }
+    }
+    status
+}

@@ -1,5 +1,0 @@
-use Rattle.stream_outputs.proofs.Flushed.{answer_kept}
-use Rattle.stream_outputs.proofs.answering.answer_to.Goals as goal
-
-pub returns-clause-answered : goal.returns-clause-answered
-returns-clause-answered g c = answer_kept c.args.output c.args.tables.now c.args.bytes.now c.in_ok-status.status _ _ _ c.in_ok-status.ensures.answered c.in-Ok.ensures.bytes
