@@ -22,7 +22,7 @@ fn add_one(bytes: &mut [u8])
 }
 
 // States the bound of each byte, which its type has, as a fact that proofs take from the call.
-fn bytes_fit(bytes: &[u8])
+fn prove_bytes(bytes: &[u8])
     ensures { (place : ℕ) → slice_index bytes.now place < 256 }
 {}
 
@@ -148,7 +148,7 @@ impl Encoder {
         if shifts > 0 {
             bytes.push(((tail << (8 - shifts)) % 256) as u8)?;
         }
-        bytes_fit(&bytes);
+        prove_bytes(&bytes);
         Ok(bytes)
     }
 }

@@ -17,9 +17,7 @@ use crate::edit::{Edit, make_edit};
 use crate::refusal::Refusal;
 use packet_edits::Store;
 use pixel_planes::Picture;
-use state_cache::laws::{
-    drops_keep_coherence, edits_keep_coherence, edits_keep_ids, next_id_is_not_cached,
-};
+use state_cache::laws;
 use state_cache::{Cache, ReachFault};
 use std::alloc::Global;
 use vp8_tables::Tables;
@@ -48,7 +46,7 @@ pub(crate) fn picture_at(
     ensures rises { cache.old.decoded ≤ cache.new.decoded }
     ensures sound { IsSound tables.now stores.new cache.new }
 {
-    drops_keep_coherence(tables);
+    laws::drops_keep_coherence(tables);
     match cache.reach(tables, source, &mut stores[source], place) {
         Ok(kept) => Ok(kept.picture),
         Err(ReachFault::Refused(broken)) => Err(Refusal::Packet {
@@ -95,15 +93,6 @@ fn drop_left(cache: &mut Cache, source: usize, left: Option<u64>)
     }
 }
 
-/// A fact for proofs: a list has at most 1,048,576 packets, each with a mark and an id of its own.
-pub(crate) fn list_is_well_formed(list: &Store)
-    ensures few { length list.now.list.entries ≤ 1048576 }
-    ensures marks { length list.now.marks ≡ length list.now.list.entries }
-    ensures own_ids { HasOwnIds list.now.list }
-{
-    let _count = list.len();
-}
-
 /// Makes an edit of source `current`, drops the cached outcome of a packet that it removes, and returns
 /// the new number of packets. A refused edit changes nothing.
 pub(crate) fn edit_cached(
@@ -125,11 +114,11 @@ pub(crate) fn edit_cached(
     ensures sound { IsSound tables.now stores.new cache.new }
     ensures refused { OnErr result ((stores.new ≡ stores.old) × (cache.new ≡ cache.old)) }
 {
-    drops_keep_coherence(tables);
-    edits_keep_coherence(tables);
-    edits_keep_ids();
-    next_id_is_not_cached();
-    list_is_well_formed(&stores[current]);
+    laws::drops_keep_coherence(tables);
+    laws::edits_keep_coherence(tables);
+    laws::edits_keep_ids();
+    laws::next_id_is_not_cached();
+    stores[current].prove_few();
     let left = leaving(&stores[current], &edit);
     let count = make_edit(alloc, tables, stores, current, edit)?;
     drop_left(cache, current, left);

@@ -201,16 +201,16 @@ fn read_whole_line<I: BufRead>(input: &mut I, line: &mut LineRead) -> Result<boo
 }
 
 /// Reads the next line and answers it. Returns whether a line may follow it.
-fn answer_next<I: BufRead, F: Write, R: Write, O: Observer>(
+fn answer_next<I: BufRead, F: Write, P: Write, V: Observer>(
     alloc: Global,
     session: &mut Session,
     input: &mut I,
     frames: &mut F,
-    replies: &mut R,
-    observer: &mut O,
+    replies: &mut P,
+    observer: &mut V,
 ) -> Result<bool, LiveFault>
-    ensures ok { IfOk result (λ more. RunsText (if more then 1 else 0) session.old.now session.new.now (I.remaining input.old) (I.remaining input.new) (F.contents frames.old) (F.contents frames.new) (R.contents replies.old) (R.contents replies.new) more) }
-    ensures err { IfErr result (LiveEnds session.old.now (I.remaining input.old) (I.remaining input.new) (F.contents frames.old) (F.contents frames.new) (R.contents replies.old) (R.contents replies.new)) }
+    ensures ok { IfOk result (λ more. RunsText (if more then 1 else 0) session.old.now session.new.now (I.remaining input.old) (I.remaining input.new) (F.contents frames.old) (F.contents frames.new) (P.contents replies.old) (P.contents replies.new) more) }
+    ensures err { IfErr result (LiveEnds session.old.now (I.remaining input.old) (I.remaining input.new) (F.contents frames.old) (F.contents frames.new) (P.contents replies.old) (P.contents replies.new)) }
     ensures capacity { session.new.cache.capacity ≡ session.old.cache.capacity }
 {
     let mut line = LineRead::new(alloc);
@@ -229,16 +229,16 @@ fn answer_next<I: BufRead, F: Write, R: Write, O: Observer>(
 }
 
 /// Answers the lines of a reader up to its end.
-fn serve_live<I: BufRead, F: Write, R: Write, O: Observer>(
+fn serve_live<I: BufRead, F: Write, P: Write, V: Observer>(
     alloc: Global,
     session: &mut Session,
     input: &mut I,
     frames: &mut F,
-    replies: &mut R,
-    observer: &mut O,
+    replies: &mut P,
+    observer: &mut V,
 ) -> Result<(), LiveFault>
-    ensures ok { OnOk result (RunsText 0 session.old.now session.new.now (I.remaining input.old) (I.remaining input.new) (F.contents frames.old) (F.contents frames.new) (R.contents replies.old) (R.contents replies.new) false) }
-    ensures err { IfErr result (LiveEnds session.old.now (I.remaining input.old) (I.remaining input.new) (F.contents frames.old) (F.contents frames.new) (R.contents replies.old) (R.contents replies.new)) }
+    ensures ok { OnOk result (RunsText 0 session.old.now session.new.now (I.remaining input.old) (I.remaining input.new) (F.contents frames.old) (F.contents frames.new) (P.contents replies.old) (P.contents replies.new) false) }
+    ensures err { IfErr result (LiveEnds session.old.now (I.remaining input.old) (I.remaining input.new) (F.contents frames.old) (F.contents frames.new) (P.contents replies.old) (P.contents replies.new)) }
     ensures capacity { session.new.cache.capacity ≡ session.old.cache.capacity }
 {
     'lines: for _answered in 0..u64::MAX {
@@ -250,20 +250,20 @@ fn serve_live<I: BufRead, F: Write, R: Write, O: Observer>(
 }
 
 /// Runs requests as `run_live` does, and tells an observer of each line after its reply was written and flushed.
-pub fn run_live_observed<I: BufRead, F: Write, R: Write, O: Observer>(
+pub fn run_live_observed<I: BufRead, F: Write, P: Write, V: Observer>(
     alloc: Global,
     settings: Settings,
     ivfs: &[&[u8]],
     input: &mut I,
     frames: &mut F,
-    replies: &mut R,
-    observer: &mut O,
+    replies: &mut P,
+    observer: &mut V,
 ) -> Result<Session, LiveFault>
     requires capacity { (1 ≤ settings.capacity) × (settings.capacity ≤ 4096) }
     requires sources { (1 ≤ length ivfs.now) × (length ivfs.now ≤ 8) }
-    ensures means { IfOk result (λ session. LiveMeans settings.tables (texts_of ivfs.now) (I.remaining input.old) (I.remaining input.new) (F.contents frames.old) (F.contents frames.new) (R.contents replies.old) (R.contents replies.new) session.now) }
+    ensures means { IfOk result (λ session. LiveMeans settings.tables (texts_of ivfs.now) (I.remaining input.old) (I.remaining input.new) (F.contents frames.old) (F.contents frames.new) (P.contents replies.old) (P.contents replies.new) session.now) }
     ensures capacity { IfOk result (λ session. session.cache.capacity ≡ settings.capacity) }
-    ensures stops { IfErr result (LiveStops settings.tables (texts_of ivfs.now) (I.remaining input.old) (I.remaining input.new) (F.contents frames.old) (F.contents frames.new) (R.contents replies.old) (R.contents replies.new)) }
+    ensures stops { IfErr result (LiveStops settings.tables (texts_of ivfs.now) (I.remaining input.old) (I.remaining input.new) (F.contents frames.old) (F.contents frames.new) (P.contents replies.old) (P.contents replies.new)) }
 {
     let Settings { tables, capacity } = settings;
     let files = read_sources(alloc, ivfs)?;
@@ -287,19 +287,19 @@ pub fn run_live_observed<I: BufRead, F: Write, R: Write, O: Observer>(
 /// reader fails, `LiveFault::TooLong` if a line is too long, and `LiveFault::Endless` after 2^64 - 1 lines: the lines
 /// before that were answered. `LiveFault::Write` if a writer fails: nothing was read after the line whose answer could not be
 /// written.
-pub fn run_live<I: BufRead, F: Write, R: Write>(
+pub fn run_live<I: BufRead, F: Write, P: Write>(
     alloc: Global,
     settings: Settings,
     ivfs: &[&[u8]],
     input: &mut I,
     frames: &mut F,
-    replies: &mut R,
+    replies: &mut P,
 ) -> Result<Session, LiveFault>
     requires capacity { (1 ≤ settings.capacity) × (settings.capacity ≤ 4096) }
     requires sources { (1 ≤ length ivfs.now) × (length ivfs.now ≤ 8) }
-    ensures means { IfOk result (λ session. LiveMeans settings.tables (texts_of ivfs.now) (I.remaining input.old) (I.remaining input.new) (F.contents frames.old) (F.contents frames.new) (R.contents replies.old) (R.contents replies.new) session.now) }
+    ensures means { IfOk result (λ session. LiveMeans settings.tables (texts_of ivfs.now) (I.remaining input.old) (I.remaining input.new) (F.contents frames.old) (F.contents frames.new) (P.contents replies.old) (P.contents replies.new) session.now) }
     ensures capacity { IfOk result (λ session. session.cache.capacity ≡ settings.capacity) }
-    ensures stops { IfErr result (LiveStops settings.tables (texts_of ivfs.now) (I.remaining input.old) (I.remaining input.new) (F.contents frames.old) (F.contents frames.new) (R.contents replies.old) (R.contents replies.new)) }
+    ensures stops { IfErr result (LiveStops settings.tables (texts_of ivfs.now) (I.remaining input.old) (I.remaining input.new) (F.contents frames.old) (F.contents frames.new) (P.contents replies.old) (P.contents replies.new)) }
 {
     run_live_observed(
         alloc,

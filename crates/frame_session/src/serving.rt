@@ -108,18 +108,18 @@ fn write_frame<F: Write>(
 
 /// Writes frame `n`, and then its reply: if a writer fails, no byte of the reply was written before the
 /// whole frame.
-fn write_answer<F: Write, R: Write>(
+fn write_answer<F: Write, P: Write>(
     frames: &mut F,
-    replies: &mut R,
+    replies: &mut P,
     head_due: Option<Head>,
     picture: &Picture,
     n: u64,
     flushing: Flushing,
 ) -> Result<Option<Refusal>, WriteFault>
     ensures frame { OnOk result (Appends (F.contents frames.old) (F.contents frames.new) (opening head_due picture.now.width picture.now.height ++ frame_text picture.now)) }
-    ensures reply { OnOk result (Appends (R.contents replies.old) (R.contents replies.new) (served_line n)) }
-    ensures frame_first { Keeps (R.contents replies.old) (R.contents replies.new) ⊎ Appends (F.contents frames.old) (F.contents frames.new) (opening head_due picture.now.width picture.now.height ++ frame_text picture.now) }
-    ensures told { IfOk result (Tells (R.contents replies.old) (R.contents replies.new)) }
+    ensures reply { OnOk result (Appends (P.contents replies.old) (P.contents replies.new) (served_line n)) }
+    ensures frame_first { Keeps (P.contents replies.old) (P.contents replies.new) ⊎ Appends (F.contents frames.old) (F.contents frames.new) (opening head_due picture.now.width picture.now.height ++ frame_text picture.now) }
+    ensures told { IfOk result (Tells (P.contents replies.old) (P.contents replies.new)) }
 {
     write_frame(frames, head_due, picture)?;
     flushing.flush(frames)?;
@@ -127,17 +127,17 @@ fn write_answer<F: Write, R: Write>(
 }
 
 /// Serves frame `n`, or reports why it is refused.
-fn serve_frame<F: Write, R: Write>(
+fn serve_frame<F: Write, P: Write>(
     session: &mut Session,
     n: u64,
     frames: &mut F,
-    replies: &mut R,
+    replies: &mut P,
     flushing: Flushing,
 ) -> Result<Option<Refusal>, WriteFault>
-    ensures serves { OnOk result (Serves session.old.now (Line.Frame n) (F.contents frames.old) (F.contents frames.new) (R.contents replies.old) (R.contents replies.new) session.new.now) }
-    ensures frame_first { WritesFrameFirst session.old.now (Line.Frame n) (F.contents frames.old) (F.contents frames.new) (R.contents replies.old) (R.contents replies.new) session.new.now }
+    ensures serves { OnOk result (Serves session.old.now (Line.Frame n) (F.contents frames.old) (F.contents frames.new) (P.contents replies.old) (P.contents replies.new) session.new.now) }
+    ensures frame_first { WritesFrameFirst session.old.now (Line.Frame n) (F.contents frames.old) (F.contents frames.new) (P.contents replies.old) (P.contents replies.new) session.new.now }
     ensures capacity { session.new.cache.capacity ≡ session.old.cache.capacity }
-    ensures told { IfOk result (Tells (R.contents replies.old) (R.contents replies.new)) }
+    ensures told { IfOk result (Tells (P.contents replies.old) (P.contents replies.new)) }
 {
     let head_due = session.head_due();
     match session.frame(n) {
@@ -147,9 +147,9 @@ fn serve_frame<F: Write, R: Write>(
 }
 
 /// Reports the number of packets and the number of frames served.
-fn report_count<R: Write>(session: &Session, replies: &mut R) -> Result<Option<Refusal>, WriteFault>
-    ensures wrote { OnOk result (Appends (R.contents replies.old) (R.contents replies.new) (count_line (packet_count session.now.now) (frame_count session.now.now))) }
-    ensures told { IfOk result (Tells (R.contents replies.old) (R.contents replies.new)) }
+fn report_count<P: Write>(session: &Session, replies: &mut P) -> Result<Option<Refusal>, WriteFault>
+    ensures wrote { OnOk result (Appends (P.contents replies.old) (P.contents replies.new) (count_line (packet_count session.now.now) (frame_count session.now.now))) }
+    ensures told { IfOk result (Tells (P.contents replies.old) (P.contents replies.new)) }
 {
     let (packets, frames) = session.count();
     write_count(replies, packets, frames)
@@ -157,14 +157,14 @@ fn report_count<R: Write>(session: &Session, replies: &mut R) -> Result<Option<R
 
 /// Makes an edit and reports the new number of packets, or why it is refused.
 #[tactic(auto, using(crate::proofs::ToldKept::same_capacity))]
-fn serve_edit<R: Write>(
+fn serve_edit<P: Write>(
     session: &mut Session,
     edit: Edit,
-    replies: &mut R,
+    replies: &mut P,
 ) -> Result<Option<Refusal>, WriteFault>
-    ensures answers { (edited : Result ℕ Refusal) × EditAnswers session.old.now.tables session.old.now.lists (current_list session.old.now) edit edited × (session.new.now ≡ now_after_edit edit session.old.now edited) × OnOk result (Appends (R.contents replies.old) (R.contents replies.new) (edit_line edited)) }
+    ensures answers { (edited : Result ℕ Refusal) × EditAnswers session.old.now.tables session.old.now.lists (current_list session.old.now) edit edited × (session.new.now ≡ now_after_edit edit session.old.now edited) × OnOk result (Appends (P.contents replies.old) (P.contents replies.new) (edit_line edited)) }
     ensures capacity { session.new.cache.capacity ≡ session.old.cache.capacity }
-    ensures told { IfOk result (Tells (R.contents replies.old) (R.contents replies.new)) }
+    ensures told { IfOk result (Tells (P.contents replies.old) (P.contents replies.new)) }
 {
     let edited = session.edit(edit);
     write_edited(replies, edited)
@@ -172,17 +172,17 @@ fn serve_edit<R: Write>(
 
 /// Answers one line. Returns the refusal that the reply reports, if it reports one.
 #[tactic(auto, using(crate::proofs::ToldKept::same_capacity))]
-fn serve<F: Write, R: Write>(
+fn serve<F: Write, P: Write>(
     session: &mut Session,
     line: Line<'_>,
     frames: &mut F,
-    replies: &mut R,
+    replies: &mut P,
     flushing: Flushing,
 ) -> Result<Option<Refusal>, WriteFault>
-    ensures serves { OnOk result (Serves session.old.now line.entry (F.contents frames.old) (F.contents frames.new) (R.contents replies.old) (R.contents replies.new) session.new.now) }
-    ensures frame_first { WritesFrameFirst session.old.now line.entry (F.contents frames.old) (F.contents frames.new) (R.contents replies.old) (R.contents replies.new) session.new.now }
+    ensures serves { OnOk result (Serves session.old.now line.entry (F.contents frames.old) (F.contents frames.new) (P.contents replies.old) (P.contents replies.new) session.new.now) }
+    ensures frame_first { WritesFrameFirst session.old.now line.entry (F.contents frames.old) (F.contents frames.new) (P.contents replies.old) (P.contents replies.new) session.new.now }
     ensures capacity { session.new.cache.capacity ≡ session.old.cache.capacity }
-    ensures told { IfOk result (Tells (R.contents replies.old) (R.contents replies.new)) }
+    ensures told { IfOk result (Tells (P.contents replies.old) (P.contents replies.new)) }
 {
     match line {
         Line::Silent => Ok(None),
@@ -221,17 +221,17 @@ fn serve<F: Write, R: Write>(
 
 /// Answers one line, and flushes the reply if that is due. Returns the refusal that the reply reports, if it reports one.
 #[tactic(auto, using(crate::proofs::ToldKept::tells_kept))]
-pub(crate) fn serve_line<F: Write, R: Write>(
+pub(crate) fn serve_line<F: Write, P: Write>(
     session: &mut Session,
     line: Line<'_>,
     frames: &mut F,
-    replies: &mut R,
+    replies: &mut P,
     flushing: Flushing,
 ) -> Result<Option<Refusal>, WriteFault>
-    ensures serves { OnOk result (Serves session.old.now line.entry (F.contents frames.old) (F.contents frames.new) (R.contents replies.old) (R.contents replies.new) session.new.now) }
-    ensures frame_first { WritesFrameFirst session.old.now line.entry (F.contents frames.old) (F.contents frames.new) (R.contents replies.old) (R.contents replies.new) session.new.now }
+    ensures serves { OnOk result (Serves session.old.now line.entry (F.contents frames.old) (F.contents frames.new) (P.contents replies.old) (P.contents replies.new) session.new.now) }
+    ensures frame_first { WritesFrameFirst session.old.now line.entry (F.contents frames.old) (F.contents frames.new) (P.contents replies.old) (P.contents replies.new) session.new.now }
     ensures capacity { session.new.cache.capacity ≡ session.old.cache.capacity }
-    ensures told { IfOk result (Tells (R.contents replies.old) (R.contents replies.new)) }
+    ensures told { IfOk result (Tells (P.contents replies.old) (P.contents replies.new)) }
 {
     let told = serve(session, line, frames, replies, flushing)?;
     flushing.flush(replies)?;
@@ -239,16 +239,16 @@ pub(crate) fn serve_line<F: Write, R: Write>(
 }
 
 /// Answers all lines of a text.
-pub(crate) fn serve_all<F: Write, R: Write, O: Observer>(
+pub(crate) fn serve_all<F: Write, P: Write, V: Observer>(
     session: &mut Session,
     requests: &[u8],
     frames: &mut F,
-    replies: &mut R,
+    replies: &mut P,
     flushing: Flushing,
-    observer: &mut O,
+    observer: &mut V,
 ) -> Result<(), WriteFault>
-    ensures runs { OnOk result (Runs session.old.now (requests_of requests.now) (F.contents frames.old) (F.contents frames.new) (R.contents replies.old) (R.contents replies.new) session.new.now) }
-    ensures stops { OnErr result (Stops session.old.now (requests_of requests.now) (F.contents frames.old) (F.contents frames.new) (R.contents replies.old) (R.contents replies.new)) }
+    ensures runs { OnOk result (Runs session.old.now (requests_of requests.now) (F.contents frames.old) (F.contents frames.new) (P.contents replies.old) (P.contents replies.new) session.new.now) }
+    ensures stops { OnErr result (Stops session.old.now (requests_of requests.now) (F.contents frames.old) (F.contents frames.new) (P.contents replies.old) (P.contents replies.new)) }
     ensures capacity { session.new.cache.capacity ≡ session.old.cache.capacity }
 {
     let mut rest = requests;
@@ -288,20 +288,20 @@ pub(crate) fn read_sources(alloc: Global, ivfs: &[&[u8]]) -> Result<Vec<Ivf>, Ru
 }
 
 /// Runs a request list as `run` does, and tells an observer of each line after its reply was written.
-pub fn run_observed<F: Write, R: Write, O: Observer>(
+pub fn run_observed<F: Write, P: Write, V: Observer>(
     alloc: Global,
     settings: Settings,
     ivfs: &[&[u8]],
     requests: &[u8],
     frames: &mut F,
-    replies: &mut R,
-    observer: &mut O,
+    replies: &mut P,
+    observer: &mut V,
 ) -> Result<Session, RunFault>
     requires capacity { (1 ≤ settings.capacity) × (settings.capacity ≤ 4096) }
     requires sources { (1 ≤ length ivfs.now) × (length ivfs.now ≤ 8) }
-    ensures means { IfOk result (λ session. Means settings.tables (texts_of ivfs.now) requests.now (F.contents frames.old) (F.contents frames.new) (R.contents replies.old) (R.contents replies.new) session.now) }
+    ensures means { IfOk result (λ session. Means settings.tables (texts_of ivfs.now) requests.now (F.contents frames.old) (F.contents frames.new) (P.contents replies.old) (P.contents replies.new) session.now) }
     ensures capacity { IfOk result (λ session. session.cache.capacity ≡ settings.capacity) }
-    ensures stops { IfErr result (RunStops settings.tables (texts_of ivfs.now) requests.now (F.contents frames.old) (F.contents frames.new) (R.contents replies.old) (R.contents replies.new)) }
+    ensures stops { IfErr result (RunStops settings.tables (texts_of ivfs.now) requests.now (F.contents frames.old) (F.contents frames.new) (P.contents replies.old) (P.contents replies.new)) }
 {
     let Settings { tables, capacity } = settings;
     let files = read_sources(alloc, ivfs)?;
@@ -332,20 +332,20 @@ pub fn run_observed<F: Write, R: Write, O: Observer>(
 /// `RunFault::Ivf` with the first source whose bytes are not an IVF file, or for whose packets there is no
 /// memory; `RunFault::NoMemory` if out of memory for the session: nothing is written then.
 /// `RunFault::Write` if a writer fails; the run ends there.
-pub fn run<F: Write, R: Write>(
+pub fn run<F: Write, P: Write>(
     alloc: Global,
     tables: Tables,
     capacity: u16,
     ivfs: &[&[u8]],
     requests: &[u8],
     frames: &mut F,
-    replies: &mut R,
+    replies: &mut P,
 ) -> Result<Session, RunFault>
     requires capacity { (1 ≤ capacity) × (capacity ≤ 4096) }
     requires sources { (1 ≤ length ivfs.now) × (length ivfs.now ≤ 8) }
-    ensures means { IfOk result (λ session. Means tables (texts_of ivfs.now) requests.now (F.contents frames.old) (F.contents frames.new) (R.contents replies.old) (R.contents replies.new) session.now) }
+    ensures means { IfOk result (λ session. Means tables (texts_of ivfs.now) requests.now (F.contents frames.old) (F.contents frames.new) (P.contents replies.old) (P.contents replies.new) session.now) }
     ensures capacity { IfOk result (λ session. session.cache.capacity ≡ capacity) }
-    ensures stops { IfErr result (RunStops tables (texts_of ivfs.now) requests.now (F.contents frames.old) (F.contents frames.new) (R.contents replies.old) (R.contents replies.new)) }
+    ensures stops { IfErr result (RunStops tables (texts_of ivfs.now) requests.now (F.contents frames.old) (F.contents frames.new) (P.contents replies.old) (P.contents replies.new)) }
 {
     let settings = Settings { tables, capacity };
     run_observed(

@@ -17,7 +17,7 @@ ghost use Rattle.frame_session.specs.declared.edit.Edit.TheVariants.{Insert, Rep
 mod known;
 
 use crate::edit::Edit;
-use crate::keeping::{edit_cached, list_is_well_formed, picture_at};
+use crate::keeping::{edit_cached, picture_at};
 use crate::refusal::Refusal;
 use crate::size::Size;
 use arrayvec::ArrayVec;
@@ -427,6 +427,6 @@ fn shown_count(store: &Store) -> u64
     ensures value { result ≡ length (shown_indexes (stream_of store.now.list)) }
     ensures few { result ≤ 1048576 }
 {
-    list_is_well_formed(store);
+    store.prove_few();
     store.frames() as u64
 }

@@ -143,14 +143,6 @@ whole_there place eighths first place_fits eighths_fits first_is near =
 pub same_block : (one other : ℕ → ℕ → ℕ) (width height stride : ℕ) (old new : List ℕ) → IsBlockIn one width height stride old new → ((column row : ℕ) → one column row ≡ other column row) → IsBlockIn other width height stride old new
 same_block one other width height stride old new block same = record { whole = block.whole; each = λ column row inside below. block.each column row inside below ∙ same column row; others = block.others }
 
--- the block that a vector predicts, from its whole samples and its eighths apart
-pub block_apart : (kind : Kind) (p : Samples) (x y right below left top : ℤ) (right' below' width height stride : ℕ) (old new : List ℕ) → FitsSigned w32 x → FitsSigned w32 y → FitsSigned w32 right → FitsSigned w32 below
-    → left ≡ (to_z w32 (of_z w32 x) +ℤ whole_part (to_z w32 (of_z w32 right))) -ℤ pos 2 → top ≡ (to_z w32 (of_z w32 y) +ℤ whole_part (to_z w32 (of_z w32 below))) -ℤ pos 2 → IsNear left → IsNear top → right' ≡ fraction (to_z w32 (of_z w32 right)) → below' ≡ fraction (to_z w32 (of_z w32 below))
-    → IsBlockIn (predicted kind p (to_z w64 (of_z w64 (to_z w64 (of_z w64 left) +ℤ pos 2))) (to_z w64 (of_z w64 (to_z w64 (of_z w64 top) +ℤ pos 2))) (pos right') (pos below')) width height stride old new → IsBlockIn (predicted kind p x y right below) width height stride old new
-block_apart kind p x y right below left top right' below' width height stride old new x_fits y_fits right_fits below_fits left_is top_is left_near top_near right_is below_is block =
-    same_block _ (predicted kind p x y right below) width height stride old new block (λ column row.
-    whole_apart kind p x y right below _ _ right' below' column row (whole_there x right left x_fits right_fits left_is left_near) (whole_there y below top y_fits below_fits top_is top_near) (right_is ∙ ap fraction (to_z-of_z w32 right right_fits)) (below_is ∙ ap fraction (to_z-of_z w32 below below_fits)))
-
 -- no samples are next to a block that is the whole list
 pub none_beside : (width height column row : ℕ) (old new : List ℕ) → length new ≡ length old → length old ≡ width * height → height ≤ row → slice_index new (row * width + column) ≡ slice_index old (row * width + column)
 none_beside width height column row old new same long under =

@@ -1,3 +1,4 @@
+ghost use Rattle.vp8_tables.specs.Bounds.{IsWithin};
 ghost use Rattle.std.specs.Prelude.{◌≡◌, ℕ, ◌+◌, ◌-◌, ◌*◌, ◌<◌, ◌≤◌, length, pos, ◌+ℤ◌, ◌-ℤ◌};
 ghost use Rattle.inter_predict.specs.InterSample.{whole_part, fraction as fraction_of, predicted};
 ghost use Rattle.inter_predict.specs.Blocks.{IsBlockIn};
@@ -30,8 +31,8 @@ fn first_tap(place: i32, eighths: i32) -> i64
     i64::from(place) + i64::from(eighths >> 3) - 2
 }
 
-/// Predicts a block of `width` by `height` samples from a reference plane into `out`, row by row
-/// (RFC 6386, section 18).
+/// For other programs: decoding calls `block_in`. Predicts a block of `width` by `height` samples from a
+/// reference plane into `out`, row by row (RFC 6386, section 18).
 ///
 /// The block begins at column `x` of row `y`; the vector is how far to the right and how far down
 /// of that its samples are taken from, in eighths of a sample. All may be any numbers: outside the
@@ -65,30 +66,35 @@ pub fn block(
     }
 }
 
-/// Does the same as `block`, in pieces.
+/// The same source, with the whole samples of its vector added to its position.
+#[inline]
+fn near(source: Source) -> NearSource
+    ensures near { IsWithin 5000000000 result.x × IsWithin 5000000000 result.y }
+    ensures eighths { (result.right < 8) × (result.below < 8) }
+    ensures samples { (column row : ℕ) → predicted result.kind result.plane.now.shown result.x result.y (pos result.right) (pos result.below) column row ≡ predicted source.entry.kind source.entry.plane.now.shown source.entry.x source.entry.y source.entry.vector.0 source.entry.vector.1 column row }
+{
+    NearSource {
+        plane: source.plane,
+        x: first_tap(source.x, source.vector.0) + 2,
+        y: first_tap(source.y, source.vector.1) + 2,
+        kind: source.kind,
+        right: fraction(source.vector.0),
+        below: fraction(source.vector.1),
+    }
+}
+
+/// Predicts a block of any size in pieces of at most 16 by 16 samples.
 #[cold]
 #[inline(never)]
 fn large(source: Source, width: usize, height: usize, out: &mut [u8])
     requires { length out.old ≡ width * height }
     ensures { IsBlockIn (predicted source.entry.kind source.entry.plane.now.shown source.entry.x source.entry.y source.entry.vector.0 source.entry.vector.1) width height width out.old out.new }
 {
-    let Source { plane, kind, .. } = source;
-    let (right, below) = (fraction(source.vector.0), fraction(source.vector.1));
-    let x = first_tap(source.x, source.vector.0) + 2;
-    let y = first_tap(source.y, source.vector.1) + 2;
-    let near = NearSource {
-        plane,
-        x,
-        y,
-        kind,
-        right,
-        below,
-    };
-    in_rows(near, width, height, out);
+    in_rows(near(source), width, height, out);
 }
 
-/// Does the same as `block`, into rows `stride` samples apart: at least the width, and at most
-/// 65,536.
+/// Predicts a block of at most 16 by 16 samples into rows `stride` samples apart: at least the width,
+/// and at most 65,536.
 ///
 /// The block begins with the first sample of `out`; samples next to it and below it stay as they
 /// are.
@@ -108,7 +114,7 @@ pub fn block_in(source: Source, width: usize, height: usize, out: &mut [u8], str
     }
 }
 
-/// Does the same as `block_in` for a block of `N` columns. `M` is 21 times `N`.
+/// Predicts a block of `N` columns. `M` is 21 times `N`.
 #[inline]
 fn columns<const N: usize, const M: usize>(
     source: Source,
@@ -138,7 +144,7 @@ fn columns<const N: usize, const M: usize>(
     }
 }
 
-/// Does the same as `columns` if the vector points to whole samples: no other samples are read.
+/// Predicts a block whose vector points to whole samples: no other samples are read.
 #[inline(never)]
 fn copied<const N: usize>(
     reference: Reference,
@@ -181,7 +187,7 @@ fn copied<const N: usize>(
     }
 }
 
-/// Does the same as `columns`, by the filters.
+/// Predicts a block by the filters.
 #[inline(never)]
 fn filtered<const N: usize, const M: usize>(
     reference: Reference,
@@ -221,7 +227,7 @@ fn filtered<const N: usize, const M: usize>(
     }
 }
 
-/// Does the same as `block_in`, for any width, and also if the plane's border has no such window.
+/// Predicts a block of any width, also one whose samples are not all in the plane and its border.
 #[cold]
 #[inline(never)]
 fn any_columns(source: Source, width: usize, height: usize, out: &mut [u8], stride: usize)
@@ -231,17 +237,5 @@ fn any_columns(source: Source, width: usize, height: usize, out: &mut [u8], stri
     requires room { (height - 1) * stride + width ≤ length out.old }
     ensures { IsBlockIn (predicted source.entry.kind source.entry.plane.now.shown source.entry.x source.entry.y source.entry.vector.0 source.entry.vector.1) width height stride out.old out.new }
 {
-    let Source { plane, kind, .. } = source;
-    let (right, below) = (fraction(source.vector.0), fraction(source.vector.1));
-    let x = first_tap(source.x, source.vector.0) + 2;
-    let y = first_tap(source.y, source.vector.1) + 2;
-    let near = NearSource {
-        plane,
-        x,
-        y,
-        kind,
-        right,
-        below,
-    };
-    block_at(near, width, height, out, stride);
+    block_at(near(source), width, height, out, stride);
 }

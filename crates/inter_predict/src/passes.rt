@@ -97,7 +97,7 @@ fn pass_by<const N: usize>(
     }
 }
 
-/// Does the same as `pass_by`, without the products of taps that are 0.
+/// A pass without the products of taps that are 0.
 #[inline(always)]
 pub fn pass<const N: usize>(
     rows: Rows,

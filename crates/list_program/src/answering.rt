@@ -27,14 +27,14 @@ pub enum Output {
 }
 
 /// Writes an output of a file and returns the exit status.
-fn write_output<O: Write, E: Write, P: Progress>(
+fn write_output<O: Write, E: Write, G: Progress>(
     alloc: Global,
     output: Output,
     tables: &Tables,
     bytes: &[u8],
     w: &mut O,
     errors: &mut E,
-    progress: &mut P,
+    progress: &mut G,
 ) -> Result<u8, Fault<'static>>
     ensures answered { IfOk result (λ status. IsAnswered output tables.now bytes.now status (O.contents w.old) (O.contents w.new)) }
     ensures fault { IfErr result (IsAnswerFault output tables.now bytes.now (O.contents w.old) (O.contents w.new)) }
@@ -61,14 +61,14 @@ fn write_output<O: Write, E: Write, P: Progress>(
 /// `Fault::Input` if the bytes are not an IVF file: nothing is written then. `Fault::NoMemory` if memory
 /// runs out: the begin of the output was written, and is not flushed. `Fault::CannotWrite` if the writer
 /// returns an error.
-pub fn answer_to<W: Write + Drop, E: Write, P: Progress>(
+pub fn answer_to<W: Write + Drop, E: Write, G: Progress>(
     alloc: Global,
     output: Output,
     tables: &Tables,
     bytes: &[u8],
     w: &mut BufWriter<W>,
     errors: &mut E,
-    progress: &mut P,
+    progress: &mut G,
 ) -> Result<u8, Fault<'static>>
     ensures answered { IfOk result (λ status. IsAnswered output tables.now bytes.now status (writer_contents W.contents w.old) (writer_contents W.contents w.new)) }
     ensures flushed { OnOk result (writer_buffer w.new ≡ []) }

@@ -33,13 +33,13 @@ fn status_of(is_strict: bool, tally: Tally) -> u8
 /// Writes the findings of an IVF file, flushes the writer, and returns the exit status: 1 for damage,
 /// and with `is_strict` for a note too, else 0. If memory runs out, the findings before are written and
 /// not flushed.
-pub fn check_to<O: Write, P: Progress>(
+pub fn check_to<O: Write, G: Progress>(
     alloc: Global,
     checking: Checking,
     tables: &Tables,
     bytes: &[u8],
     output: &mut O,
-    progress: &mut P,
+    progress: &mut G,
 ) -> Result<u8, Fault<'static>>
     ensures checked { IfOk result (λ status. IsFileChecked checking.form checking.is_strict tables.now bytes.now status (O.contents output.old) (O.contents output.new)) }
     ensures fault { IfErr result (IsCheckedFault checking.form tables.now bytes.now (O.contents output.old) (O.contents output.new)) }

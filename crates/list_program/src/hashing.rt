@@ -20,13 +20,13 @@ fn hash_status(is_refused: bool) -> u8
 /// Writes the MD5 of each frame of an IVF file, flushes the writer, and returns the exit status: 1 if a
 /// packet is refused, else 0. A line for each such packet goes to `errors`; if it refuses the text, only
 /// the status reports them.
-pub fn hash_to<O: Write, E: Write, P: Progress>(
+pub fn hash_to<O: Write, E: Write, G: Progress>(
     alloc: Global,
     tables: &Tables,
     bytes: &[u8],
     output: &mut O,
     errors: &mut E,
-    progress: &mut P,
+    progress: &mut G,
 ) -> Result<u8, Fault<'static>>
     ensures hashed { IfOk result (λ status. IsFileHashed tables.now bytes.now status (O.contents output.old) (O.contents output.new)) }
     ensures fault { IfErr result (IsFileHashFault tables.now bytes.now (O.contents output.old) (O.contents output.new)) }

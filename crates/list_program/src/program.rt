@@ -50,14 +50,14 @@ fn answer_line<
     I: Read,
     O: Write + Drop,
     E: Write,
-    P: Progress,
+    G: Progress,
 >(
     rt: &R,
     words: &'a [S],
     input: &mut I,
     output: &mut BufWriter<O>,
     errors: &mut E,
-    progress: &mut P,
+    progress: &mut G,
 ) -> Result<u8, Fault<'a>>
     ensures { IfOk result (λ status. status ≤ 1) }
 {
@@ -92,13 +92,13 @@ fn answer_line<
 /// The file, or the input for `-`, is read whole, up to 1,073,741,824 bytes, before the first line is written. The list,
 /// findings, help and the version go to `output`; the text of an error goes to `errors`. `progress` is
 /// called after each packet that is decoded.
-pub fn answer<R: Files + AllocGlobal, S: AsStr, I: Read, O: Write + Drop, E: Write, P: Progress>(
+pub fn answer<R: Files + AllocGlobal, S: AsStr, I: Read, O: Write + Drop, E: Write, G: Progress>(
     rt: &R,
     words: &[S],
     input: &mut I,
     output: &mut BufWriter<O>,
     errors: &mut E,
-    progress: &mut P,
+    progress: &mut G,
 ) -> u8
     ensures { result ≤ 2 }
 {

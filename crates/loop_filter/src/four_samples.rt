@@ -104,8 +104,9 @@ fn shortfall(samples: &[u8; 4]) -> i16
     clamped_sum(outer, thrice(difference(q0, p0)))
 }
 
-/// Filters the four samples p1, p0, q0 and q1 of a line across an edge, which is between p0 and q0,
-/// with the simple filter (RFC 6386, section 15.2). `limit` is the limit of the step at the edge.
+/// For other programs: decoding filters whole edges. Filters the four samples p1, p0, q0 and q1 of a line
+/// across an edge, which is between p0 and q0, with the simple filter (RFC 6386, section 15.2). `limit`
+/// is the limit of the step at the edge.
 #[tactic(auto, unfolding(crate::specs::Lines::simple_line))]
 pub fn simple(samples: &mut [u8; 4], limit: u8)
     ensures { samples.new ≡ simple_four limit samples.old }

@@ -215,7 +215,8 @@ fn filter_all_planes(all: Macroblocks, y: &mut Plane, cb: &mut Plane, cr: &mut P
     }
 }
 
-/// Filters a row of macroblocks in planes of which the two of chroma have borders of different widths.
+/// For other programs, since planes of a picture have one border. Filters a row of macroblocks in planes of
+/// which the two of chroma have borders of different widths.
 fn filter_flat_chroma(all: Macroblocks, y: &mut Plane, cb: &mut Plane, cr: &mut Plane, my: usize)
     requires normal { all.header.now.filter.is_simple ≡ false }
     requires frame { IsFrame all }

@@ -311,7 +311,7 @@ impl Store {
 
     /// Does nothing. Its contract: there are at most 1,048,576 packets, as many marks as packets,
     /// and each packet has its own id, below the next one.
-    pub fn holds_few(&self)
+    pub fn prove_few(&self)
         ensures few { length self.now.list.entries ≤ 1048576 }
         ensures marks { length self.now.marks ≡ length self.now.list.entries }
         ensures own_ids { HasOwnIds self.now.list }

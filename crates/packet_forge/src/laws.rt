@@ -7,12 +7,12 @@ use reference_frames::State;
 use vp8_tables::Tables;
 
 // States what the type of a byte list implies: proofs take it from the call.
-fn bytes_fit(bytes: &[u8])
+fn prove_bytes(bytes: &[u8])
     ensures { (place : ℕ) → slice_index bytes.now place < 256 }
 {}
 
 // States the length of an array: proofs take it from the call.
-fn array_fits(entries: &[u8; 1056])
+fn prove_length(entries: &[u8; 1056])
     ensures { length entries.now ≡ 1056 }
 {}
 
@@ -22,8 +22,8 @@ fn array_fits(entries: &[u8; 1056])
 pub fn blank_is_grey(tables: &Tables, state: Option<&State>, width: u16, height: u16)
     ensures { BlankIsGrey tables.now (option_copied state.entry) width height }
 {
-    array_fits(tables.updates());
-    bytes_fit(tables.updates());
+    prove_length(tables.updates());
+    prove_bytes(tables.updates());
 }
 
 /// For all tables and states in their types' ranges: the step of a packet of [`hold`](crate::hold) of

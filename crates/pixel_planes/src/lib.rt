@@ -5,10 +5,10 @@ mod borders;
 pub mod laws;
 mod pictures;
 mod planes;
-mod spares;
+mod recycled;
 
 pub use pictures::{Component, Picture, Planes, same};
 pub use planes::{Plane, Window};
-pub use spares::Spare;
+pub use recycled::Recycled;
 /// An allocation was refused.
 pub use std::alloc::AllocError as NoMemory;

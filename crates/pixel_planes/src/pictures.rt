@@ -77,9 +77,9 @@ impl Picture {
             mut cb,
             mut cr,
         } = planes;
-        luma.holds_whole();
-        cb.holds_whole();
-        cr.holds_whole();
+        luma.prove_whole();
+        cb.prove_whole();
+        cr.prove_whole();
         luma.refill();
         cb.refill();
         cr.refill();
@@ -94,7 +94,7 @@ impl Picture {
 
     /// Does nothing. It says that the picture is whole: three whole planes of its coded size, and shown sides
     /// of 1 to 16,383 samples.
-    pub fn holds_whole(&self)
+    pub fn prove_whole(&self)
         ensures { IsWholePicture self.now }
     {
         let _width = self.width;

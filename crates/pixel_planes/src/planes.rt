@@ -99,7 +99,7 @@ impl Plane {
 
     /// Does nothing. It says that the plane is whole: a sample for each column and row, and sides of 1 to
     /// 16,384 samples.
-    pub(crate) fn holds_whole(&self)
+    pub(crate) fn prove_whole(&self)
         ensures { IsWhole self.now.shown }
     {
         let _width = self.width();
@@ -156,8 +156,8 @@ impl Plane {
         self.samples[self.first + row * self.stride + column]
     }
 
-    /// The `n` samples from (`x`, `y`) to the right, each as `sample` returns it. `n` is at least
-    /// 1.
+    /// For other programs: prediction takes windows. The `n` samples from (`x`, `y`) to the right, each as
+    /// `sample` returns it. `n` is at least 1.
     ///
     /// None exactly if the border is out of date or a sample is outside the border.
     pub fn span(&self, x: i64, y: i64, n: usize) -> Option<&[u8]>

@@ -55,9 +55,9 @@ part_length row x side within =
     length-take-le (x + side - x) (drop x row) fits ∙ omega arith
 
 -- the samples of a whole block by the sides that were read
-pub sides_read : (p : Samples) (side size mx my n m edge : ℕ) (mode : WholeMode) (upper beside : List ℕ) (above_it left_of_it : Option (List ℕ)) → side ≡ size → n ≡ size → m ≡ size → upper ≡ above_row p (side * mx) (side * my) n → beside ≡ left_column p (side * mx) (side * my) m →
+pub sides_read : (p : Samples) (side size mx my n m edge : ℕ) (mode : WholeMode) (upper beside : List ℕ) (above_it left_of_it : Option (List ℕ)) → side ≡ size → n ≡ size → m ≡ size → cond (side * my == 0) None (Some upper) ≡ cond (side * my == 0) None (Some (above_row p (side * mx) (side * my) n)) → cond (side * mx == 0) None (Some beside) ≡ cond (side * mx == 0) None (Some (left_column p (side * mx) (side * my) m)) →
     edge ≡ corner p (side * mx) (side * my) → above_it ≡ cond (side * my == 0) None (Some upper) → left_of_it ≡ cond (side * mx == 0) None (Some beside) → whole_sample mode above_it left_of_it edge ≡ whole_block_sample p (size * mx) (size * my) size mode
-sides_read p side size mx my n m edge mode upper beside above_it left_of_it sized wide high upper_is beside_is edge_is above_is left_is = rw (above_is, left_is, upper_is, beside_is, edge_is, wide, high, sized) refl
+sides_read p side size mx my n m edge mode upper beside above_it left_of_it sized wide high upper_is beside_is edge_is above_is left_is = rw (above_is ∙ upper_is, left_is ∙ beside_is, edge_is, wide, high, sized) refl
 
 pub side_small : (size : BlockSize) → side_of size ≤ 16
 side_small Sixteen = omega arith

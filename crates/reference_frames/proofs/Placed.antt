@@ -59,11 +59,9 @@ placed_as f g across side column row old new same is = record {
   others = is.others;
 }
 
--- a square by the columns and rows of the part that it is in, which begins in column x of row y
-pub placed_from : (f g : ℕ → ℕ → ℕ) (across side x y column row at_column at_row : ℕ) (old new : List ℕ) → at_column ≡ x + column → at_row ≡ y + row → ((i j : ℕ) → IsInSquare column row side i j → g (x + i) (y + j) ≡ f i j) →
-    IsPlaced g across side at_column at_row old new → IsPlaced (from_corner x y f) across side at_column at_row old new
-placed_from f g across side x y column row at_column at_row old new to_column to_row same is =
-    placed_as (from_corner x y f) g across side at_column at_row old new (λ i j inside.
+-- the samples of a square by the columns and rows of the part that it is in, which begins in column x of row y
+pub from_part : (f g : ℕ → ℕ → ℕ) (side x y column row at_column at_row : ℕ) → at_column ≡ x + column → at_row ≡ y + row → ((i j : ℕ) → IsInSquare column row side i j → g (x + i) (y + j) ≡ f i j) → (i j : ℕ) → IsInSquare at_column at_row side i j → g i j ≡ from_corner x y f i j
+from_part f g side x y column row at_column at_row to_column to_row same i j inside =
     let from_i : at_column ≤ i = inside.0 in
     let to_i : i < at_column + side = inside.1 in
     let from_j : at_row ≤ j = inside.2 in
@@ -71,7 +69,13 @@ placed_from f g across side x y column row at_column at_row old new to_column to
     let right : x + (i - x) ≡ i = omega (arith, to_column, from_i) in
     let down : y + (j - y) ≡ j = omega (arith, to_row, from_j) in
     sym (ap (λ n. g n j) right) ∙ sym (ap (λ n. g (x + (i - x)) n) down)
-    ∙ same (i - x) (j - y) (omega (arith, to_column, from_i), omega (arith, to_column, from_i, to_i), omega (arith, to_row, from_j), omega (arith, to_row, from_j, to_j))) is
+    ∙ same (i - x) (j - y) (omega (arith, to_column, from_i), omega (arith, to_column, from_i, to_i), omega (arith, to_row, from_j), omega (arith, to_row, from_j, to_j))
+
+-- a square by the columns and rows of that part
+pub placed_from : (f g : ℕ → ℕ → ℕ) (across side x y column row at_column at_row : ℕ) (old new : List ℕ) → at_column ≡ x + column → at_row ≡ y + row → ((i j : ℕ) → IsInSquare column row side i j → g (x + i) (y + j) ≡ f i j) →
+    IsPlaced g across side at_column at_row old new → IsPlaced (from_corner x y f) across side at_column at_row old new
+placed_from f g across side x y column row at_column at_row old new to_column to_row same is =
+    placed_as (from_corner x y f) g across side at_column at_row old new (from_part f g side x y column row at_column at_row to_column to_row same) is
 
 -- the same position in other words
 pub placed_there : (f : ℕ → ℕ → ℕ) (across side column row at_column at_row : ℕ) (old new : List ℕ) → at_column ≡ column → at_row ≡ row → IsPlaced f across side column row old new → IsPlaced f across side at_column at_row old new

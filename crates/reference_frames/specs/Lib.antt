@@ -1,6 +1,7 @@
 pub mod Restored
 pub mod AddedBlocks
 pub mod PlacedBlocks
+pub mod FourBlocks
 pub mod InterPrediction
 pub mod FrameTokens
 pub mod KeptBlocks

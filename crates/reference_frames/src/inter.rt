@@ -1,6 +1,6 @@
 //! Macroblocks that are predicted from a reference (RFC 6386, sections 16.3 and 18).
 
-ghost use Rattle.std.specs.Prelude.{◌≡◌, ◌+◌, ◌*◌, ◌/◌, ◌%◌, ◌<◌, ◌≤◌, IsTrue, length, slice_index_or, pos, ◌+ℤ◌, ◌*ℤ◌};
+ghost use Rattle.std.specs.Prelude.{◌≡◌, ℕ, ◌+◌, ◌*◌, ◌/◌, ◌%◌, ◌<◌, ◌≤◌, IsTrue, length, slice_index_or, pos, ◌+ℤ◌, ◌*ℤ◌};
 ghost use Rattle.std.specs.Option.{option_copied};
 ghost use Rattle.inter_predict.specs.InterSample.{inter_sample};
 ghost use Rattle.vp8_tables.specs.Bounds.{IsWithin};
@@ -9,6 +9,7 @@ ghost use Rattle.mode_parser.specs.SplitModes.{is_split};
 ghost use Rattle.mode_parser.specs.Vectors.{zero_vector};
 ghost use Rattle.pixel_planes.specs.PlaneSamples.{shown_of};
 ghost use Rattle.reference_frames.specs.InterPrediction.{kind_of, block_vector, luma_sample, chroma_sample, IsWholeVector};
+ghost use Rattle.reference_frames.specs.FourBlocks.{IsOfFour};
 ghost use Rattle.reference_frames.specs.PlacedBlocks.{IsPlaced, from_corner};
 ghost use Rattle.reference_frames.specs.Restored.{restored};
 ghost use Rattle.reference_frames.specs.Unfiltered.{HoldsMacroblock, HoldsSquare, SameShape, SameSides, inter_macroblock, with_block};
@@ -88,6 +89,50 @@ fn predict_square(
     block_in(source, side, side, samples, across);
 }
 
+/// The vectors of the four blocks of a square, in eighths of a sample: the second block is to the
+/// right of the first, the third below the first, the fourth below the second.
+#[derive(Clone, Copy)]
+struct FourVectors {
+    first: (i32, i32),
+    second: (i32, i32),
+    third: (i32, i32),
+    fourth: (i32, i32),
+}
+
+/// Predicts the square of 8 by 8 samples that begins at a corner, in the samples of a plane, as four
+/// blocks, each by its vector.
+fn predict_four(
+    from: &Plane,
+    vectors: FourVectors,
+    kind: Kind,
+    samples: &mut [u8],
+    corner: Corner,
+)
+    requires small { (corner.across ≤ 16512) × (corner.row + 8 ≤ 16384) }
+    requires column { corner.column + 8 ≤ corner.across }
+    requires room { (corner.row + 8) * corner.across ≤ length samples.old }
+    ensures { (sample : ℕ → ℕ → ℕ) → IsOfFour kind from.now.shown vectors corner.column corner.row sample → IsPlaced sample corner.across 8 corner.column corner.row samples.old samples.new }
+{
+    let (right, below) = (corner.column + 4, corner.row + 4);
+    let beside = Corner {
+        column: right,
+        ..corner
+    };
+    let under = Corner {
+        row: below,
+        ..corner
+    };
+    let opposite = Corner {
+        across: corner.across,
+        column: right,
+        row: below,
+    };
+    predict_square(from, vectors.first, kind, 4, samples, corner);
+    predict_square(from, vectors.second, kind, 4, samples, beside);
+    predict_square(from, vectors.third, kind, 4, samples, under);
+    predict_square(from, vectors.fourth, kind, 4, samples, opposite);
+}
+
 /// The vector of luma block `n`, in eighths of a luma sample.
 #[inline]
 fn eighths(vectors: &[Vector; 16], n: usize) -> (i32, i32)
@@ -140,24 +185,13 @@ fn predict_quarter(
         predict_square(from, first, kind, 8, samples, corner);
         return;
     }
-    let (right, below) = (corner.column + 4, corner.row + 4);
-    let beside = Corner {
-        column: right,
-        ..corner
+    let vectors = FourVectors {
+        first,
+        second,
+        third,
+        fourth,
     };
-    let under = Corner {
-        row: below,
-        ..corner
-    };
-    let opposite = Corner {
-        across,
-        column: right,
-        row: below,
-    };
-    predict_square(from, first, kind, 4, samples, corner);
-    predict_square(from, second, kind, 4, samples, beside);
-    predict_square(from, third, kind, 4, samples, under);
-    predict_square(from, fourth, kind, 4, samples, opposite);
+    predict_four(from, vectors, kind, samples, corner);
 }
 
 /// Predicts the luma of a macroblock, in a plane's samples: as one block, or if it is split by its
@@ -280,24 +314,13 @@ fn chroma_samples(
         let second = group_vector(mode, vectors, 1, version);
         let third = group_vector(mode, vectors, 2, version);
         let fourth = group_vector(mode, vectors, 3, version);
-        let (right, below) = (column + 4, row + 4);
-        let beside = Corner {
-            column: right,
-            ..corner
+        let vectors = FourVectors {
+            first,
+            second,
+            third,
+            fourth,
         };
-        let under = Corner {
-            row: below,
-            ..corner
-        };
-        let opposite = Corner {
-            across,
-            column: right,
-            row: below,
-        };
-        predict_square(from, first, kind, 4, samples, corner);
-        predict_square(from, second, kind, 4, samples, beside);
-        predict_square(from, third, kind, 4, samples, under);
-        predict_square(from, fourth, kind, 4, samples, opposite);
+        predict_four(from, vectors, kind, samples, corner);
         return;
     }
     predict_square(from, whole, kind, 8, samples, corner);

@@ -139,6 +139,31 @@ fn read_left(plane: &Plane, x: usize, y: usize, out: &mut [u8])
     }
 }
 
+/// Reads the samples above a block at column `x` of row `y` into `out`, if they are in the frame.
+#[inline(always)]
+fn read_above_inside(plane: &Plane, x: usize, y: usize, out: &mut [u8])
+    requires within { (x + length out.old ≤ plane.now.shown.width) × (y ≤ plane.now.shown.height) }
+    requires small { plane.now.shown.width ≤ 16384 }
+    ensures { (if y == 0 then None else Some out.new) ≡ (if y == 0 then None else Some (above_row plane.now.shown x y (length out.old))) }
+{
+    if y > 0 {
+        read_above(plane, x, y, out);
+    }
+}
+
+/// Reads the samples to the left of a block at column `x` of row `y` into `out`, if they are in the
+/// frame.
+#[inline(always)]
+fn read_left_inside(plane: &Plane, x: usize, y: usize, out: &mut [u8])
+    requires within { (x ≤ plane.now.shown.width) × (y + length out.old ≤ plane.now.shown.height) }
+    requires small { plane.now.shown.height ≤ 16384 }
+    ensures { (if x == 0 then None else Some out.new) ≡ (if x == 0 then None else Some (left_column plane.now.shown x y (length out.old))) }
+{
+    if x > 0 {
+        read_left(plane, x, y, out);
+    }
+}
+
 /// Writes the rows of a block of `side` by `side` samples, the first at index `start` and each
 /// further one `stride` after the last.
 #[inline(always)]
@@ -276,8 +301,8 @@ fn predict_whole(
     let (x, y) = (side * place.mx, side * place.my);
     let (mut above, mut left) = ([0; 16], [0; 16]);
     let (above, left) = (&mut above[..side], &mut left[..side]);
-    read_above(plane, x, y, above);
-    read_left(plane, x, y, left);
+    read_above_inside(plane, x, y, above);
+    read_left_inside(plane, x, y, left);
     let above = side_inside(y == 0, above);
     let left = side_inside(x == 0, left);
     let diagonal = sample_corner(plane, x, y);

@@ -6,7 +6,7 @@ ghost use Rattle.reference_frames.specs.States.{HasMap, HaveOneSize, IsState};
 use crate::comparison::{same_bytes, same_context};
 use crate::references::References;
 use frame_header::Context;
-use pixel_planes::{NoMemory, Spare};
+use pixel_planes::{NoMemory, Recycled};
 use std::alloc::Global;
 use std::marker::Model;
 use std::rc::Rc;
@@ -83,9 +83,9 @@ impl State {
         })
     }
 
-    /// Drops the state. Planes of its references that no other picture shares become the spare
+    /// Drops the state. Planes of its references that no other picture shares become the recycled
     /// ones.
-    pub fn drop_into(self, spare: &mut Spare) {
+    pub fn drop_into(self, recycled: &mut Recycled) {
         let State {
             context: _,
             segment_map,
@@ -97,9 +97,9 @@ impl State {
             golden,
             altref,
         } = references;
-        spare.put(last);
-        spare.put(golden);
-        spare.put(altref);
+        recycled.put(last);
+        recycled.put(golden);
+        recycled.put(altref);
     }
 }
 

@@ -11,7 +11,7 @@ use crate::states::State;
 use crate::step_fault::StepFault;
 use frame_header::{Cause, Header, read_header};
 use mode_parser::read_modes;
-use pixel_planes::{NoMemory, Picture, Planes, Spare};
+use pixel_planes::{NoMemory, Picture, Planes, Recycled};
 use std::alloc::Global;
 use vp8_tables::Tables;
 
@@ -73,7 +73,7 @@ fn references_after_frame(
 /// The planes for the picture of a frame: without references all their samples are 0.
 fn planes_for(
     alloc: Global,
-    spare: &mut Spare,
+    recycled: &mut Recycled,
     references: Option<&References>,
     columns: usize,
     rows: usize,
@@ -84,8 +84,8 @@ fn planes_for(
     ensures empty { IfOk result (λ planes. option_copied references.entry ≡ None → shown_of planes ≡ empty_planes columns rows) }
 {
     match references {
-        Some(_) => spare.make_planes(alloc, columns, rows),
-        None => spare.make_zero_planes(alloc, columns, rows),
+        Some(_) => recycled.make_planes(alloc, columns, rows),
+        None => recycled.make_zero_planes(alloc, columns, rows),
     }
 }
 
@@ -93,7 +93,7 @@ fn planes_for(
 fn decode(
     alloc: Global,
     tables: &Tables,
-    spare: &mut Spare,
+    recycled: &mut Recycled,
     packet: &[u8],
     header: &Header,
     before: Option<&State>,
@@ -111,7 +111,7 @@ fn decode(
     let columns = macroblocks(width);
     let rows = macroblocks(height);
     let modes = read_modes(alloc, tables, header, columns, rows, map)?;
-    let planes = planes_for(alloc, spare, references, columns, rows)?;
+    let planes = planes_for(alloc, recycled, references, columns, rows)?;
     let blank = Blank {
         planes,
         width,
@@ -152,7 +152,7 @@ fn repeat(state: Option<&State>) -> Result<(State, Picture), StepFault>
 fn step_coded(
     alloc: Global,
     tables: &Tables,
-    spare: &mut Spare,
+    recycled: &mut Recycled,
     state: Option<&State>,
     packet: &[u8],
 ) -> Result<(State, Picture), StepFault>
@@ -167,7 +167,7 @@ fn step_coded(
         Err(cause) => return Err(StepFault::Refused(cause)),
     };
     let before = if header.is_key { None } else { state };
-    match decode(alloc, tables, spare, packet, &header, before) {
+    match decode(alloc, tables, recycled, packet, &header, before) {
         Ok(decoded) => Ok(decoded),
         Err(_) => Err(StepFault::NoMemory),
     }
@@ -188,15 +188,15 @@ pub fn step(
 ) -> Result<(State, Picture), StepFault>
     ensures { StepAnswers (step_of tables.now (option_copied state.entry) packet.now) result }
 {
-    step_with(alloc, tables, &mut Spare::new(), state, packet)
+    step_with(alloc, tables, &mut Recycled::new(), state, packet)
 }
 
-/// The same step, with the spare planes for its picture, if they have its size.
+/// The same step, with the recycled planes for its picture, if they have its size.
 #[tactic(auto, unfolding(crate::specs::Steps::step_of))]
 pub fn step_with(
     alloc: Global,
     tables: &Tables,
-    spare: &mut Spare,
+    recycled: &mut Recycled,
     state: Option<&State>,
     packet: &[u8],
 ) -> Result<(State, Picture), StepFault>
@@ -205,5 +205,5 @@ pub fn step_with(
     if packet.is_empty() {
         return repeat(state);
     }
-    step_coded(alloc, tables, spare, state, packet)
+    step_coded(alloc, tables, recycled, state, packet)
 }

@@ -73,13 +73,6 @@ fn blank(
     )
 }
 
-/// A fact for proofs: a picture has whole planes of its size.
-fn picture_is_whole(picture: &Picture)
-    ensures { IsWholePicture picture.now }
-{
-    let _width = picture.width();
-}
-
 /// A component of an area inside a picture.
 pub(crate) fn cut_plane(
     alloc: Global,
@@ -92,7 +85,7 @@ pub(crate) fn cut_plane(
     requires high { (0 < area.now.height) × (area.now.height ≤ 16383) }
     ensures { IfOk result (HasRows component area.now.width area.now.height ((cut_to area.now (shown_in picture.now)).sample component) (side_of component area.now.height)) }
 {
-    picture_is_whole(picture);
+    picture.prove_whole();
     let mut plane = blank(alloc, component, area.width as usize, area.height as usize)?;
     let left = position_in(component, area.x as usize);
     let top = position_in(component, area.y as usize);

@@ -29,14 +29,14 @@ pub const BYTES_AT_ONCE: usize = 65_536;
 
 /// Runs the requests over the files of the sources, 1 to 8, and flushes both writers. Returns the session after the last
 /// request.
-pub fn run_to<F: Write, P: Write, O: Observer>(
+pub fn run_to<F: Write, P: Write, V: Observer>(
     alloc: Global,
     settings: Settings,
     sources: &[&[u8]],
     requests: &[u8],
     frames: &mut F,
     replies: &mut P,
-    observer: &mut O,
+    observer: &mut V,
 ) -> Result<Session, Fault<'static>>
     requires capacity { (1 ≤ settings.capacity) × (settings.capacity ≤ 4096) }
     requires sources { (1 ≤ length sources.now) × (length sources.now ≤ 8) }

@@ -13,12 +13,12 @@ ghost use Rattle.state_cache.specs.ProofsOnly.{next_of, Advances, IsAfterCached,
 ghost use Rattle.state_cache.specs.Walks.{IsPut, IsIteration, IsWalk, IsWalkStep, ConvergesWithSame, entries_with};
 ghost use Rattle.state_cache.specs.Views.{Drops, IsCoherent, is_usable, cached_at, cached_in, key_at, marked_packets, same_key, with_cached, mark_at};
 
-use crate::counter::Counter;
+use crate::counted_steps::{StepCount, decode_counted};
 use crate::outcomes::{Broken, Kept, PacketKey, ReachFault};
 use frame_header::has_key_tag;
 use lru::LruCache;
 use packet_edits::Store;
-use pixel_planes::{NoMemory, Picture, Spare};
+use pixel_planes::{NoMemory, Picture, Recycled};
 use reference_frames::{State, StepFault, same_state};
 use std::alloc::Global;
 use std::marker::Model;
@@ -30,9 +30,9 @@ use vp8_tables::Tables;
 pub struct Cache {
     alloc: Global,
     kept: LruCache<PacketKey, Kept>,
-    steps: Counter,
+    steps: StepCount,
     // The planes of an outcome that was dropped, for the next step.
-    spare: Spare,
+    recycled: Recycled,
 }
 
 impl Model for Cache {
@@ -62,8 +62,8 @@ impl Cache {
             Ok(kept) => Ok(Cache {
                 alloc,
                 kept,
-                steps: Counter::new(),
-                spare: Spare::new(),
+                steps: StepCount::new(),
+                recycled: Recycled::new(),
             }),
             Err(_) => Err(NoMemory),
         }
@@ -80,11 +80,11 @@ impl Cache {
 
     /// Does nothing. Its contract: there are at most `capacity` cached outcomes, and the number of
     /// steps is a `u64`.
-    fn holds_few(&self)
+    fn prove_few(&self)
         ensures bounded { length self.now.entries ≤ self.now.capacity }
         ensures most { self.now.decoded ≤ most_steps }
     {
-        is_valid(&self.kept);
+        prove_valid(&self.kept);
         let _most = self.steps.made();
     }
 
@@ -117,7 +117,7 @@ impl Cache {
         ensures costs { Costs tables.now source store.old self.old place (is_ok result) store.new self.new }
         ensures walks { IsWalk tables.now source store.old self.old place (is_ok result) store.new self.new }
     {
-        self.holds_few();
+        self.prove_few();
         let mut next = self.next_step(source, store, place);
         while next <= place {
             match self.advance(tables, source, store, place, next) {
@@ -134,7 +134,7 @@ impl Cache {
         ensures kept { CachedAnswers (marked_packets store.now) (view_of source self.now) place result }
         ensures bounded { length self.now.entries ≤ self.now.capacity }
     {
-        self.holds_few();
+        self.prove_few();
         let id = store.id(place);
         let Some(kept) = self.kept.peek(&PacketKey { source, id }) else {
             return Err(ReachFault::NoMemory);
@@ -169,7 +169,7 @@ impl Cache {
         ensures advances { IfOk result (λ further. Advances tables.now source store.old self.old place next store.new self.new further) }
         ensures walks { IfOk result (λ further. IsWalkStep tables.now source store.old self.old place next store.new self.new further) }
     {
-        store.holds_few();
+        store.prove_few();
         let is_joined = match self.iterate(tables, source, store, next) {
             Ok(is_joined) => is_joined,
             Err(fault) => return Err(fault),
@@ -205,8 +205,8 @@ impl Cache {
         ensures number { length self.old.entries ≤ length self.new.entries }
         ensures iterated { IfOk result (λ joined. IsIteration source store.old self.old place joined store.new self.new) }
     {
-        store.holds_few();
-        self.holds_few();
+        store.prove_few();
+        self.prove_few();
         let new = match self.stepped(tables, source, store, place) {
             Ok(new) => new,
             Err(fault) => return Err(fault),
@@ -225,7 +225,7 @@ impl Cache {
         requires kept { cached_at (marked_packets store.now) (view_of source self.now) first ≡ true }
         ensures { IsAfterCached (marked_packets store.now) (view_of source self.now) first place result }
     {
-        store.holds_few();
+        store.prove_few();
         let key = store.next_key(first + 1, place + 1);
         let run = key.unwrap_or(place + 1);
         let mark = store.next_mark(first + 1, run);
@@ -249,8 +249,8 @@ impl Cache {
         let before = outcome_before(&self.kept, source, store, place);
         let state = state_of(before);
         let packet = store.packet(place);
-        let spare = &mut self.spare;
-        let answer = self.steps.step(self.alloc, tables, spare, state, packet);
+        let recycled = &mut self.recycled;
+        let answer = decode_counted(&mut self.steps, self.alloc, tables, recycled, state, packet);
         outcome_of_step(place, steps_after(before), answer)
     }
 
@@ -268,14 +268,14 @@ impl Cache {
         ensures same { OnErr result (self.new ≡ self.old) }
         ensures rest { (self.new.capacity ≡ self.old.capacity) × (self.new.decoded ≡ self.old.decoded) }
     {
-        is_valid(&self.kept);
+        prove_valid(&self.kept);
         let has_converged = self.converges(key, &new);
         let victim = victim_of(&self.kept, key);
         match self.kept.put(key, new) {
             Ok(replaced) => {
                 let evicted = evict(&mut self.kept, victim);
-                drop_into(replaced, &mut self.spare);
-                drop_into(evicted, &mut self.spare);
+                drop_into(replaced, &mut self.recycled);
+                drop_into(evicted, &mut self.recycled);
                 Ok(has_converged)
             }
             Err(_) => Err(NoMemory),
@@ -301,9 +301,9 @@ impl Cache {
         ensures bounded { length self.new.entries ≤ self.new.capacity }
         ensures rest { (self.new.capacity ≡ self.old.capacity) × (self.new.decoded ≡ self.old.decoded) }
     {
-        is_valid(&self.kept);
+        prove_valid(&self.kept);
         let dropped = self.kept.pop(&PacketKey { source, id });
-        drop_into(dropped, &mut self.spare);
+        drop_into(dropped, &mut self.recycled);
     }
 
     /// Whether an outcome of the packet at `place` is cached.
@@ -337,7 +337,7 @@ impl Cache {
         requires { place < length store.now.list.entries }
         ensures { IsNext (marked_packets store.now) (view_of source self.now) place result }
     {
-        store.holds_few();
+        store.prove_few();
         let key = store.last_key(place + 1);
         let first = next_after(key, 0);
         let mark = store.next_mark(first, place + 1);
@@ -349,7 +349,7 @@ impl Cache {
 
 /// Does nothing. Its contract: a map has no key twice and no more outcomes than its capacity, which
 /// is not 0.
-fn is_valid(kept: &LruCache<PacketKey, Kept>)
+fn prove_valid(kept: &LruCache<PacketKey, Kept>)
     ensures { IsValid same_key kept.now }
 {
     let _few = kept.len();
@@ -407,17 +407,17 @@ fn evict(kept: &mut LruCache<PacketKey, Kept>, victim: Option<PacketKey>) -> Opt
     ensures valid { IsValid same_key kept.old }
     ensures entries { kept.new ≡ lru_cache (without victim kept.old.entries) kept.old.cap }
 {
-    is_valid(kept);
+    prove_valid(kept);
     match victim {
         Some(victim) => kept.pop(&victim),
         None => None,
     }
 }
 
-/// Drops an outcome, if there is one. Planes that nothing else shares become the spare ones.
-fn drop_into(outcome: Option<Kept>, spare: &mut Spare) {
+/// Drops an outcome, if there is one. Planes that nothing else shares become the recycled ones.
+fn drop_into(outcome: Option<Kept>, recycled: &mut Recycled) {
     if let Some(outcome) = outcome {
-        outcome.drop_into(spare);
+        outcome.drop_into(recycled);
     }
 }
 

@@ -10,7 +10,7 @@
 #![tactic(auto)]
 
 mod cache;
-mod counter;
+mod counted_steps;
 pub mod laws;
 mod outcomes;
 

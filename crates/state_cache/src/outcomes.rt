@@ -3,7 +3,7 @@ ghost use Rattle.state_cache.specs.Evictions.{rank};
 ghost use Rattle.state_cache.specs.Faults.{reach_fault_word};
 
 use frame_header::Cause;
-use pixel_planes::{NoMemory, Picture, Spare};
+use pixel_planes::{NoMemory, Picture, Recycled};
 use reference_frames::State;
 use thiserror::Error;
 
@@ -74,14 +74,14 @@ impl Kept {
         })
     }
 
-    /// Drops the outcome. Planes that nothing else shares become the spare ones.
-    pub(crate) fn drop_into(self, spare: &mut Spare) {
+    /// Drops the outcome. Planes that nothing else shares become the recycled ones.
+    pub(crate) fn drop_into(self, recycled: &mut Recycled) {
         let Kept {
             state,
             picture,
             steps: _,
         } = self;
-        state.drop_into(spare);
-        spare.put(picture);
+        state.drop_into(recycled);
+        recycled.put(picture);
     }
 }

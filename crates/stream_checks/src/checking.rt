@@ -22,12 +22,12 @@ use stream_files::{Ivf, Packet};
 use vp8_tables::Tables;
 
 /// Decodes the packets after a checker's position and writes their findings, and returns their tally.
-fn write_packets<W: Write, P: Progress>(
+fn write_packets<W: Write, G: Progress>(
     w: &mut W,
     tables: &Tables,
     checker: Checker,
     packets: &[Packet],
-    progress: &mut P,
+    progress: &mut G,
 ) -> Result<Tally, CheckFault>
     requires few { checker.position.packets + length packets.now ≤ 1048576 }
     requires frames { checker.position.frames ≤ checker.position.packets }
@@ -59,14 +59,14 @@ fn write_packets<W: Write, P: Progress>(
 ///
 /// `NoMemory` if memory runs out: the findings before were written whole. `Write` if the writer
 /// returns an error; part of a line may have been written.
-pub fn check<W: Write, P: Progress>(
+pub fn check<W: Write, G: Progress>(
     w: &mut W,
     alloc: Global,
     form: Form,
     tables: &Tables,
     bytes: &[u8],
     file: &Ivf,
-    progress: &mut P,
+    progress: &mut G,
 ) -> Result<Tally, CheckFault>
     requires { IsIvf bytes.now file.now }
     ensures checked { IfOk result (λ tally. IsChecked form tables.now bytes.now file.now tally (W.contents w.old) (W.contents w.new)) }

@@ -11,7 +11,7 @@ ghost use Rattle.stream_checks.specs.Breaks.{break_in, is_lost, state_from};
 ghost use Rattle.stream_checks.specs.Partitions.{ends_at};
 
 use frame_header::{Cause, has_key_tag};
-use pixel_planes::{NoMemory, Picture, Spare};
+use pixel_planes::{NoMemory, Picture, Recycled};
 use reference_frames::{PartitionEnds, State, StepFault, measure_partitions, step_with};
 use state_cache::Broken;
 use std::alloc::Global;
@@ -24,7 +24,7 @@ use vp8_tables::Tables;
 #[derive(Drop)]
 pub(crate) struct Decoder {
     alloc: Global,
-    spare: Spare,
+    recycled: Recycled,
     progress: Result<Option<State>, Broken>,
 }
 
@@ -57,10 +57,10 @@ fn state_from<'a>(progress: &'a Result<Option<State>, Broken>, packet: &[u8]) ->
     }
 }
 
-/// What the answer of a step leaves. The planes of its picture become the spare ones, if its state
+/// What the answer of a step leaves. The planes of its picture become the recycled ones, if its state
 /// does not share them.
 fn left_by(
-    spare: &mut Spare,
+    recycled: &mut Recycled,
     place: usize,
     answer: Result<(State, Picture), StepFault>,
 ) -> Result<Result<Option<State>, Broken>, NoMemory>
@@ -68,7 +68,7 @@ fn left_by(
 {
     match answer {
         Ok((state, picture)) => {
-            spare.put(picture);
+            recycled.put(picture);
             Ok(Ok(Some(state)))
         }
         Err(StepFault::Refused(cause)) => Ok(Err(Broken { place, cause })),
@@ -76,10 +76,10 @@ fn left_by(
     }
 }
 
-/// Drops a state, whose planes become the spare ones if no other picture shares them.
-fn drop_into(progress: Result<Option<State>, Broken>, spare: &mut Spare) {
+/// Drops a state, whose planes become the recycled ones if no other picture shares them.
+fn drop_into(progress: Result<Option<State>, Broken>, recycled: &mut Recycled) {
     if let Ok(Some(state)) = progress {
-        state.drop_into(spare);
+        state.drop_into(recycled);
     }
 }
 
@@ -90,7 +90,7 @@ impl Decoder {
     {
         Decoder {
             alloc,
-            spare: Spare::new(),
+            recycled: Recycled::new(),
             progress: Ok(None),
         }
     }
@@ -104,12 +104,12 @@ impl Decoder {
             return Ok(());
         }
         let state = state_from(&self.progress, packet);
-        let answer = step_with(self.alloc, tables, &mut self.spare, state, packet);
-        let Ok(left) = left_by(&mut self.spare, place, answer) else {
+        let answer = step_with(self.alloc, tables, &mut self.recycled, state, packet);
+        let Ok(left) = left_by(&mut self.recycled, place, answer) else {
             return Err(NoMemory);
         };
         let before = mem::replace(&mut self.progress, left);
-        drop_into(before, &mut self.spare);
+        drop_into(before, &mut self.recycled);
         Ok(())
     }
 

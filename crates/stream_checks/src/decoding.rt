@@ -7,7 +7,7 @@ ghost use Rattle.state_cache.specs.Decoding.{left_by, outcome, reported_at};
 ghost use Rattle.stream_checks.specs.Frames.{frame_of};
 
 use frame_header::{has_key_tag, is_shown};
-use pixel_planes::{NoMemory, Picture, Spare};
+use pixel_planes::{NoMemory, Picture, Recycled};
 use reference_frames::{State, StepFault, step_with};
 use state_cache::Broken;
 use std::alloc::Global;
@@ -22,7 +22,7 @@ pub(crate) struct Decoding {
     place: usize,
     progress: Result<Option<State>, Broken>,
     // The planes of an earlier picture, for the next one.
-    spare: Spare,
+    recycled: Recycled,
 }
 
 /// The picture of a packet that decodes and the state after it, or the break of the stream.
@@ -32,14 +32,14 @@ type Outcome = Result<(State, Picture), Broken>;
 fn step_at(
     alloc: Global,
     tables: &Tables,
-    spare: &mut Spare,
+    recycled: &mut Recycled,
     place: usize,
     state: Option<&State>,
     packet: &[u8],
 ) -> Result<Outcome, NoMemory>
     ensures { IfOk result (λ found. found ≡ reported_at place (step_of tables.now (option_copied state.entry) packet.now)) }
 {
-    match step_with(alloc, tables, spare, state, packet) {
+    match step_with(alloc, tables, recycled, state, packet) {
         Ok(decoded) => Ok(Ok(decoded)),
         Err(StepFault::Refused(cause)) => Ok(Err(Broken { place, cause })),
         Err(StepFault::NoMemory) => Err(NoMemory),
@@ -56,7 +56,7 @@ impl Decoding {
             alloc,
             place: 0,
             progress: Ok(None),
-            spare: Spare::new(),
+            recycled: Recycled::new(),
         }
     }
 
@@ -70,7 +70,7 @@ impl Decoding {
             return step_at(
                 self.alloc,
                 tables,
-                &mut self.spare,
+                &mut self.recycled,
                 self.place,
                 None,
                 packet,
@@ -80,7 +80,7 @@ impl Decoding {
             Ok(state) => step_at(
                 self.alloc,
                 tables,
-                &mut self.spare,
+                &mut self.recycled,
                 self.place,
                 state.as_ref(),
                 packet,
@@ -90,7 +90,7 @@ impl Decoding {
     }
 
     /// Goes to the position after a packet that left `progress`. Planes of the state before it that
-    /// nothing else shares become the spare ones.
+    /// nothing else shares become the recycled ones.
     fn pass(&mut self, progress: Result<Option<State>, Broken>)
         requires { self.old.place + 1 < 2 ^ 64 }
         ensures place { self.new.place ≡ self.old.place + 1 }
@@ -98,7 +98,7 @@ impl Decoding {
     {
         let before = std::mem::replace(&mut self.progress, progress);
         if let Ok(Some(state)) = before {
-            state.drop_into(&mut self.spare);
+            state.drop_into(&mut self.recycled);
         }
         self.place += 1;
     }
@@ -117,7 +117,7 @@ impl Decoding {
                 if is_shown(bytes) {
                     Ok(Some(picture))
                 } else {
-                    self.spare.put(picture);
+                    self.recycled.put(picture);
                     Ok(None)
                 }
             }
@@ -128,11 +128,11 @@ impl Decoding {
         }
     }
 
-    /// Drops the picture of a packet. Its planes become the spare ones if nothing else shares them.
+    /// Drops the picture of a packet. Its planes become the recycled ones if nothing else shares them.
     pub fn put(&mut self, picture: Picture)
         ensures place { self.new.place ≡ self.old.place }
         ensures progress { self.new.progress ≡ self.old.progress }
     {
-        self.spare.put(picture);
+        self.recycled.put(picture);
     }
 }

@@ -106,12 +106,12 @@ impl Writing {
 ///
 /// `NoMemory` if memory for decoding was refused; the front of the text is then written. `Write` if
 /// the writer returns an error; part of the text may have been written.
-pub fn write_hashes<W: Write, P: Progress>(
+pub fn write_hashes<W: Write, G: Progress>(
     w: &mut W,
     alloc: Global,
     tables: &Tables,
     file: &Ivf,
-    progress: &mut P,
+    progress: &mut G,
 ) -> Result<(), HashFault>
     ensures hashed { OnOk result (IsHashed tables.now file.now (W.contents w.old) (W.contents w.new)) }
     ensures fault { IfErr result (IsHashFault tables.now file.now (W.contents w.old) (W.contents w.new)) }

@@ -40,8 +40,8 @@ const PIECE: usize = 4096;
 
 /// Reads into `piece` once, and appends the bytes read to `all`. Returns their number, which is 0 only at the
 /// reader's end. Never asks for more than one byte past `limit`.
-fn read_piece<R: Read>(
-    r: &mut R,
+fn read_piece<I: Read>(
+    r: &mut I,
     piece: &mut [u8],
     all: &mut Vec<u8>,
     limit: usize,
@@ -52,13 +52,13 @@ fn read_piece<R: Read>(
     ensures within { IfOk result (λ count. vec_len all.new ≤ limit) }
     ensures grows { IfOk result (λ count. vec_len all.new ≡ vec_len all.old + count) }
     ensures taken { IfOk result (λ count. (bytes : List ℕ)
-        × Consumes (R.remaining r.old) (R.remaining r.new) bytes
+        × Consumes (I.remaining r.old) (I.remaining r.new) bytes
         × (all.new.items ≡ all.old.items ++ bytes)) }
-    ensures end { IfOk result (λ count. count ≡ 0 → IsAtEnd (R.remaining r.new)) }
+    ensures end { IfOk result (λ count. count ≡ 0 → IsAtEnd (I.remaining r.new)) }
     ensures err { OnErr result (TakesAtMost (limit - vec_len all.old + 1)
-        (R.remaining r.old) (R.remaining r.new)) }
+        (I.remaining r.old) (I.remaining r.new)) }
     ensures fault { IfErr result (FaultMeans (limit - vec_len all.old)
-        (R.remaining r.old)) }
+        (I.remaining r.old)) }
 {
     let left = limit - all.len();
     let wanted = piece.len().min(left.saturating_add(1));
@@ -79,12 +79,12 @@ fn read_piece<R: Read>(
 /// `Read` if the reader returns an error of any kind, `TooLong` if it has more than `limit` bytes,
 /// `NoMemory` if there is no memory for them; whichever comes first. At most `limit + 1` bytes are taken from
 /// the reader.
-pub fn read_all<R: Read>(alloc: Global, r: &mut R, limit: usize) -> Result<Vec<u8>, ReadFault>
+pub fn read_all<I: Read>(alloc: Global, r: &mut I, limit: usize) -> Result<Vec<u8>, ReadFault>
     ensures within { IfOk result (λ all. vec_len all ≤ limit) }
-    ensures whole { IfOk result (λ all. IfSome (R.remaining r.old) (λ left. all.items ≡ left)) }
-    ensures end { OnOk result (IsAtEnd (R.remaining r.new)) }
-    ensures taken { TakesAtMost (limit + 1) (R.remaining r.old) (R.remaining r.new) }
-    ensures fault { IfErr result (FaultMeans limit (R.remaining r.old)) }
+    ensures whole { IfOk result (λ all. IfSome (I.remaining r.old) (λ left. all.items ≡ left)) }
+    ensures end { OnOk result (IsAtEnd (I.remaining r.new)) }
+    ensures taken { TakesAtMost (limit + 1) (I.remaining r.old) (I.remaining r.new) }
+    ensures fault { IfErr result (FaultMeans limit (I.remaining r.old)) }
 {
     let mut all = Vec::new(alloc);
     let mut piece = [0; PIECE];

@@ -1,6 +1,6 @@
 ghost use Rattle.std.specs.Prelude.{◌<◌, ◌≤◌, length};
 
-use pixel_planes::{Component, NoMemory, Picture, Plane, Planes, Spare, same};
+use pixel_planes::{Component, NoMemory, Picture, Plane, Planes, Recycled, same};
 use std::alloc::Global;
 use std::process::Abort;
 use std::test::Fail;
@@ -128,47 +128,47 @@ fn are_zeros_of(planes: &Planes, alloc: Global, side: usize) -> Result<bool, NoM
     Ok(are_zeros(planes, &luma, &chroma))
 }
 
-/// Whether the spare planes, made again for this many macroblocks each way, have these sides and
+/// Whether the recycled planes, made again for this many macroblocks each way, have these sides and
 /// are 0, with a border that is up to date.
-fn makes_zeros(spare: &mut Spare, alloc: Global, side: usize) -> Result<bool, NoMemory>
+fn makes_zeros(recycled: &mut Recycled, alloc: Global, side: usize) -> Result<bool, NoMemory>
     requires { (0 < side) × (side ≤ 1024) }
 {
-    let planes = spare.make_zero_planes(alloc, side, side)?;
+    let planes = recycled.make_zero_planes(alloc, side, side)?;
     are_zeros_of(&planes, alloc, side)
 }
 
-/// Puts a picture to the spare planes.
-fn put_one(spare: &mut Spare, alloc: Global) -> Result<(), NoMemory> {
+/// Puts a picture to the recycled planes.
+fn put_one(recycled: &mut Recycled, alloc: Global) -> Result<(), NoMemory> {
     let picture = one_macroblock(alloc, 7, 8, 9)?;
-    spare.put(picture);
+    recycled.put(picture);
     Ok(())
 }
 
 #[test]
 fn spare_planes_are_made_again(rt: HostRuntime) -> Result<(), Fail> {
-    let mut spare = Spare::new();
-    expect_made_again(&rt, rt.alloc(), &mut spare)
+    let mut recycled = Recycled::new();
+    expect_made_again(&rt, rt.alloc(), &mut recycled)
 }
 
-fn expect_made_again<R: Abort>(rt: &R, alloc: Global, spare: &mut Spare) -> Result<(), Fail> {
-    assert!(rt; makes_zeros(spare, alloc, 1)?);
+fn expect_made_again<R: Abort>(rt: &R, alloc: Global, recycled: &mut Recycled) -> Result<(), Fail> {
+    assert!(rt; makes_zeros(recycled, alloc, 1)?);
     for side in [1, 1, 2, 1] {
-        put_one(spare, alloc)?;
-        assert!(rt; makes_zeros(spare, alloc, side)?);
+        put_one(recycled, alloc)?;
+        assert!(rt; makes_zeros(recycled, alloc, side)?);
     }
     Ok(())
 }
 
-/// Spare planes to which a picture was put that is still shared.
-fn spare_of_shared(picture: &Picture) -> Result<Spare, NoMemory> {
-    let mut spare = Spare::new();
-    spare.put(picture.again()?);
-    Ok(spare)
+/// Recycled planes to which a picture was put that is still shared.
+fn spare_of_shared(picture: &Picture) -> Result<Recycled, NoMemory> {
+    let mut recycled = Recycled::new();
+    recycled.put(picture.again()?);
+    Ok(recycled)
 }
 
-/// Planes taken from the spare ones, with other samples in row 0.
-fn written_planes(spare: &mut Spare, alloc: Global) -> Result<Planes, NoMemory> {
-    let mut planes = spare.make_zero_planes(alloc, 1, 1)?;
+/// Planes taken from the recycled ones, with other samples in row 0.
+fn written_planes(recycled: &mut Recycled, alloc: Global) -> Result<Planes, NoMemory> {
+    let mut planes = recycled.make_zero_planes(alloc, 1, 1)?;
     planes.luma.row_mut(0).fill(1);
     Ok(planes)
 }
@@ -180,9 +180,9 @@ fn planes_of_a_shared_picture_are_no_spare_ones(rt: HostRuntime) -> Result<(), F
     Ok(())
 }
 
-/// Whether a picture keeps its samples if it is put to spare planes while it is shared.
+/// Whether a picture keeps its samples if it is put to recycled planes while it is shared.
 fn keeps_its_samples(alloc: Global, picture: &Picture) -> Result<bool, NoMemory> {
-    let mut spare = spare_of_shared(picture)?;
-    let _planes = written_planes(&mut spare, alloc)?;
+    let mut recycled = spare_of_shared(picture)?;
+    let _planes = written_planes(&mut recycled, alloc)?;
     is_same(alloc, picture, (7, 8, 9))
 }

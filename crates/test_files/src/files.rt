@@ -35,15 +35,15 @@ impl Read for Dripping {
 }
 
 /// The error of reading up to a limit.
-fn fault_of<S: Read>(alloc: Global, reader: &mut S, limit: usize) -> Option<ReadFault> {
+fn fault_of<I: Read>(alloc: Global, reader: &mut I, limit: usize) -> Option<ReadFault> {
     read_all(alloc, reader, limit).err()
 }
 
 /// Reads up to a limit, and checks what is read.
-fn expect_read<R: Abort, S: Read>(
+fn expect_read<R: Abort, I: Read>(
     rt: &R,
     alloc: Global,
-    reader: &mut S,
+    reader: &mut I,
     limit: usize,
     want: &[u8],
 ) -> Result<(), Fail> {

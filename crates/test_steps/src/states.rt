@@ -1,5 +1,5 @@
 use bool_coder::Encoder;
-use pixel_planes::{NoMemory, Picture, Spare, same};
+use pixel_planes::{NoMemory, Picture, Recycled, same};
 use reference_frames::{State, same_state, step, step_with};
 use std::alloc::Global;
 use std::process::Abort;
@@ -93,42 +93,42 @@ fn wide_key(width: u8) -> [u8; 10] {
     widened(KEY, width)
 }
 
-/// Steps a packet with the spare planes and with fresh ones, and returns whether both give the
-/// same. The planes of the first are then the spare ones.
+/// Steps a packet with the recycled planes and with fresh ones, and returns whether both give the
+/// same. The planes of the first are then the recycled ones.
 fn steps_alike(
     rt: &impl Abort,
     alloc: Global,
-    spare: &mut Spare,
+    recycled: &mut Recycled,
     state: Option<&State>,
     packet: &[u8],
 ) -> bool {
     let fresh = step(alloc, &Tables::flat(), state, packet).expect(rt, "a packet that decodes");
-    let decoded = step_with(alloc, &Tables::flat(), spare, state, packet);
-    is_put_back(spare, decoded.expect(rt, "the same packet"), &fresh)
+    let decoded = step_with(alloc, &Tables::flat(), recycled, state, packet);
+    is_put_back(recycled, decoded.expect(rt, "the same packet"), &fresh)
 }
 
-/// Whether two steps gave the same. The planes of the first are then the spare ones.
-fn is_put_back(spare: &mut Spare, decoded: (State, Picture), fresh: &(State, Picture)) -> bool {
+/// Whether two steps gave the same. The planes of the first are then the recycled ones.
+fn is_put_back(recycled: &mut Recycled, decoded: (State, Picture), fresh: &(State, Picture)) -> bool {
     let (state, picture) = decoded;
     let is_alike = same_state(&state, &fresh.0) && same(&picture, &fresh.1);
-    spare.put(picture);
-    state.drop_into(spare);
+    recycled.put(picture);
+    state.drop_into(recycled);
     is_alike
 }
 
 #[test]
 fn spare_planes_change_no_step(rt: HostRuntime) -> Result<(), Fail> {
     let inter = inter_packet(rt.alloc(), b"0000000001")?;
-    let mut spare = Spare::new();
+    let mut recycled = Recycled::new();
     for width in [16, 16, 40, 8] {
-        expect_alike(&rt, rt.alloc(), &mut spare, width, inter.as_slice());
+        expect_alike(&rt, rt.alloc(), &mut recycled, width, inter.as_slice());
     }
     Ok(())
 }
 
-/// Checks that a key packet of this width, and a packet after another one, are stepped alike with spare planes.
-fn expect_alike(rt: &impl Abort, alloc: Global, spare: &mut Spare, width: u8, inter: &[u8]) {
-    assert!(rt; steps_alike(rt, alloc, spare, None, &wide_key(width)));
+/// Checks that a key packet of this width, and a packet after another one, are stepped alike with recycled planes.
+fn expect_alike(rt: &impl Abort, alloc: Global, recycled: &mut Recycled, width: u8, inter: &[u8]) {
+    assert!(rt; steps_alike(rt, alloc, recycled, None, &wide_key(width)));
     let state = key_state(rt, alloc);
-    assert!(rt; steps_alike(rt, alloc, spare, Some(&state), inter));
+    assert!(rt; steps_alike(rt, alloc, recycled, Some(&state), inter));
 }

@@ -55,7 +55,7 @@ impl Session {
         let (source, frame, trace) = self.script.trace(&self.shown_counts(), n)?;
         let place = self.shown_place(source, frame)?;
         let store = &self.stores[source];
-        store.holds_few();
+        store.prove_few();
         let (width, height) = store.size_at(place as u64 + 1)?;
         trace.size(width, height).ok()
     }

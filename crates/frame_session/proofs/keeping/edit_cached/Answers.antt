@@ -17,4 +17,4 @@ returns-clause-sound c =
     let without : CacheWithout c.args.current (leaving c.args.edit (store_at stores c.args.current).list) c.args.cache.now c.drop_left.new.cache = subst (λ (o : Option ℕ). CacheWithout c.args.current o c.args.cache.now c.drop_left.new.cache) left c.drop_left.ensures.without in
     subst (λ (made : List StoreValue). IsSound tables made c.drop_left.new.cache) (sym c.in_ok-count.ensures.after)
     (answered_sound tables c.drops_keep_coherence.ensures c.edits_keep_coherence.ensures c.edits_keep_ids.ensures c.next_id_is_not_cached.ensures c.args.current c.args.edit stores c.args.cache.now c.drop_left.new.cache (Ok c.in_ok-count.count) c.requires.current
-    (subst (λ (s : StoreValue). IsMarked s) here c.list_is_well_formed.ensures.marks) (subst (λ (s : StoreValue). HasOwnIds s.list) here c.list_is_well_formed.ensures.own_ids) c.in_ok-count.ensures.returned c.requires.sound without c.drop_left.ensures.bounded)
+    (subst (λ (s : StoreValue). IsMarked s) here c.prove_few.ensures.marks) (subst (λ (s : StoreValue). HasOwnIds s.list) here c.prove_few.ensures.own_ids) c.in_ok-count.ensures.returned c.requires.sound without c.drop_left.ensures.bounded)

@@ -12,19 +12,19 @@ pub returns-in_err-is_terminated-clause-err : goal.returns-in_err-is_terminated-
 returns-in_err-is_terminated-clause-err g c =
     let i = g.I.Read.remaining in
     let x = c.in_err-is_terminated.ensures in
-    let why = ends_first c.args.session.now.now (i c.args.input.now) (i c.read_whole_line.new.input) (g.F.Write.contents c.args.frames.now) (g.R.Write.contents c.args.replies.now) x.0 x.1 c.in_err-is_terminated.field-0.0 x.2 in
+    let why = ends_first c.args.session.now.now (i c.args.input.now) (i c.read_whole_line.new.input) (g.F.Write.contents c.args.frames.now) (g.P.Write.contents c.args.replies.now) x.0 x.1 c.in_err-is_terminated.field-0.0 x.2 in
     search rules
 
 pub returns-then-line-eq0-clause-ok : goal.returns-then-line-eq0-clause-ok
 returns-then-line-eq0-clause-ok g c =
     let i = g.I.Read.remaining in
-    nothing_left c.args.session.now.now (i c.args.input.now) (i c.read_whole_line.new.input) (g.F.Write.contents c.args.frames.now) (g.R.Write.contents c.args.replies.now) c.read_whole_line.new.line c.in_ok-is_terminated.is_terminated c.in_ok-is_terminated.ensures c.if-not-is_terminated.true c.if-line-eq0.true
+    nothing_left c.args.session.now.now (i c.args.input.now) (i c.read_whole_line.new.input) (g.F.Write.contents c.args.frames.now) (g.P.Write.contents c.args.replies.now) c.read_whole_line.new.line c.in_ok-is_terminated.is_terminated c.in_ok-is_terminated.ensures c.if-not-is_terminated.true c.if-line-eq0.true
 
 pub returns-in-Ok-clause-ok : goal.returns-in-Ok-clause-ok
 returns-in-Ok-clause-ok g c =
     let i = g.I.Read.remaining in
     let f = g.F.Write.contents in
-    let r = g.R.Write.contents in
+    let r = g.P.Write.contents in
     let t = c.in_ok-is_terminated.is_terminated in
     let some : t ≡ false → c.read_whole_line.new.line.length ≡ 0 → ⊥ = elim c.else-not-is_terminated.branch [
       | else-not-is_terminated-via-then-not-is_terminated+else-line-eq0 w ↦ λ e none. w.if-line-eq0.false none
@@ -36,7 +36,7 @@ pub returns-clause-err : goal.returns-clause-err
 returns-clause-err g c =
     let i = g.I.Read.remaining in
     let f = g.F.Write.contents in
-    let r = g.R.Write.contents in
+    let r = g.P.Write.contents in
     let t = c.in_ok-is_terminated.is_terminated in
     let some : t ≡ false → c.read_whole_line.new.line.length ≡ 0 → ⊥ = elim c.else-not-is_terminated.branch [
       | else-not-is_terminated-via-then-not-is_terminated+else-line-eq0 w ↦ λ e none. w.if-line-eq0.false none

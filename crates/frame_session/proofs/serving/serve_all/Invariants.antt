@@ -7,7 +7,7 @@ abbrev pub invariant-lines : goal.invariant-lines
 invariant-lines g l = record {
   done : List Line;
   whole : done ++ requests_of l.rest ≡ requests_of l.fn.requests;
-  ran : Runs l.fn.session.now done (g.F.Write.contents l.fn.frames) (g.F.Write.contents l.frames) (g.R.Write.contents l.fn.replies) (g.R.Write.contents l.replies) l.session.now;
+  ran : Runs l.fn.session.now done (g.F.Write.contents l.fn.frames) (g.F.Write.contents l.frames) (g.P.Write.contents l.fn.replies) (g.P.Write.contents l.replies) l.session.now;
   capacity : l.session.cache.capacity ≡ l.fn.session.cache.capacity;
 }
 

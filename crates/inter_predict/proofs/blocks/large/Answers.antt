@@ -1,11 +1,6 @@
-use Rattle.std.proofs.Common.{rules}
-use Rattle.inter_predict.proofs.FarPieces.{block_apart, near_within}
+use Rattle.inter_predict.specs.InterSample.{predicted}
+use Rattle.inter_predict.proofs.FarPieces.{same_block}
 use Rattle.inter_predict.proofs.blocks.large.Goals as goal
 
-pub in_rows-requires-clause-near : goal.in_rows-requires-clause-near
-in_rows-requires-clause-near c = (near_within c.first_tap-x.result c.first_tap-x.ensures.near, near_within c.first_tap-y.result c.first_tap-y.ensures.near)
-
 pub returns : goal.returns
-returns c =
-    block_apart c.args.source.kind c.args.source.plane.now.shown c.args.source.x c.args.source.y c.args.source.vector.0 c.args.source.vector.1 c.first_tap-x.result c.first_tap-y.result c.fraction-right.result c.fraction-below.result c.args.width c.args.height c.args.width c.args.out.now c.in_rows.new.out
-    (search rules) (search rules) (search rules) (search rules) c.first_tap-x.ensures.value c.first_tap-y.ensures.value c.first_tap-x.ensures.near c.first_tap-y.ensures.near c.fraction-right.ensures.value c.fraction-below.ensures.value c.in_rows.ensures
+returns c = same_block _ (predicted c.args.source.kind c.args.source.plane.now.shown c.args.source.x c.args.source.y c.args.source.vector.0 c.args.source.vector.1) c.args.width c.args.height c.args.width c.args.out.now c.in_rows.new.out c.in_rows.ensures c.near.ensures.samples

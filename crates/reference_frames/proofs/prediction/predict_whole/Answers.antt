@@ -39,6 +39,6 @@ returns-clause-value c =
     let added = rw (c.stride-across.ensures.value, c.side-side.ensures) at c.add_to_square.ensures in
     let is = restored_placed size c.args.first residual sample across x y rows c.predict_square.new.samples written predicted added in
     let part = side_part c.side-side.result c.args.size _ c.side-side.ensures refl in
-    let same = sides_read p c.side-side.result size c.args.place.mx c.args.place.my _ _ c.sample_corner-diagonal.result c.args.mode c.read_above.new.out c.read_left.new.out _ _
-    c.side-side.ensures part part c.read_above.ensures c.read_left.ensures c.sample_corner-diagonal.ensures c.side_inside-above.ensures.value c.side_inside-left.ensures.value in
+    let same = sides_read p c.side-side.result size c.args.place.mx c.args.place.my _ _ c.sample_corner-diagonal.result c.args.mode c.read_above_inside.new.out c.read_left_inside.new.out _ _
+    c.side-side.ensures part part c.read_above_inside.ensures c.read_left_inside.ensures c.sample_corner-diagonal.ensures c.side_inside-above.ensures.value c.side_inside-left.ensures.value in
     lent_block c.args.plane.now x y size (block sample) rows written c.requires.within.0 c.requires.within.1 c.rows_mut-samples.ensures.value c.rows_mut-samples.ensures.len is ∙ ap (λ (f : ℕ → ℕ → ℕ). with_block p x y size (block f)) same

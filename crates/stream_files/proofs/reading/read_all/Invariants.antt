@@ -5,7 +5,7 @@ use Rattle.stream_files.proofs.reading.read_all.Given as goal
 abbrev pub invariant-pieces : goal.invariant-pieces
 invariant-pieces g l = record {
   within : vec_len l.all ≤ l.limit;
-  taken : Consumes (g.R.Read.remaining l.fn.r) (g.R.Read.remaining l.r) l.all.items;
+  taken : Consumes (g.I.Read.remaining l.fn.r) (g.I.Read.remaining l.r) l.all.items;
 }
 
 abbrev pub decreases-pieces : goal.decreases-pieces

@@ -10,7 +10,7 @@ overflow_cast-tail c =
 
 pub returns : goal.returns
 returns c =
-    let small = rw c.deref.ensures.value at c.bytes_fit.ensures in
+    let small = rw c.deref.ensures.value at c.prove_bytes.ensures in
     rw (← c.self.view_is) (elim c.if-shifts-gt0.branch [
       | then-shifts-gt0+in_ok-push-2 w ↦ text-two c.if-shifts-gt0.bytes.items c.self.inside.low c.self.inside.range small w.if-shifts-gt0.true c.self.invariant.2 (rw (w.bytes-is, w.in_ok-push-2.ensures.items, c.in_ok-push.ensures.items) refl)
       | else-shifts-gt0 w ↦ text-one c.if-shifts-gt0.bytes.items c.self.inside.low c.self.inside.range small (omega (arith, w.if-shifts-gt0.false)) (rw (w.bytes-is, c.in_ok-push.ensures.items) refl)

@@ -6,13 +6,13 @@ use Rattle.state_cache.proofs.cache.Cache.advance.Goals as goal
 pub returns-then-is_joined-clause-advances : goal.returns-then-is_joined-clause-advances
 returns-then-is_joined-clause-advances c =
     advances_joined c.args.tables.now c.args.source c.args.store.now c.iterate.new.store c.args.self.now c.iterate.new.self c.args.place c.args.next c.in-Ok.is_joined c.requires.place c.requires.low
-    c.holds_few.ensures.marks c.holds_few.ensures.own_ids c.requires.first c.iterate.ensures.coherent c.in-Ok.ensures.usable c.iterate.ensures.number c.iterate.ensures.capacity c.in-Ok.ensures.iterated
+    c.prove_few.ensures.marks c.prove_few.ensures.own_ids c.requires.first c.iterate.ensures.coherent c.in-Ok.ensures.usable c.iterate.ensures.number c.iterate.ensures.capacity c.in-Ok.ensures.iterated
     c.after_cached.result c.if-is_joined.true c.after_cached.ensures
 
 pub returns-else-is_joined-clause-advances : goal.returns-else-is_joined-clause-advances
 returns-else-is_joined-clause-advances c =
     advances_one c.args.tables.now c.args.source c.args.store.now c.iterate.new.store c.args.self.now c.iterate.new.self c.args.place c.args.next c.in-Ok.is_joined c.requires.place c.requires.low
-    c.holds_few.ensures.marks c.holds_few.ensures.own_ids c.requires.first c.iterate.ensures.coherent c.in-Ok.ensures.usable c.iterate.ensures.number c.iterate.ensures.capacity c.in-Ok.ensures.iterated
+    c.prove_few.ensures.marks c.prove_few.ensures.own_ids c.requires.first c.iterate.ensures.coherent c.in-Ok.ensures.usable c.iterate.ensures.number c.iterate.ensures.capacity c.in-Ok.ensures.iterated
     c.if-is_joined.false
 
 pub returns-then-is_joined-clause-walks : goal.returns-then-is_joined-clause-walks

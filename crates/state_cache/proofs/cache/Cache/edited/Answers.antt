@@ -14,20 +14,20 @@ pub returns-clause-dropped : goal.returns-clause-dropped
 returns-clause-dropped c =
     let es = c.self.inside.kept.entries in
     let k : PacketKey = key c.args.source c.args.id in
-    ap (λ (kept : LruCache PacketKey Kept). cached_in kept.entries c.args.source c.args.id) c.pop-dropped.ensures.entries ∙ lookup_dropped k k es c.is_valid.ensures.0 ∙ dropped_own k (cached_in es c.args.source c.args.id)
+    ap (λ (kept : LruCache PacketKey Kept). cached_in kept.entries c.args.source c.args.id) c.pop-dropped.ensures.entries ∙ lookup_dropped k k es c.prove_valid.ensures.0 ∙ dropped_own k (cached_in es c.args.source c.args.id)
 
 pub returns-clause-others : goal.returns-clause-others
 returns-clause-others c =
     let es = c.self.inside.kept.entries in
     let k : PacketKey = key c.args.source c.args.id in
-    rw (← c.self.view_is) (λ q other. ap (λ (kept : LruCache PacketKey Kept). cached_in kept.entries c.args.source q) c.pop-dropped.ensures.entries ∙ lookup_dropped k (key c.args.source q) es c.is_valid.ensures.0
+    rw (← c.self.view_is) (λ q other. ap (λ (kept : LruCache PacketKey Kept). cached_in kept.entries c.args.source q) c.pop-dropped.ensures.entries ∙ lookup_dropped k (key c.args.source q) es c.prove_valid.ensures.0
     ∙ dropped_other k (key c.args.source q) (cached_in es c.args.source q) (λ same. other (sym (ap (λ (x : PacketKey). x.id) same))))
 
 pub returns-clause-other_sources : goal.returns-clause-other_sources
 returns-clause-other_sources c =
     let es = c.self.inside.kept.entries in
     let k : PacketKey = key c.args.source c.args.id in
-    rw (← c.self.view_is) (λ other q apart. ap (λ (kept : LruCache PacketKey Kept). cached_in kept.entries other q) c.pop-dropped.ensures.entries ∙ lookup_dropped k (key other q) es c.is_valid.ensures.0
+    rw (← c.self.view_is) (λ other q apart. ap (λ (kept : LruCache PacketKey Kept). cached_in kept.entries other q) c.pop-dropped.ensures.entries ∙ lookup_dropped k (key other q) es c.prove_valid.ensures.0
     ∙ dropped_other k (key other q) (cached_in es other q) (λ same. apart (sym (ap (λ (x : PacketKey). x.source) same))))
 
 pub returns-clause-bounded : goal.returns-clause-bounded

@@ -24,8 +24,8 @@ returns-clause-coherent c =
     let missing = subst (λ (v : View). is_usable xs v c.args.place ≡ false) same c.requires.missing in
     let stepped = subst (λ (v : View). IterationAnswers c.args.tables.now xs v c.args.place (Ok c.in-Ok.new)) same c.in-Ok.ensures.gives in
     subst (λ (s : StoreValue). IsCoherent c.args.tables.now (marked_packets s) (view_of c.args.source c.keep.new.self)) (sym c.pass_mark.ensures.marks)
-    (turn_coherent c.args.tables.now es ms kept (view_of c.args.source c.keep.new.self) c.args.place c.id-id.result c.is_cut-is_cut.result c.in-Ok-keep.has_converged stepped.0 c.in-Ok.new stepped.1 c.holds_few.ensures.marks begins c.is_cut-is_cut.ensures
-    (id_shown es ms c.args.place stepped.0 c.id-id.result stepped.1 c.id-id.ensures) c.args.store.now.list.next_id c.holds_few.ensures.own_ids coherent missing stepped.2 c.in-Ok-keep.ensures.converged c.in-Ok-keep.ensures.drops)
+    (turn_coherent c.args.tables.now es ms kept (view_of c.args.source c.keep.new.self) c.args.place c.id-id.result c.is_cut-is_cut.result c.in-Ok-keep.has_converged stepped.0 c.in-Ok.new stepped.1 c.prove_few.ensures.marks begins c.is_cut-is_cut.ensures
+    (id_shown es ms c.args.place stepped.0 c.id-id.result stepped.1 c.id-id.ensures) c.args.store.now.list.next_id c.prove_few.ensures.own_ids coherent missing stepped.2 c.in-Ok-keep.ensures.converged c.in-Ok-keep.ensures.drops)
 
 pub returns-clause-usable : goal.returns-clause-usable
 returns-clause-usable c =
@@ -37,7 +37,7 @@ returns-clause-usable c =
     let begins = subst (λ (v : View). Begins xs v c.args.place) same c.requires.begins in
     let stepped = c.in-Ok.ensures.gives in
     subst (λ (s : StoreValue). is_usable (marked_packets s) (view_of c.args.source c.keep.new.self) c.args.place ≡ true) (sym c.pass_mark.ensures.marks)
-    (turn_usable c.args.tables.now es ms kept (view_of c.args.source c.keep.new.self) c.args.place c.id-id.result c.is_cut-is_cut.result c.in-Ok-keep.has_converged stepped.0 c.in-Ok.new stepped.1 c.holds_few.ensures.marks begins c.is_cut-is_cut.ensures
+    (turn_usable c.args.tables.now es ms kept (view_of c.args.source c.keep.new.self) c.args.place c.id-id.result c.is_cut-is_cut.result c.in-Ok-keep.has_converged stepped.0 c.in-Ok.new stepped.1 c.prove_few.ensures.marks begins c.is_cut-is_cut.ensures
     (id_shown es ms c.args.place stepped.0 c.id-id.result stepped.1 c.id-id.ensures) c.in-Ok-keep.ensures.kept)
 
 pub returns-clause-iterated : goal.returns-clause-iterated

@@ -15,7 +15,7 @@ loop-next-init c =
       list = refl;
       coherent = c.requires.coherent;
       next = c.next_step-next.ensures;
-      so_far = walk_begins c.args.tables.now c.args.source c.args.store.now c.args.self.now c.args.place c.next_step-next.result c.next_step-next.ensures c.holds_few.ensures.most;
+      so_far = walk_begins c.args.tables.now c.args.source c.args.store.now c.args.self.now c.args.place c.next_step-next.result c.next_step-next.ensures c.prove_few.ensures.most;
       walk = walking_begins c.args.tables.now c.args.source c.args.store.now c.args.self.now c.args.place c.next_step-next.result c.next_step-next.ensures;
     }
 

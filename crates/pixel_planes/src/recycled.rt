@@ -16,23 +16,23 @@ use std::marker::Model;
 ///
 /// No contract sees which planes they are: nothing that is made of them depends on it.
 #[derive(Debug, Drop)]
-pub struct Spare {
+pub struct Recycled {
     planes: Option<Planes>,
 }
 
-impl Model for Spare {
+impl Model for Recycled {
     ghost Value = { Unit {0} };
 
     ghost view = { λ _. tt };
 }
 
-impl Spare {
+impl Recycled {
     /// No planes.
-    pub fn new() -> Spare {
-        Spare { planes: None }
+    pub fn new() -> Recycled {
+        Recycled { planes: None }
     }
 
-    /// Drops a picture. If no other picture shares its planes, they are the spare ones from now on.
+    /// Drops a picture. If no other picture shares its planes, they are the recycled ones from now on.
     pub fn put(&mut self, picture: Picture) {
         if let Some(planes) = picture.into_planes() {
             self.planes = Some(planes);
@@ -42,7 +42,7 @@ impl Spare {
     /// Makes the planes of a picture of `columns` by `rows` macroblocks, 1 to 1,024 each way. What
     /// their samples are is not known: they are to be written before they are read.
     ///
-    /// They are the spare planes if these have that size, which takes no memory. Spare planes of
+    /// They are the recycled planes if these have that size, which takes no memory. Recycled planes of
     /// another size are dropped first. `NoMemory` if the block of a plane is refused.
     pub fn make_planes(
         &mut self,
@@ -138,9 +138,9 @@ fn give_up_samples(planes: &mut Planes)
     ensures cr { (planes.new.cr.shown.width ≡ planes.old.cr.shown.width) × (planes.new.cr.shown.height ≡ planes.old.cr.shown.height) × IsWhole planes.new.cr.shown }
 {
     planes.luma.give_up_samples();
-    planes.luma.holds_whole();
+    planes.luma.prove_whole();
     planes.cb.give_up_samples();
-    planes.cb.holds_whole();
+    planes.cb.prove_whole();
     planes.cr.give_up_samples();
-    planes.cr.holds_whole();
+    planes.cr.prove_whole();
 }
