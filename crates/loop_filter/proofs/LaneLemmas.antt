@@ -6,7 +6,7 @@ use Rattle.std.proofs.lemmas.Bool.Decides.{nat_tests}
 use Rattle.std.proofs.Math.Nat.{mul-le-mul_right}
 use Rattle.std.proofs.lemmas.Simd.{get_or-zip2, length-zip2, get_or-sel_l}
 use Rattle.std.proofs.lemmas.List.{get_or-replicate, get_or-map, length-map, length-replicate}
-use Rattle.loop_filter.specs.Lanes.{sum_of, either_of, share_of}
+use Rattle.loop_filter.specs.Lanes.{sum_of, either_of, adjustment_of}
 
 -- two lists with equal heads and equal tails
 same_lanes : (x y : ℕ) (xs ys : List ℕ) → x ≡ y → xs ≡ ys → x ∷ xs ≡ y ∷ ys
@@ -78,7 +78,7 @@ either_at ts xs ys n i long long' long'' less =
     get_or-sel_l (map (λ m. leb 128 m) (masks ts n)) xs ys i 0 (inside n i _ (length-map (masks ts n) (λ m. leb 128 m) ∙ masks_long ts n long) less) (inside n i _ long' less) (inside n i _ long'' less)
     ∙ ap (λ (b : Bool). cond b (slice_index xs i) (slice_index ys i)) (get_or-map (λ m. leb 128 m) (masks ts n) i 0 false (inside n i _ (masks_long ts n long) less) ∙ ap (leb 128) (mask_at ts n i long less) ∙ mask_tells _)
 
--- shares, in lanes of 16 bits
+-- outer adjustments, in lanes of 16 bits
 abbrev pub nines : ℕ → List ℕ → List ℕ
 nines n xs = zip2 (λ a b. a * b % 65536) (map (λ (a : ℕ). a) xs) (replicate n 9)
 
@@ -97,43 +97,43 @@ middle n xs = plus (far n xs) (nines n xs)
 abbrev pub near : ℕ → List ℕ → List ℕ
 near n xs = plus (middle n xs) (nines n xs)
 
-far_lane : (x : ℕ) → x < 256 → (x * 9 % 65536 + 63) % 65536 / 128 ≡ share_of 9 x
-unfolding share_of
+far_lane : (x : ℕ) → x < 256 → (x * 9 % 65536 + 63) % 65536 / 128 ≡ adjustment_of 9 x
+unfolding adjustment_of
 far_lane x small = omega arith
 
-middle_lane : (x : ℕ) → x < 256 → ((x * 9 % 65536 + 63) % 65536 + x * 9 % 65536) % 65536 / 128 ≡ share_of 18 x
-unfolding share_of
+middle_lane : (x : ℕ) → x < 256 → ((x * 9 % 65536 + 63) % 65536 + x * 9 % 65536) % 65536 / 128 ≡ adjustment_of 18 x
+unfolding adjustment_of
 middle_lane x small = omega arith
 
-near_lane : (x : ℕ) → x < 256 → (((x * 9 % 65536 + 63) % 65536 + x * 9 % 65536) % 65536 + x * 9 % 65536) % 65536 / 128 ≡ share_of 27 x
-unfolding share_of
+near_lane : (x : ℕ) → x < 256 → (((x * 9 % 65536 + 63) % 65536 + x * 9 % 65536) % 65536 + x * 9 % 65536) % 65536 / 128 ≡ adjustment_of 27 x
+unfolding adjustment_of
 near_lane x small = omega arith
 
-far_lanes : (xs : List ℕ) → Each1 (Fits w8) xs → shifted (length xs) (far (length xs) xs) ≡ map (share_of 9) xs
+far_lanes : (xs : List ℕ) → Each1 (Fits w8) xs → shifted (length xs) (far (length xs) xs) ≡ map (adjustment_of 9) xs
 far_lanes [] fits = refl
 far_lanes (x ∷ xs) fits = same_lanes _ _ _ _ (far_lane x fits.0.fits) (far_lanes xs fits.1)
 
-middle_lanes : (xs : List ℕ) → Each1 (Fits w8) xs → shifted (length xs) (middle (length xs) xs) ≡ map (share_of 18) xs
+middle_lanes : (xs : List ℕ) → Each1 (Fits w8) xs → shifted (length xs) (middle (length xs) xs) ≡ map (adjustment_of 18) xs
 middle_lanes [] fits = refl
 middle_lanes (x ∷ xs) fits = same_lanes _ _ _ _ (middle_lane x fits.0.fits) (middle_lanes xs fits.1)
 
-near_lanes : (xs : List ℕ) → Each1 (Fits w8) xs → shifted (length xs) (near (length xs) xs) ≡ map (share_of 27) xs
+near_lanes : (xs : List ℕ) → Each1 (Fits w8) xs → shifted (length xs) (near (length xs) xs) ≡ map (adjustment_of 27) xs
 near_lanes [] fits = refl
 near_lanes (x ∷ xs) fits = same_lanes _ _ _ _ (near_lane x fits.0.fits) (near_lanes xs fits.1)
 
-share_small : (k x : ℕ) → k ≤ 27 → x < 256 → share_of k x < 256
-unfolding share_of
+share_small : (k x : ℕ) → k ≤ 27 → x < 256 → adjustment_of k x < 256
+unfolding adjustment_of
 share_small k x few small =
     let most : x * k ≤ 255 * k = mul-le-mul_right k (omega arith) in
     omega arith
 
-share_fits : (k : ℕ) (xs : List ℕ) → k ≤ 27 → Each1 (Fits w8) xs → Each1 (Fits w8) (map (share_of k) xs)
+share_fits : (k : ℕ) (xs : List ℕ) → k ≤ 27 → Each1 (Fits w8) xs → Each1 (Fits w8) (map (adjustment_of k) xs)
 share_fits k [] few fits = tt
 share_fits k (x ∷ xs) few fits = (record { fits = share_small k x few fits.0.fits }, share_fits k xs few fits.1)
 
 -- of n lanes
 abbrev pub Shared : ℕ → List ℕ → List ℕ → Type 0
-Shared k xs ys = ys ≡ map (share_of k) xs
+Shared k xs ys = ys ≡ map (adjustment_of k) xs
 
 pub far_shared : (n : ℕ) (xs : List ℕ) → (length xs ≡ n) × Each1 (Fits w8) xs → Shared 9 xs (shifted n (far n xs))
 far_shared n xs fits = subst (λ (m : ℕ). Shared 9 xs (shifted m (far m xs))) fits.0 (far_lanes xs fits.1)
@@ -151,5 +151,5 @@ same_map (x ∷ xs) = ap (λ (l : List ℕ). x ∷ l) (same_map xs)
 pub shares_fit : (k : ℕ) (xs ys : List ℕ) → k ≤ 27 → Each1 (Fits w8) xs → Shared k xs ys → Each1 (Fits w8) ys
 shares_fit k xs ys few fits is = rw is (share_fits k xs few fits)
 
-pub shares_at : (k : ℕ) (xs ys : List ℕ) (n i : ℕ) → length xs ≡ n → Shared k xs ys → i < n → slice_index (map (λ (a : ℕ). a) ys) i ≡ share_of k (slice_index xs i)
-shares_at k xs ys n i long is less = ap (λ l. slice_index l i) (same_map ys ∙ is) ∙ get_or-map (share_of k) xs i 0 0 (omega (arith, long))
+pub shares_at : (k : ℕ) (xs ys : List ℕ) (n i : ℕ) → length xs ≡ n → Shared k xs ys → i < n → slice_index (map (λ (a : ℕ). a) ys) i ≡ adjustment_of k (slice_index xs i)
+shares_at k xs ys n i long is less = ap (λ l. slice_index l i) (same_map ys ∙ is) ∙ get_or-map (adjustment_of k) xs i 0 0 (omega (arith, long))

@@ -2,7 +2,7 @@
 use Rattle.std.proofs.Common.{◌≡◌, ℕ, ◌<◌, Bool, true, false, cond, not, refl}
 use Rattle.loop_filter.specs.declared.edge_limits.EdgeLimits.{EdgeLimits}
 use Rattle.loop_filter.specs.Lines.{Line, is_filtered, has_high_edge_variance, is_small_step, shortfall, adjusted, outer_adjusted, smoothed, simple_line, inner_line, macroblock_line}
-use Rattle.loop_filter.specs.Lanes.{sum_of, raised_by, lowered_by, difference_of, shortfall_from, eighth_of, half_of, share_of, step_over_of, variance_over_of, roughness_of, either_of}
+use Rattle.loop_filter.specs.Lanes.{sum_of, raised_by, lowered_by, difference_of, shortfall_from, eighth_of, half_of, adjustment_of, step_over_of, variance_over_of, excess_of, either_of}
 use Rattle.loop_filter.proofs.Scalars.{off, raised_is, lowered_is, eighth3_is, eighth4_is, half_is, share27_is, share18_is, share9_is, raised_none, lowered_none, raised_first, raised_second, lowered_first, lowered_second, eighth_small, share_small, lack_true, lack_false, lack_small, step_is, filtered_is, varied_is}
 
 -- the four samples next to the edge have 8 bits
@@ -64,7 +64,7 @@ inner_by false false l near = inner_stays_halved l near
 
 pub inner_lane : (limits : EdgeLimits) (l : Line) → limits.edge < 255 → IsNear l
     → (let v = variance_over_of limits.variance l.p1 l.p0 l.q0 l.q1 in
-    let w = either_of (roughness_of limits l) (shortfall_from (either_of v 128 (difference_of l.p1 l.q1)) l.p0 l.q0) 128 in
+    let w = either_of (excess_of limits l) (shortfall_from (either_of v 128 (difference_of l.p1 l.q1)) l.p0 l.q0) 128 in
     inner_moved w (either_of v (half_of (eighth_of 4 w)) 8) l ≡ inner_line limits l)
 unfolding inner_line
 inner_lane limits l low near = rw (filtered_is limits l low, varied_is limits.variance l) (inner_by (is_filtered limits l) (has_high_edge_variance limits.variance l) l near)
@@ -72,12 +72,12 @@ inner_lane limits l low near = rw (filtered_is limits l low, varied_is limits.va
 -- the normal filter between macroblocks
 abbrev pub wide_moved : ℕ → ℕ → Line → Line
 wide_moved narrow wide l = record l {
-  p2 = raised_by 9 l.p2 (share_of 9 wide);
-  p1 = raised_by 18 l.p1 (share_of 18 wide);
-  p0 = raised_by 43 l.p0 (sum_of (share_of 27 wide) (eighth_of 3 narrow));
-  q0 = lowered_by 43 l.q0 (sum_of (share_of 27 wide) (eighth_of 4 narrow));
-  q1 = lowered_by 18 l.q1 (share_of 18 wide);
-  q2 = lowered_by 9 l.q2 (share_of 9 wide);
+  p2 = raised_by 9 l.p2 (adjustment_of 9 wide);
+  p1 = raised_by 18 l.p1 (adjustment_of 18 wide);
+  p0 = raised_by 43 l.p0 (sum_of (adjustment_of 27 wide) (eighth_of 3 narrow));
+  q0 = lowered_by 43 l.q0 (sum_of (adjustment_of 27 wide) (eighth_of 4 narrow));
+  q1 = lowered_by 18 l.q1 (adjustment_of 18 wide);
+  q2 = lowered_by 9 l.q2 (adjustment_of 9 wide);
 }
 
 -- the samples that it moves have 8 bits
@@ -87,7 +87,7 @@ pub record IsWide (l : Line) : Type 0 where
   pub q2 : l.q2 < 256
 
 wide_narrow : (w : ℕ) (l : Line) → w < 256 → IsWide l → wide_moved w 128 l ≡ adjusted (off 128 w) l
-unfolding share_of
+unfolding adjustment_of
 wide_narrow w l small wide =
     rw (
       raised_first l.p0 (eighth_of 3 w) (eighth_small 3 w),
@@ -106,21 +106,21 @@ wide_smooth : (w : ℕ) (l : Line) → w < 256 → IsWide l → wide_moved 128 w
 unfolding eighth_of
 wide_smooth w l small wide =
     rw (
-      raised_second l.p0 (share_of 27 w) (share_small w small),
-      lowered_second l.q0 (share_of 27 w) (share_small w small),
+      raised_second l.p0 (adjustment_of 27 w) (share_small w small),
+      lowered_second l.q0 (adjustment_of 27 w) (share_small w small),
       share27_is w small,
       share18_is w small,
       share9_is w small,
-      raised_is 9 l.p2 (share_of 9 w) wide.p2,
-      raised_is 18 l.p1 (share_of 18 w) wide.near.p1,
-      raised_is 27 l.p0 (share_of 27 w) wide.near.p0,
-      lowered_is 27 l.q0 (share_of 27 w) wide.near.q0,
-      lowered_is 18 l.q1 (share_of 18 w) wide.near.q1,
-      lowered_is 9 l.q2 (share_of 9 w) wide.q2,
+      raised_is 9 l.p2 (adjustment_of 9 w) wide.p2,
+      raised_is 18 l.p1 (adjustment_of 18 w) wide.near.p1,
+      raised_is 27 l.p0 (adjustment_of 27 w) wide.near.p0,
+      lowered_is 27 l.q0 (adjustment_of 27 w) wide.near.q0,
+      lowered_is 18 l.q1 (adjustment_of 18 w) wide.near.q1,
+      lowered_is 9 l.q2 (adjustment_of 9 w) wide.q2,
     ) refl
 
 wide_stays : (l : Line) → IsWide l → wide_moved 128 128 l ≡ l
-unfolding eighth_of share_of
+unfolding eighth_of adjustment_of
 wide_stays l wide =
     rw (
       raised_none 43 l.p0 wide.near.p0,
@@ -140,7 +140,7 @@ wide_by false false n l small wide = wide_stays l wide
 
 pub macroblock_lane : (limits : EdgeLimits) (l : Line) → limits.edge < 255 → IsWide l
     → (let v = variance_over_of limits.variance l.p1 l.p0 l.q0 l.q1 in
-    let w = either_of (roughness_of limits l) (shortfall_from (difference_of l.p1 l.q1) l.p0 l.q0) 128 in
+    let w = either_of (excess_of limits l) (shortfall_from (difference_of l.p1 l.q1) l.p0 l.q0) 128 in
     wide_moved (either_of v 128 w) (either_of v w 128) l ≡ macroblock_line limits l)
 unfolding macroblock_line
 macroblock_lane limits l low wide =

@@ -7,7 +7,7 @@ use Rattle.std.proofs.lemmas.Bool.Decides.{nat_tests}
 use Rattle.std.proofs.lemmas.Bool.{cases_lt}
 use Rattle.loop_filter.specs.declared.edge_limits.EdgeLimits.{EdgeLimits}
 use Rattle.loop_filter.specs.Lines.{Line, as_signed, clamped, raised, lowered, is_small_step, is_filtered, has_high_edge_variance, shortfall, eighth, share}
-use Rattle.loop_filter.specs.Lanes.{sum_of, raised_by, lowered_by, difference_of, shortfall_from, eighth_of, half_of, share_of, step_over_of, side_of, variance_over_of, roughness_of}
+use Rattle.loop_filter.specs.Lanes.{sum_of, raised_by, lowered_by, difference_of, shortfall_from, eighth_of, half_of, adjustment_of, step_over_of, side_of, variance_over_of, excess_of}
 
 -- the number of an offset form
 abbrev pub off : ℕ → ℕ → ℤ
@@ -80,16 +80,16 @@ pub half_is : (e : ℕ) → int_shr (off 16 e +ℤ pos 1) 1 ≡ off 8 (half_of e
 unfolding half_of
 half_is e = grind (arith, ints)
 
-pub share27_is : (w : ℕ) → w < 256 → share 27 (off 128 w) ≡ off 27 (share_of 27 w)
-unfolding share share_of
+pub share27_is : (w : ℕ) → w < 256 → share 27 (off 128 w) ≡ off 27 (adjustment_of 27 w)
+unfolding share adjustment_of
 share27_is w small = grind (arith, ints)
 
-pub share18_is : (w : ℕ) → w < 256 → share 18 (off 128 w) ≡ off 18 (share_of 18 w)
-unfolding share share_of
+pub share18_is : (w : ℕ) → w < 256 → share 18 (off 128 w) ≡ off 18 (adjustment_of 18 w)
+unfolding share adjustment_of
 share18_is w small = grind (arith, ints)
 
-pub share9_is : (w : ℕ) → w < 256 → share 9 (off 128 w) ≡ off 9 (share_of 9 w)
-unfolding share share_of
+pub share9_is : (w : ℕ) → w < 256 → share 9 (off 128 w) ≡ off 9 (adjustment_of 9 w)
+unfolding share adjustment_of
 share9_is w small = grind (arith, ints)
 
 -- a move by 0
@@ -101,8 +101,8 @@ pub lowered_none : (offset s : ℕ) → s < 256 → lowered_by offset s offset �
 unfolding lowered_by
 lowered_none offset s small = grind arith
 
-pub share_small : (w : ℕ) → w < 256 → share_of 27 w < 128
-unfolding share_of
+pub share_small : (w : ℕ) → w < 256 → adjustment_of 27 w < 128
+unfolding adjustment_of
 share_small w small = omega arith
 
 -- a sample that is moved by two numbers one of which is 0
@@ -165,8 +165,8 @@ and_joined true false c d e f = refl
 and_joined true true false d e f = refl
 and_joined true true true d e f = and_turned d e f
 
-pub filtered_is : (limits : EdgeLimits) (l : Line) → limits.edge < 255 → nat_eq (roughness_of limits l) 0 ≡ is_filtered limits l
-unfolding roughness_of side_of is_filtered
+pub filtered_is : (limits : EdgeLimits) (l : Line) → limits.edge < 255 → nat_eq (excess_of limits l) 0 ≡ is_filtered limits l
+unfolding excess_of side_of is_filtered
 filtered_is limits l low =
     let within : ℕ → ℕ → Bool = λ (x y : ℕ). nat_le (abs_diff x y) limits.interior in
     rw (both_zero, step_is limits.edge l.p1 l.p0 l.q0 l.q1 low) (ap (λ (b : Bool). is_small_step limits.edge l && b)

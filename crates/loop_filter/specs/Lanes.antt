@@ -46,8 +46,8 @@ unfoldable pub half_of : ℕ → ℕ
 half_of e = (e + 1) / 2
 
 -- a number at offset 128 times k, in 128ths, at offset k
-unfoldable pub share_of : ℕ → ℕ → ℕ
-share_of k w = (w * k + 63) / 128
+unfoldable pub adjustment_of : ℕ → ℕ → ℕ
+adjustment_of k w = (w * k + 63) / 128
 
 -- the excess of the step at the edge over its limit: 0 if there is none
 unfoldable pub step_over_of : ℕ → ℕ → ℕ → ℕ → ℕ → ℕ
@@ -62,8 +62,8 @@ unfoldable pub variance_over_of : ℕ → ℕ → ℕ → ℕ → ℕ → ℕ
 variance_over_of threshold p1 p0 q0 q1 = max (abs_diff p1 p0) (abs_diff q1 q0) - threshold
 
 -- the excess of a line over the limits of a normal filter: 0 if it is filtered
-unfoldable pub roughness_of : EdgeLimits → Line → ℕ
-roughness_of limits l = sum_of (step_over_of limits.edge l.p1 l.p0 l.q0 l.q1) (max (side_of l.p3 l.p2 l.p1 l.p0) (side_of l.q3 l.q2 l.q1 l.q0) - limits.interior)
+unfoldable pub excess_of : EdgeLimits → Line → ℕ
+excess_of limits l = sum_of (step_over_of limits.edge l.p1 l.p0 l.q0 l.q1) (max (side_of l.p3 l.p2 l.p1 l.p0) (side_of l.q3 l.q2 l.q1 l.q0) - limits.interior)
 
 -- one of two numbers, the first if a test left 0
 abbrev pub either_of : ℕ → ℕ → ℕ → ℕ
@@ -103,7 +103,7 @@ vector t k = slice_index_or (vectors t) k []
 
 -- sample k of sixteen lines, if number i of eight vectors holds lines i and i + 8, their samples alternating
 abbrev pub column_of : ℕ → List (List ℕ) → List ℕ
-column_of k woven = map (λ lanes. slice_index lanes (2 * k)) woven ++ map (λ lanes. slice_index lanes (2 * k + 1)) woven
+column_of k interleaved = map (λ lanes. slice_index lanes (2 * k)) interleaved ++ map (λ lanes. slice_index lanes (2 * k + 1)) interleaved
 
 -- line i of sixteen, if number k of eight vectors holds sample k of each
 abbrev pub row_of : ℕ → List (List ℕ) → List ℕ

@@ -11,7 +11,7 @@ use std::simd::{u8x8, u8x16};
 
 /// The lanes of two vectors, alternately one of `a` and one of `b`.
 #[inline(always)]
-fn woven(a: u8x8, b: u8x8) -> u8x16
+fn interleaved(a: u8x8, b: u8x8) -> u8x16
     ensures a { (k : ℕ) → k < 8 → slice_index result (2 * k) ≡ slice_index a k }
     ensures b { (k : ℕ) → k < 8 → slice_index result (2 * k + 1) ≡ slice_index b k }
 {
@@ -110,7 +110,7 @@ fn load_pair(a: &[u8], b: &[u8], a_at: usize, b_at: usize) -> u8x16
 {
     let first = u8x8::from_slice(&a[a_at..]);
     let second = u8x8::from_slice(&b[b_at..]);
-    woven(first, second)
+    interleaved(first, second)
 }
 
 /// Loads eight lines of adjacent samples from each of two lists; in both, each line begins `stride`

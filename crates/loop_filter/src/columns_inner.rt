@@ -19,7 +19,7 @@ use std::simd::u8x16;
 /// The lanes of two vectors, alternately one of `a` and one of `b`: those of the left halves, and
 /// those of the right halves.
 #[inline(always)]
-fn woven(a: u8x16, b: u8x16) -> (u8x16, u8x16)
+fn interleaved(a: u8x16, b: u8x16) -> (u8x16, u8x16)
     ensures left_a { (k : ℕ) → k < 8 → slice_index result.0 (2 * k) ≡ slice_index a k }
     ensures left_b { (k : ℕ) → k < 8 → slice_index result.0 (2 * k + 1) ≡ slice_index b k }
     ensures right_a { (k : ℕ) → k < 8 → slice_index result.1 (2 * k) ≡ slice_index a (8 + k) }
@@ -40,7 +40,7 @@ fn load_pair(samples: &[u8], at: usize, other: usize) -> (u8x16, u8x16)
 {
     let first = load(samples, at);
     let second = load(samples, other);
-    woven(first, second)
+    interleaved(first, second)
 }
 
 /// Loads sixteen rows of sixteen samples: the left eight samples of each, and the right eight.

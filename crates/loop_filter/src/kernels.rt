@@ -2,11 +2,11 @@
 
 ghost use Rattle.std.specs.Prelude.{◌≡◌, ℕ, ◌+◌, ◌<◌, slice_index};
 ghost use Rattle.loop_filter.specs.Lines.{simple_line, inner_line, macroblock_line, filtered_line};
-ghost use Rattle.loop_filter.specs.Lanes.{wide_line_at, roughness_of};
+ghost use Rattle.loop_filter.specs.Lanes.{wide_line_at, excess_of};
 
 use crate::edge_limits::{EdgeFilter, EdgeLimits};
 use crate::lanes::{
-    all, difference, eighths_after, either, greater, halves, less, lowered, more, raised, shares,
+    all, difference, eighths_after, either, greater, halves, less, lowered, more, outer_adjustments, raised,
     shortfall, side, step_over, variance_over,
 };
 use std::simd::u8x32;
@@ -60,9 +60,9 @@ fn simple(limit: u8, taps: WideTaps) -> WideTaps
 
 /// The excess over the limits of a normal filter in thirty-two lines: 0 in a line that is filtered.
 #[inline(always)]
-#[tactic(auto, unfolding(crate::specs::Lanes::roughness_of))]
-fn roughness(limits: EdgeLimits, taps: WideTaps) -> u8x32
-    ensures { (i : ℕ) → i < 32 → slice_index result i ≡ roughness_of limits (wide_line_at taps i) }
+#[tactic(auto, unfolding(crate::specs::Lanes::excess_of))]
+fn excess(limits: EdgeLimits, taps: WideTaps) -> u8x32
+    ensures { (i : ℕ) → i < 32 → slice_index result i ≡ excess_of limits (wide_line_at taps i) }
 {
     let (p3, p2, p1, p0) = (taps.p3, taps.p2, taps.p1, taps.p0);
     let (q3, q2, q1, q0) = (taps.q3, taps.q2, taps.q1, taps.q0);
@@ -82,7 +82,7 @@ pub fn inner(limits: EdgeLimits, taps: WideTaps) -> WideTaps
     ensures { (i : ℕ) → i < 32 → wide_line_at result i ≡ inner_line limits (wide_line_at taps i) }
 {
     let (p1, p0, q0, q1) = (taps.p1, taps.p0, taps.q0, taps.q1);
-    let rough = roughness(limits, taps);
+    let rough = excess(limits, taps);
     let high_edge_variance = variance_over(limits.variance, p1, p0, q0, q1);
     let none = all(128);
     let difference = difference(p1, q1);
@@ -105,7 +105,7 @@ pub fn inner(limits: EdgeLimits, taps: WideTaps) -> WideTaps
 
 /// Filters thirty-two lines by the normal filter of an edge between macroblocks.
 ///
-/// A line is moved either by an eighth or by shares, and the other number is 0 at its offset: `p0`
+/// A line is moved either by an eighth or by the outer adjustments, and the other number is 0 at its offset: `p0`
 /// and `q0` are moved by the sum of both, at the sum of their offsets.
 #[inline(always)]
 fn macroblock(limits: EdgeLimits, taps: WideTaps) -> WideTaps
@@ -114,7 +114,7 @@ fn macroblock(limits: EdgeLimits, taps: WideTaps) -> WideTaps
 {
     let (p2, p1, p0) = (taps.p2, taps.p1, taps.p0);
     let (q2, q1, q0) = (taps.q2, taps.q1, taps.q0);
-    let rough = roughness(limits, taps);
+    let rough = excess(limits, taps);
     let high_edge_variance = variance_over(limits.variance, p1, p0, q0, q1);
     let none = all(128);
     let outer = difference(p1, q1);
@@ -124,7 +124,7 @@ fn macroblock(limits: EdgeLimits, taps: WideTaps) -> WideTaps
     let wide = either(high_edge_variance, number, none);
     let up = eighths_after(3, narrow);
     let down = eighths_after(4, narrow);
-    let (far, middle, near) = shares(wide);
+    let (far, middle, near) = outer_adjustments(wide);
     let p0_move = more(near, up);
     let q0_move = more(near, down);
     WideTaps {

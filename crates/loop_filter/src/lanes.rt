@@ -3,7 +3,7 @@
 ghost use Rattle.std.specs.Prelude.{◌≡◌, ℕ, ◌+◌, ◌-◌, ◌/◌, ◌<◌, ◌≤◌, max, length, slice_index};
 ghost use Rattle.std.specs.Simd.Lanes.{put_chunk};
 ghost use Rattle.std.specs.Int.{abs_diff};
-ghost use Rattle.loop_filter.specs.Lanes.{Each, Each2, AreSamples, sum_of, raised_by, lowered_by, difference_of, shortfall_from, eighth_of, half_of, share_of, either_of, step_over_of, side_of, variance_over_of};
+ghost use Rattle.loop_filter.specs.Lanes.{Each, Each2, AreSamples, sum_of, raised_by, lowered_by, difference_of, shortfall_from, eighth_of, half_of, adjustment_of, either_of, step_over_of, side_of, variance_over_of};
 
 use std::simd::prelude::*;
 use std::simd::{u8x16, u8x32, u16x32};
@@ -177,10 +177,10 @@ pub fn halves(numbers: u8x32) -> u8x32
 
 /// 9, 18 and 27 128ths of numbers at offset 128, rounded, at offsets 9, 18 and 27.
 #[inline(always)]
-pub fn shares(numbers: u8x32) -> (u8x32, u8x32, u8x32)
-    ensures far { Each (share_of 9) numbers result.0 }
-    ensures middle { Each (share_of 18) numbers result.1 }
-    ensures near { Each (share_of 27) numbers result.2 }
+pub fn outer_adjustments(numbers: u8x32) -> (u8x32, u8x32, u8x32)
+    ensures far { Each (adjustment_of 9) numbers result.0 }
+    ensures middle { Each (adjustment_of 18) numbers result.1 }
+    ensures near { Each (adjustment_of 27) numbers result.2 }
 {
     let nine = numbers.cast::<u16>() * u16x32::splat(9);
     let far = nine + u16x32::splat(63);

@@ -26,7 +26,7 @@ returns c = λ i less.
       c.difference-difference.ensures.value i less,
       c.all-none.ensures i less,
       c.variance_over-high_edge_variance.ensures i less,
-      c.roughness-rough.ensures i less,
+      c.excess-rough.ensures i less,
     )
     (inner_lane c.args.limits (wide_line_at c.args.taps i) c.requires.limit
     (record { p1 = c.raised.ensures.samples i less; p0 = c.raised-2.ensures.samples i less; q0 = c.lowered.ensures.samples i less; q1 = c.lowered-2.ensures.samples i less }))

@@ -13,9 +13,9 @@ returns c = λ i less.
       c.lowered-3.ensures.value i less,
       c.more-p0_move.ensures i less,
       c.more-q0_move.ensures i less,
-      c.shares.ensures.near i less,
-      c.shares.ensures.middle i less,
-      c.shares.ensures.far i less,
+      c.outer_adjustments.ensures.near i less,
+      c.outer_adjustments.ensures.middle i less,
+      c.outer_adjustments.ensures.far i less,
       c.eighths_after-up.ensures i less,
       c.eighths_after-down.ensures i less,
       c.either-narrow.ensures i less,
@@ -25,7 +25,7 @@ returns c = λ i less.
       c.difference-outer.ensures.value i less,
       c.all-none.ensures i less,
       c.variance_over-high_edge_variance.ensures i less,
-      c.roughness-rough.ensures i less,
+      c.excess-rough.ensures i less,
     )
     (macroblock_lane c.args.limits (wide_line_at c.args.taps i) c.requires.limit
     (record {

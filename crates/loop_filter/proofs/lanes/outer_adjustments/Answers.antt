@@ -1,6 +1,6 @@
 use Rattle.std.proofs.Common.{arith}
 use Rattle.loop_filter.proofs.LaneLemmas.{shares_fit, shares_at, far_shared, middle_shared, near_shared}
-use Rattle.loop_filter.proofs.lanes.shares.Goals as goal
+use Rattle.loop_filter.proofs.lanes.outer_adjustments.Goals as goal
 
 pub overflow_cast-result : goal.overflow_cast-result
 overflow_cast-result c = shares_fit 9 c.args.numbers _ (omega arith) c.fits-numbers.1 (far_shared _ c.args.numbers c.fits-numbers)
