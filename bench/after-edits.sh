@@ -1,16 +1,9 @@
 #!/bin/sh
 # Times frames after edits and frames in several orders, with cached states, next to vpxdec from the stream's start and
 # ffmpeg's own seek. README.md says more.
-set -eu
-here=$(cd "$(dirname "$0")" && pwd)
-program=$here/../bin/vp8serve
-clips=${XDG_CACHE_HOME:-$HOME/.cache}/wokureti
+. "$(dirname "$0")/prologue.sh"
 clip=$clips/640x360-one-key.ivf
-for tool in vpxenc vpxdec ffmpeg; do
-    command -v "$tool" > /dev/null || { echo "$tool is not here: install vpx-tools and ffmpeg" >&2; exit 1; }
-done
-room=$(mktemp -d)
-trap 'rm -rf "$room"' EXIT
+need vpxenc vpxdec ffmpeg
 
 # A clip with one key packet, made once.
 if [ ! -f "$clip" ]; then
@@ -22,7 +15,7 @@ if [ ! -f "$clip" ]; then
         > "$room/vpxenc.log" 2>&1 || { tail -n 5 "$room/vpxenc.log"; exit 1; }
     mv "$room/clip.ivf" "$clip"
 fi
-"$here/../serve.sh" < /dev/null > /dev/null
+build
 
 python3 - "$program" "$clip" "$room" <<'END'
 import random, struct, subprocess, sys, time

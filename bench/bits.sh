@@ -1,16 +1,11 @@
 #!/bin/sh
 # Times reads of the bit decoder next to the same algorithm written manually. README.md says more.
-set -eu
-here=$(cd "$(dirname "$0")" && pwd)
-kit=$(dirname "$(rt doc | head -n 1)")
-room=$(mktemp -d)
-trap 'rm -rf "$room"' EXIT
+. "$(dirname "$0")/prologue.sh"
+find_kit
 
-mkdir -p "$room/crates/bool_coder" "$room/crates/bit_times/src"
-for part in src specs proofs; do
-    cp -r "$here/../crates/bool_coder/$part" "$room/crates/bool_coder"
-done
-printf 'bool_coder:\nbit_times staticlib: bool_coder\n' > "$room/crates.txt"
+copy_crates bool_coder
+echo 'bit_times staticlib: bool_coder' >> "$room/crates.txt"
+mkdir -p "$room/crates/bit_times/src"
 cat > "$room/crates/bit_times/src/lib.rt" <<'END'
 #![tactic(auto)]
 

@@ -1,14 +1,7 @@
 #!/bin/sh
 # Times the decoding of whole clips next to vpxdec and ffmpeg, and profiles it: bench/decode.sh [CLIP ..]. README.md says more.
-set -eu
-here=$(cd "$(dirname "$0")" && pwd)
-crate=$here/../crates/vp8serve
-clips=${XDG_CACHE_HOME:-$HOME/.cache}/wokureti
-for tool in vpxenc vpxdec ffmpeg /usr/bin/time; do
-    command -v "$tool" > /dev/null || { echo "$tool is missing: install vpx-tools, ffmpeg and time" >&2; exit 1; }
-done
-room=$(mktemp -d)
-trap 'rm -rf "$room"' EXIT
+. "$(dirname "$0")/prologue.sh"
+need vpxenc vpxdec ffmpeg /usr/bin/time
 
 # Makes a clip of this name from an ffmpeg source, this number of frames and kilobits a second, with these further options of
 # vpxenc, if that was not done before.
@@ -37,15 +30,15 @@ make_clip version-3-360p "$(zoom 640x360)" 300 1000 --profile=3
 make_clip partitions-8-720p "$(zoom 1280x720)" 300 2500 --token-parts=3
 [ $# -gt 0 ] || set -- zoom-360p zoom-720p zoom-1080p flat-720p noise-360p keys-360p version-3-360p partitions-8-720p
 
-# For x86-64-v2, and for what serve.sh builds for on this machine, which comes last, so that serve.sh finds it. If
-# WOKURETI_CPU names a processor, only for that one.
-"$here/../serve.sh" < /dev/null
-own=$(cat "$crate/out/built")
+# For x86-64-v2, and for what build.py builds for on this machine, which comes last, so that bin/ has it. If WOKURETI_CPU names a
+# processor, only for that one.
+build
+own=$(PYTHONPATH="$top" python3 -c 'import build; print(build.cpu_of([]))')
 levels=$own
 [ -n "${WOKURETI_CPU:-}" ] || [ "$own" = x86-64-v2 ] || levels="x86-64-v2 $own"
 for level in $levels; do
-    WOKURETI_CPU=$level "$here/../serve.sh" < /dev/null
-    cp "$crate/out/vp8serve" "$room/$level"
+    "$top/build.py" --cpu "$level"
+    cp "$top/bin/vp8serve" "$room/$level"
 done
 python3 "$here/decode.py" "$room" "$clips" "${TURNS:-5}" "$levels" "$@"
 

@@ -1,24 +1,19 @@
 #!/bin/sh
 # Times random edits of a long packet list, next to the same on a plain vector. README.md says more.
-set -eu
-here=$(cd "$(dirname "$0")" && pwd)
-program=$here/../bin/vp8serve
+. "$(dirname "$0")/prologue.sh"
 count=${1:-100000}
 edits=${2:-20000}
-room=$(mktemp -d)
-trap 'rm -rf "$room"' EXIT
 
-"$here/../serve.sh" < /dev/null
+build
 rustc -O --edition 2021 -o "$room/plain" "$here/edits.rs" 2> "$room/rustc.log" || { cat "$room/rustc.log"; exit 1; }
 
 python3 - "$room" "$count" "$edits" <<'END'
-import random, struct, sys
+import random, sys
+from library.ivf import ivf
 room, count, edits = sys.argv[1], int(sys.argv[2]), int(sys.argv[3])
 random.seed(6386)
 with open(f"{room}/in.ivf", "wb") as file:
-    file.write(struct.pack("<4sHH4sHHIIII", b"DKIF", 0, 32, b"VP80", 16, 16, 30, 1, count, 0))
-    for stamp in range(count):
-        file.write(struct.pack("<IQ", 3, stamp) + bytes([0x11, 0, 0]))
+    file.write(ivf(16, 16, [bytes([0x11, 0, 0])] * count))
 standing = count
 with open(f"{room}/edits", "w") as file, open(f"{room}/replies", "w") as replies:
     for _ in range(edits):

@@ -1,21 +1,13 @@
 #!/bin/sh
 # Times a fade next to memcpy. README.md says more.
-set -eu
-here=$(cd "$(dirname "$0")" && pwd)
-kit=$(dirname "$(rt doc | head -n 1)")
-room=$(mktemp -d)
-trap 'rm -rf "$room"' EXIT
+. "$(dirname "$0")/prologue.sh"
+find_kit
 
-for crate in pixel_planes script_nodes; do
-    mkdir -p "$room/crates/$crate"
-    for part in src specs proofs; do
-        cp -r "$here/../crates/$crate/$part" "$room/crates/$crate"
-    done
-done
+copy_crates text_words pixel_planes script_nodes
+echo 'fade_times staticlib: script_nodes' >> "$room/crates.txt"
 mkdir -p "$room/crates/fade_times/src"
 sed -i 's/^pub use pictures::apply;/&\npub use rows::fade_row;/' "$room/crates/script_nodes/src/lib.rt"
 sed -i 's/pub(crate) fn fade_row/pub fn fade_row/' "$room/crates/script_nodes/src/rows.rt"
-printf 'pixel_planes:\nscript_nodes: pixel_planes arrayvec thiserror\nfade_times staticlib: script_nodes\n' > "$room/crates.txt"
 cat > "$room/crates/fade_times/src/lib.rt" <<'END'
 #![tactic(auto)]
 

@@ -1,29 +1,23 @@
 #!/bin/sh
 # Times a cached frame: far from the only key packet, and in streams with a key packet every 30 to 300 packets. README.md says more.
-set -eu
-here=$(cd "$(dirname "$0")" && pwd)
-program=${PROGRAM:-$here/../bin/vp8serve}
-room=$(mktemp -d)
-trap 'rm -rf "$room"' EXIT
-[ -n "${PROGRAM:-}" ] || "$here/../serve.sh" < /dev/null
+. "$(dirname "$0")/prologue.sh"
+build
 
 python3 - "$program" "$room" "${1:-1047990}" "${2:-200000}" <<'END'
-import os, random, struct, subprocess, sys, threading, time
+import os, random, subprocess, sys, threading, time
+from library.ivf import ivf
 program, room, far, asked = sys.argv[1], sys.argv[2], int(sys.argv[3]), int(sys.argv[4])
 KEY, INTER = bytes.fromhex("1000009D012A10001000"), bytes.fromhex("110000")
 choose = random.Random(6386)
-
 
 def user_time(child):
     """Seconds that a process has taken."""
     return int(open(f"/proc/{child.pid}/stat").read().rpartition(")")[2].split()[11]) / os.sysconf("SC_CLK_TCK")
 
-
 def times(packets, first, again):
     """Seconds of the frames `first` of a session, and user time of each of the frames `again` after them."""
     with open(f"{room}/in.ivf", "wb") as file:
-        file.write(struct.pack("<4sHH4sHHIIII", b"DKIF", 0, 32, b"VP80", 16, 16, 30, 1, len(packets), 0))
-        file.write(b"".join(struct.pack("<IQ", len(packet), stamp) + packet for stamp, packet in enumerate(packets)))
+        file.write(ivf(16, 16, packets))
     child = subprocess.Popen([program, f"{room}/in.ivf", "-", "-", "--cache", "4096", "--live"], stdin=subprocess.PIPE, stdout=subprocess.PIPE)
 
     def ask(frames):
@@ -43,7 +37,6 @@ def times(packets, first, again):
     child.stdin.close()
     assert child.wait() == 0
     return taken, (after - before) / len(again)
-
 
 for every in (30, 100, 300):
     count = 20 * every

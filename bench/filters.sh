@@ -1,18 +1,11 @@
 #!/bin/sh
 # Times the loop filter next to libvpx's. README.md says more.
-set -eu
-here=$(cd "$(dirname "$0")" && pwd)
-kit=$(dirname "$(rt doc | head -n 1)")
-vpx=$(cc -print-file-name=libvpx.a)
-[ -f "$vpx" ] || { echo "libvpx.a is not here: install libvpx-dev" >&2; exit 1; }
-room=$(mktemp -d)
-trap 'rm -rf "$room"' EXIT
+. "$(dirname "$0")/prologue.sh"
+find_kit
+find_libvpx
 
 mkdir -p "$room/crates/edge_times/src" "$room/crates/filter_times/src"
-for crate in vp8_tables bool_coder intra_predict frame_header mode_parser pixel_planes loop_filter; do
-    cp -r "$here/../crates/$crate" "$room/crates"
-done
-grep -E '^(vp8_tables|bool_coder|intra_predict|frame_header|mode_parser|pixel_planes|loop_filter):' "$here/../crates.txt" > "$room/crates.txt"
+copy_crates vp8_tables bool_coder intra_predict frame_header mode_parser pixel_planes loop_filter
 echo 'edge_times staticlib: loop_filter' >> "$room/crates.txt"
 echo 'filter_times: vp8_tables bool_coder frame_header mode_parser pixel_planes loop_filter' >> "$room/crates.txt"
 sed -i -E 's/^mod (columns_inner|edge_limits|edges|joined_edges);/pub mod \1;/' "$room/crates/loop_filter/src/lib.rt"

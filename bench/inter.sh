@@ -1,24 +1,13 @@
 #!/bin/sh
 # Times inter prediction next to libvpx's. README.md says more.
-set -eu
-here=$(cd "$(dirname "$0")" && pwd)
-kit=$(dirname "$(rt doc | head -n 1)")
-vpx=$(cc -print-file-name=libvpx.a)
-[ -f "$vpx" ] || { echo "libvpx.a is not here: install libvpx-dev" >&2; exit 1; }
-room=$(mktemp -d)
-trap 'rm -rf "$room"' EXIT
+. "$(dirname "$0")/prologue.sh"
+find_kit
+find_libvpx
 
 mkdir -p "$room/crates/inter_times/src" "$room/crates/block_times/src"
-for crate in vp8_tables pixel_planes inter_predict; do
-    cp -r "$here/../crates/$crate" "$room/crates"
-done
-cat > "$room/crates.txt" <<'END'
-vp8_tables: thiserror
-pixel_planes:
-inter_predict: vp8_tables pixel_planes
-inter_times staticlib: inter_predict
-block_times: pixel_planes inter_predict
-END
+copy_crates vp8_tables pixel_planes inter_predict
+echo 'inter_times staticlib: inter_predict' >> "$room/crates.txt"
+echo 'block_times: pixel_planes inter_predict' >> "$room/crates.txt"
 # A plane takes memory, which an exported function has none of: what `block` makes of a window is
 # timed here, and `block` itself in a program.
 sed -i 's/^mod rows;/pub mod rows;/; s/^mod strips;/pub mod strips;/; s/^mod taps;/pub mod taps;/' "$room/crates/inter_predict/src/lib.rt"

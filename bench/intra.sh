@@ -1,23 +1,12 @@
 #!/bin/sh
 # Times the prediction of whole blocks next to libvpx's. README.md says more.
-set -eu
-here=$(cd "$(dirname "$0")" && pwd)
-kit=$(dirname "$(rt doc | head -n 1)")
-vpx=$(cc -print-file-name=libvpx.a)
-[ -f "$vpx" ] || { echo "libvpx.a is not here: install libvpx-dev" >&2; exit 1; }
-room=$(mktemp -d)
-trap 'rm -rf "$room"' EXIT
+. "$(dirname "$0")/prologue.sh"
+find_kit
+find_libvpx
 
 mkdir -p "$room/crates/intra_times/src"
-for crate in vp8_tables intra_predict; do
-    mkdir -p "$room/crates/$crate"
-    for part in src specs proofs; do
-        if [ -d "$here/../crates/$crate/$part" ]; then
-            cp -r "$here/../crates/$crate/$part" "$room/crates/$crate"
-        fi
-    done
-done
-printf 'vp8_tables: thiserror\nintra_predict: vp8_tables\nintra_times staticlib: intra_predict\n' > "$room/crates.txt"
+copy_crates vp8_tables intra_predict
+echo 'intra_times staticlib: intra_predict' >> "$room/crates.txt"
 cat > "$room/crates/intra_times/src/lib.rt" <<'END'
 #![tactic(auto)]
 

@@ -1,24 +1,12 @@
 #!/bin/sh
 # Times the inverse transforms next to libvpx's. README.md says more.
-set -eu
-here=$(cd "$(dirname "$0")" && pwd)
-kit=$(dirname "$(rt doc | head -n 1)")
-vpx=$(cc -print-file-name=libvpx.a)
-[ -f "$vpx" ] || { echo "libvpx.a is not here: install libvpx-dev" >&2; exit 1; }
-room=$(mktemp -d)
-trap 'rm -rf "$room"' EXIT
+. "$(dirname "$0")/prologue.sh"
+find_kit
+find_libvpx
 
 mkdir -p "$room/crates/transform_times/src"
-for crate in vp8_tables bool_coder frame_header transforms; do
-    cp -r "$here/../crates/$crate" "$room/crates"
-done
-cat > "$room/crates.txt" <<'END'
-vp8_tables: thiserror
-bool_coder:
-frame_header: vp8_tables bool_coder arrayvec thiserror
-transforms: vp8_tables bool_coder frame_header
-transform_times staticlib: transforms
-END
+copy_crates vp8_tables bool_coder frame_header transforms
+echo 'transform_times staticlib: transforms' >> "$room/crates.txt"
 cat > "$room/crates/transform_times/src/lib.rt" <<'END'
 #![tactic(auto)]
 

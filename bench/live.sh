@@ -1,22 +1,15 @@
 #!/bin/sh
 # Times a session that is held open over pipes (--live): a cached frame from the newline of its request to its reply, next to the
 # same frame in a list of requests; 100,000 edits whose replies are waited for; and the memory of 1,000,000 piped requests.
-set -eu
-here=$(cd "$(dirname "$0")" && pwd)
-program=$here/../bin/vp8serve
-for tool in ffmpeg python3; do
-    command -v "$tool" > /dev/null || { echo "$tool is not here" >&2; exit 1; }
-done
-room=$(mktemp -d)
-trap 'rm -rf "$room"' EXIT
-"$here/../serve.sh" < /dev/null > /dev/null
+. "$(dirname "$0")/prologue.sh"
+need ffmpeg python3
+build
 ffmpeg -v error -f lavfi -i testsrc=size=640x360:rate=30 -frames:v 30 -c:v libvpx -b:v 1M "$room/clip.ivf"
 
 python3 - "$program" "$room/clip.ivf" "$room" <<'END'
 import os, random, statistics, subprocess, sys, threading, time
 program, clip, room = sys.argv[1:]
 FRAMES, TURNS, EDITS, PIPED = 30, 1000, 100_000, 1_000_000
-
 
 class Live:
     """A session: one line is written, and one reply read."""
@@ -37,7 +30,6 @@ class Live:
         self.child.stdin.close()
         assert self.child.wait() == 0
 
-
 def timed_list(lines, out):
     """Seconds of a run over a list of requests, the least of five."""
     with open(f"{room}/list", "wb") as file:
@@ -49,7 +41,6 @@ def timed_list(lines, out):
         best = min(best, time.perf_counter() - start)
         assert b"refused" not in replies, replies
     return best
-
 
 # Every frame is decoded once, and then comes from the cache.
 first = [b"frame %d\n" % n for n in range(FRAMES)]
@@ -89,7 +80,6 @@ seconds = time.perf_counter() - start
 session.close()
 print(f"{EDITS} edits, each after the last reply: {seconds:.2f} s, {1e6 * seconds / EDITS:.1f} us each, Python's part included")
 
-
 def memory(count):
     """The greatest resident memory in MB of a session that this many requests are piped into, after the last reply."""
     child = subprocess.Popen([program, clip, "-", "-", "--live"], stdin=subprocess.PIPE, stdout=subprocess.PIPE)
@@ -112,7 +102,6 @@ def memory(count):
     child.stdin.close()
     assert child.wait() == 0
     return int(status.split("VmHWM:")[1].split()[0]) / 1000
-
 
 print(f"memory: {memory(1):.2f} MB for 1 piped request, {memory(PIPED):.2f} MB for {PIPED}")
 END

@@ -1,19 +1,10 @@
 #!/bin/sh
 # Times the reading of a key frame's modes next to plain reads of as many bits. README.md says more.
-set -eu
-here=$(cd "$(dirname "$0")" && pwd)
-room=$(mktemp -d)
-trap 'rm -rf "$room"' EXIT
+. "$(dirname "$0")/prologue.sh"
 
 checksum=$(python3 "$here/modes.py" "$@" "$room/input")
-for crate in vp8_tables bool_coder intra_predict frame_header mode_parser pixel_planes stream_files; do
-    mkdir -p "$room/crates/$crate"
-    for part in src specs proofs; do
-        [ ! -d "$here/../crates/$crate/$part" ] || cp -r "$here/../crates/$crate/$part" "$room/crates/$crate"
-    done
-done
+copy_crates vp8_tables bool_coder intra_predict frame_header mode_parser pixel_planes stream_files
 mkdir -p "$room/crates/mode_times/src"
-grep -E '^(vp8_tables|bool_coder|intra_predict|frame_header|mode_parser|pixel_planes|stream_files):' "$here/../crates.txt" > "$room/crates.txt"
 echo 'mode_times: vp8_tables bool_coder intra_predict frame_header mode_parser stream_files' >> "$room/crates.txt"
 cp "$here/modes.rt.txt" "$room/crates/mode_times/src/main.rt"
 (cd "$room/crates/mode_times" && rt run --jobs 1 < "$room/input") > "$room/build.log" 2>&1 || { tail -n 20 "$room/build.log"; exit 1; }

@@ -1,22 +1,18 @@
 #!/bin/sh
 # Times the serving of a 1920x1080 key frame, and a plain fill of planes of its size next to it. README.md says more.
-set -eu
-here=$(cd "$(dirname "$0")" && pwd)
-program=$here/../bin/vp8serve
+. "$(dirname "$0")/prologue.sh"
 frames=${1:-200}
-room=$(mktemp -d)
-trap 'rm -rf "$room"' EXIT
 
-"$here/../serve.sh" < /dev/null
+build
 rustc -O --edition 2021 -o "$room/fill" "$here/fill.rs"
 
 python3 - "$room" "$frames" <<'END'
-import struct, sys
+import sys
+from library.ivf import ivf
 room, frames = sys.argv[1], int(sys.argv[2])
 packet = bytes.fromhex("10 00 00 9D 01 2A 80 07 38 04")
 with open(f"{room}/in.ivf", "wb") as file:
-    file.write(struct.pack("<4sHH4sHHIIII", b"DKIF", 0, 32, b"VP80", 1920, 1080, 30, 1, frames, 0))
-    file.writelines(struct.pack("<IQ", len(packet), n) + packet for n in range(frames))
+    file.write(ivf(1920, 1080, [packet] * frames))
 with open(f"{room}/requests", "w") as file:
     file.writelines(f"frame {n}\n" for n in range(frames))
 END

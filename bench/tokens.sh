@@ -1,18 +1,9 @@
 #!/bin/sh
 # Times the reading of tokens next to the same algorithm written manually. README.md says more.
-set -eu
-here=$(cd "$(dirname "$0")" && pwd)
-kit=$(dirname "$(rt doc | head -n 1)")
-room=$(mktemp -d)
-trap 'rm -rf "$room"' EXIT
+. "$(dirname "$0")/prologue.sh"
+find_kit
 
-for crate in vp8_tables bool_coder token_parser; do
-    mkdir -p "$room/crates/$crate"
-    for part in src specs proofs; do
-        [ ! -d "$here/../crates/$crate/$part" ] || cp -r "$here/../crates/$crate/$part" "$room/crates/$crate"
-    done
-done
-grep -E '^(vp8_tables|bool_coder|token_parser):' "$here/../crates.txt" > "$room/crates.txt"
+copy_crates vp8_tables bool_coder token_parser
 echo 'token_times staticlib: bool_coder token_parser' >> "$room/crates.txt"
 mkdir -p "$room/crates/token_times/src"
 cat > "$room/crates/token_times/src/lib.rt" <<'END'

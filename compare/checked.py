@@ -18,9 +18,11 @@ import subprocess
 import sys
 import tempfile
 
-from corrupt import padded, verdicts
-from damaged import damage, has_key_tag, is_shown
-from listed import HERE, PROGRAM, facts, records, size_of
+from library.corrupt import padded, verdicts
+from library.damage import damage
+from library.headers import facts
+from library.ivf import has_key_tag, is_shown, records, size_of
+from library.programs import VP8LIST, real_streams
 
 # Findings that are damage begin with one of these after their place; all others are notes.
 DAMAGE = ("refused", "first partition", "token partition", "record")
@@ -139,7 +141,7 @@ PARTITION = re.compile(r"(damage|note): packet \d+: (?:first|token) partition.*"
 
 def past_ends(path):
     """By packet and partition (0 is the first, 1 token partition 0): the bytes that `--check` says are read past its end."""
-    said = subprocess.run([PROGRAM, path, "--check"], capture_output=True, text=True, check=False).stdout
+    said = subprocess.run([VP8LIST, path, "--check"], capture_output=True, text=True, check=False).stdout
     found = collections.defaultdict(dict)
     for packet, partition, count in PAST.findall(said):
         found[int(packet)][int(partition) + 1 if partition else 0] = int(count)
@@ -148,7 +150,7 @@ def past_ends(path):
 
 def differs(path):
     """Whether the findings of a file differ, except for those in partitions; the first that does is printed."""
-    ran = subprocess.run([PROGRAM, path, "--check"], capture_output=True, text=True, check=False)
+    ran = subprocess.run([VP8LIST, path, "--check"], capture_output=True, text=True, check=False)
     text = path.read_bytes()
     packets, theirs = [packet for _, packet in records(text)], list(lines(text))
     partitions = [found.group(1) for line in ran.stdout.splitlines() if (found := PARTITION.fullmatch(line))]
@@ -206,7 +208,7 @@ def ends_by_libvpx(packets, past, lost, totals):
 def damaged_streams(count, seed):
     """Compares the findings of damaged streams; how many differ, and packets by who refuses them."""
     choose = random.Random(seed)
-    clips = [HERE.parent / "examples/mandelbrot.ivf", *sorted((HERE.parent / "crates/gate_clips/data").glob("*.ivf"))]
+    clips = real_streams()
     wrong, totals = 0, collections.Counter()
     with tempfile.TemporaryDirectory() as room:
         path = pathlib.Path(room) / "damaged.ivf"

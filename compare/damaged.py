@@ -6,7 +6,7 @@ Run manually, not in the gate: damaged.py [STREAMS] [SEED]. It needs the built p
 moved and with bytes changed. The replies tell which packets are sound: each run of them from a key packet on is decoded by
 vpxdec as a stream of its own, and every frame that it shows must be the one that was served.
 
-Behind the end of a partition all bits are 0. vpxdec stops there, and ffmpeg reads on in the next partition; so both get
+After the end of a partition all bits are 0. vpxdec stops there, and ffmpeg reads on in the next partition; so both get
 the packets with zeros after each partition, which changes no frame of ours, and the script sees that it does not.
 
 All bits of a partition that begins with FF are 1. vpxdec loses the top of its window there and reads others. A frame that
@@ -25,12 +25,12 @@ import subprocess
 import sys
 import tempfile
 
-from bits import Reader, ivf
-from clips import SIZES, SOURCES, drawn, packets_of, settings
-from run import PROGRAM, run
+from library.clips import SIZES, SOURCES, drawn, settings
+from library.damage import begins_with_ff, damage, padded
+from library.ivf import has_key_tag, is_shown, ivf, packets_of
+from library.programs import VP8SERVE, run
 
 FRAMES = 10
-PADDING = 4000
 STREAMS_OF_A_CLIP = 20
 
 
@@ -45,102 +45,6 @@ def coded(room, choose):
     except subprocess.CalledProcessError:
         return None
     return width, height, list(packets_of((room / "coded.ivf").read_bytes()))
-
-
-def damage(packets, choose):
-    """The packets with one to three faults."""
-    packets = list(packets)
-    for _ in range(choose.randrange(1, 4)):
-        place = choose.randrange(len(packets))
-        packet, kind = packets[place], choose.randrange(6)
-        if kind == 0:
-            packets[place] = packet[: choose.randrange(len(packet) + 1)]
-        elif kind == 1 and len(packets) > 1:
-            del packets[place]
-        elif kind == 2:
-            packets.insert(place, packet)
-        elif kind == 3:
-            packets.insert(choose.randrange(len(packets)), packets.pop(place))
-        elif packet:
-            text = bytearray(packet)
-            first = 0 if kind == 4 else min(10, len(text) - 1)
-            for _ in range(choose.randrange(1, 4)):
-                text[choose.randrange(first, len(text))] = choose.randrange(256)
-            packets[place] = bytes(text)
-    return packets
-
-
-def has_key_tag(packet):
-    return len(packet) >= 3 and packet[0] & 1 == 0
-
-
-def partition_count(reader, is_key):
-    """How many token partitions a first partition says that there are."""
-    reader.number(2 if is_key else 0)
-    if reader.number(1):
-        updates_map, updates_data = reader.number(1), reader.number(1)
-        reader.number(updates_data)
-        for size in ([7] * 4 + [6] * 4) * updates_data:
-            if reader.number(1):
-                reader.number(size + 1)
-        for _ in range(3 * updates_map):
-            if reader.number(1):
-                reader.number(8)
-    reader.number(10)
-    if reader.number(1) and reader.number(1):
-        for _ in range(8):
-            if reader.number(1):
-                reader.number(7)
-    return 1 << reader.number(2)
-
-
-def partitions_of(packet):
-    """A sound packet's parts: what stands before its first partition, the first partition and the token partitions.
-
-    None for a dropped frame, and for a broken packet that no reply names: one that is not shown, with no frame after it up to
-    the next key packet.
-    """
-    if len(packet) < 3:
-        return None
-    tag = struct.unpack("<I", packet[:3] + b"\0")[0]
-    start = 3 if tag & 1 else 10
-    end = start + (tag >> 5)
-    if end > len(packet):
-        return None
-    first = packet[start:end]
-    count = partition_count(Reader(first), not tag & 1)
-    place = end + 3 * (count - 1)
-    if place > len(packet):
-        return None
-    texts = []
-    for at in range(end, place, 3):
-        size = struct.unpack("<I", packet[at : at + 3] + b"\0")[0]
-        texts.append(packet[place : place + size])
-        place += size
-    return packet[:start], first, texts + [packet[place:]]
-
-
-def padded(packet):
-    """A packet with zeros after each of its partitions, if it has any."""
-    parts = partitions_of(packet)
-    if parts is None:
-        return packet
-    head, first, texts = parts
-    texts = [text + bytes(PADDING) for text in texts]
-    first += bytes(PADDING)
-    sizes = b"".join(struct.pack("<I", len(text))[:3] for text in texts[:-1])
-    tag = struct.unpack("<I", head[:3] + b"\0")[0]
-    return struct.pack("<I", tag & 31 | len(first) << 5)[:3] + head[3:] + first + sizes + b"".join(texts)
-
-
-def begins_with_ff(packet):
-    """Whether one of the partitions of a sound packet begins with the byte FF."""
-    parts = partitions_of(packet)
-    return parts is not None and any(text[:1] == b"\xff" for text in [parts[1], *parts[2]])
-
-
-def is_shown(packet):
-    return len(packet) < 3 or packet[0] & 16 != 0
 
 
 def frames_in(text, replies):
@@ -209,7 +113,7 @@ def served_of(room, width, height, packets):
     """The served frames of a stream by their numbers, and the replies."""
     (room / "in.ivf").write_bytes(ivf(width, height, packets))
     (room / "requests").write_text("".join(f"frame {n}\n" for n in range(sum(map(is_shown, packets)))))
-    words = [PROGRAM, room / "in.ivf", room / "requests", room / "out.y4m"]
+    words = [VP8SERVE, room / "in.ivf", room / "requests", room / "out.y4m"]
     replies = subprocess.run([str(word) for word in words], check=True, stdout=subprocess.PIPE).stdout.decode().split("\n")
     return frames_in((room / "out.y4m").read_bytes(), replies), replies
 

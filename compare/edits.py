@@ -13,7 +13,9 @@ import subprocess
 import sys
 import tempfile
 
-PROGRAM = pathlib.Path(__file__).resolve().parent.parent / "bin/vp8serve"
+from library.ivf import ivf
+from library.programs import VP8SERVE
+
 TOP = 2**64
 
 
@@ -122,12 +124,9 @@ def compare(room, seed):
     random.seed(seed)
     packets = [random.choice(PACKETS) for _ in range(random.randrange(9))]
     lines = [random_line(10) for _ in range(60)]
-    with open(f"{room}/in.ivf", "wb") as file:
-        file.write(struct.pack("<4sHH4sHHIIII", b"DKIF", 0, 32, b"VP80", 16, 16, 30, 1, len(packets), 0))
-        for stamp, packet in enumerate(packets):
-            file.write(struct.pack("<IQ", len(packet), stamp) + packet)
+    pathlib.Path(f"{room}/in.ivf").write_bytes(ivf(16, 16, packets))
     pathlib.Path(f"{room}/requests").write_text("\n".join(lines))
-    ran = subprocess.run([PROGRAM, f"{room}/in.ivf", f"{room}/requests"], check=True, capture_output=True, text=True)
+    ran = subprocess.run([VP8SERVE, f"{room}/in.ivf", f"{room}/requests"], check=True, capture_output=True, text=True)
     model = Model(packets)
     wanted = [model.answer(line) for line in lines]
     told = ["decoded" if reply.startswith("decoded ") else reply for reply in ran.stdout.splitlines()]
@@ -184,11 +183,9 @@ def compare_long(room, seed):
     packets = [random.choice(PACKETS) for _ in range(random.randrange(1000, 5001))]
     lines = [long_line(len(packets)) for _ in range(60)]
     lines += [f"frame {random.randrange(len(packets))}" for _ in range(3)]
-    with open(f"{room}/in.ivf", "wb") as file:
-        file.write(struct.pack("<4sHH4sHHIIII", b"DKIF", 0, 32, b"VP80", 16, 16, 30, 1, len(packets), 0))
-        file.write(b"".join(struct.pack("<IQ", len(packet), stamp) + packet for stamp, packet in enumerate(packets)))
+    pathlib.Path(f"{room}/in.ivf").write_bytes(ivf(16, 16, packets))
     pathlib.Path(f"{room}/requests").write_text("\n".join(lines))
-    words = [PROGRAM, "--save", f"{room}/saved.ivf", f"{room}/in.ivf", f"{room}/requests"]
+    words = [VP8SERVE, "--save", f"{room}/saved.ivf", f"{room}/in.ivf", f"{room}/requests"]
     ran = subprocess.run(words, check=True, capture_output=True, text=True)
     model = LongModel(packets)
     wanted = [model.answer(line) for line in lines]

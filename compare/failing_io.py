@@ -14,9 +14,9 @@ import sys
 import tempfile
 from dataclasses import dataclass
 
-from bits import ivf
-from run import PROGRAM
-from traced import EINTR, EIO, Program, traced
+from library.ivf import ivf
+from library.programs import VP8SERVE
+from library.traced import EINTR, EIO, Program, traced
 
 KEY = bytes.fromhex("1000009D012A40003000")
 INTER = bytes.fromhex("110000")
@@ -245,5 +245,5 @@ def main():
 
 
 if __name__ == "__main__":
-    PROGRAM_FILE = Program(str(PROGRAM))
+    PROGRAM_FILE = Program(str(VP8SERVE))
     sys.exit(main())

@@ -17,7 +17,8 @@ import subprocess
 import sys
 import tempfile
 
-from listed import HERE, PROGRAM, records
+from library.ivf import records
+from library.programs import VP8LIST, real_streams
 
 
 def positions(text):
@@ -100,12 +101,12 @@ def ran(*words):
 
 def frames(path):
     """The frames of a stream, one list of hashes, whatever their time stamps."""
-    return [line.rsplit(",", 1)[-1] for line in ran(PROGRAM, path, "--hash").stdout.splitlines() if not line.startswith("#")]
+    return [line.rsplit(",", 1)[-1] for line in ran(VP8LIST, path, "--hash").stdout.splitlines() if not line.startswith("#")]
 
 
 def reports(path):
     """Who says that a stream is damaged."""
-    said = {"vp8list": ran(PROGRAM, path, "--check").returncode != 0}
+    said = {"vp8list": ran(VP8LIST, path, "--check").returncode != 0}
     if "VP8LIST_BEFORE" in os.environ:
         said["vp8list before"] = ran(os.environ["VP8LIST_BEFORE"], path, "--check").returncode != 0
     shown = ran("vpxdec", "--codec=vp8", "--i420", "-o", "/dev/null", path)
@@ -149,7 +150,7 @@ def main():
     is_sound = words[:1] == ["--sound"]
     words = words[is_sound:]
     count, seed = int(words[0]), int(words[1]) if words[1:] else 1
-    clips = [HERE.parent / "examples/mandelbrot.ivf", *sorted((HERE.parent / "crates/gate_clips/data").glob("*.ivf"))]
+    clips = real_streams()
     paths = [pathlib.Path(word) for word in words[2:]] or [path for path in clips if path.stat().st_size >= 4000]
     if is_sound:
         sound(paths)

@@ -21,7 +21,7 @@ import tempfile
 from dataclasses import dataclass
 
 sys.dont_write_bytecode = True
-from traced import Program, traced  # noqa: E402
+from library.traced import Program, traced  # noqa: E402
 
 GROWTHS = pathlib.Path(__file__).resolve().parent.parent / "crates/gate_memory"
 

@@ -13,15 +13,13 @@ import subprocess
 import sys
 import tempfile
 
-HERE = pathlib.Path(__file__).resolve().parent
-PROGRAM = HERE.parent / "bin/vp8list"
-CLIPS = HERE.parent / "crates/gate_clips/data"
+from library.programs import CLIPS, EXAMPLE, VP8LIST
 # The time stamps of the file, each frame once at its own size, and no line with ffmpeg's version.
 FLAGS = ["-fps_mode", "passthrough", "-autoscale", "0", "-bitexact", "-f", "framemd5", "-"]
 
 
 def ours(path):
-    run = subprocess.run([PROGRAM, path, "--hash"], capture_output=True, text=True)
+    run = subprocess.run([VP8LIST, path, "--hash"], capture_output=True, text=True)
     refused = run.stderr and all(line.startswith("vp8list: packet ") for line in run.stderr.splitlines())
     if run.returncode != (1 if refused else 0):
         sys.exit(f"{path}: status {run.returncode}: {run.stderr}")
@@ -84,7 +82,7 @@ def made(room, clips):
 
 def main():
     paths = [pathlib.Path(name) for name in sys.argv[1:]]
-    clips = paths or sorted(CLIPS.glob("*.ivf")) + [HERE.parent / "examples/mandelbrot.ivf"]
+    clips = paths or sorted(CLIPS.glob("*.ivf")) + [EXAMPLE]
     totals = {}
     with tempfile.TemporaryDirectory() as room:
         cases = [("as it is", path) for path in clips]

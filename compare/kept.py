@@ -9,12 +9,13 @@ README.md says more.
 import collections
 import pathlib
 import random
-import struct
 import subprocess
 import sys
 import tempfile
 
-from clips import PROGRAM, packets_of, run, settings
+from library.clips import settings
+from library.ivf import ivf, packets_of
+from library.programs import VP8SERVE, run
 
 WIDTH, HEIGHT = 48, 32
 CLIPS, FRAMES, LINES = 6, 12, 24
@@ -31,17 +32,14 @@ def clip_packets(room, choose):
 
 
 def write_stream(path, packets):
-    with open(path, "wb") as file:
-        file.write(struct.pack("<4sHH4sHHIIII", b"DKIF", 0, 32, b"VP80", WIDTH, HEIGHT, 30, 1, len(packets), 0))
-        for packet in packets:
-            file.write(struct.pack("<IQ", len(packet), 0) + packet)
+    path.write_bytes(ivf(WIDTH, HEIGHT, packets, [0] * len(packets)))
 
 
 def served(room, packets, requests, *words):
     """The replies, and the bytes of each frame that was served."""
     write_stream(room / "in.ivf", packets)
     (room / "requests").write_text("".join(f"{line}\n" for line in requests))
-    command = [PROGRAM, room / "in.ivf", room / "requests", room / "out.y4m", *words]
+    command = [VP8SERVE, room / "in.ivf", room / "requests", room / "out.y4m", *words]
     replies = subprocess.run(command, check=True, capture_output=True, text=True).stdout.splitlines()
     text = (room / "out.y4m").read_bytes()
     text = text[text.find(b"\n") + 1 :]

@@ -13,99 +13,12 @@ import subprocess
 import sys
 import tempfile
 
-from bits import Reader
-from damaged import damage
+from library.damage import damage
+from library.headers import facts
+from library.ivf import ivf, records, size_of
+from library.programs import VP8LIST, real_streams
 
-HERE = pathlib.Path(__file__).resolve().parent
-PROGRAM = HERE.parent / "bin/vp8list"
 COLUMNS = "packet frame stamp bytes kind show version size first partitions quantizer level last golden altref cause byte scale color clamp"
-
-
-def records(text):
-    """The time stamp and the bytes of each whole record."""
-    place, = struct.unpack_from("<H", text, 6)
-    while place + 12 <= len(text):
-        size, stamp = struct.unpack_from("<IQ", text, place)
-        if place + 12 + size > len(text):
-            return
-        yield stamp, text[place + 12 : place + 12 + size]
-        place += 12 + size
-
-
-def flagged(reader, count):
-    if reader.number(1):
-        reader.number(count + 1)
-
-
-def fields(packet, is_key, first):
-    """Token partitions, quantizer index, filter level, references and the two color bits (RFC 6386, section 19.2), or a cause."""
-    start = 10 if is_key else 3
-    if first > len(packet) - start:
-        return "FirstPartition"
-    reader = Reader(packet[start : start + first])
-    colors = [reader.number(1), reader.number(1)] if is_key else ["-", "-"]
-    if reader.number(1):
-        update_map, update_data = reader.number(1), reader.number(1)
-        if update_data:
-            reader.number(1)
-            for count in [7] * 4 + [6] * 4:
-                flagged(reader, count)
-        if update_map:
-            for _ in range(3):
-                if reader.number(1):
-                    reader.number(8)
-    reader.number(1)
-    level = reader.number(6)
-    reader.number(3)
-    if reader.number(1) and reader.number(1):
-        for _ in range(8):
-            flagged(reader, 6)
-    count = 1 << reader.number(2)
-    place = start + first + 3 * (count - 1)
-    if place > len(packet):
-        return "TokenSizes"
-    for number in range(count - 1):
-        at = start + first + 3 * number
-        place += int.from_bytes(packet[at : at + 3], "little")
-        if place > len(packet):
-            return f"TokenPartition {number}"
-    quantizer = reader.number(7)
-    for _ in range(5):
-        flagged(reader, 4)
-    last, golden, altref = "new", "new", "new"
-    if not is_key:
-        new_golden, new_altref = reader.number(1), reader.number(1)
-        golden = "new" if new_golden else ["-", "last", "altref", "-"][reader.number(2)]
-        altref = "new" if new_altref else ["-", "last", "golden", "-"][reader.number(2)]
-        reader.number(3)
-        last = "new" if reader.number(1) else "-"
-    return [count, quantizer, level, last, golden, altref, *colors]
-
-
-def facts(packet, has_key):
-    """The columns after the tag's, or a cause, and whether a header has been accepted."""
-    if not packet:
-        return (["-"] * 8 if has_key else "NoKeyFrame"), has_key
-    if len(packet) < 3:
-        return "ShortPacket", has_key
-    tag = int.from_bytes(packet[:3], "little")
-    is_key = tag % 2 == 0
-    if is_key and len(packet) < 10:
-        return "ShortPacket", has_key
-    if tag >> 1 & 7 > 3:
-        return "Version", has_key
-    if is_key and packet[3:6] != b"\x9d\x01\x2a":
-        return "StartCode", has_key
-    if is_key and 0 in size_of(packet):
-        return "Size", has_key
-    if not is_key and not has_key:
-        return "NoKeyFrame", has_key
-    found = fields(packet, is_key, tag >> 5)
-    return found, has_key or not isinstance(found, str)
-
-
-def size_of(packet):
-    return [side & 0x3FFF for side in struct.unpack_from("<HH", packet, 6)]
 
 
 def lines(text):
@@ -135,7 +48,7 @@ def lines(text):
 
 def differs(path):
     """Whether the lists of a file differ; the first line that does is printed."""
-    ran = subprocess.run([PROGRAM, path], capture_output=True, text=True, check=False)
+    ran = subprocess.run([VP8LIST, path], capture_output=True, text=True, check=False)
     ours, theirs = ran.stdout.splitlines(), list(lines(path.read_bytes()))
     if ran.returncode == 0 and ours == theirs:
         return False
@@ -147,7 +60,7 @@ def differs(path):
 def damaged_streams(count, seed):
     """The lists of damaged streams; how many differ."""
     choose = random.Random(seed)
-    clips = [HERE.parent / "examples/mandelbrot.ivf", *sorted((HERE.parent / "crates/gate_clips/data").glob("*.ivf"))]
+    clips = real_streams()
     wrong = 0
     with tempfile.TemporaryDirectory() as room:
         path = pathlib.Path(room) / "damaged.ivf"
@@ -155,8 +68,7 @@ def damaged_streams(count, seed):
             text = choose.choice(clips).read_bytes()
             found = list(records(text))
             packets = damage([packet for _, packet in found], choose)
-            body = b"".join(struct.pack("<IQ", len(packet), stamp) + packet for stamp, packet in enumerate(packets))
-            path.write_bytes(text[:32] + body)
+            path.write_bytes(text[:32] + ivf(0, 0, packets)[32:])
             wrong += differs(path)
     return wrong
 

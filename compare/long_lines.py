@@ -12,9 +12,9 @@ import subprocess
 import sys
 import tempfile
 
-from bits import ivf
+from library.ivf import ivf
+from library.programs import VP8SERVE
 
-PROGRAM = pathlib.Path(__file__).resolve().parent.parent / "bin/vp8serve"
 LIMIT = 1 << 30
 PIECE = 1 << 20
 MEMORY = 300 << 20
@@ -36,7 +36,7 @@ def limit_memory():
 def run(begin, length, arguments=(), memory=None):
     """The status, replies and messages of a run over an insertion, `use 0`, a long line, `count` and `stats`."""
     child = subprocess.Popen(
-        [PROGRAM, "--live", *arguments],
+        [VP8SERVE, "--live", *arguments],
         stdin=subprocess.PIPE,
         stdout=subprocess.PIPE,
         stderr=subprocess.PIPE,

@@ -7,12 +7,13 @@ ffmpeg, and the long tables of RFC 6386 as a file of 3,012 bytes, with which the
 
 import pathlib
 import random
-import subprocess
 import sys
 import tempfile
 
-from bits import B_PRED, ivf, key_packet, tables_of
-from run import PROGRAM, frames_of, run
+from library.bits import B_PRED, key_packet, tables_of
+from library.frames import frames_of
+from library.ivf import ivf
+from library.programs import VP8SERVE, run
 
 
 def random_mode(source, share):
@@ -26,7 +27,7 @@ def compare(room, tables, width, height, modes):
     size = width * height + 2 * ((width + 1) // 2) * ((height + 1) // 2)
     (room / "in.ivf").write_bytes(ivf(width, height, [key_packet(tables, width, height, modes)]))
     (room / "requests").write_text("frame 0\n")
-    run([PROGRAM, room / "in.ivf", room / "requests", room / "out.y4m"])
+    run([VP8SERVE, room / "in.ivf", room / "requests", room / "out.y4m"])
     run(["vpxdec", "--codec=vp8", "--i420", "-o", room / "vpxdec.yuv", room / "in.ivf"])
     run(["ffmpeg", "-y", "-v", "error", "-i", room / "in.ivf", "-pix_fmt", "yuv420p", "-f", "rawvideo", room / "ffmpeg.yuv"])
     served = frames_of((room / "out.y4m").read_bytes(), size)

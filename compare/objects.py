@@ -5,20 +5,18 @@ Run manually, not in the gate; without arguments it reads the real streams and t
 """
 
 import json
-import pathlib
 import subprocess
 import sys
 
-TOP = pathlib.Path(__file__).resolve().parent.parent
-PROGRAM = TOP / "bin/vp8list"
+from library.programs import CLIPS, TOP, VP8LIST
 
 
 def lines(*arguments):
-    return subprocess.run([PROGRAM, *arguments], capture_output=True, text=True, check=True).stdout.splitlines()
+    return subprocess.run([VP8LIST, *arguments], capture_output=True, text=True, check=True).stdout.splitlines()
 
 
 def main():
-    paths = sys.argv[1:] or [*sorted((TOP / "crates/gate_clips/data").glob("*.ivf")), TOP / "crates/vp8list/data/damaged.ivf"]
+    paths = sys.argv[1:] or [*sorted(CLIPS.glob("*.ivf")), TOP / "crates/vp8list/data/damaged.ivf"]
     count = wrong = 0
     for path in paths:
         names, *rows = [line.split("\t") for line in lines(path)]

@@ -13,12 +13,12 @@ import subprocess
 import sys
 import tempfile
 
-from bits import Reader, ivf
-from clips import packets_of
-from damaged import decoded, has_key_tag, padded, partition_count
-from run import PROGRAM
+from damaged import decoded
+from library.bits import Reader
+from library.damage import padded, partition_count
+from library.ivf import has_key_tag, ivf, packets_of
+from library.programs import CLIPS, VP8SERVE
 
-DATA = PROGRAM.parent.parent / "crates/gate_clips/data"
 CLIPS = ["small.ivf", "still.ivf", "two-partitions.ivf"]
 
 
@@ -47,7 +47,7 @@ def answers(room, stream, lines):
     """The replies to these lines, and the frames that were served, in their order."""
     (room / "in.ivf").write_bytes(stream)
     (room / "requests").write_text("".join(f"{line}\n" for line in lines))
-    words = [PROGRAM, room / "in.ivf", room / "requests", room / "out.y4m"]
+    words = [VP8SERVE, room / "in.ivf", room / "requests", room / "out.y4m"]
     replies = subprocess.run([str(word) for word in words], check=True, stdout=subprocess.PIPE).stdout.decode().splitlines()
     text = (room / "out.y4m").read_bytes()
     start, served = text.index(b"\n") + 1, sum(reply.startswith("served") for reply in replies)
@@ -57,7 +57,7 @@ def answers(room, stream, lines):
 
 def compare(room, name, told):
     """Compares each prefix of each packet of a clip, and returns the number of differences."""
-    stream = (DATA / name).read_bytes()
+    stream = (CLIPS / name).read_bytes()
     width, height = struct.unpack("<HH", stream[12:16])
     packets = list(packets_of(stream))
     cut = [(place, packet[:length]) for place, packet in enumerate(packets) for length in range(len(packet))]

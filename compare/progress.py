@@ -13,8 +13,8 @@ import sys
 import tempfile
 import threading
 
-from bits import ivf
-from listed import PROGRAM
+from library.ivf import ivf
+from library.programs import VP8LIST
 
 COUNT = 500
 KEY, INTER = bytes.fromhex("1000009D012A80073804"), bytes.fromhex("110000")
@@ -36,7 +36,7 @@ def shown(path, option):
 
     reader = threading.Thread(target=read)
     reader.start()
-    ended = subprocess.run([PROGRAM, path, option], stdin=subprocess.DEVNULL, stdout=subprocess.PIPE, stderr=terminal)
+    ended = subprocess.run([VP8LIST, path, option], stdin=subprocess.DEVNULL, stdout=subprocess.PIPE, stderr=terminal)
     os.close(terminal)
     reader.join()
     os.close(ours)
@@ -63,11 +63,11 @@ def main():
         short.write_bytes(ivf(16, 16, [bytes.fromhex("1000009D012A10001000"), INTER]))
         for path, option in ((long, "--check"), (long, "--hash"), (short, "--check"), (long, None)):
             if option is None:
-                ended = subprocess.run([PROGRAM, path, "--check"], capture_output=True)
+                ended = subprocess.run([VP8LIST, path, "--check"], capture_output=True)
                 why = f"standard error {ended.stderr!r}" if ended.stderr else None
             else:
                 text, output, status = shown(path, option)
-                plain = subprocess.run([PROGRAM, path, option], capture_output=True)
+                plain = subprocess.run([VP8LIST, path, option], capture_output=True)
                 why = fault_of(text, path == long)
                 if (output, status) != (plain.stdout, plain.returncode):
                     why = "another output than without a terminal"

@@ -13,10 +13,10 @@ import random
 import sys
 import tempfile
 
-from bits import ivf
-from listed import PROGRAM
+from library.ivf import ivf
+from library.programs import VP8LIST
+from library.traced import Program, traced
 from refused_memory import HEIGHT, INTER, KEY, WIDTH, clip_packets, refusals_of
-from traced import Program, traced
 
 OPTIONS = ([], ["--json"], ["--hash"], ["--check"], ["--check", "--json"], ["--check", "--strict"], ["--check", "--tables", "tables.bin"], ["--hash", "--tables", "tables.bin"])
 NO_MEMORY = {"vp8list: no memory\n", "vp8list: input NoMemory\n"}
@@ -38,7 +38,7 @@ class Bench:
     """A folder in which the program is run."""
 
     def __init__(self, room):
-        self.room, self.program = room, Program(str(PROGRAM))
+        self.room, self.program = room, Program(str(VP8LIST))
         (room / "tables.bin").write_bytes(bytes(1 + n % 255 for n in range(3012)))
 
     def run(self, words, refuses):

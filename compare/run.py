@@ -8,12 +8,13 @@ no decoder finds a partition cut.
 
 import pathlib
 import struct
-import subprocess
 import sys
 import tempfile
 
-HERE = pathlib.Path(__file__).resolve().parent
-PROGRAM = HERE.parent / "bin/vp8serve"
+from library.frames import frames_of
+from library.ivf import ivf
+from library.programs import VP8SERVE, run
+
 SIZES = [(1, 1), (2, 3), (16, 16), (17, 33), (64, 48), (175, 143), (176, 144), (1920, 1080)]
 
 
@@ -25,30 +26,11 @@ def key_packet(width, height, version):
     return start + bytes(first + tokens)
 
 
-def ivf(width, height, packets):
-    header = struct.pack("<4sHH4sHHIIII", b"DKIF", 0, 32, b"VP80", width, height, 30, 1, len(packets), 0)
-    return header + b"".join(struct.pack("<IQ", len(p), i) + p for i, p in enumerate(packets))
-
-
-def frames_of(text, size):
-    """The frames of a YUV4MPEG2 text, one after another, without their marks."""
-    rest, frames = text.split(b"\n", 1)[1], b""
-    while rest:
-        if not rest.startswith(b"FRAME\n"):
-            raise ValueError("no frame where one should stand")
-        frames, rest = frames + rest[6 : 6 + size], rest[6 + size :]
-    return frames
-
-
-def run(words):
-    subprocess.run([str(word) for word in words], check=True, stdout=subprocess.PIPE, stderr=subprocess.PIPE)
-
-
 def compare(room, width, height, version):
     stream, requests = room / "in.ivf", room / "requests"
     stream.write_bytes(ivf(width, height, [key_packet(width, height, version)] * 2))
     requests.write_text("frame 0\nframe 1\n")
-    run([PROGRAM, stream, requests, room / "out.y4m"])
+    run([VP8SERVE, stream, requests, room / "out.y4m"])
     run(["vpxdec", "--codec=vp8", "--i420", "-o", room / "vpxdec.yuv", stream])
     run(["ffmpeg", "-y", "-v", "error", "-i", stream, "-pix_fmt", "yuv420p", "-f", "rawvideo", room / "ffmpeg.yuv"])
     size = width * height + 2 * ((width + 1) // 2) * ((height + 1) // 2)

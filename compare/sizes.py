@@ -12,8 +12,9 @@ import subprocess
 import sys
 import tempfile
 
-from clips import PROGRAM, drawn, packets_of, run
-from run import ivf
+from library.clips import drawn
+from library.ivf import ivf, packets_of
+from library.programs import VP8SERVE, run
 
 LONGEST_SIDE = 40
 PIECES, FRAMES = 5, 4
@@ -57,7 +58,7 @@ def wrong_frames(room, choose, pieces, first):
     size = frames[order[0]][0]
     (room / "in.ivf").write_bytes(ivf(LONGEST_SIDE, LONGEST_SIDE, packets))
     (room / "requests").write_text("".join(f"frame {n}\n" for n in order))
-    command = [PROGRAM, room / "in.ivf", room / "requests", room / "out.y4m", f"--cache={choose.randrange(1, 9)}"]
+    command = [VP8SERVE, room / "in.ivf", room / "requests", room / "out.y4m", f"--cache={choose.randrange(1, 9)}"]
     replies = subprocess.run(command, check=True, capture_output=True, text=True).stdout.splitlines()
     wanted = [f"served {n}" if frames[n][0] == size else "refused SizeDiffers" for n in order]
     text = (room / "out.y4m").read_bytes()

@@ -12,8 +12,10 @@ import subprocess
 import sys
 import tempfile
 
-PROGRAM = pathlib.Path(__file__).resolve().parent.parent / "bin/vp8serve"
 NAMED = "with --explain the next line says why, and what to do\n"
+
+from library.programs import VP8SERVE
+
 OTHER = b"DKIF\0\0\x20\0\x1bcAB\x10\0\x10\0\x1e\0\0\0\1\0\0\0" + bytes(8)
 
 # Arguments, and the messages without the line that names `--explain`, and whether it follows on a terminal.
@@ -36,7 +38,7 @@ CASES = [
 def on_terminal(arguments, folder):
     """What the program writes to standard error if that is a terminal."""
     ours, terminal = pty.openpty()
-    subprocess.run([PROGRAM, *arguments], cwd=folder, stdin=subprocess.DEVNULL, stdout=subprocess.DEVNULL, stderr=terminal)
+    subprocess.run([VP8SERVE, *arguments], cwd=folder, stdin=subprocess.DEVNULL, stdout=subprocess.DEVNULL, stderr=terminal)
     os.close(terminal)
     text = b""
     try:
@@ -50,7 +52,7 @@ def on_terminal(arguments, folder):
 
 def in_pipe(arguments, folder):
     """What the program writes to standard error if that is a pipe."""
-    ran = subprocess.run([PROGRAM, *arguments], cwd=folder, stdin=subprocess.DEVNULL, stdout=subprocess.DEVNULL, stderr=subprocess.PIPE)
+    ran = subprocess.run([VP8SERVE, *arguments], cwd=folder, stdin=subprocess.DEVNULL, stdout=subprocess.DEVNULL, stderr=subprocess.PIPE)
     return ran.stderr.decode()
 
 

@@ -8,12 +8,15 @@ last line is the same of three clips, one after another.
 
 import hashlib
 import pathlib
-import subprocess
+import sys
 
-from bits import ivf
-from clips import drawn, kinds_of, packets_of
+sys.path.insert(0, str(pathlib.Path(__file__).resolve().parent.parent))
 
-CRATE = pathlib.Path(__file__).resolve().parent.parent / "crates" / "gate_clips"
+from library.clips import drawn, kinds_of  # noqa: E402
+from library.ivf import ivf, packets_of  # noqa: E402
+from library.programs import TOP, run  # noqa: E402
+
+CRATE = TOP / "crates/gate_clips"
 LIMIT = 60_000
 TEST, FRACTAL, NOISE = "testsrc2", "mandelbrot", "testsrc2,noise=alls=60:allf=t"
 LIFE = "life=mold=10:ratio=0.4:death_color=#C83232:life_color=#00ff00,scale"
@@ -51,10 +54,6 @@ CLIPS = [
 
 # Three clips of one size, which are the sources of one session.
 SPLICED = ["error-resilient.ivf", "independent-partitions.ivf", "scene-cuts.ivf"]
-
-
-def run(words, **more):
-    return subprocess.run([str(word) for word in words], check=True, stdout=subprocess.PIPE, stderr=subprocess.PIPE, **more).stdout
 
 
 def make(path, source, width, height, frames, words):

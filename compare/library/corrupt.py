@@ -2,7 +2,7 @@
 
 import ctypes
 
-from listed import fields
+from .headers import fields
 
 ABI = 12
 FRAME_CORRUPTED = 257

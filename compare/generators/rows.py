@@ -11,8 +11,11 @@ import pathlib
 import sys
 import tempfile
 
-from bits import B_PRED, ivf, key_packet, tables_of
-from run import run
+sys.path.insert(0, str(pathlib.Path(__file__).resolve().parent.parent))
+
+from library.bits import B_PRED, key_packet, tables_of  # noqa: E402
+from library.ivf import ivf  # noqa: E402
+from library.programs import run  # noqa: E402
 
 FRAMES = {
     "sub_modes": (32, 32, [(B_PRED, [(48 * m + 3 * b) % 10 for b in range(16)], m) for m in range(4)]),

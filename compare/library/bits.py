@@ -114,8 +114,3 @@ def key_packet(tables, width, height, modes, tokens=b"\0"):
     first = encoder.text()
     tag = struct.pack("<I", 1 << 4 | len(first) << 5)[:3]
     return tag + b"\x9d\x01\x2a" + struct.pack("<HH", width, height) + first + tokens
-
-
-def ivf(width, height, packets):
-    header = struct.pack("<4sHH4sHHIIII", b"DKIF", 0, 32, b"VP80", width, height, 30, 1, len(packets), 0)
-    return header + b"".join(struct.pack("<IQ", len(p), i) + p for i, p in enumerate(packets))

@@ -1,0 +1,1 @@
+"""What comparisons, generators and benches share."""
