@@ -17,8 +17,7 @@ use crate::edit::{Edit, make_edit};
 use crate::refusal::Refusal;
 use packet_edits::Store;
 use pixel_planes::Picture;
-use state_cache::laws;
-use state_cache::{Cache, ReachFault};
+use state_cache::{Cache, ReachFault, laws};
 use std::alloc::Global;
 use vp8_tables::Tables;
 

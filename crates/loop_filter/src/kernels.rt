@@ -6,8 +6,8 @@ ghost use Rattle.loop_filter.specs.Lanes.{wide_line_at, excess_of};
 
 use crate::edge_limits::{EdgeFilter, EdgeLimits};
 use crate::lanes::{
-    all, difference, eighths_after, either, greater, halves, less, lowered, more, outer_adjustments, raised,
-    shortfall, side, step_over, variance_over,
+    all, difference, eighths_after, either, greater, halves, less, lowered, more,
+    outer_adjustments, raised, shortfall, side, step_over, variance_over,
 };
 use std::simd::u8x32;
 

@@ -101,13 +101,7 @@ struct FourVectors {
 
 /// Predicts the square of 8 by 8 samples that begins at a corner, in the samples of a plane, as four
 /// blocks, each by its vector.
-fn predict_four(
-    from: &Plane,
-    vectors: FourVectors,
-    kind: Kind,
-    samples: &mut [u8],
-    corner: Corner,
-)
+fn predict_four(from: &Plane, vectors: FourVectors, kind: Kind, samples: &mut [u8], corner: Corner)
     requires small { (corner.across ≤ 16512) × (corner.row + 8 ≤ 16384) }
     requires column { corner.column + 8 ≤ corner.across }
     requires room { (corner.row + 8) * corner.across ≤ length samples.old }

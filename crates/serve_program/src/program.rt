@@ -14,8 +14,8 @@ use crate::messages::Messages;
 use crate::runs::{run_fault, slices_of};
 use frame_session::{Observer, Session, Settings, run_observed};
 use serve_arguments::{
-    Accepted, Argument, Fault, FilesRead, Inputs, NO_FILE, Words, help_or_fault, parse, read_inputs,
-    tell,
+    Accepted, Argument, Fault, FilesRead, Inputs, NO_FILE, Words, help_or_fault, parse,
+    read_inputs, tell,
 };
 use std::alloc::Global;
 use std::convert::AsStr;
@@ -46,7 +46,8 @@ pub fn run_to<F: Write, P: Write, V: Observer>(
 {
     let session = run_observed(
         alloc, settings, sources, requests, frames, replies, observer,
-    ).map_err(run_fault)?;
+    )
+    .map_err(run_fault)?;
     frames.flush().map_err(|_| Fault::CannotWrite)?;
     replies.flush().map_err(|_| Fault::CannotWrite)?;
     Ok(session)

@@ -1,10 +1,10 @@
 //! The MD5s of a clip's frames.
 
-use stream_checks::{HashFault, Unwatched, write_hashes};
 use std::alloc::Global;
 use std::io::{self, ErrorKind, Write};
 use std::process::Abort;
 use std::test::Fail;
+use stream_checks::{HashFault, Unwatched, write_hashes};
 use stream_files::{Bytes, Head, Ivf, Packet, Packets};
 use vp8_tables::Tables;
 

@@ -108,7 +108,11 @@ fn steps_alike(
 }
 
 /// Whether two steps gave the same. The planes of the first are then the recycled ones.
-fn is_put_back(recycled: &mut Recycled, decoded: (State, Picture), fresh: &(State, Picture)) -> bool {
+fn is_put_back(
+    recycled: &mut Recycled,
+    decoded: (State, Picture),
+    fresh: &(State, Picture),
+) -> bool {
     let (state, picture) = decoded;
     let is_alike = same_state(&state, &fresh.0) && same(&picture, &fresh.1);
     recycled.put(picture);

@@ -9,11 +9,9 @@ use std::process::ExitCode;
 /// Runs the program on its arguments.
 fn start<E: Write>(rt: &HostRuntime, errors: &mut E) -> Result<u8, Fault<'static>> {
     let words = given(rt)?;
-    let mut output = BufWriter::with_capacity(
-        rt.alloc(),
-        BYTES_AT_ONCE,
-        rt.stdout(),
-    ).map_err(|_| Fault::NoMemory)?;
+    let mut output = BufWriter::with_capacity(rt.alloc(), BYTES_AT_ONCE, rt.stdout()).map_err(
+        |_| Fault::NoMemory,
+    )?;
     let mut progress = ProgressLine::new(rt, rt.stderr());
     Ok(answer(
         rt,

@@ -3,9 +3,9 @@
 #![tactic(auto)]
 
 use message_writer::MessageWriter;
+use serve_program::{Fault, given, name_explain, serve, tell};
 use std::io::{BufWriter, IsTerminal, Write};
 use std::process::ExitCode;
-use serve_program::{Fault, given, name_explain, serve, tell};
 
 /// Runs the program on its arguments. A user at a terminal is told of `--explain` after an error.
 fn start<E: Write>(
