@@ -1,5 +1,5 @@
-//! The state that a session keeps between requests: the packets of its sources with their marks, and a
-//! cache that is coherent with them.
+//! The state of a session between requests: the packets of its sources with their marks, and a cache that is
+//! coherent with them.
 ghost use Rattle.std.specs.Prelude.{◌≡◌, ◌<◌, ◌≤◌, OnErr, is_ok, length, slice_get, slice_set};
 ghost use Rattle.packet_edits.specs.Laws.{HasOwnIds};
 ghost use Rattle.packet_edits.specs.Shown.{stream_of};

@@ -287,7 +287,7 @@ pub(crate) fn read_sources(alloc: Global, ivfs: &[&[u8]]) -> Result<Vec<Ivf>, Ru
     Ok(files)
 }
 
-/// Runs a request list as `run` does, and tells an observer of each line after its reply was written.
+/// Runs a request list as `run` does, and calls an observer after the reply to each line is written.
 pub fn run_observed<F: Write, R: Write, O: Observer>(
     alloc: Global,
     settings: Settings,
