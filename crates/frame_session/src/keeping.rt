@@ -13,10 +13,11 @@ ghost use Rattle.frame_session.specs.Edits.{EditAnswers};
 ghost use Rattle.frame_session.specs.IsOrNoMemory.{IsOrNoMemory};
 ghost use Rattle.frame_session.specs.Sessions.{picture_from};
 
-use crate::edit::{Edit, make_edit};
+use crate::edit::make_edit;
 use crate::refusal::Refusal;
 use packet_edits::Store;
 use pixel_planes::Picture;
+use request_lines::Edit;
 use state_cache::laws::{
     drops_keep_coherence, edits_keep_coherence, edits_keep_ids, next_id_is_not_cached,
 };

@@ -1,17 +1,14 @@
 -- A line has a reason exactly if it is not a request.
-use Rattle.std.proofs.Common.{◌≡◌, ℕ, Bool, true, false, cond, List, [], ◌∷◌, Option, Some, None, Result, Ok, Err, is_some, refl, sym}
+use Rattle.std.proofs.Common.{◌≡◌, ℕ, Bool, true, false, cond, List, [], ◌∷◌, Option, Some, None, Result, Ok, Err, drop, is_some, refl, sym, ap, ◌∙◌}
 use Rattle.std.specs.Prelude.{nat_eq, codes}
 use Rattle.std.specs.List.{starts_with}
-use Rattle.std.specs.Option.{option_map_or}
 use Rattle.std.specs.Result.{result_err, result_unwrap_or}
 use Rattle.std.specs.Str.{bytes_eq}
-use Rattle.text_words.specs.Words.{words_of, number_of, after_word}
-use Rattle.request_lines.specs.HexWords.{bytes_of}
+use Rattle.text_words.specs.Words.{words_of, after_word}
 use Rattle.request_lines.specs.declared.lines.Line.{Line}
 use Rattle.request_lines.specs.declared.lines.Line.TheVariants.{Silent, Unknown}
 use Rattle.request_lines.specs.declared.misfit.Misfit.{Misfit}
-use Rattle.request_lines.specs.declared.misfit.Misfit.TheVariants.{NoNumber}
-use Rattle.request_lines.specs.Requests.{Bytes, Command, Form, Kind, Number, Taking, Text, Words, asked_by, commands, form_in, is_unknown, misfit_of, no_bytes, read_by_words, read_form, read_text, read_words}
+use Rattle.request_lines.specs.Requests.{Bytes, Command, Form, Kind, Number, Taking, Text, Words, asked_by, commands, first_bytes, first_number, form_in, is_unknown, misfit_of, read_after, read_by_words, read_form, read_of, read_text, read_words, with_value}
 
 -- a result has an error exactly if its line is not a request
 abbrev IsExact : Result Line Misfit → Type 0
@@ -48,19 +45,17 @@ commands_ask =
     (refl,
     tt))))))))))))
 
-value_exact : {A : Type 0} (value : Option A) (next : A → Result Line Misfit) (misfit : Misfit) → ((a : A) → IsExact (next a)) → IsExact (option_map_or next value (Err misfit))
-value_exact None next misfit exact = refl
-value_exact (Some a) next misfit exact = exact a
+value_exact : {A : Type 0} (value : Result A Misfit) (next : A → Result Line Misfit) → ((a : A) → IsExact (next a)) → IsExact (with_value value next)
+value_exact (Ok a) next exact = exact a
+value_exact (Err misfit) next exact = refl
 
 words_exact : (kinds : List Kind) (request : Taking kinds) (words : List (List ℕ)) → Asks kinds request → IsExact (read_words kinds request words)
 words_exact [] request [] asks = sym asks
 words_exact [] request (word ∷ words) asks = refl
-words_exact (Number ∷ kinds) request [] asks = refl
-words_exact (Bytes ∷ kinds) request [] asks = refl
-words_exact (Number ∷ kinds) request (word ∷ words) asks =
-    value_exact (number_of word) (λ n. read_words kinds (request n) words) (NoNumber word) (λ n. words_exact kinds (request n) words (asks n))
-words_exact (Bytes ∷ kinds) request (word ∷ words) asks =
-    value_exact (bytes_of word) (λ bytes. read_words kinds (request bytes) words) (no_bytes word) (λ bytes. words_exact kinds (request bytes) words (asks bytes))
+words_exact (Number ∷ kinds) request words asks =
+    value_exact (first_number words) (λ n. read_words kinds (request n) (drop 1 words)) (λ n. words_exact kinds (request n) (drop 1 words) (asks n))
+words_exact (Bytes ∷ kinds) request words asks =
+    value_exact (first_bytes words) (λ bytes. read_words kinds (request bytes) (drop 1 words)) (λ bytes. words_exact kinds (request bytes) (drop 1 words) (asks bytes))
 
 text_exact : (request : List ℕ → Line) (text : List ℕ) (words : List (List ℕ)) → is_unknown (request text) ≡ false → IsExact (read_text request text words)
 text_exact request text [] asks = refl
@@ -78,13 +73,16 @@ named_exact (first ∷ others) name text words asks = by_name (bytes_eq name fir
     by_name true other = form_exact first.form text words asks.0
     by_name false other = other
 
-pub line_exact : (line : List ℕ) → is_some (misfit_of line) ≡ is_unknown (asked_by line)
+line_exact : (line : List ℕ) → is_some (misfit_of line) ≡ is_unknown (asked_by line)
 line_exact line = by_words (words_of line)
   where
     by_comment : (is_comment : Bool) (read : Result Line Misfit) → IsExact read → IsExact (cond is_comment (Ok Silent) read)
     by_comment true read exact = refl
     by_comment false read exact = exact
 
-    by_words : (words : List (List ℕ)) → IsExact (read_by_words (after_word line) words)
+    by_words : (words : List (List ℕ)) → IsExact (read_by_words words (after_word line))
     by_words [] = refl
-    by_words (name ∷ words) = by_comment (starts_with nat_eq name (codes "#")) (read_form (form_in commands name) (after_word line) words) (named_exact commands name (after_word line) words commands_ask)
+    by_words (name ∷ words) = by_comment (starts_with nat_eq name (codes "#")) (read_after name (after_word line)) (named_exact commands name (after_word line) (words_of (after_word line)) commands_ask)
+
+pub read_exact : (line : List ℕ) (read : Result Line Misfit) → read ≡ read_of line → is_some (result_err read) ≡ is_unknown (asked_by line)
+read_exact line read is = ap (λ (r : Result Line Misfit). is_some (result_err r)) is ∙ line_exact line

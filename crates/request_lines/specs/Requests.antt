@@ -1,14 +1,15 @@
 -- The forms of request lines. From this one table follow the request of a line, and why a line is not a request. The lines of a text are
 -- std's `lines`.
-use Rattle.std.specs.Prelude.{ℕ, ◌%◌, ◌==◌, Bool, true, false, List, [], ◌∷◌, length, nat_eq, Option, Some, None, Result, Ok, Err, if◌then◌else◌, codes}
+use Rattle.std.specs.Prelude.{ℕ, ◌%◌, ◌==◌, Bool, true, false, List, [], ◌∷◌, drop, length, nat_eq, Option, Some, None, Result, Ok, Err, if◌then◌else◌, codes}
 use Rattle.std.specs.List.{starts_with}
 use Rattle.std.specs.Option.{option_map_or}
 use Rattle.std.specs.Result.{result_err, result_unwrap_or}
 use Rattle.std.specs.Str.{bytes_eq}
 use Rattle.text_words.specs.Words.{words_of, number_of, after_word}
 use Rattle.request_lines.specs.HexWords.{bytes_of}
+use Rattle.request_lines.specs.declared.edit.Edit.TheVariants.{Insert, Replace, Delete, Move, Copy, Blank, Hold}
 use Rattle.request_lines.specs.declared.lines.Line.{Line}
-use Rattle.request_lines.specs.declared.lines.Line.TheVariants.{Silent, Unknown, Frame, Use, Insert, Replace, Delete, Move, Copy, Blank, Hold, Script, Count, Stats}
+use Rattle.request_lines.specs.declared.lines.Line.TheVariants.{Silent, Unknown, Frame, Use, Edit, Script, Count, Stats}
 use Rattle.request_lines.specs.declared.misfit.Misfit.{Misfit}
 use Rattle.request_lines.specs.declared.misfit.Misfit.TheVariants.{NoRequest, Missing, TooMany, NoNumber, OddDigits, NoBytes}
 
@@ -40,13 +41,13 @@ abbrev pub commands : List Command
 commands =
     command (codes "frame") (Words (Number ∷ []) Frame)
     ∷ command (codes "use") (Words (Number ∷ []) Use)
-    ∷ command (codes "insert") (Words (Number ∷ Number ∷ Bytes ∷ []) Insert)
-    ∷ command (codes "replace") (Words (Number ∷ Bytes ∷ []) Replace)
-    ∷ command (codes "delete") (Words (Number ∷ []) Delete)
-    ∷ command (codes "move") (Words (Number ∷ Number ∷ []) Move)
-    ∷ command (codes "copy") (Words (Number ∷ Number ∷ Number ∷ []) Copy)
-    ∷ command (codes "blank") (Words (Number ∷ Number ∷ Number ∷ []) Blank)
-    ∷ command (codes "hold") (Words (Number ∷ []) Hold)
+    ∷ command (codes "insert") (Words (Number ∷ Number ∷ Bytes ∷ []) (λ at stamp bytes. Edit (Insert at stamp bytes)))
+    ∷ command (codes "replace") (Words (Number ∷ Bytes ∷ []) (λ at bytes. Edit (Replace at bytes)))
+    ∷ command (codes "delete") (Words (Number ∷ []) (λ at. Edit (Delete at)))
+    ∷ command (codes "move") (Words (Number ∷ Number ∷ []) (λ from to. Edit (Move from to)))
+    ∷ command (codes "copy") (Words (Number ∷ Number ∷ Number ∷ []) (λ source from at. Edit (Copy source from at)))
+    ∷ command (codes "blank") (Words (Number ∷ Number ∷ Number ∷ []) (λ at width height. Edit (Blank at width height)))
+    ∷ command (codes "hold") (Words (Number ∷ []) (λ at. Edit (Hold at)))
     ∷ command (codes "script") (Text Script)
     ∷ command (codes "count") (Words [] Count)
     ∷ command (codes "stats") (Words [] Stats)
@@ -61,13 +62,27 @@ form_in (first ∷ others) name = if bytes_eq name first.name then Some first.fo
 abbrev pub no_bytes : List ℕ → Misfit
 no_bytes word = if length word % 2 == 1 then OddDigits word else NoBytes word
 
+-- the number that the first word writes, or why there is none
+abbrev pub first_number : List (List ℕ) → Result ℕ Misfit
+first_number [] = Err Missing
+first_number (word ∷ words) = option_map_or Ok (number_of word) (Err (NoNumber word))
+
+-- the bytes that the first word writes, or why there are none
+abbrev pub first_bytes : List (List ℕ) → Result (List ℕ) Misfit
+first_bytes [] = Err Missing
+first_bytes (word ∷ words) = option_map_or Ok (bytes_of word) (Err (no_bytes word))
+
+-- a line that continues with a value, if there is one
+abbrev pub with_value : {A : Type 0} → Result A Misfit → (A → Result Line Misfit) → Result Line Misfit
+with_value (Ok value) next = next value
+with_value (Err misfit) next = Err misfit
+
 -- the request that words of these kinds make, or the first of them that does not fit
 abbrev pub read_words : (kinds : List Kind) → Taking kinds → List (List ℕ) → Result Line Misfit
 read_words [] request [] = Ok request
 read_words [] request (word ∷ words) = Err (TooMany word)
-read_words (kind ∷ kinds) request [] = Err Missing
-read_words (Number ∷ kinds) request (word ∷ words) = option_map_or (λ n. read_words kinds (request n) words) (number_of word) (Err (NoNumber word))
-read_words (Bytes ∷ kinds) request (word ∷ words) = option_map_or (λ bytes. read_words kinds (request bytes) words) (bytes_of word) (Err (no_bytes word))
+read_words (Number ∷ kinds) request words = with_value (first_number words) (λ n. read_words kinds (request n) (drop 1 words))
+read_words (Bytes ∷ kinds) request words = with_value (first_bytes words) (λ bytes. read_words kinds (request bytes) (drop 1 words))
 
 -- the request of a text, which has these words, if it has one
 abbrev pub read_text : (List ℕ → Line) → List ℕ → List (List ℕ) → Result Line Misfit
@@ -80,14 +95,18 @@ read_form None text words = Err NoRequest
 read_form (Some (Words kinds request)) text words = read_words kinds request words
 read_form (Some (Text request)) text words = read_text request text words
 
+-- the request of a text after the command with this name
+abbrev pub read_after : List ℕ → List ℕ → Result Line Misfit
+read_after name text = read_form (form_in commands name) text (words_of text)
+
 -- a line with these words, and this text after the first: silent if there are no words, or if the first begins with `#`
-abbrev pub read_by_words : List ℕ → List (List ℕ) → Result Line Misfit
-read_by_words text [] = Ok Silent
-read_by_words text (name ∷ words) = if starts_with nat_eq name (codes "#") then Ok Silent else read_form (form_in commands name) text words
+abbrev pub read_by_words : List (List ℕ) → List ℕ → Result Line Misfit
+read_by_words [] text = Ok Silent
+read_by_words (name ∷ words) text = if starts_with nat_eq name (codes "#") then Ok Silent else read_after name text
 
 -- the request of a line, or why it is not one
 abbrev pub read_of : List ℕ → Result Line Misfit
-read_of line = read_by_words (after_word line) (words_of line)
+read_of line = read_by_words (words_of line) (after_word line)
 
 -- the request of a line
 abbrev pub asked_by : List ℕ → Line

@@ -1,6 +1,7 @@
 //! The lines of a request list, and the request of each line, or why it is not one.
 #![tactic(auto)]
 
+mod edit;
 mod hex_text;
 pub mod laws;
 mod lines;
@@ -9,6 +10,7 @@ mod misfit;
 mod part;
 mod text_lines;
 
+pub use edit::Edit;
 pub use hex_text::Hex;
 pub use lines::{Line, line_misfit, parse_line, read_line};
 pub use lost::Beginning;

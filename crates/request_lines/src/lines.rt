@@ -1,9 +1,9 @@
 // Request lines, and how each is read by the form of its command.
-ghost use Rattle.std.specs.Prelude.{◌≡◌, ℕ, List, [], ◌∷◌, IfErr, IfOk, is_some};
+ghost use Rattle.std.specs.Prelude.{◌≡◌, [], Err, IfErr, IfOk, Ok, codes, drop, is_some};
 ghost use Rattle.text_words.specs.Words.{words_of};
-ghost use Rattle.request_lines.specs.Requests.{Bytes, Kind, Number, Taking, asked_by, is_unknown, misfit_of, no_bytes, read_of, read_text, read_words};
-ghost use Rattle.request_lines.specs.declared.lines.Line.TheVariants as requests;
+ghost use Rattle.request_lines.specs.Requests.{asked_by, first_bytes, first_number, is_unknown, misfit_of, no_bytes, read_after, read_of, read_words};
 
+use crate::edit::Edit;
 use crate::hex_text::Hex;
 use crate::misfit::Misfit;
 use crate::part::Part;
@@ -20,20 +20,8 @@ pub enum Line<'a> {
     Frame(u64),
     /// Chooses the source on which edits act.
     Use(u64),
-    /// Inserts a packet at index `at`.
-    Insert { at: u64, stamp: u64, bytes: Hex<'a> },
-    /// Replaces the bytes of the packet at index `at`.
-    Replace { at: u64, bytes: Hex<'a> },
-    /// Removes the packet at index `at`.
-    Delete { at: u64 },
-    /// Moves the packet at index `from` to index `to` of the others.
-    Move { from: u64, to: u64 },
-    /// Inserts a copy of packet `from` of a source at index `at`.
-    Copy { source: u64, from: u64, at: u64 },
-    /// Inserts a blank packet of this many luma samples at index `at`.
-    Blank { at: u64, width: u64, height: u64 },
-    /// Inserts a packet at index `at` that repeats the last reference.
-    Hold { at: u64 },
+    /// Edits the packets of the current source.
+    Edit(Edit<Hex<'a>>),
     /// Sets another script.
     Script(Part<'a>),
     /// Reports the number of packets and the number of frames that the script serves.
@@ -46,8 +34,9 @@ pub enum Line<'a> {
 
 /// The number that is the next word, and the text after it.
 fn next_number(line: &[u8]) -> Result<(u64, &[u8]), Misfit<'_>>
-    ensures found { IfOk result (λ found. (kinds : List Kind) (request : ℕ → Taking kinds) → read_words (Number ∷ kinds) request (words_of line.now) ≡ read_words kinds (request found.0) (words_of found.1.now)) }
-    ensures misfit { IfErr result (λ misfit. (kinds : List Kind) (request : ℕ → Taking kinds) → read_words (Number ∷ kinds) request (words_of line.now) ≡ Err misfit) }
+    ensures found { IfOk result (λ found. first_number (words_of line.now) ≡ Ok found.0) }
+    ensures following { IfOk result (λ found. drop 1 (words_of line.now) ≡ words_of found.1.now) }
+    ensures misfit { IfErr result (λ misfit. first_number (words_of line.now) ≡ Err misfit) }
 {
     let Some((word, rest)) = next_word(line) else {
         return Err(Misfit::Missing);
@@ -60,8 +49,9 @@ fn next_number(line: &[u8]) -> Result<(u64, &[u8]), Misfit<'_>>
 
 /// The bytes that are the next word, and the text after it.
 fn next_bytes(line: &[u8]) -> Result<(Hex<'_>, &[u8]), Misfit<'_>>
-    ensures found { IfOk result (λ found. (kinds : List Kind) (request : List ℕ → Taking kinds) → read_words (Bytes ∷ kinds) request (words_of line.now) ≡ read_words kinds (request found.0) (words_of found.1.now)) }
-    ensures misfit { IfErr result (λ misfit. (kinds : List Kind) (request : List ℕ → Taking kinds) → read_words (Bytes ∷ kinds) request (words_of line.now) ≡ Err misfit) }
+    ensures found { IfOk result (λ found. first_bytes (words_of line.now) ≡ Ok found.0) }
+    ensures following { IfOk result (λ found. drop 1 (words_of line.now) ≡ words_of found.1.now) }
+    ensures misfit { IfErr result (λ misfit. first_bytes (words_of line.now) ≡ Err misfit) }
 {
     let Some((word, rest)) = next_word(line) else {
         return Err(Misfit::Missing);
@@ -147,90 +137,87 @@ pub fn read_line(line: &[u8]) -> Line<'_>
 }
 
 /// Why a line is not a request. It has a reason exactly if it is not one; a line without words and a comment have none.
-#[tactic(auto, using(crate::proofs::Exact::line_exact))]
+#[tactic(auto, using(crate::proofs::Exact::read_exact))]
 pub fn line_misfit(line: &[u8]) -> Option<Misfit<'_>>
     ensures misfit { result ≡ misfit_of line.now }
     ensures exact { is_some result ≡ is_unknown (asked_by line.now) }
 {
-    match parse_line(line) {
-        Ok(_) => None,
-        Err(misfit) => Some(misfit),
-    }
+    parse_line(line).err()
 }
 
 fn frame_line(words: &[u8]) -> Result<Line<'_>, Misfit<'_>>
-    ensures { result ≡ read_words (Number ∷ []) requests.Frame (words_of words.now) }
+    ensures { result ≡ read_after (codes "frame") words.now }
 {
     let (n, rest) = next_number(words)?;
     ended(Line::Frame(n), rest)
 }
 
 fn use_line(words: &[u8]) -> Result<Line<'_>, Misfit<'_>>
-    ensures { result ≡ read_words (Number ∷ []) requests.Use (words_of words.now) }
+    ensures { result ≡ read_after (codes "use") words.now }
 {
     let (source, rest) = next_number(words)?;
     ended(Line::Use(source), rest)
 }
 
 fn insert_line(words: &[u8]) -> Result<Line<'_>, Misfit<'_>>
-    ensures { result ≡ read_words (Number ∷ Number ∷ Bytes ∷ []) requests.Insert (words_of words.now) }
+    ensures { result ≡ read_after (codes "insert") words.now }
 {
     let (at, rest) = next_number(words)?;
     let (stamp, rest) = next_number(rest)?;
     let (bytes, rest) = next_bytes(rest)?;
-    ended(Line::Insert { at, stamp, bytes }, rest)
+    ended(Line::Edit(Edit::Insert { at, stamp, bytes }), rest)
 }
 
 fn replace_line(words: &[u8]) -> Result<Line<'_>, Misfit<'_>>
-    ensures { result ≡ read_words (Number ∷ Bytes ∷ []) requests.Replace (words_of words.now) }
+    ensures { result ≡ read_after (codes "replace") words.now }
 {
     let (at, rest) = next_number(words)?;
     let (bytes, rest) = next_bytes(rest)?;
-    ended(Line::Replace { at, bytes }, rest)
+    ended(Line::Edit(Edit::Replace { at, bytes }), rest)
 }
 
 fn delete_line(words: &[u8]) -> Result<Line<'_>, Misfit<'_>>
-    ensures { result ≡ read_words (Number ∷ []) requests.Delete (words_of words.now) }
+    ensures { result ≡ read_after (codes "delete") words.now }
 {
     let (at, rest) = next_number(words)?;
-    ended(Line::Delete { at }, rest)
+    ended(Line::Edit(Edit::Delete { at }), rest)
 }
 
 fn move_line(words: &[u8]) -> Result<Line<'_>, Misfit<'_>>
-    ensures { result ≡ read_words (Number ∷ Number ∷ []) requests.Move (words_of words.now) }
+    ensures { result ≡ read_after (codes "move") words.now }
 {
     let (from, rest) = next_number(words)?;
     let (to, rest) = next_number(rest)?;
-    ended(Line::Move { from, to }, rest)
+    ended(Line::Edit(Edit::Move { from, to }), rest)
 }
 
 fn copy_line(words: &[u8]) -> Result<Line<'_>, Misfit<'_>>
-    ensures { result ≡ read_words (Number ∷ Number ∷ Number ∷ []) requests.Copy (words_of words.now) }
+    ensures { result ≡ read_after (codes "copy") words.now }
 {
     let (source, rest) = next_number(words)?;
     let (from, rest) = next_number(rest)?;
     let (at, rest) = next_number(rest)?;
-    ended(Line::Copy { source, from, at }, rest)
+    ended(Line::Edit(Edit::Copy { source, from, at }), rest)
 }
 
 fn blank_line(words: &[u8]) -> Result<Line<'_>, Misfit<'_>>
-    ensures { result ≡ read_words (Number ∷ Number ∷ Number ∷ []) requests.Blank (words_of words.now) }
+    ensures { result ≡ read_after (codes "blank") words.now }
 {
     let (at, rest) = next_number(words)?;
     let (width, rest) = next_number(rest)?;
     let (height, rest) = next_number(rest)?;
-    ended(Line::Blank { at, width, height }, rest)
+    ended(Line::Edit(Edit::Blank { at, width, height }), rest)
 }
 
 fn hold_line(words: &[u8]) -> Result<Line<'_>, Misfit<'_>>
-    ensures { result ≡ read_words (Number ∷ []) requests.Hold (words_of words.now) }
+    ensures { result ≡ read_after (codes "hold") words.now }
 {
     let (at, rest) = next_number(words)?;
-    ended(Line::Hold { at }, rest)
+    ended(Line::Edit(Edit::Hold { at }), rest)
 }
 
 fn script_line(text: &[u8]) -> Result<Line<'_>, Misfit<'_>>
-    ensures { result ≡ read_text requests.Script text.now (words_of text.now) }
+    ensures { result ≡ read_after (codes "script") text.now }
 {
     match next_word(text) {
         None => Err(Misfit::Missing),
