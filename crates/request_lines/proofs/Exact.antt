@@ -1,5 +1,5 @@
 -- A line has a reason exactly if it is not a request.
-use Rattle.std.proofs.Common.{◌≡◌, ℕ, Bool, true, false, cond, List, [], ◌∷◌, Option, Some, None, Result, Ok, Err, drop, is_some, refl, sym, ap, ◌∙◌}
+use Rattle.std.proofs.Common.{rules, ◌≡◌, ℕ, Bool, true, false, cond, List, [], ◌∷◌, Option, Some, None, Result, Ok, Err, drop, is_some, refl, sym, ap, ◌∙◌}
 use Rattle.std.specs.Prelude.{nat_eq, codes}
 use Rattle.std.specs.List.{starts_with}
 use Rattle.std.specs.Result.{result_err, result_unwrap_or}
@@ -30,20 +30,7 @@ AllAsk (first ∷ others) = FormAsks first.form × AllAsk others
 
 -- each command of the table makes a request
 commands_ask : AllAsk commands
-commands_ask =
-    (λ n. refl,
-    (λ source. refl,
-    (λ at stamp bytes. refl,
-    (λ at bytes. refl,
-    (λ at. refl,
-    (λ from to. refl,
-    (λ source from at. refl,
-    (λ at width height. refl,
-    (λ at. refl,
-    (λ text. refl,
-    (refl,
-    (refl,
-    tt))))))))))))
+commands_ask = search rules
 
 value_exact : {A : Type 0} (value : Result A Misfit) (next : A → Result Line Misfit) → ((a : A) → IsExact (next a)) → IsExact (with_value value next)
 value_exact (Ok a) next exact = exact a
