@@ -263,12 +263,7 @@ impl Session {
     }
 
     /// Inserts a packet whose bytes are decoded only once nothing else is refused.
-    fn insert_written(
-        &mut self,
-        at: u64,
-        stamp: u64,
-        bytes: Hex<'_>,
-    ) -> Result<u64, Refusal>
+    fn insert_written(&mut self, at: u64, stamp: u64, bytes: Hex<'_>) -> Result<u64, Refusal>
         ensures returned { IsOrNoMemory (edit_answer self.old.now (Insert at stamp bytes.entry)) result }
         ensures after { self.new.now ≡ now_after_edit (Insert at stamp bytes.entry) self.old.now result }
         ensures stores { self.new.stores ≡ stores_after self.old.now.tables self.old.now.current (Insert at stamp bytes.entry) self.old.stores result }
