@@ -1,5 +1,5 @@
 -- The numbers that explain a refusal: they are those of the request, of the session and of the refusal.
-use Rattle.std.specs.Prelude.{◌≡◌, ◌≤◌, ℕ, Bool, ◌&&◌, nat_lt, nat_le, if◌then◌else◌, Option, Some, None}
+use Rattle.std.specs.Prelude.{◌≡◌, ◌≤◌, ℕ, Bool, ◌&&◌, nat_lt, nat_le, if◌then◌else◌, List, Option, Some, None}
 use Rattle.packet_edits.specs.Nearest.{IsLast}
 use Rattle.packet_edits.specs.Shown.{stream_of}
 use Rattle.packet_edits.specs.Sizes.{key_tag_at}
@@ -8,6 +8,8 @@ use Rattle.frame_session.specs.declared.refusal.Refusal.TheVariants as refusals
 use Rattle.frame_session.specs.declared.size.Size.{Size}
 use Rattle.frame_session.specs.Sessions.{Now, current_list, frame_count, packet_count}
 use Rattle.frame_session.specs.Told.{packet_len, packets_in, stated_size}
+use Rattle.request_lines.specs.declared.edit.Edit.{Edit}
+use Rattle.request_lines.specs.declared.edit.Edit.TheVariants as edits
 use Rattle.request_lines.specs.declared.lines.Line.{Line}
 use Rattle.request_lines.specs.declared.lines.Line.TheVariants as lines
 use Rattle.explanations.specs.declared.details.Detail.{Detail}
@@ -25,15 +27,19 @@ past_end_of now at = PastEnd at now.current (packet_count now)
 abbrev pub copy_detail : Now → ℕ → ℕ → ℕ → Detail
 copy_detail now source from at = if nat_lt from (packets_in now source) then past_end_of now at else NoPacket from source (packets_in now source)
 
+-- which index of an edit has no packet
+abbrev pub edit_detail : Now → Edit (List ℕ) → Detail
+edit_detail now (edits.Insert at stamp bytes) = past_end_of now at
+edit_detail now (edits.Replace at bytes) = no_packet_of now at
+edit_detail now (edits.Delete at) = no_packet_of now at
+edit_detail now (edits.Move from to) = no_packet_of now (if nat_lt from (packet_count now) then to else from)
+edit_detail now (edits.Copy source from at) = copy_detail now source from at
+edit_detail now (edits.Blank at width height) = past_end_of now at
+edit_detail now (edits.Hold at) = past_end_of now at
+
 -- which index of a request has no packet
 abbrev pub place_detail : Now → Line → Detail
-place_detail now (lines.Insert at stamp bytes) = past_end_of now at
-place_detail now (lines.Replace at bytes) = no_packet_of now at
-place_detail now (lines.Delete at) = no_packet_of now at
-place_detail now (lines.Move from to) = no_packet_of now (if nat_lt from (packet_count now) then to else from)
-place_detail now (lines.Copy source from at) = copy_detail now source from at
-place_detail now (lines.Blank at width height) = past_end_of now at
-place_detail now (lines.Hold at) = past_end_of now at
+place_detail now (lines.Edit edit) = edit_detail now edit
 place_detail now line = Nothing
 
 -- the frame of a request that does not exist, and how many there are
@@ -72,8 +78,8 @@ IsUnsized now at _ = ⊥
 
 -- why a request has no size
 abbrev pub IsSizeDetail : Now → Line → Detail → Type 0
-IsSizeDetail now (lines.Blank at width height) detail = detail ≡ side_detail width height
-IsSizeDetail now (lines.Hold at) detail = at ≤ packet_count now → IsUnsized now at detail
+IsSizeDetail now (lines.Edit (edits.Blank at width height)) detail = detail ≡ side_detail width height
+IsSizeDetail now (lines.Edit (edits.Hold at)) detail = at ≤ packet_count now → IsUnsized now at detail
 IsSizeDetail now line detail = detail ≡ Nothing
 
 -- the numbers that explain the refusal of a request

@@ -1,14 +1,13 @@
 -- Why the text of a script is refused as `Syntax`: the first of its parts that is not a node.
-use Rattle.std.specs.Prelude.{ℕ, ◌+◌, ◌==◌, if◌then◌else◌, List, [], ◌∷◌, ◌++◌, Option, Some, None, option_map, codes}
+use Rattle.std.specs.Prelude.{ℕ, ◌+◌, ◌-◌, ◌==◌, if◌then◌else◌, List, [], ◌∷◌, ◌++◌, Option, Some, None, is_some, option_map, codes}
 use Rattle.std.specs.Fmt.{decimal}
 use Rattle.std.specs.List.{slice_split}
 use Rattle.std.specs.Option.{option_or}
 use Rattle.std.specs.Str.{bytes_eq}
 use Rattle.text_words.specs.Words.{after_word, words_of}
 use Rattle.explanations.specs.Words.{shown_word}
-use Rattle.explanations.specs.Lines.{misfits, reason_text}
-use Rattle.explanations.specs.declared.lines.Kind.{Kind}
-use Rattle.explanations.specs.declared.lines.Kind.TheVariants.{Short}
+use Rattle.script_nodes.specs.Nodes.{short_number_of}
+use Rattle.explanations.specs.Lines.{missing, no_short_number, reason_text, too_many}
 use Rattle.explanations.specs.declared.nodes.NodeName.{NodeName}
 use Rattle.explanations.specs.declared.nodes.NodeName.TheVariants.{Source, Trim, Splice, Crop, Fade}
 use Rattle.explanations.specs.declared.nodes.NodeReason.{NodeReason}
@@ -24,13 +23,13 @@ name_of word =
     else if bytes_eq word (codes "fade") then Some Fade
     else None
 
--- the words after a node's name
-abbrev pub node_kinds : NodeName → List Kind
-node_kinds Source = Short ∷ []
-node_kinds Trim = Short ∷ Short ∷ Short ∷ []
-node_kinds Splice = Short ∷ Short ∷ []
-node_kinds Crop = Short ∷ Short ∷ Short ∷ Short ∷ Short ∷ []
-node_kinds Fade = Short ∷ Short ∷ Short ∷ Short ∷ Short ∷ []
+-- the number of the numbers after a node's name
+abbrev pub node_numbers : NodeName → ℕ
+node_numbers Source = 1
+node_numbers Trim = 3
+node_numbers Splice = 2
+node_numbers Crop = 5
+node_numbers Fade = 5
 
 -- a node as it is written
 abbrev pub form_text : NodeName → List ℕ
@@ -53,13 +52,21 @@ with_form name text = text ++ codes ": " ++ form_text name
 -- each reason as a text
 abbrev pub node_reason_text : NodeReason → List ℕ
 node_reason_text Empty = empty_node
-node_reason_text (NoNode word) = no_node word.now
+node_reason_text (NoNode word) = no_node word
 node_reason_text (Misfit name reason) = with_form name (reason_text reason)
+
+-- the first reason why these words are not this many numbers of a script, if they are not
+abbrev pub wrong_number : ℕ → List (List ℕ) → Option (List ℕ)
+wrong_number count [] = if count == 0 then None else Some missing
+wrong_number count (word ∷ words) =
+    if count == 0 then Some (too_many word)
+    else if is_some (short_number_of word) then wrong_number (count - 1) words
+    else Some (no_short_number word)
 
 -- why these words are not a node, if they are not
 abbrev pub reason_after_name : Option NodeName → List ℕ → List (List ℕ) → Option (List ℕ)
 reason_after_name None word words = Some (no_node word)
-reason_after_name (Some name) word words = option_map (with_form name) (misfits (node_kinds name) words)
+reason_after_name (Some name) word words = option_map (with_form name) (wrong_number (node_numbers name) words)
 
 abbrev pub node_reason : List (List ℕ) → Option (List ℕ)
 node_reason [] = Some empty_node

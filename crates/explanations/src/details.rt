@@ -2,10 +2,10 @@
 ghost use Rattle.std.specs.Prelude.{◌≡◌, ◌≤◌};
 ghost use Rattle.frame_session.specs.Sessions.{packet_count};
 ghost use Rattle.request_lines.specs.Requests.{asked_by};
-ghost use Rattle.explanations.specs.Details.{IsDetail, IsSizeDetail, IsUnsized, bytes_detail, copy_detail, frame_detail, is_side, no_packet_of, past_end_of, place_detail, side_detail, sizes_detail, sizes_of};
+ghost use Rattle.explanations.specs.Details.{IsDetail, IsSizeDetail, IsUnsized, bytes_detail, copy_detail, edit_detail, frame_detail, is_side, no_packet_of, past_end_of, place_detail, side_detail, sizes_detail, sizes_of};
 
 use frame_session::{Refusal, Session, Size};
-use request_lines::{Line, read_line};
+use request_lines::{Edit, Hex, Line, read_line};
 
 /// The numbers that explain a refusal, if it has such numbers.
 #[derive(Clone, Copy, Debug, PartialEq, Eq)]
@@ -69,16 +69,16 @@ fn copy_detail(session: &Session, source: u64, from: u64, at: u64) -> Detail
     }
 }
 
-/// Which index of a request has no packet.
-fn place_detail(session: &Session, line: &Line<'_>) -> Detail
-    ensures { result ≡ place_detail session.now.now line.now }
+/// Which index of an edit has no packet.
+fn edit_detail(session: &Session, edit: &Edit<Hex<'_>>) -> Detail
+    ensures { result ≡ edit_detail session.now.now edit.now }
 {
-    match line {
-        Line::Insert { at, .. } | Line::Blank { at, .. } | Line::Hold { at } => {
+    match edit {
+        Edit::Insert { at, .. } | Edit::Blank { at, .. } | Edit::Hold { at } => {
             past_end_of(session, *at)
         }
-        Line::Replace { at, .. } | Line::Delete { at } => no_packet_of(session, *at),
-        Line::Move { from, to } => {
+        Edit::Replace { at, .. } | Edit::Delete { at } => no_packet_of(session, *at),
+        Edit::Move { from, to } => {
             let missing = if *from < session.count().0 {
                 *to
             } else {
@@ -86,7 +86,16 @@ fn place_detail(session: &Session, line: &Line<'_>) -> Detail
             };
             no_packet_of(session, missing)
         }
-        Line::Copy { source, from, at } => copy_detail(session, *source, *from, *at),
+        Edit::Copy { source, from, at } => copy_detail(session, *source, *from, *at),
+    }
+}
+
+/// Which index of a request has no packet.
+fn place_detail(session: &Session, line: &Line<'_>) -> Detail
+    ensures { result ≡ place_detail session.now.now line.now }
+{
+    match line {
+        Line::Edit(edit) => edit_detail(session, edit),
         _ => Detail::Nothing,
     }
 }
@@ -156,8 +165,8 @@ fn size_detail(session: &Session, line: &Line<'_>) -> Detail
     ensures { IsSizeDetail session.now.now line.now result }
 {
     match line {
-        Line::Blank { width, height, .. } => side_detail(*width, *height),
-        Line::Hold { at } => unsized_detail(session, *at),
+        Line::Edit(Edit::Blank { width, height, .. }) => side_detail(*width, *height),
+        Line::Edit(Edit::Hold { at }) => unsized_detail(session, *at),
         _ => Detail::Nothing,
     }
 }

@@ -1,14 +1,17 @@
 // Why the text of a script is not a list of nodes.
-ghost use Rattle.std.specs.Prelude.{◌≡◌, ◌<◌, ◌++◌, IfSome, OnOk, codes, length, option_map};
+ghost use Rattle.std.specs.Prelude.{◌≡◌, ◌<◌, ◌++◌, IfSome, OnOk, codes, is_some, length, option_map};
 ghost use Rattle.std.specs.Io.KnownBytes.{Appends};
+ghost use Rattle.script_nodes.specs.Nodes.{short_number_of};
 ghost use Rattle.script_nodes.specs.Reading.{IsCut};
 ghost use Rattle.text_words.specs.Words.{words_of};
-ghost use Rattle.explanations.specs.Nodes.{form_text, line_syntax_reason, name_of, node_kinds, node_reason, node_reason_text, numbered, syntax_reason};
+ghost use Rattle.explanations.specs.Lines.{reason_text};
+ghost use Rattle.explanations.specs.Nodes.{form_text, line_syntax_reason, name_of, node_numbers, node_reason, node_reason_text, numbered, syntax_reason, wrong_number};
 
-use crate::lines::{Kind, Reason, misfits, write_reason};
+use crate::lines::{Reason, write_reason};
 use crate::words::{write_text, write_word};
+use request_lines::{Misfit, Part};
 use std::io::{self, Write};
-use text_words::{length_before, next_word};
+use text_words::{length_before, next_word, number};
 
 /// The kinds of nodes.
 #[derive(Clone, Copy)]
@@ -21,37 +24,26 @@ pub enum NodeName {
 }
 
 /// Why a part of a script is not a node.
-#[derive(Clone, Copy)]
+#[derive(Drop)]
 pub enum NodeReason<'a> {
     /// It has no word.
     Empty,
     /// Its first word is not the name of a node.
-    NoNode(&'a [u8]),
+    NoNode(Part<'a>),
     /// The words after the name do not have its form.
     Misfit { name: NodeName, reason: Reason<'a> },
 }
 
 /// The first part of a script that is not a node.
-#[derive(Clone, Copy)]
+#[derive(Drop)]
 pub struct WrongNode<'a> {
     /// The number of the node, counted from 1.
     pub number: u64,
     pub reason: NodeReason<'a>,
 }
 
-const ONE: &[Kind] = &[Kind::Short];
-
-const TWO: &[Kind] = &[Kind::Short, Kind::Short];
-
-const THREE: &[Kind] = &[Kind::Short, Kind::Short, Kind::Short];
-
-const FIVE: &[Kind] = &[
-    Kind::Short,
-    Kind::Short,
-    Kind::Short,
-    Kind::Short,
-    Kind::Short,
-];
+/// The most digits of a number of a script.
+const MOST_DIGITS: usize = 10;
 
 impl NodeName {
     /// The node with this name, if there is one.
@@ -73,15 +65,15 @@ impl NodeName {
         }
     }
 
-    /// The words after the name.
-    fn kinds(self) -> &'static [Kind]
-        ensures { result.now ≡ node_kinds self }
+    /// The number of the numbers after the name.
+    fn numbers(self) -> u8
+        ensures { result ≡ node_numbers self }
     {
         match self {
-            NodeName::Source => ONE,
-            NodeName::Trim => THREE,
-            NodeName::Splice => TWO,
-            NodeName::Crop | NodeName::Fade => FIVE,
+            NodeName::Source => 1,
+            NodeName::Trim => 3,
+            NodeName::Splice => 2,
+            NodeName::Crop | NodeName::Fade => 5,
         }
     }
 
@@ -99,6 +91,33 @@ impl NodeName {
     }
 }
 
+/// Whether a word is a number of a script.
+fn is_short_number(word: &[u8]) -> bool
+    ensures { result ≡ is_some (short_number_of word.now) }
+{
+    word.len() <= MOST_DIGITS && number(word).is_some()
+}
+
+/// The first reason why some words are not this many numbers of a script, if they are not.
+fn wrong_number(count: u8, words: &[u8]) -> Option<Reason<'_>>
+    ensures { option_map reason_text result ≡ wrong_number count (words_of words.now) }
+{
+    let Some((word, following)) = next_word(words) else {
+        return if count == 0 {
+            None
+        } else {
+            Some(Reason::Word(Misfit::Missing))
+        };
+    };
+    if count == 0 {
+        return Some(Reason::Word(Misfit::TooMany(Part::new(word))));
+    }
+    if !is_short_number(word) {
+        return Some(Reason::NoShortNumber(Part::new(word)));
+    }
+    wrong_number(count - 1, following)
+}
+
 /// Why a part of a script is not a node, if it is not.
 fn node_reason(part: &[u8]) -> Option<NodeReason<'_>>
     ensures { option_map node_reason_text result ≡ node_reason (words_of part.now) }
@@ -107,9 +126,9 @@ fn node_reason(part: &[u8]) -> Option<NodeReason<'_>>
         return Some(NodeReason::Empty);
     };
     let Some(name) = NodeName::of(word) else {
-        return Some(NodeReason::NoNode(word));
+        return Some(NodeReason::NoNode(Part::new(word)));
     };
-    match misfits(name.kinds(), words) {
+    match wrong_number(name.numbers(), words) {
         Some(reason) => Some(NodeReason::Misfit { name, reason }),
         None => None,
     }
@@ -159,7 +178,7 @@ fn write_node_reason<W: Write>(w: &mut W, reason: NodeReason<'_>) -> io::Result<
     match reason {
         NodeReason::Empty => write_text(w, "the node is empty"),
         NodeReason::NoNode(word) => {
-            write_word(w, word)?;
+            write_word(w, word.as_slice())?;
             write_text(w, " is not source, trim, splice, crop or fade")
         }
         NodeReason::Misfit { name, reason } => {

@@ -8,9 +8,9 @@ use Rattle.script_nodes.specs.Frames.{Origin, traced}
 use Rattle.script_nodes.specs.Nodes.{nodes_of, script_from}
 use Rattle.script_nodes.specs.Shown.{Shown, shown_in, steps_shown}
 use Rattle.request_lines.specs.declared.lines.Line.{Line}
-use Rattle.request_lines.specs.declared.lines.Line.TheVariants.{Silent, Unknown, Frame, Use, Insert, Replace, Delete, Move, Copy, Blank, Hold, Script, Count, Stats, Lost}
-use Rattle.frame_session.specs.declared.edit.Edit.{Edit}
-use Rattle.frame_session.specs.declared.edit.Edit.TheVariants as edits
+use Rattle.request_lines.specs.declared.lines.Line.TheVariants as requests
+use Rattle.request_lines.specs.declared.edit.Edit.{Edit}
+use Rattle.request_lines.specs.declared.edit.Edit.TheVariants as edits
 use Rattle.frame_session.specs.declared.refusal.Refusal.{Refusal}
 use Rattle.frame_session.specs.declared.refusal.Refusal.TheVariants as refusals
 use Rattle.frame_session.specs.declared.size.Size.{Size}
@@ -24,7 +24,7 @@ use Rattle.packet_forge.specs.declared.faults.ForgeFault.TheVariants as forging
 use Rattle.packet_forge.specs.Packets.{blank_of}
 use Rattle.vp8_tables.specs.declared.tables.Tables.{Tables}
 use Rattle.frame_session.proofs.Forging.{blank_lacks_none, held_lacks_none}
-use Rattle.frame_session.specs.Edits.{edit_of, hold_bytes_at, refusal_by, refused_forged, count_unless}
+use Rattle.frame_session.specs.Edits.{WrittenAnswers, edit_of, hold_bytes_at, refusal_by, refused_forged, count_unless}
 use Rattle.frame_session.specs.Replies.{refused_line, served_line, ok_line, edit_line, count_line, stats_line}
 use Rattle.frame_session.specs.Scripts.{script_reported}
 use Rattle.frame_session.specs.Sessions.{Now, after_frame, choice_answer, current_list, edit_answer, now_after_choice, now_after_edit, now_after_script, fits, fitted, frame_count, frame_from, frame_made, frame_of, outcome_of, packet_count, picture_from, script_answer, shown_counts, size_of, size_served}
@@ -158,7 +158,7 @@ forged_told false true spent forged count some = full_told
 forged_told false false true forged count some = spent_told
 forged_told false false false forged count some = forging_told forged count some
 
-edit_told : (tables : Tables) (lists : List Listing) (list : Listing) (edit : Edit) → IsTold (edit_of tables lists list edit)
+edit_told : (tables : Tables) (lists : List Listing) (list : Listing) (edit : Edit (List ℕ)) → IsTold (edit_of tables lists list edit)
 edit_told tables lists list (edits.Insert at stamp bytes) = insertion_told _ _ _ _
 edit_told tables lists list (edits.Replace at bytes) = replacement_told _ _ _
 edit_told tables lists list (edits.Delete at) = place_or_told _ _
@@ -166,6 +166,15 @@ edit_told tables lists list (edits.Move from to) = place_or_told _ _
 edit_told tables lists list (edits.Copy source from at) = copy_told _ _ _ _ _ _
 edit_told tables lists list (edits.Blank at width height) = forged_told _ _ _ (blank_of tables width height) _ (blank_lacks_none tables width height)
 edit_told tables lists list (edits.Hold at) = forged_told _ _ _ (hold_bytes_at tables list at) _ (held_lacks_none tables (size_at at list))
+
+written_told : (tables : Tables) (lists : List Listing) (list : Listing) (edit : Edit (List ℕ)) → WrittenAnswers tables lists list edit (edit_of tables lists list edit)
+written_told tables lists list (edits.Insert at stamp bytes) = (edit_told tables lists list (edits.Insert at stamp bytes)).returned
+written_told tables lists list (edits.Replace at bytes) = (edit_told tables lists list (edits.Replace at bytes)).returned
+written_told tables lists list (edits.Delete at) = refl
+written_told tables lists list (edits.Move from to) = refl
+written_told tables lists list (edits.Copy source from at) = (edit_told tables lists list (edits.Copy source from at)).returned
+written_told tables lists list (edits.Blank at width height) = (edit_told tables lists list (edits.Blank at width height)).returned
+written_told tables lists list (edits.Hold at) = (edit_told tables lists list (edits.Hold at)).returned
 
 -- and so a script
 nodes_told : (count : ℕ) (nodes : List Node) (many wrong odd : Bool) → IsTold (script_reported count (cond many (Err scripts.Nodes) (cond wrong (Err scripts.Reference) (cond odd (Err scripts.Number) (Ok nodes)))))
@@ -185,15 +194,15 @@ pub record HasAnswer (old : Now) (line : Line) : Type 0 where
   pub means : Answers old line answer new
   pub enough : answer.reply ≡ refused_line refusals.NoMemory → ⊥
 
-answered : (old : Now) (line : Line) → line ≢ Lost → HasAnswer old line
-answered old Silent held = record { answer = reply_only []; new = old; means = (refl, refl); enough = λ e. cc }
-answered old Unknown held = record {
+answered : (old : Now) (line : Line) → line ≢ requests.Lost → HasAnswer old line
+answered old requests.Silent held = record { answer = reply_only []; new = old; means = (refl, refl); enough = λ e. cc }
+answered old requests.Unknown held = record {
   answer = reply_only (refused_line refusals.Line);
   new = old;
   means = (refl, refl);
   enough = λ e. let other : 76 ≡ 78 = ap (λ (l : List ℕ). get_or l 8 0) e in absurd (omega (arith, other));
 }
-answered old (Frame n) held =
+answered old (requests.Frame n) held =
     let frame : Result Shown Refusal = frame_of old n in
     let from : Option Origin = traced (shown_counts old) old.script n in
     record {
@@ -202,53 +211,24 @@ answered old (Frame n) held =
       means = (frame, wanted_given old from, refl, record { rest = refl; steps = omega arith });
       enough = tells_no_lack old n frame (wanted_some old from);
     }
-answered old (Use source) held =
+answered old (requests.Use source) held =
     let answer = choice_answer old source in
     record { answer = reply_only (edit_line answer); new = now_after_choice source old; means = (refl, refl); enough = (choice_told _ _).enough }
-answered old (Copy source from at) held =
-    let edit = edits.Copy source from at in
+answered old (requests.Edit edit) held =
     let answer = edit_answer old edit in
     let is = edit_told old.tables old.lists (current_list old) edit in
-    record { answer = reply_only (edit_line answer); new = now_after_edit edit old answer; means = (answer, is.returned, (refl, refl)); enough = is.enough }
-answered old (Insert at stamp bytes) held =
-    let edit = edits.Insert at stamp bytes in
-    let answer = edit_answer old edit in
-    let is = edit_told old.tables old.lists (current_list old) edit in
-    record { answer = reply_only (edit_line answer); new = now_after_edit edit old answer; means = (answer, is.returned, (refl, refl)); enough = is.enough }
-answered old (Replace at bytes) held =
-    let edit = edits.Replace at bytes in
-    let answer = edit_answer old edit in
-    let is = edit_told old.tables old.lists (current_list old) edit in
-    record { answer = reply_only (edit_line answer); new = now_after_edit edit old answer; means = (answer, is.returned, (refl, refl)); enough = is.enough }
-answered old (Blank at width height) held =
-    let edit = edits.Blank at width height in
-    let answer = edit_answer old edit in
-    let is = edit_told old.tables old.lists (current_list old) edit in
-    record { answer = reply_only (edit_line answer); new = now_after_edit edit old answer; means = (answer, is.returned, (refl, refl)); enough = is.enough }
-answered old (Hold at) held =
-    let edit = edits.Hold at in
-    let answer = edit_answer old edit in
-    let is = edit_told old.tables old.lists (current_list old) edit in
-    record { answer = reply_only (edit_line answer); new = now_after_edit edit old answer; means = (answer, is.returned, (refl, refl)); enough = is.enough }
-answered old (Delete at) held =
-    let edit = edits.Delete at in
-    let answer = edit_answer old edit in
-    record { answer = reply_only (edit_line answer); new = now_after_edit edit old answer; means = (refl, refl); enough = (edit_told old.tables old.lists (current_list old) edit).enough }
-answered old (Move from to) held =
-    let edit = edits.Move from to in
-    let answer = edit_answer old edit in
-    record { answer = reply_only (edit_line answer); new = now_after_edit edit old answer; means = (refl, refl); enough = (edit_told old.tables old.lists (current_list old) edit).enough }
-answered old (Script text) held =
+    record { answer = reply_only (edit_line answer); new = now_after_edit edit old answer; means = (answer, written_told old.tables old.lists (current_list old) edit, (refl, refl)); enough = is.enough }
+answered old (requests.Script text) held =
     let set = script_answer old text in
     let is = script_told (packet_count old) (length old.lists) (nodes_of text) in
     record { answer = reply_only (edit_line set); new = now_after_script text old set; means = (set, is.returned, (refl, refl)); enough = is.enough }
-answered old Count held =
+answered old requests.Count held =
     let reply = count_line (packet_count old) (frame_count old) in
     record { answer = reply_only reply; new = old; means = (refl, refl); enough = begins_otherwise reply refusals.NoMemory (λ h. omega (arith, h)) }
-answered old Stats held =
+answered old requests.Stats held =
     let reply = stats_line old.decoded in
     record { answer = reply_only reply; new = old; means = (refl, refl); enough = begins_otherwise reply refusals.NoMemory (λ h. omega (arith, h)) }
-answered old Lost held = absurd (held refl)
+answered old requests.Lost held = absurd (held refl)
 
 -- answers to lines, none of which is `refused NoMemory`
 pub record HaveAnswers (old : Now) (lines : List Line) : Type 0 where
@@ -257,11 +237,11 @@ pub record HaveAnswers (old : Now) (lines : List Line) : Type 0 where
   pub run : Run old lines answers new
   pub enough : HaveMemory answers
 
-pub all_answered : (old : Now) (lines : List Line) → All (λ line. line ≢ Lost) lines → HaveAnswers old lines
+pub all_answered : (old : Now) (lines : List Line) → All (λ line. line ≢ requests.Lost) lines → HaveAnswers old lines
 all_answered old [] held = record { answers = []; new = old; run = refl; enough = tt }
 all_answered old (line ∷ lines) held =
-    let first = answered old line (All-head (λ line. line ≢ Lost) line lines held) in
-    let rest = all_answered first.new lines (All-tail (λ line. line ≢ Lost) line lines held) in
+    let first = answered old line (All-head (λ line. line ≢ requests.Lost) line lines held) in
+    let rest = all_answered first.new lines (All-tail (λ line. line ≢ requests.Lost) line lines held) in
     record {
       answers = first.answer ∷ rest.answers;
       new = rest.new;
@@ -269,5 +249,5 @@ all_answered old (line ∷ lines) held =
       enough = (first.enough, rest.enough);
     }
 
-pub meaning_exists : (old : Now) (lines : List Line) → All (λ line. line ≢ Lost) lines → (answers : List Answer) × (new : Now) × Run old lines answers new × HaveMemory answers
+pub meaning_exists : (old : Now) (lines : List Line) → All (λ line. line ≢ requests.Lost) lines → (answers : List Answer) × (new : Now) × Run old lines answers new × HaveMemory answers
 meaning_exists old lines held = let all = all_answered old lines held in (all.answers, all.new, all.run, all.enough)

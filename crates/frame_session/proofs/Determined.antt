@@ -2,15 +2,16 @@
 use Rattle.std.proofs.Common.{◌≡◌, ℕ, Bool, true, false, cond, List, [], ◌∷◌, Option, Some, None, Result, Ok, Err, refl, sym, ap, ◌∙◌, subst}
 use Rattle.script_nodes.specs.Shown.{Shown}
 use Rattle.request_lines.specs.declared.lines.Line.{Line}
-use Rattle.request_lines.specs.declared.lines.Line.TheVariants.{Silent, Unknown, Frame, Use, Insert, Replace, Delete, Move, Copy, Blank, Hold, Script, Count, Stats, Lost}
-use Rattle.frame_session.specs.declared.edit.Edit.{Edit}
-use Rattle.frame_session.specs.declared.edit.Edit.TheVariants as edits
+use Rattle.request_lines.specs.declared.lines.Line.TheVariants as requests
+use Rattle.request_lines.specs.declared.edit.Edit.{Edit}
+use Rattle.request_lines.specs.declared.edit.Edit.TheVariants as edits
 use Rattle.frame_session.specs.declared.refusal.Refusal.{Refusal}
 use Rattle.frame_session.specs.declared.refusal.Refusal.TheVariants as refusals
 use Rattle.frame_session.specs.declared.size.Size.{Size}
+use Rattle.frame_session.specs.Edits.{WrittenAnswers}
 use Rattle.frame_session.specs.IsOrNoMemory.{IsOrNoMemory}
 use Rattle.frame_session.specs.Replies.{refused_line, edit_line}
-use Rattle.frame_session.specs.Sessions.{Now, after_frame, choice_answer, edit_answer, now_after_choice, now_after_edit, now_after_script, frame_of, script_answer, size_served}
+use Rattle.frame_session.specs.Sessions.{Now, after_frame, choice_answer, current_list, edit_answer, now_after_choice, now_after_edit, now_after_script, frame_of, script_answer, size_served}
 use Rattle.frame_session.specs.Answers.{Answer, Answers, AnswersEdit, Run, answer_to_frame, reply_only}
 use Rattle.frame_session.specs.Laws.{AllAlike, AreAlike, HaveMemory}
 
@@ -54,7 +55,7 @@ same_answer old steps answer answer' wanted new new' first second =
     (second.0 ∙ sym first.0, second.1 ∙ ap (λ (s : Now). counted s steps) (sym first.1) ∙ ap (λ (d : ℕ). counted new d) (sym (ap (λ (s : Now). s.decoded) second.1)))
 
 -- the state after an edit, except for the number of steps, does not depend on that number
-edit_counted : (old : Now) (steps : ℕ) (edit : Edit) (edited : Result ℕ Refusal) → now_after_edit edit (counted old steps) edited ≡ counted (now_after_edit edit old edited) steps
+edit_counted : (old : Now) (steps : ℕ) (edit : Edit (List ℕ)) (edited : Result ℕ Refusal) → now_after_edit edit (counted old steps) edited ≡ counted (now_after_edit edit old edited) steps
 edit_counted old steps edit (Ok count) = refl
 edit_counted old steps edit (Err refusal) = refl
 
@@ -71,7 +72,7 @@ one_choice old steps source answer answer' new new' first second =
     )
 
 -- two answers to an edit with the same result
-same_edit : (old : Now) (steps : ℕ) (edit : Edit) (edited edited' : Result ℕ Refusal) (answer answer' : Answer) (new new' : Now) → edited' ≡ edited → AnswersEdit old edit edited answer new → AnswersEdit (counted old steps) edit edited' answer' new' → (answer' ≡ answer) × (new' ≡ counted new new'.decoded)
+same_edit : (old : Now) (steps : ℕ) (edit : Edit (List ℕ)) (edited edited' : Result ℕ Refusal) (answer answer' : Answer) (new new' : Now) → edited' ≡ edited → AnswersEdit old edit edited answer new → AnswersEdit (counted old steps) edit edited' answer' new' → (answer' ≡ answer) × (new' ≡ counted new new'.decoded)
 same_edit old steps edit edited edited' answer answer' new new' same first second =
     let again : new' ≡ counted (now_after_edit edit old edited) steps = second.1 ∙ ap (λ (e : Result ℕ Refusal). now_after_edit edit (counted old steps) e) same ∙ edit_counted old steps edit edited in (
       second.0 ∙ ap (λ (e : Result ℕ Refusal). reply_only (edit_line e)) same ∙ sym first.0,
@@ -82,10 +83,20 @@ same_edit old steps edit edited edited' answer answer' new new' same first secon
 told_edit : (edited : Result ℕ Refusal) (answer : Answer) → answer ≡ reply_only (edit_line edited) → (answer.reply ≡ refused_line refusals.NoMemory → ⊥) → edited ≡ Err refusals.NoMemory → ⊥
 told_edit edited answer is enough lacks = enough (ap (λ (a : Answer). a.reply) is ∙ ap edit_line lacks)
 
-one_edit : (old : Now) (steps : ℕ) (edit : Edit) (edited edited' : Result ℕ Refusal) (answer answer' : Answer) (new new' : Now) → IsOrNoMemory (edit_answer old edit) edited → IsOrNoMemory (edit_answer old edit) edited' → AnswersEdit old edit edited answer new → AnswersEdit (counted old steps) edit edited' answer' new' → (answer.reply ≡ refused_line refusals.NoMemory → ⊥) → (answer'.reply ≡ refused_line refusals.NoMemory → ⊥) → (answer' ≡ answer) × (new' ≡ counted new new'.decoded)
+-- the result of an edit is the wanted one, unless it is NoMemory
+written_given : (old : Now) (edit : Edit (List ℕ)) (answer : Result ℕ Refusal) → (answer ≡ Err refusals.NoMemory → ⊥) → WrittenAnswers old.tables old.lists (current_list old) edit answer → edit_answer old edit ≡ answer
+written_given old (edits.Insert at stamp bytes) answer enough returned = given _ answer enough returned
+written_given old (edits.Replace at bytes) answer enough returned = given _ answer enough returned
+written_given old (edits.Delete at) answer enough returned = sym returned
+written_given old (edits.Move from to) answer enough returned = sym returned
+written_given old (edits.Copy source from at) answer enough returned = given _ answer enough returned
+written_given old (edits.Blank at width height) answer enough returned = given _ answer enough returned
+written_given old (edits.Hold at) answer enough returned = given _ answer enough returned
+
+one_edit : (old : Now) (steps : ℕ) (edit : Edit (List ℕ)) (edited edited' : Result ℕ Refusal) (answer answer' : Answer) (new new' : Now) → WrittenAnswers old.tables old.lists (current_list old) edit edited → WrittenAnswers old.tables old.lists (current_list old) edit edited' → AnswersEdit old edit edited answer new → AnswersEdit (counted old steps) edit edited' answer' new' → (answer.reply ≡ refused_line refusals.NoMemory → ⊥) → (answer'.reply ≡ refused_line refusals.NoMemory → ⊥) → (answer' ≡ answer) × (new' ≡ counted new new'.decoded)
 one_edit old steps edit edited edited' answer answer' new new' returned gives' first second enough enough' =
-    let wanted : edit_answer old edit ≡ edited = given (edit_answer old edit) edited (told_edit edited answer first.0 enough) returned in
-    let wanted' : edit_answer old edit ≡ edited' = given (edit_answer old edit) edited' (told_edit edited' answer' second.0 enough') gives' in
+    let wanted : edit_answer old edit ≡ edited = written_given old edit edited (told_edit edited answer first.0 enough) returned in
+    let wanted' : edit_answer old edit ≡ edited' = written_given old edit edited' (told_edit edited' answer' second.0 enough') gives' in
     same_edit old steps edit edited edited' answer answer' new new' (sym wanted' ∙ wanted) first second
 
 -- the same for a script
@@ -106,30 +117,9 @@ one_script old steps text set set' answer answer' new new' returned gives' first
 
 -- two answers to one line, the second after another number of steps
 one_answer : (old : Now) (steps : ℕ) (line : Line) (answer answer' : Answer) (new new' : Now) → Answers old line answer new → Answers (counted old steps) line answer' new' → (answer.reply ≡ refused_line refusals.NoMemory → ⊥) → (answer'.reply ≡ refused_line refusals.NoMemory → ⊥) → AreAlike line answer answer' × (new' ≡ counted new new'.decoded)
-one_answer old steps Silent answer answer' new new' first second enough enough' = same_answer old steps answer answer' _ new new' first second
-one_answer old steps Unknown answer answer' new new' first second enough enough' = same_answer old steps answer answer' _ new new' first second
-one_answer old steps (Use source) answer answer' new new' first second enough enough' = one_choice old steps source answer answer' new new' first second
-one_answer old steps (Copy source from at) answer answer' new new' first second enough enough' =
-    one_edit old steps (edits.Copy source from at) first.0 second.0 answer answer' new new' first.1 second.1 first.2 second.2 enough enough'
-one_answer old steps (Insert at stamp bytes) answer answer' new new' first second enough enough' =
-    one_edit old steps (edits.Insert at stamp bytes) first.0 second.0 answer answer' new new' first.1 second.1 first.2 second.2 enough enough'
-one_answer old steps (Replace at bytes) answer answer' new new' first second enough enough' =
-    one_edit old steps (edits.Replace at bytes) first.0 second.0 answer answer' new new' first.1 second.1 first.2 second.2 enough enough'
-one_answer old steps (Blank at width height) answer answer' new new' first second enough enough' =
-    one_edit old steps (edits.Blank at width height) first.0 second.0 answer answer' new new' first.1 second.1 first.2 second.2 enough enough'
-one_answer old steps (Hold at) answer answer' new new' first second enough enough' =
-    one_edit old steps (edits.Hold at) first.0 second.0 answer answer' new new' first.1 second.1 first.2 second.2 enough enough'
-one_answer old steps (Delete at) answer answer' new new' first second enough enough' =
-    same_edit old steps (edits.Delete at) _ _ answer answer' new new' refl first second
-one_answer old steps (Move from to) answer answer' new new' first second enough enough' =
-    same_edit old steps (edits.Move from to) _ _ answer answer' new new' refl first second
-one_answer old steps (Script text) answer answer' new new' first second enough enough' =
-    one_script old steps text first.0 second.0 answer answer' new new' first.1 second.1 first.2 second.2 enough enough'
-one_answer old steps Count answer answer' new new' first second enough enough' = same_answer old steps answer answer' _ new new' first second
-one_answer old steps Lost answer answer' new new' first second enough enough' = same_answer old steps answer answer' _ new new' first second
-one_answer old steps Stats answer answer' new new' first second enough enough' =
+one_answer old steps requests.Stats answer answer' new new' first second enough enough' =
     ((old.decoded, steps, first.0, second.0), second.1 ∙ ap (λ (s : Now). counted s steps) (sym first.1) ∙ ap (λ (d : ℕ). counted new d) (sym (ap (λ (s : Now). s.decoded) second.1)))
-one_answer old steps (Frame n) answer answer' new new' first second enough enough' =
+one_answer old steps (requests.Frame n) answer answer' new new' first second enough enough' =
     let frame : Result Shown Refusal = first.0 in
     let frame' : Result Shown Refusal = second.0 in
     let wanted : frame_of old n ≡ frame = given (frame_of old n) frame (enough_for old n answer frame first.2 enough) first.1 in
@@ -140,6 +130,12 @@ one_answer old steps (Frame n) answer answer' new new' first second enough enoug
           ∙ ap (λ (f : Result Shown Refusal). counted (after_frame old (size_served f)) new'.decoded) same
           ∙ sym (ap (λ (s : Now). counted s new'.decoded) first.3.rest),
     )
+one_answer old steps (requests.Use source) answer answer' new new' first second enough enough' = one_choice old steps source answer answer' new new' first second
+one_answer old steps (requests.Edit edit) answer answer' new new' first second enough enough' =
+    one_edit old steps edit first.0 second.0 answer answer' new new' first.1 second.1 first.2 second.2 enough enough'
+one_answer old steps (requests.Script text) answer answer' new new' first second enough enough' =
+    one_script old steps text first.0 second.0 answer answer' new new' first.1 second.1 first.2 second.2 enough enough'
+one_answer old steps line answer answer' new new' first second enough enough' = same_answer old steps answer answer' _ new new' first second
 
 one_run : (old : Now) (steps : ℕ) (lines : List Line) (answers answers' : List Answer) (new new' : Now) → Run old lines answers new → Run (counted old steps) lines answers' new' → HaveMemory answers → HaveMemory answers' → AllAlike lines answers answers' × (new' ≡ counted new new'.decoded)
 one_run old steps [] [] [] new new' first second enough enough' =

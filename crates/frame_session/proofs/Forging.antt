@@ -10,8 +10,8 @@ use Rattle.packet_forge.specs.declared.faults.ForgeFault.{ForgeFault}
 use Rattle.packet_forge.specs.declared.faults.ForgeFault.TheVariants as forging
 use Rattle.packet_forge.specs.Faults.{ForgeRefuses}
 use Rattle.packet_forge.specs.Packets.{blank_of}
-use Rattle.frame_session.specs.declared.edit.Edit.{Edit}
-use Rattle.frame_session.specs.declared.edit.Edit.TheVariants.{Insert}
+use Rattle.request_lines.specs.declared.edit.Edit.{Edit}
+use Rattle.request_lines.specs.declared.edit.Edit.TheVariants.{Insert}
 use Rattle.frame_session.specs.declared.refusal.Refusal.{Refusal}
 use Rattle.frame_session.specs.Edits.{after_edit, edit_of, edited, hold_bytes, inserted_forged, refusal_by, refusal_by_forging, refused_forged, stamp_before, count_unless}
 use Rattle.frame_session.specs.IsOrNoMemory.{IsOrNoMemory}
@@ -92,11 +92,11 @@ insertion_gives tables lists list at stamp bytes forged answer made is returned 
     let Q : Listing → Type 0 = λ after. IsOrNoMemory (count_unless (refused_forged (refused_insertion list at) forged) (length after.entries)) answer in
     subst Q (inserted_same at stamp bytes forged list made is) (subst P first returned)
 
-after_same : (tables : Tables) (lists : List Listing) (edit edit' : Edit) (list : Listing) (answer : Result ℕ Refusal) → edited tables lists edit list ≡ edited tables lists edit' list → after_edit tables lists edit list answer ≡ after_edit tables lists edit' list answer
+after_same : (tables : Tables) (lists : List Listing) (edit edit' : Edit (List ℕ)) (list : Listing) (answer : Result ℕ Refusal) → edited tables lists edit list ≡ edited tables lists edit' list → after_edit tables lists edit list answer ≡ after_edit tables lists edit' list answer
 after_same tables lists edit edit' list (Ok count) same = same
 after_same tables lists edit edit' list (Err refusal) same = refl
 
 -- and the list after it
-pub insertion_leaves : (tables : Tables) (lists : List Listing) (list new : Listing) (at stamp : ℕ) (bytes : List ℕ) (forged : Result (List ℕ) ForgeFault) (edit : Edit) (answer : Result ℕ Refusal) → forged ≡ Ok bytes → stamp ≡ stamp_before at list → edited tables lists edit list ≡ inserted_forged at forged list → new ≡ after_edit tables lists (Insert at stamp bytes) list answer → new ≡ after_edit tables lists edit list answer
+pub insertion_leaves : (tables : Tables) (lists : List Listing) (list new : Listing) (at stamp : ℕ) (bytes : List ℕ) (forged : Result (List ℕ) ForgeFault) (edit : Edit (List ℕ)) (answer : Result ℕ Refusal) → forged ≡ Ok bytes → stamp ≡ stamp_before at list → edited tables lists edit list ≡ inserted_forged at forged list → new ≡ after_edit tables lists (Insert at stamp bytes) list answer → new ≡ after_edit tables lists edit list answer
 insertion_leaves tables lists list new at stamp bytes forged edit answer made is forges after =
     after ∙ after_same tables lists (Insert at stamp bytes) edit list answer (inserted_same at stamp bytes forged list made is ∙ sym forges)

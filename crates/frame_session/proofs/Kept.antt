@@ -2,13 +2,12 @@
 use Rattle.std.proofs.Common.{◌≡◌, ℕ, ◌≤◌, Bool, true, false, cond, List, [], ◌∷◌, Result, Ok, Err, sym, ap, ◌∙◌, arith}
 use Rattle.script_nodes.specs.Shown.{Shown}
 use Rattle.request_lines.specs.declared.lines.Line.{Line}
-use Rattle.request_lines.specs.declared.lines.Line.TheVariants.{Silent, Unknown, Frame, Use, Insert, Replace, Delete, Move, Copy, Blank, Hold, Script, Count, Stats, Lost}
-use Rattle.frame_session.specs.declared.edit.Edit.{Edit}
-use Rattle.frame_session.specs.declared.edit.Edit.TheVariants as edits
+use Rattle.request_lines.specs.declared.lines.Line.TheVariants as requests
+use Rattle.request_lines.specs.declared.edit.Edit.{Edit}
 use Rattle.frame_session.specs.declared.refusal.Refusal.{Refusal}
 use Rattle.frame_session.specs.declared.refusal.Refusal.TheVariants as refusals
 use Rattle.frame_session.specs.Replies.{refused_line, edit_line, ok_line, served_line}
-use Rattle.frame_session.specs.Sessions.{IsAfterFrame, Now, edit_answer, now_after_edit, now_after_script, size_served}
+use Rattle.frame_session.specs.Sessions.{IsAfterFrame, Now, now_after_edit, now_after_script, size_served}
 use Rattle.frame_session.specs.Answers.{Answer, Answers, Run, answer_to_frame}
 use Rattle.frame_session.proofs.Answered.{begins_otherwise}
 
@@ -18,7 +17,7 @@ script_counts old new text (Ok count) is = rw is (omega arith)
 script_counts old new text (Err refusal) is = rw is (omega arith)
 
 -- the state after an edit has the same number of steps
-edit_counts : (old new : Now) (edit : Edit) (edited : Result ℕ Refusal) → new ≡ now_after_edit edit old edited → old.decoded ≤ new.decoded
+edit_counts : (old new : Now) (edit : Edit (List ℕ)) (edited : Result ℕ Refusal) → new ≡ now_after_edit edit old edited → old.decoded ≤ new.decoded
 edit_counts old new edit (Ok count) is = rw is (omega arith)
 edit_counts old new edit (Err refusal) is = rw is (omega arith)
 
@@ -29,21 +28,11 @@ choice_counts old new source false is = rw is (omega arith)
 
 -- one more line leaves the number of steps or raises it
 line_counts : (old new : Now) (line : Line) (answer : Answer) → Answers old line answer new → old.decoded ≤ new.decoded
-line_counts old new Silent answer means = rw means.1 (omega arith)
-line_counts old new Unknown answer means = rw means.1 (omega arith)
-line_counts old new (Frame n) answer means = means.3.steps
-line_counts old new (Use source) answer means = choice_counts old new source _ means.1
-line_counts old new (Copy source from at) answer means = edit_counts old new (edits.Copy source from at) means.0 means.2.1
-line_counts old new (Insert at stamp bytes) answer means = edit_counts old new (edits.Insert at stamp bytes) means.0 means.2.1
-line_counts old new (Replace at bytes) answer means = edit_counts old new (edits.Replace at bytes) means.0 means.2.1
-line_counts old new (Blank at width height) answer means = edit_counts old new (edits.Blank at width height) means.0 means.2.1
-line_counts old new (Hold at) answer means = edit_counts old new (edits.Hold at) means.0 means.2.1
-line_counts old new (Delete at) answer means = edit_counts old new (edits.Delete at) (edit_answer old (edits.Delete at)) means.1
-line_counts old new (Move from to) answer means = edit_counts old new (edits.Move from to) (edit_answer old (edits.Move from to)) means.1
-line_counts old new (Script text) answer means = script_counts old new text means.0 means.2.1
-line_counts old new Count answer means = rw means.1 (omega arith)
-line_counts old new Stats answer means = rw means.1 (omega arith)
-line_counts old new Lost answer means = rw means.1 (omega arith)
+line_counts old new (requests.Frame n) answer means = means.3.steps
+line_counts old new (requests.Use source) answer means = choice_counts old new source _ means.1
+line_counts old new (requests.Edit edit) answer means = edit_counts old new edit means.0 means.2.1
+line_counts old new (requests.Script text) answer means = script_counts old new text means.0 means.2.1
+line_counts old new line answer means = rw means.1 (omega arith)
 
 pub lines_count : (old new : Now) (lines : List Line) (answers : List Answer) → Run old lines answers new → old.decoded ≤ new.decoded
 lines_count old new [] [] ran = rw ran (omega arith)
@@ -64,7 +53,7 @@ frame_kept old new n (Ok shown) refusal after e = absurd (begins_otherwise (serv
 frame_kept old new n (Err other) refusal after e = after.rest
 
 -- an edit that is refused
-edit_cached : (old new : Now) (edit : Edit) (edited : Result ℕ Refusal) (refusal : Refusal) → new ≡ now_after_edit edit old edited → edit_line edited ≡ refused_line refusal → new ≡ record old { decoded = new.decoded }
+edit_cached : (old new : Now) (edit : Edit (List ℕ)) (edited : Result ℕ Refusal) (refusal : Refusal) → new ≡ now_after_edit edit old edited → edit_line edited ≡ refused_line refusal → new ≡ record old { decoded = new.decoded }
 edit_cached old new edit (Ok count) refusal after e = absurd (begins_otherwise (ok_line count) refusal (λ h. omega (arith, h)) e)
 edit_cached old new edit (Err other) refusal after e = same old new after
 
@@ -82,18 +71,8 @@ reply_of : (answer reply_only : Answer) (reply : List ℕ) → answer ≡ reply_
 reply_of answer reply_only reply is e = sym (ap (λ (a : Answer). a.reply) is) ∙ e
 
 pub refused_kept : (old new : Now) (line : Line) (answer : Answer) (refusal : Refusal) → Answers old line answer new → answer.reply ≡ refused_line refusal → new ≡ record old { decoded = new.decoded }
-refused_kept old new Silent answer refusal means e = same old new means.1
-refused_kept old new Unknown answer refusal means e = same old new means.1
-refused_kept old new (Frame n) answer refusal means e = frame_kept old new n means.0 refusal means.3 (reply_of answer _ _ means.2 e)
-refused_kept old new (Use source) answer refusal means e = choice_kept old new source _ refusal _ means.1 (reply_of answer _ _ means.0 e)
-refused_kept old new (Copy source from at) answer refusal means e = edit_cached old new (edits.Copy source from at) means.0 refusal means.2.1 (reply_of answer _ _ means.2.0 e)
-refused_kept old new (Insert at stamp bytes) answer refusal means e = edit_cached old new (edits.Insert at stamp bytes) means.0 refusal means.2.1 (reply_of answer _ _ means.2.0 e)
-refused_kept old new (Replace at bytes) answer refusal means e = edit_cached old new (edits.Replace at bytes) means.0 refusal means.2.1 (reply_of answer _ _ means.2.0 e)
-refused_kept old new (Blank at width height) answer refusal means e = edit_cached old new (edits.Blank at width height) means.0 refusal means.2.1 (reply_of answer _ _ means.2.0 e)
-refused_kept old new (Hold at) answer refusal means e = edit_cached old new (edits.Hold at) means.0 refusal means.2.1 (reply_of answer _ _ means.2.0 e)
-refused_kept old new (Delete at) answer refusal means e = edit_cached old new (edits.Delete at) (edit_answer old (edits.Delete at)) refusal means.1 (reply_of answer _ _ means.0 e)
-refused_kept old new (Move from to) answer refusal means e = edit_cached old new (edits.Move from to) (edit_answer old (edits.Move from to)) refusal means.1 (reply_of answer _ _ means.0 e)
-refused_kept old new (Script text) answer refusal means e = script_kept old new text means.0 refusal means.2.1 (reply_of answer _ _ means.2.0 e)
-refused_kept old new Count answer refusal means e = same old new means.1
-refused_kept old new Stats answer refusal means e = same old new means.1
-refused_kept old new Lost answer refusal means e = same old new means.1
+refused_kept old new (requests.Frame n) answer refusal means e = frame_kept old new n means.0 refusal means.3 (reply_of answer _ _ means.2 e)
+refused_kept old new (requests.Use source) answer refusal means e = choice_kept old new source _ refusal _ means.1 (reply_of answer _ _ means.0 e)
+refused_kept old new (requests.Edit edit) answer refusal means e = edit_cached old new edit means.0 refusal means.2.1 (reply_of answer _ _ means.2.0 e)
+refused_kept old new (requests.Script text) answer refusal means e = script_kept old new text means.0 refusal means.2.1 (reply_of answer _ _ means.2.0 e)
+refused_kept old new line answer refusal means e = same old new means.1

@@ -8,26 +8,23 @@ use Rattle.pixel_planes.specs.Pictures.{PictureSamples}
 use Rattle.stream_files.specs.Y4m.{frame_text}
 use Rattle.stream_files.specs.declared.ivf.Head.{Head}
 use Rattle.request_lines.specs.declared.lines.Line.{Line}
-use Rattle.request_lines.specs.declared.lines.Line.TheVariants.{Silent, Unknown, Frame, Use, Insert, Replace, Delete, Move, Copy, Blank, Hold, Script, Count, Stats, Lost}
-use Rattle.frame_session.specs.declared.edit.Edit.TheVariants as edits
+use Rattle.request_lines.specs.declared.lines.Line.TheVariants as requests
+use Rattle.request_lines.specs.declared.edit.Edit.{Edit}
 use Rattle.frame_session.specs.declared.refusal.Refusal.{Refusal}
-use Rattle.frame_session.specs.declared.refusal.Refusal.TheVariants as refusals
 use Rattle.request_lines.specs.Requests.{asked_by}
 use Rattle.frame_session.specs.IsOrNoMemory.{IsOrNoMemory, IsFrameOrNoMemory}
-use Rattle.frame_session.specs.Edits.{EditAnswers}
-use Rattle.frame_session.specs.Replies.{refused_line, edit_line, count_line, served_line, stats_line}
-use Rattle.frame_session.specs.Sessions.{IsAfterFrame, Now, choice_answer, current_list, edit_answer, now_after_choice, now_after_edit, now_after_script, frame_count, frame_of, head_due, packet_count, script_answer, size_given}
+use Rattle.frame_session.specs.Edits.{WrittenAnswers}
+use Rattle.frame_session.specs.Replies.{refused_line, edit_line, served_line}
+use Rattle.frame_session.specs.Sessions.{IsAfterFrame, Now, choice_answer, current_list, now_after_choice, now_after_edit, now_after_script, frame_of, head_due, script_answer, size_given}
 use Rattle.frame_session.specs.Answers.{Answer, Answers, Run, Runs, Serves, WritesFrameFirst, answer_to_frame, frames_of, opening, replies_of, reply_only}
 use Rattle.frame_session.proofs.Texts.{text_same}
 
 module _ (old : Now) (f f' r r' : Option (List ℕ)) where
-  pub serves_silent : Serves old Silent f f r r old
-  serves_silent = record { answer = reply_only []; means = (refl, refl); shown = Appends-nil f; said = Appends-nil r }
+  -- a line that only has a reply
+  pub serves_reply : (line : Line) (reply : List ℕ) → Answers old line (reply_only reply) old → Appends r r' reply → Serves old line f f r r' old
+  serves_reply line reply means said = record { answer = reply_only reply; means = means; shown = Appends-nil f; said = said }
 
-  pub serves_unknown : Appends r r' (refused_line refusals.Line) → Serves old Unknown f f r r' old
-  serves_unknown said = record { answer = reply_only (refused_line refusals.Line); means = (refl, refl); shown = Appends-nil f; said = said }
-
-  pub serves_refused : (n : ℕ) (refusal : Refusal) (new : Now) → IsOrNoMemory (frame_of old n) (Err refusal) → IsAfterFrame old (size_given (Err refusal)) new → Appends r r' (refused_line refusal) → Serves old (Frame n) f f r r' new
+  pub serves_refused : (n : ℕ) (refusal : Refusal) (new : Now) → IsOrNoMemory (frame_of old n) (Err refusal) → IsAfterFrame old (size_given (Err refusal)) new → Appends r r' (refused_line refusal) → Serves old (requests.Frame n) f f r r' new
   serves_refused n refusal new returned after said = record {
     answer = reply_only (refused_line refusal);
     means = (Err refusal, returned, refl, after);
@@ -35,7 +32,7 @@ module _ (old : Now) (f f' r r' : Option (List ℕ)) where
     said = said;
   }
 
-  pub serves_frame : (n : ℕ) (picture : PictureSamples) (new : Now) → IsFrameOrNoMemory (frame_of old n) (Ok picture) → IsAfterFrame old (size_given (Ok picture)) new → Appends f f' (opening (head_due old) picture.width picture.height ++ frame_text picture) → Appends r r' (served_line n) → Serves old (Frame n) f f' r r' new
+  pub serves_frame : (n : ℕ) (picture : PictureSamples) (new : Now) → IsFrameOrNoMemory (frame_of old n) (Ok picture) → IsAfterFrame old (size_given (Ok picture)) new → Appends f f' (opening (head_due old) picture.width picture.height ++ frame_text picture) → Appends r r' (served_line n) → Serves old (requests.Frame n) f f' r r' new
   serves_frame n picture new returned after shown said =
       let P : ℕ → ℕ → Type 0 = λ w h. IsAfterFrame old (Some (record { width = w; height = h })) new in
       let Q : ℕ → ℕ → List ℕ → Type 0 = λ w h t. Appends f f' (opening (head_due old) w h ++ t) in
@@ -48,10 +45,7 @@ module _ (old : Now) (f f' r r' : Option (List ℕ)) where
         said = said;
       }
 
-  pub serves_lost : Appends r r' (refused_line refusals.NoMemory) → Serves old Lost f f r r' old
-  serves_lost said = record { answer = reply_only (refused_line refusals.NoMemory); means = (refl, refl); shown = Appends-nil f; said = said }
-
-  pub serves_script : (text : List ℕ) (set : Result ℕ Refusal) (new : Now) → IsOrNoMemory (script_answer old text) set → new ≡ now_after_script text old set → Appends r r' (edit_line set) → Serves old (Script text) f f r r' new
+  pub serves_script : (text : List ℕ) (set : Result ℕ Refusal) (new : Now) → IsOrNoMemory (script_answer old text) set → new ≡ now_after_script text old set → Appends r r' (edit_line set) → Serves old (requests.Script text) f f r r' new
   serves_script text set new returned after said = record {
     answer = reply_only (edit_line set);
     means = (set, returned, (refl, after));
@@ -59,7 +53,7 @@ module _ (old : Now) (f f' r r' : Option (List ℕ)) where
     said = said;
   }
 
-  pub serves_chosen : (source : ℕ) (chosen : Result ℕ Refusal) (new : Now) → chosen ≡ choice_answer old source → new ≡ now_after_choice source old → Appends r r' (edit_line chosen) → Serves old (Use source) f f r r' new
+  pub serves_chosen : (source : ℕ) (chosen : Result ℕ Refusal) (new : Now) → chosen ≡ choice_answer old source → new ≡ now_after_choice source old → Appends r r' (edit_line chosen) → Serves old (requests.Use source) f f r r' new
   serves_chosen source chosen new is after said = record {
     answer = reply_only (edit_line chosen);
     means = (ap (λ (c : Result ℕ Refusal). reply_only (edit_line c)) is, after);
@@ -67,72 +61,22 @@ module _ (old : Now) (f f' r r' : Option (List ℕ)) where
     said = said;
   }
 
-  pub serves_copied : (source from at : ℕ) (new : Now) → ((edited : Result ℕ Refusal) × EditAnswers old.tables old.lists (current_list old) (edits.Copy source from at) edited × (new ≡ now_after_edit (edits.Copy source from at) old edited) × Appends r r' (edit_line edited)) → Serves old (Copy source from at) f f r r' new
-  serves_copied source from at new made = record {
-    answer = reply_only (edit_line made.0);
-    means = (made.0, made.1, (refl, made.2));
-    shown = Appends-nil f;
-    said = made.3;
-  }
-
-  pub serves_inserted : (at stamp : ℕ) (bytes : List ℕ) (edited : Result ℕ Refusal) (new : Now) → IsOrNoMemory (edit_answer old (edits.Insert at stamp bytes)) edited → new ≡ now_after_edit (edits.Insert at stamp bytes) old edited → Appends r r' (edit_line edited) → Serves old (Insert at stamp bytes) f f r r' new
-  serves_inserted at stamp bytes edited new returned after said = record {
+  pub serves_edited : (edit : Edit (List ℕ)) (edited : Result ℕ Refusal) (new : Now) → WrittenAnswers old.tables old.lists (current_list old) edit edited → new ≡ now_after_edit edit old edited → Appends r r' (edit_line edited) → Serves old (requests.Edit edit) f f r r' new
+  serves_edited edit edited new returned after said = record {
     answer = reply_only (edit_line edited);
     means = (edited, returned, (refl, after));
     shown = Appends-nil f;
     said = said;
   }
-
-  pub serves_replaced : (at : ℕ) (bytes : List ℕ) (edited : Result ℕ Refusal) (new : Now) → IsOrNoMemory (edit_answer old (edits.Replace at bytes)) edited → new ≡ now_after_edit (edits.Replace at bytes) old edited → Appends r r' (edit_line edited) → Serves old (Replace at bytes) f f r r' new
-  serves_replaced at bytes edited new returned after said = record {
-    answer = reply_only (edit_line edited);
-    means = (edited, returned, (refl, after));
-    shown = Appends-nil f;
-    said = said;
-  }
-
-  pub serves_deleted : (at : ℕ) (new : Now) → ((edited : Result ℕ Refusal) × EditAnswers old.tables old.lists (current_list old) (edits.Delete at) edited × (new ≡ now_after_edit (edits.Delete at) old edited) × Appends r r' (edit_line edited)) → Serves old (Delete at) f f r r' new
-  serves_deleted at new made =
-      let P : Result ℕ Refusal → Type 0 = λ e. (new ≡ now_after_edit (edits.Delete at) old e) × Appends r r' (edit_line e) in
-      let so = subst P made.1 (made.2, made.3) in
-      record { answer = reply_only (edit_line (edit_answer old (edits.Delete at))); means = (refl, so.0); shown = Appends-nil f; said = so.1 }
-
-  pub serves_moved : (from to : ℕ) (new : Now) → ((edited : Result ℕ Refusal) × EditAnswers old.tables old.lists (current_list old) (edits.Move from to) edited × (new ≡ now_after_edit (edits.Move from to) old edited) × Appends r r' (edit_line edited)) → Serves old (Move from to) f f r r' new
-  serves_moved from to new made =
-      let P : Result ℕ Refusal → Type 0 = λ e. (new ≡ now_after_edit (edits.Move from to) old e) × Appends r r' (edit_line e) in
-      let so = subst P made.1 (made.2, made.3) in
-      record { answer = reply_only (edit_line (edit_answer old (edits.Move from to))); means = (refl, so.0); shown = Appends-nil f; said = so.1 }
-
-  pub serves_blanked : (at width height : ℕ) (new : Now) → ((edited : Result ℕ Refusal) × EditAnswers old.tables old.lists (current_list old) (edits.Blank at width height) edited × (new ≡ now_after_edit (edits.Blank at width height) old edited) × Appends r r' (edit_line edited)) → Serves old (Blank at width height) f f r r' new
-  serves_blanked at width height new made = record {
-    answer = reply_only (edit_line made.0);
-    means = (made.0, made.1, (refl, made.2));
-    shown = Appends-nil f;
-    said = made.3;
-  }
-
-  pub serves_held : (at : ℕ) (new : Now) → ((edited : Result ℕ Refusal) × EditAnswers old.tables old.lists (current_list old) (edits.Hold at) edited × (new ≡ now_after_edit (edits.Hold at) old edited) × Appends r r' (edit_line edited)) → Serves old (Hold at) f f r r' new
-  serves_held at new made = record {
-    answer = reply_only (edit_line made.0);
-    means = (made.0, made.1, (refl, made.2));
-    shown = Appends-nil f;
-    said = made.3;
-  }
-
-  pub serves_count : Appends r r' (count_line (packet_count old) (frame_count old)) → Serves old Count f f r r' old
-  serves_count said = record { answer = reply_only (count_line (packet_count old) (frame_count old)); means = (refl, refl); shown = Appends-nil f; said = said }
-
-  pub serves_stats : Appends r r' (stats_line old.decoded) → Serves old Stats f f r r' old
-  serves_stats said = record { answer = reply_only (stats_line old.decoded); means = (refl, refl); shown = Appends-nil f; said = said }
 
 -- a frame and its reply, written with the head that is due
 module _ (old : Now) (f f' r r' : Option (List ℕ)) (n : ℕ) (picture : PictureSamples) (new : Now) (head : Option Head) where
-  pub frame_and_reply : {A E : Type 0} (w : Result A E) → head ≡ head_due old → IsFrameOrNoMemory (frame_of old n) (Ok picture) → IsAfterFrame old (size_given (Ok picture)) new → OnOk w (Appends f f' (opening head picture.width picture.height ++ frame_text picture)) → OnOk w (Appends r r' (served_line n)) → OnOk w (Serves old (Frame n) f f' r r' new)
+  pub frame_and_reply : {A E : Type 0} (w : Result A E) → head ≡ head_due old → IsFrameOrNoMemory (frame_of old n) (Ok picture) → IsAfterFrame old (size_given (Ok picture)) new → OnOk w (Appends f f' (opening head picture.width picture.height ++ frame_text picture)) → OnOk w (Appends r r' (served_line n)) → OnOk w (Serves old (requests.Frame n) f f' r r' new)
   frame_and_reply (Ok _) is returned after shown said =
       serves_frame old f f' r r' n picture new returned after (subst (λ (h : Option Head). Appends f f' (opening h picture.width picture.height ++ frame_text picture)) is shown) said
   frame_and_reply (Err _) is returned after shown said = tt
 
-  pub frame_or_no_reply : head ≡ head_due old → IsFrameOrNoMemory (frame_of old n) (Ok picture) → IsAfterFrame old (size_given (Ok picture)) new → Keeps r r' ⊎ Appends f f' (opening head picture.width picture.height ++ frame_text picture) → WritesFrameFirst old (Frame n) f f' r r' new
+  pub frame_or_no_reply : head ≡ head_due old → IsFrameOrNoMemory (frame_of old n) (Ok picture) → IsAfterFrame old (size_given (Ok picture)) new → Keeps r r' ⊎ Appends f f' (opening head picture.width picture.height ++ frame_text picture) → WritesFrameFirst old (requests.Frame n) f f' r r' new
   frame_or_no_reply is returned after (inl kept) = inl kept
   frame_or_no_reply is returned after (inr shown) =
       inr (serves_frame old f f' None None n picture new returned after (subst (λ (h : Option Head). Appends f f' (opening h picture.width picture.height ++ frame_text picture)) is shown) tt)

@@ -24,8 +24,8 @@ use Rattle.state_cache.specs.declared.outcomes.PacketKey.{PacketKey}
 use Rattle.state_cache.specs.EditLaws.{DropsKeepCoherence, EditsKeepCoherence, EditsKeepIds, IsViewWithout, IsMarked, NextIdIsNotCached, AreOfPackets, after_insertion, after_move, id_at}
 use Rattle.state_cache.specs.Reaching.{CacheValue, OthersDrop, ReachAnswers, view_of}
 use Rattle.state_cache.specs.Views.{Before, CoherentFrom, Drops, IsCoherent, MarkedPacket, View, entering, cached_in, known, leaving as leaving_packet, marked_packets}
-use Rattle.frame_session.specs.declared.edit.Edit.{Edit}
-use Rattle.frame_session.specs.declared.edit.Edit.TheVariants.{Insert, Replace, Delete, Move, Copy, Blank, Hold}
+use Rattle.request_lines.specs.declared.edit.Edit.{Edit}
+use Rattle.request_lines.specs.declared.edit.Edit.TheVariants.{Insert, Replace, Delete, Move, Copy, Blank, Hold}
 use Rattle.frame_session.specs.declared.refusal.Refusal.{Refusal}
 use Rattle.frame_session.specs.declared.refusal.Refusal.TheVariants as refusals
 use Rattle.frame_session.specs.IsOrNoMemory.{IsOrNoMemory, MayRunOutOfMemory}
@@ -45,7 +45,7 @@ accepted : (refusal : Option Refusal) (n count : ℕ) → count_unless refusal n
 accepted None n count e = refl
 accepted (Some refusal) n count e = cc
 
-edit_accepted : (tables : Tables) (lists : List Listing) (list : Listing) (edit : Edit) (count : ℕ) → EditAnswers tables lists list edit (Ok count) → refused_edit tables lists list edit ≡ None
+edit_accepted : (tables : Tables) (lists : List Listing) (list : Listing) (edit : Edit (List ℕ)) (count : ℕ) → EditAnswers tables lists list edit (Ok count) → refused_edit tables lists list edit ≡ None
 edit_accepted tables lists list (Insert at stamp bytes) count answers = accepted _ _ count answers
 edit_accepted tables lists list (Replace at bytes) count answers = accepted _ _ count (sym answers)
 edit_accepted tables lists list (Delete at) count answers = accepted _ _ count (sym answers)
@@ -183,7 +183,7 @@ module _ (tables : Tables) where
           of_packets = ids.insertions store.list kept at stamp bytes s.of_packets;
         }
 
-    pub edited_source : (lists : List Listing) (edit : Edit) (store : StoreValue) (old new : View) → IsMarked store → HasOwnIds store.list → refused_edit tables lists store.list edit ≡ None → IsSourceSound store old → IsViewWithout (leaving edit store.list) old new
+    pub edited_source : (lists : List Listing) (edit : Edit (List ℕ)) (store : StoreValue) (old new : View) → IsMarked store → HasOwnIds store.list → refused_edit tables lists store.list edit ≡ None → IsSourceSound store old → IsViewWithout (leaving edit store.list) old new
         → IsSourceSound (store_edited tables lists edit store) new
     edited_source lists (Insert at stamp bytes) store old new marked own allowed s without = same_view (after_insertion at stamp bytes store) old new without (inserted_sound at stamp bytes store old marked own s)
     edited_source lists (Replace at bytes) store old new marked own allowed s without = record {
@@ -214,7 +214,7 @@ module _ (tables : Tables) where
     kept_without current None old new without = λ q. ap (λ (c : CacheValue). view_of current c q) without
     kept_without current (Some id) old new without = without.0
 
-    edited_sound : (current : ℕ) (edit : Edit) (stores : List StoreValue) (old new : CacheValue) → current < length stores → IsMarked (store_at stores current) → HasOwnIds (store_at stores current).list → refused_edit tables (lists_of stores) (store_at stores current).list edit ≡ None
+    edited_sound : (current : ℕ) (edit : Edit (List ℕ)) (stores : List StoreValue) (old new : CacheValue) → current < length stores → IsMarked (store_at stores current) → HasOwnIds (store_at stores current).list → refused_edit tables (lists_of stores) (store_at stores current).list edit ≡ None
         → IsSound tables stores old → CacheWithout current (leaving edit (store_at stores current).list) old new → length new.entries ≤ new.capacity → IsSound tables (stores_edited tables current edit stores) new
     edited_sound current edit stores old new within marked own allowed sound without few =
         let store = store_at stores current in
@@ -232,7 +232,7 @@ module _ (tables : Tables) where
           bounded = few;
         }
 
-    pub answered_sound : (current : ℕ) (edit : Edit) (stores : List StoreValue) (old new : CacheValue) (answer : Result ℕ Refusal) → current < length stores → IsMarked (store_at stores current) → HasOwnIds (store_at stores current).list
+    pub answered_sound : (current : ℕ) (edit : Edit (List ℕ)) (stores : List StoreValue) (old new : CacheValue) (answer : Result ℕ Refusal) → current < length stores → IsMarked (store_at stores current) → HasOwnIds (store_at stores current).list
         → EditAnswers tables (lists_of stores) (store_at stores current).list edit answer → IsSound tables stores old → CacheWithout current (id_removed edit (store_at stores current).list answer) old new → (length old.entries ≤ old.capacity → length new.entries ≤ new.capacity) → IsSound tables (stores_after tables current edit stores answer) new
     answered_sound current edit stores old new (Ok count) within marked own answers sound without few =
         edited_sound current edit stores old new within marked own (edit_accepted tables (lists_of stores) (store_at stores current).list edit count answers) sound without (few sound.bounded)

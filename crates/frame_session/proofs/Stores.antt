@@ -8,7 +8,7 @@ use Rattle.stream_files.specs.declared.ivf.Ivf.{Ivf}
 use Rattle.packet_edits.specs.Edits.{Listing, copied, starting_with}
 use Rattle.packet_edits.specs.Marks.{StoreValue, marks_inserted}
 use Rattle.packet_edits.specs.Shown.{shown_indexes, stream_of}
-use Rattle.frame_session.specs.declared.edit.Edit.{Edit}
+use Rattle.request_lines.specs.declared.edit.Edit.{Edit}
 use Rattle.frame_session.specs.declared.refusal.Refusal.{Refusal}
 use Rattle.frame_session.specs.Edits.{after_edit, edited, list_at}
 use Rattle.frame_session.specs.Sessions.{Now, now_after_edit}
@@ -49,7 +49,7 @@ set_own : (stores : List StoreValue) (source : ℕ) → slice_set stores source 
 set_own stores source = set-get_or stores source _
 
 -- the packets and marks of the current source after an edit
-pub edited_here : (tables : Tables) (current : ℕ) (edit : Edit) (stores : List StoreValue) (d made : StoreValue) (answer : Result ℕ Refusal) → current < length stores
+pub edited_here : (tables : Tables) (current : ℕ) (edit : Edit (List ℕ)) (stores : List StoreValue) (d made : StoreValue) (answer : Result ℕ Refusal) → current < length stores
     → made.list ≡ after_edit tables (lists_of stores) edit (slice_index_or stores current d).list answer → made.marks ≡ marks_after edit (slice_index_or stores current d).marks answer → slice_set stores current made ≡ stores_after tables current edit stores answer
 edited_here tables current edit stores d made (Ok count) within list marks =
     let own = slice_index_or stores current d in
@@ -60,12 +60,12 @@ edited_here tables current edit stores d made (Err refusal) within list marks =
     ap (slice_set stores current) (same_store made own.list own.marks list marks ∙ found stores current d within) ∙ set_own stores current
 
 -- the lists after an edit
-pub lists_after : (tables : Tables) (current : ℕ) (edit : Edit) (stores : List StoreValue) (count : ℕ) → lists_of (stores_after tables current edit stores (Ok count)) ≡ slice_set (lists_of stores) current (edited tables (lists_of stores) edit (list_at (lists_of stores) current))
+pub lists_after : (tables : Tables) (current : ℕ) (edit : Edit (List ℕ)) (stores : List StoreValue) (count : ℕ) → lists_of (stores_after tables current edit stores (Ok count)) ≡ slice_set (lists_of stores) current (edited tables (lists_of stores) edit (list_at (lists_of stores) current))
 lists_after tables current edit stores count =
     lists_of_set stores current _ ∙ ap (λ (l : Listing). slice_set (lists_of stores) current (edited tables (lists_of stores) edit l)) (sym (list_of_store stores current))
 
 -- the state after an edit
-pub edit_leaves : (old : Now) (stores made : List StoreValue) (edit : Edit) (answer : Result ℕ Refusal) → made ≡ stores_after old.tables old.current edit stores answer → record old { lists = lists_of made } ≡ now_after_edit edit (record old { lists = lists_of stores }) answer
+pub edit_leaves : (old : Now) (stores made : List StoreValue) (edit : Edit (List ℕ)) (answer : Result ℕ Refusal) → made ≡ stores_after old.tables old.current edit stores answer → record old { lists = lists_of made } ≡ now_after_edit edit (record old { lists = lists_of stores }) answer
 edit_leaves old stores made edit (Ok count) is = ap (λ (l : List Listing). record old { lists = l }) (ap lists_of is ∙ lists_after old.tables old.current edit stores count)
 edit_leaves old stores made edit (Err refusal) is = ap (λ (l : List StoreValue). record old { lists = lists_of l }) is
 

@@ -1,4 +1,4 @@
--- What an observer is told, after a flush; the capacity after an edit.
+-- What an observer is given, after a flush; the capacity after an edit.
 use Rattle.std.proofs.Common.{◌≡◌, ℕ, List, Option, Some, None, ap}
 use Rattle.std.specs.Io.KnownBytes.{Keeps}
 use Rattle.std.proofs.KnownBytes.{Appends-kept}

@@ -13,17 +13,17 @@ use Rattle.stream_files.specs.Ivf.{IsIvf, IvfRefuses}
 use Rattle.stream_files.specs.Y4m.{y4m_line}
 use Rattle.request_lines.specs.declared.lines.Line.{Line}
 use Rattle.request_lines.specs.declared.lines.Line.TheVariants as requests
-use Rattle.frame_session.specs.declared.edit.Edit.{Edit}
-use Rattle.frame_session.specs.declared.edit.Edit.TheVariants as edits
+use Rattle.request_lines.specs.declared.edit.Edit.{Edit}
 use Rattle.frame_session.specs.declared.refusal.Refusal.{Refusal}
 use Rattle.frame_session.specs.declared.refusal.Refusal.TheVariants as refusals
 use Rattle.frame_session.specs.declared.serving.RunFault.{RunFault}
 use Rattle.frame_session.specs.declared.serving.RunFault.TheVariants as faults
 use Rattle.request_lines.specs.Requests.{asked_by}
 use Rattle.frame_session.specs.IsOrNoMemory.{IsOrNoMemory}
+use Rattle.frame_session.specs.Edits.{WrittenAnswers}
 use Rattle.frame_session.specs.Frames.{shown_text}
 use Rattle.frame_session.specs.Replies.{refused_line, served_line, edit_line, count_line, stats_line}
-use Rattle.frame_session.specs.Sessions.{IsAfterFrame, Now, choice_answer, edit_answer, now_after_choice, now_after_edit, now_after_script, frame_count, frame_of, head_due, packet_count, script_answer, size_served, start}
+use Rattle.frame_session.specs.Sessions.{IsAfterFrame, Now, choice_answer, current_list, now_after_choice, now_after_edit, now_after_script, frame_count, frame_of, head_due, packet_count, script_answer, size_served, start}
 
 -- the requests of a text, line by line
 abbrev pub requests_of : List ℕ → List Line
@@ -49,31 +49,22 @@ answer_to_frame now n (Ok shown) = record { reply = served_line n; frames = open
 answer_to_frame now n (Err refusal) = reply_only (refused_line refusal)
 
 -- an edit and its result, with the answer and the new state
-abbrev pub AnswersEdit : Now → Edit → Result ℕ Refusal → Answer → Now → Type 0
+abbrev pub AnswersEdit : Now → Edit (List ℕ) → Result ℕ Refusal → Answer → Now → Type 0
 AnswersEdit old edit edited answer new = (answer ≡ reply_only (edit_line edited)) × (new ≡ now_after_edit edit old edited)
-
--- an edit that may be out of memory, with an answer and the new state
-abbrev pub AnswersGrowth : Now → Edit → Answer → Now → Type 0
-AnswersGrowth old edit answer new = (edited : Result ℕ Refusal) × IsOrNoMemory (edit_answer old edit) edited × AnswersEdit old edit edited answer new
 
 -- a script and its result, with the answer and the new state
 abbrev pub AnswersScript : Now → List ℕ → Result ℕ Refusal → Answer → Now → Type 0
 AnswersScript old text set answer new = (answer ≡ reply_only (edit_line set)) × (new ≡ now_after_script text old set)
 
--- a line, an answer that it may have, and the state after it; a frame, a script, an insertion, a copy and a replacement may be out of memory
+-- a line, an answer that it may have, and the state after it; a frame, a script, and an edit other than a deletion and a move may be out of memory
 abbrev pub Answers : Now → Line → Answer → Now → Type 0
 Answers old requests.Silent answer new = (answer ≡ reply_only []) × (new ≡ old)
 Answers old requests.Unknown answer new = (answer ≡ reply_only (refused_line refusals.Line)) × (new ≡ old)
 Answers old (requests.Frame n) answer new =
     (frame : Result Shown Refusal) × IsOrNoMemory (frame_of old n) frame × (answer ≡ answer_to_frame old n frame) × IsAfterFrame old (size_served frame) new
 Answers old (requests.Use source) answer new = (answer ≡ reply_only (edit_line (choice_answer old source))) × (new ≡ now_after_choice source old)
-Answers old (requests.Insert at stamp bytes) answer new = AnswersGrowth old (edits.Insert at stamp bytes) answer new
-Answers old (requests.Replace at bytes) answer new = AnswersGrowth old (edits.Replace at bytes) answer new
-Answers old (requests.Delete at) answer new = AnswersEdit old (edits.Delete at) (edit_answer old (edits.Delete at)) answer new
-Answers old (requests.Move from to) answer new = AnswersEdit old (edits.Move from to) (edit_answer old (edits.Move from to)) answer new
-Answers old (requests.Copy source from at) answer new = AnswersGrowth old (edits.Copy source from at) answer new
-Answers old (requests.Blank at width height) answer new = AnswersGrowth old (edits.Blank at width height) answer new
-Answers old (requests.Hold at) answer new = AnswersGrowth old (edits.Hold at) answer new
+Answers old (requests.Edit edit) answer new =
+    (edited : Result ℕ Refusal) × WrittenAnswers old.tables old.lists (current_list old) edit edited × AnswersEdit old edit edited answer new
 Answers old (requests.Script text) answer new =
     (set : Result ℕ Refusal) × IsOrNoMemory (script_answer old text) set × AnswersScript old text set answer new
 Answers old requests.Count answer new = (answer ≡ reply_only (count_line (packet_count old) (frame_count old))) × (new ≡ old)

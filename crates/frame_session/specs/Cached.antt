@@ -12,8 +12,8 @@ use Rattle.state_cache.specs.EditLaws.{IsWithout, AreOfPackets, id_at}
 use Rattle.state_cache.specs.Reaching.{CacheValue, OthersDrop, OthersStay, view_of}
 use Rattle.state_cache.specs.Views.{IsCoherent, marked_packets}
 use Rattle.state_cache.specs.Walks.{IsWalk}
-use Rattle.frame_session.specs.declared.edit.Edit.{Edit}
-use Rattle.frame_session.specs.declared.edit.Edit.TheVariants.{Insert, Replace, Delete, Move, Copy, Blank, Hold}
+use Rattle.request_lines.specs.declared.edit.Edit.{Edit}
+use Rattle.request_lines.specs.declared.edit.Edit.TheVariants.{Insert, Replace, Delete, Move, Copy, Blank, Hold}
 use Rattle.frame_session.specs.declared.refusal.Refusal.{Refusal}
 use Rattle.frame_session.specs.declared.refusal.Refusal.TheVariants as refusals
 use Rattle.frame_session.specs.Edits.{edited, list_at}
@@ -96,7 +96,7 @@ FrameCosts None old answer new = new ≡ old
 FrameCosts (Some packet) old answer new = WalksToPacket packet.0 packet.1 old answer new
 
 -- the marks after an edit that is accepted
-abbrev pub marks_edited : Edit → List Bool → List Bool
+abbrev pub marks_edited : Edit (List ℕ) → List Bool → List Bool
 marks_edited (Insert at stamp bytes) marks = marks_inserted at marks
 marks_edited (Replace at bytes) marks = marks_replaced at marks
 marks_edited (Delete at) marks = marks_deleted at marks
@@ -115,29 +115,29 @@ abbrev pub store_copied : ℕ → Listing → ℕ → StoreValue → StoreValue
 store_copied at source from store = record { list = copied at source from store.list; marks = marks_inserted at store.marks }
 
 -- the marks after an edit with this result
-abbrev pub marks_after : Edit → List Bool → Result ℕ Refusal → List Bool
+abbrev pub marks_after : Edit (List ℕ) → List Bool → Result ℕ Refusal → List Bool
 marks_after edit marks answer = after_answer (marks_edited edit marks) marks answer
 
 -- the id of the packet that an edit removes from the list, if it removes one
-abbrev pub leaving : Edit → Listing → Option ℕ
+abbrev pub leaving : Edit (List ℕ) → Listing → Option ℕ
 leaving (Replace at bytes) list = id_at list.entries at
 leaving (Delete at) list = id_at list.entries at
 leaving edit list = None
 
 -- the id that was removed by an edit with this result
-abbrev pub id_removed : Edit → Listing → Result ℕ Refusal → Option ℕ
+abbrev pub id_removed : Edit (List ℕ) → Listing → Result ℕ Refusal → Option ℕ
 id_removed edit list answer = after_answer (leaving edit list) None answer
 
 -- packets and marks after an edit that is accepted; `lists` are the lists of all sources before it
-abbrev pub store_edited : Tables → List Listing → Edit → StoreValue → StoreValue
+abbrev pub store_edited : Tables → List Listing → Edit (List ℕ) → StoreValue → StoreValue
 store_edited tables lists edit store = record { list = edited tables lists edit store.list; marks = marks_edited edit store.marks }
 
 -- the packets and marks of all sources after an edit of the current source that is accepted
-abbrev pub stores_edited : Tables → ℕ → Edit → List StoreValue → List StoreValue
+abbrev pub stores_edited : Tables → ℕ → Edit (List ℕ) → List StoreValue → List StoreValue
 stores_edited tables current edit stores = slice_set stores current (store_edited tables (lists_of stores) edit (store_at stores current))
 
 -- the packets and marks of all sources after an edit with this result: a refused edit changes nothing
-abbrev pub stores_after : Tables → ℕ → Edit → List StoreValue → Result ℕ Refusal → List StoreValue
+abbrev pub stores_after : Tables → ℕ → Edit (List ℕ) → List StoreValue → Result ℕ Refusal → List StoreValue
 stores_after tables current edit stores answer = after_answer (stores_edited tables current edit stores) stores answer
 
 -- if a packet of this source was removed, nothing is cached for its id and all else is unchanged, also of the other sources; if

@@ -10,8 +10,8 @@ use Rattle.packet_edits.specs.Sizes.{size_at}
 use Rattle.packet_forge.specs.declared.faults.ForgeFault.{ForgeFault}
 use Rattle.packet_forge.specs.declared.faults.ForgeFault.TheVariants as forging
 use Rattle.packet_forge.specs.Packets.{blank_of, hold_of}
-use Rattle.frame_session.specs.declared.edit.Edit.{Edit}
-use Rattle.frame_session.specs.declared.edit.Edit.TheVariants.{Insert, Replace, Delete, Move, Copy, Blank, Hold}
+use Rattle.request_lines.specs.declared.edit.Edit.{Edit}
+use Rattle.request_lines.specs.declared.edit.Edit.TheVariants.{Insert, Replace, Delete, Move, Copy, Blank, Hold}
 use Rattle.frame_session.specs.declared.refusal.Refusal.{Refusal}
 use Rattle.frame_session.specs.declared.refusal.Refusal.TheVariants as refusals
 use Rattle.frame_session.specs.IsOrNoMemory.{IsOrNoMemory}
@@ -51,7 +51,7 @@ abbrev pub inserted_forged : ℕ → Result (List ℕ) ForgeFault → Listing �
 inserted_forged at forged list = inserted at (stamp_before at list) (result_unwrap_or forged []) list
 
 -- a list after an edit that is accepted; `lists` are the lists of all sources before it
-abbrev pub edited : Tables → List Listing → Edit → Listing → Listing
+abbrev pub edited : Tables → List Listing → Edit (List ℕ) → Listing → Listing
 edited tables lists (Insert at stamp bytes) list = inserted at stamp bytes list
 edited tables lists (Replace at bytes) list = replaced at bytes list
 edited tables lists (Delete at) list = deleted at list
@@ -72,7 +72,7 @@ refused_copy_of lists list source from at =
     if nat_lt source (length lists) then option_map refusal_by (refused_copy list at (list_at lists source) from) else Some refusals.Source
 
 -- the first refusal of an edit of a list, if there is one
-abbrev pub refused_edit : Tables → List Listing → Listing → Edit → Option Refusal
+abbrev pub refused_edit : Tables → List Listing → Listing → Edit (List ℕ) → Option Refusal
 refused_edit tables lists list (Insert at stamp bytes) = option_map refusal_by (refused_insertion list at)
 refused_edit tables lists list (Replace at bytes) = option_map refusal_by (refused_replacement list at)
 refused_edit tables lists list (Delete at) = option_map refusal_by (refused_deletion list at)
@@ -87,18 +87,23 @@ count_unless None count = Ok count
 count_unless (Some refusal) count = Err refusal
 
 -- an edit's result: the new number of packets, or the first refusal
-abbrev pub edit_of : Tables → List Listing → Listing → Edit → Result ℕ Refusal
+abbrev pub edit_of : Tables → List Listing → Listing → Edit (List ℕ) → Result ℕ Refusal
 edit_of tables lists list edit = count_unless (refused_edit tables lists list edit) (length (edited tables lists edit list).entries)
 
 -- the results that an edit may have: an insertion or a copy may also be out of memory
-abbrev pub EditAnswers : Tables → List Listing → Listing → Edit → Result ℕ Refusal → Type 0
+abbrev pub EditAnswers : Tables → List Listing → Listing → Edit (List ℕ) → Result ℕ Refusal → Type 0
 EditAnswers tables lists list (Insert at stamp bytes) answer = IsOrNoMemory (edit_of tables lists list (Insert at stamp bytes)) answer
 EditAnswers tables lists list (Copy source from at) answer = IsOrNoMemory (edit_of tables lists list (Copy source from at)) answer
 EditAnswers tables lists list (Blank at width height) answer = IsOrNoMemory (edit_of tables lists list (Blank at width height)) answer
 EditAnswers tables lists list (Hold at) answer = IsOrNoMemory (edit_of tables lists list (Hold at)) answer
 EditAnswers tables lists list edit answer = answer ≡ edit_of tables lists list edit
 
+-- the results that an edit of a request line may have: decoding the bytes of a replacement may also be out of memory
+abbrev pub WrittenAnswers : Tables → List Listing → Listing → Edit (List ℕ) → Result ℕ Refusal → Type 0
+WrittenAnswers tables lists list (Replace at bytes) answer = IsOrNoMemory (edit_of tables lists list (Replace at bytes)) answer
+WrittenAnswers tables lists list edit answer = EditAnswers tables lists list edit answer
+
 -- the list after an edit with this result
-abbrev pub after_edit : Tables → List Listing → Edit → Listing → Result ℕ Refusal → Listing
+abbrev pub after_edit : Tables → List Listing → Edit (List ℕ) → Listing → Result ℕ Refusal → Listing
 after_edit tables lists edit list (Ok count) = edited tables lists edit list
 after_edit tables lists edit list (Err refusal) = list

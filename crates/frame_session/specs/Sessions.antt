@@ -8,7 +8,7 @@ use Rattle.stream_files.specs.declared.ivf.Ivf.{Ivf}
 use Rattle.frame_session.specs.declared.refusal.Refusal.{Refusal}
 use Rattle.frame_session.specs.declared.refusal.Refusal.TheVariants as refusals
 use Rattle.frame_session.specs.declared.size.Size.{Size}
-use Rattle.frame_session.specs.declared.edit.Edit.{Edit}
+use Rattle.request_lines.specs.declared.edit.Edit.{Edit}
 use Rattle.state_cache.specs.Decoding.{Outcome, outcomes}
 use Rattle.packet_edits.specs.Edits.{Listing, starting_with}
 use Rattle.packet_edits.specs.Shown.{shown_indexes, stream_of}
@@ -134,11 +134,11 @@ pub record IsAfterFrame (old : Now) (served : Option Size) (new : Now) : Type 0 
   pub steps : old.decoded ≤ new.decoded
 
 -- an edit's result: the new number of packets of the current source, or the first refusal
-abbrev pub edit_answer : Now → Edit → Result ℕ Refusal
+abbrev pub edit_answer : Now → Edit (List ℕ) → Result ℕ Refusal
 edit_answer now edit = edit_of now.tables now.lists (current_list now) edit
 
 -- the state after an edit with this result: the current source's list is the edited one; a refused edit changes nothing
-abbrev pub now_after_edit : Edit → Now → Result ℕ Refusal → Now
+abbrev pub now_after_edit : Edit (List ℕ) → Now → Result ℕ Refusal → Now
 now_after_edit edit now (Ok count) = record now { lists = slice_set now.lists now.current (edited now.tables now.lists edit (current_list now)) }
 now_after_edit edit now (Err refusal) = now
 

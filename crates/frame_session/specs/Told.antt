@@ -1,4 +1,4 @@
--- What an observer of a run is told.
+-- What the observer of a run is given.
 use Rattle.std.specs.Prelude.{ℕ, ◌+◌, List, Option, Some, None, length, option_and_then, option_map, slice_get}
 use Rattle.std.specs.Io.KnownBytes.{Appends}
 use Rattle.packet_edits.specs.Shown.{shown_indexes, stream_of}

@@ -6,7 +6,7 @@ ghost use Rattle.packet_forge.specs.Packets.{blank_of, is_side};
 ghost use Rattle.frame_session.specs.Edits.{after_edit, edit_of, hold_bytes, stamp_before};
 ghost use Rattle.frame_session.specs.Cached.{marks_after};
 ghost use Rattle.frame_session.specs.IsOrNoMemory.{IsOrNoMemory};
-ghost use Rattle.frame_session.specs.declared.edit.Edit.TheVariants.{Blank, Hold};
+ghost use Rattle.request_lines.specs.declared.edit.Edit.TheVariants.{Blank, Hold};
 
 use crate::edit::insert;
 use crate::refusal::Refusal;

@@ -1,5 +1,5 @@
-//! The state that a session keeps between requests: the packets of its sources with their marks, and a
-//! cache that is coherent with them.
+//! The state of a session between requests: the packets of its sources with their marks, and a cache that is
+//! coherent with them.
 ghost use Rattle.std.specs.Prelude.{◌≡◌, ◌<◌, ◌≤◌, OnErr, is_ok, length, slice_get, slice_set};
 ghost use Rattle.packet_edits.specs.Laws.{HasOwnIds};
 ghost use Rattle.packet_edits.specs.Shown.{stream_of};
@@ -13,10 +13,11 @@ ghost use Rattle.frame_session.specs.Edits.{EditAnswers};
 ghost use Rattle.frame_session.specs.IsOrNoMemory.{IsOrNoMemory};
 ghost use Rattle.frame_session.specs.Sessions.{picture_from};
 
-use crate::edit::{Edit, make_edit};
+use crate::edit::make_edit;
 use crate::refusal::Refusal;
 use packet_edits::Store;
 use pixel_planes::Picture;
+use request_lines::Edit;
 use state_cache::{Cache, ReachFault, laws};
 use std::alloc::Global;
 use vp8_tables::Tables;

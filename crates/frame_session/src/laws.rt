@@ -2,7 +2,7 @@
 
 ghost use Rattle.std.specs.Prelude.{◌≡◌, [], ◌∷◌, codes, Ok, Err};
 ghost use Rattle.packet_edits.specs.Laws.{packet, three};
-ghost use Rattle.frame_session.specs.declared.edit.Edit.TheVariants as edits;
+ghost use Rattle.request_lines.specs.declared.edit.Edit.TheVariants as edits;
 ghost use Rattle.frame_session.specs.declared.refusal.Refusal.TheVariants as refusals;
 ghost use Rattle.frame_session.specs.Edits.{edited, edit_of, stamp_before};
 ghost use Rattle.frame_session.specs.Laws.{AnswersAreOne, AnswersExist, RefusedLinesChangeNothing, StepsNeverFall};

@@ -15,10 +15,10 @@ mod session;
 mod settings;
 mod size;
 
-pub use edit::Edit;
 pub use live::{LiveFault, run_live, run_live_observed};
 pub use observer::{Observer, Unobserved};
 pub use refusal::Refusal;
+pub use request_lines::Edit;
 pub use serving::{RunFault, run, run_observed};
 pub use session::Session;
 pub use settings::Settings;

@@ -91,7 +91,7 @@ enum Reached {
 struct LineRead {
     /// Its bytes; if memory ran out, as many of the first ones as there was memory for.
     held: Vec<u8>,
-    /// Whether all its bytes are held.
+    /// Whether all its bytes are stored.
     is_held: bool,
     beginning: Beginning,
     /// The number of its bytes.
@@ -123,7 +123,7 @@ impl LineRead {
         }
     }
 
-    /// The bytes that are held, without the carriage return before a newline.
+    /// The bytes that are stored, without the carriage return before a newline.
     fn text(&self, is_terminated: bool) -> &[u8]
         ensures { result.now ≡ (if is_terminated then strip_carriage_return self.now.held.items else self.now.held.items) }
     {
@@ -135,7 +135,7 @@ impl LineRead {
         }
     }
 
-    /// The request of the line, which is lost if not all its bytes are held.
+    /// The request of the line, which is lost if not all its bytes are stored.
     fn request(&self, is_terminated: bool) -> Line<'_>
         ensures { (line : List ℕ) → IsRead self.now line → IsAsked (if is_terminated then strip_carriage_return line else line) result }
     {
@@ -249,7 +249,7 @@ fn serve_live<I: BufRead, F: Write, P: Write, V: Observer>(
     Err(LiveFault::Endless)
 }
 
-/// Runs requests as `run_live` does, and tells an observer of each line after its reply was written and flushed.
+/// Runs requests as `run_live` does, and calls an observer after the reply to each line is written and flushed.
 pub fn run_live_observed<I: BufRead, F: Write, P: Write, V: Observer>(
     alloc: Global,
     settings: Settings,

@@ -2,14 +2,12 @@ ghost use Rattle.std.specs.Prelude.{◌≡◌, ◌⊎◌, ℕ, ◌≤◌, ◌++�
 ghost use Rattle.std.specs.Io.KnownBytes.{Appends, Keeps};
 ghost use Rattle.stream_files.specs.Y4m.{frame_text};
 ghost use Rattle.frame_session.specs.declared.refusal.Refusal.{Refusal};
-ghost use Rattle.frame_session.specs.Edits.{EditAnswers};
-ghost use Rattle.frame_session.specs.Replies.{count_line, edit_line, served_line};
-ghost use Rattle.frame_session.specs.Sessions.{current_list, now_after_edit, frame_count, packet_count};
+ghost use Rattle.frame_session.specs.Replies.{count_line, served_line};
+ghost use Rattle.frame_session.specs.Sessions.{frame_count, packet_count};
 ghost use Rattle.frame_session.specs.ProofsOnly.{IsSourceRefused};
 ghost use Rattle.frame_session.specs.Told.{Tells};
 ghost use Rattle.frame_session.specs.Answers.{AreIvfs, Means, RunStops, Runs, Serves, Stops, WritesFrameFirst, opening, requests_of, texts_of};
 
-use crate::edit::Edit;
 use crate::observer::{Observer, Unobserved};
 use crate::refusal::Refusal;
 use crate::replies::{write_count, write_edited, write_refused, write_served, write_stats};
@@ -155,21 +153,6 @@ fn report_count<P: Write>(session: &Session, replies: &mut P) -> Result<Option<R
     write_count(replies, packets, frames)
 }
 
-/// Makes an edit and reports the new number of packets, or why it is refused.
-#[tactic(auto, using(crate::proofs::ToldKept::same_capacity))]
-fn serve_edit<P: Write>(
-    session: &mut Session,
-    edit: Edit,
-    replies: &mut P,
-) -> Result<Option<Refusal>, WriteFault>
-    ensures answers { (edited : Result ℕ Refusal) × EditAnswers session.old.now.tables session.old.now.lists (current_list session.old.now) edit edited × (session.new.now ≡ now_after_edit edit session.old.now edited) × OnOk result (Appends (P.contents replies.old) (P.contents replies.new) (edit_line edited)) }
-    ensures capacity { session.new.cache.capacity ≡ session.old.cache.capacity }
-    ensures told { IfOk result (Tells (P.contents replies.old) (P.contents replies.new)) }
-{
-    let edited = session.edit(edit);
-    write_edited(replies, edited)
-}
-
 /// Answers one line. Returns the refusal that the reply reports, if it reports one.
 #[tactic(auto, using(crate::proofs::ToldKept::same_capacity))]
 fn serve<F: Write, P: Write>(
@@ -192,23 +175,10 @@ fn serve<F: Write, P: Write>(
             let chosen = session.choose(source);
             write_edited(replies, chosen)
         }
-        Line::Insert { at, stamp, bytes } => {
-            let edited = session.insert_written(at, stamp, bytes);
+        Line::Edit(edit) => {
+            let edited = session.edit_written(edit);
             write_edited(replies, edited)
         }
-        Line::Replace { at, bytes } => {
-            let edited = session.replace_written(at, bytes);
-            write_edited(replies, edited)
-        }
-        Line::Delete { at } => serve_edit(session, Edit::Delete { at }, replies),
-        Line::Move { from, to } => serve_edit(session, Edit::Move { from, to }, replies),
-        Line::Copy { source, from, at } => {
-            serve_edit(session, Edit::Copy { source, from, at }, replies)
-        }
-        Line::Blank { at, width, height } => {
-            serve_edit(session, Edit::Blank { at, width, height }, replies)
-        }
-        Line::Hold { at } => serve_edit(session, Edit::Hold { at }, replies),
         Line::Script(text) => {
             let set = session.set_script(text.as_slice());
             write_edited(replies, set)
@@ -287,7 +257,7 @@ pub(crate) fn read_sources(alloc: Global, ivfs: &[&[u8]]) -> Result<Vec<Ivf>, Ru
     Ok(files)
 }
 
-/// Runs a request list as `run` does, and tells an observer of each line after its reply was written.
+/// Runs a request list as `run` does, and calls an observer after the reply to each line is written.
 pub fn run_observed<F: Write, P: Write, V: Observer>(
     alloc: Global,
     settings: Settings,

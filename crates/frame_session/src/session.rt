@@ -11,19 +11,18 @@ ghost use Rattle.state_cache.specs.Walks.{IsWalk};
 ghost use Rattle.frame_session.specs.Cached.{shown_counts_of, store_at, store_of_file};
 ghost use Rattle.frame_session.specs.Sessions.{head_of_first, spare_of};
 ghost use Rattle.frame_session.specs.IsOrNoMemory.{IsOrNoMemory, IsFrameOrNoMemory};
-ghost use Rattle.frame_session.specs.Edits.{EditAnswers};
-ghost use Rattle.frame_session.specs.declared.edit.Edit.TheVariants.{Insert, Replace};
+ghost use Rattle.frame_session.specs.Edits.{EditAnswers, WrittenAnswers};
+ghost use Rattle.request_lines.specs.declared.edit.Edit.TheVariants.{Insert, Replace};
 
 mod known;
 
-use crate::edit::Edit;
 use crate::keeping::{edit_cached, picture_at};
 use crate::refusal::Refusal;
 use crate::size::Size;
 use arrayvec::ArrayVec;
 use packet_edits::Store;
 use pixel_planes::{NoMemory, Picture};
-use request_lines::Hex;
+use request_lines::{Edit, Hex};
 use script_nodes::{Script, apply};
 use state_cache::Cache;
 use std::alloc::Global;
@@ -244,13 +243,27 @@ impl Session {
         )
     }
 
+    /// Makes an edit whose bytes are decoded only once nothing else is refused.
+    pub(crate) fn edit_written(&mut self, edit: Edit<Hex<'_>>) -> Result<u64, Refusal>
+        ensures returned { WrittenAnswers self.old.now.tables self.old.now.lists (current_list self.old.now) edit.entry result }
+        ensures after { self.new.now ≡ now_after_edit edit.entry self.old.now result }
+        ensures stores { self.new.stores ≡ stores_after self.old.now.tables self.old.now.current edit.entry self.old.stores result }
+        ensures cache { CacheWithout self.old.now.current (id_removed edit.entry (current_list self.old.now) result) self.old.cache self.new.cache }
+        ensures refused { OnErr result (self.new ≡ self.old) }
+    {
+        match edit {
+            Edit::Insert { at, stamp, bytes } => self.insert_written(at, stamp, bytes),
+            Edit::Replace { at, bytes } => self.replace_written(at, bytes),
+            Edit::Delete { at } => self.edit(Edit::Delete { at }),
+            Edit::Move { from, to } => self.edit(Edit::Move { from, to }),
+            Edit::Copy { source, from, at } => self.edit(Edit::Copy { source, from, at }),
+            Edit::Blank { at, width, height } => self.edit(Edit::Blank { at, width, height }),
+            Edit::Hold { at } => self.edit(Edit::Hold { at }),
+        }
+    }
+
     /// Inserts a packet whose bytes are decoded only once nothing else is refused.
-    pub(crate) fn insert_written(
-        &mut self,
-        at: u64,
-        stamp: u64,
-        bytes: Hex<'_>,
-    ) -> Result<u64, Refusal>
+    fn insert_written(&mut self, at: u64, stamp: u64, bytes: Hex<'_>) -> Result<u64, Refusal>
         ensures returned { IsOrNoMemory (edit_answer self.old.now (Insert at stamp bytes.entry)) result }
         ensures after { self.new.now ≡ now_after_edit (Insert at stamp bytes.entry) self.old.now result }
         ensures stores { self.new.stores ≡ stores_after self.old.now.tables self.old.now.current (Insert at stamp bytes.entry) self.old.stores result }
@@ -267,7 +280,7 @@ impl Session {
     }
 
     /// Replaces a packet by bytes that are decoded only once nothing else is refused.
-    pub(crate) fn replace_written(&mut self, at: u64, bytes: Hex<'_>) -> Result<u64, Refusal>
+    fn replace_written(&mut self, at: u64, bytes: Hex<'_>) -> Result<u64, Refusal>
         ensures returned { IsOrNoMemory (edit_answer self.old.now (Replace at bytes.entry)) result }
         ensures after { self.new.now ≡ now_after_edit (Replace at bytes.entry) self.old.now result }
         ensures stores { self.new.stores ≡ stores_after self.old.now.tables self.old.now.current (Replace at bytes.entry) self.old.stores result }

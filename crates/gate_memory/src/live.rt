@@ -36,7 +36,7 @@ fn try_answer(alloc: Global, replies: &mut Vec<u8>) -> Result<(), LiveFault> {
     Ok(())
 }
 
-/// Whether an error is for want of memory.
+/// Whether an error is out of memory.
 fn is_refused(fault: LiveFault) -> bool {
     matches!(fault, LiveFault::NoMemory | LiveFault::Ivf { .. })
 }

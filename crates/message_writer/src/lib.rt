@@ -6,9 +6,9 @@ ghost use Rattle.message_writer.specs.Controls.{control_length, is_control, is_c
 
 use std::io::{self, Write};
 
-/// A writer that passes on what it is given, except control characters: `?` is written for each. A newline is passed on.
+/// A writer that writes `?` for each control character and passes on all other bytes, also a newline.
 ///
-/// So a message that has the name of a file in it cannot clear a terminal, or move its cursor.
+/// A message with the name of a file cannot clear a terminal, or move its cursor.
 #[derive(Drop)]
 pub struct MessageWriter<W> {
     inner: W,

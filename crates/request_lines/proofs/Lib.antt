@@ -1,3 +1,4 @@
 pub mod TextLines
 pub mod HexWords
+pub mod Exact
 pub mod Beginnings

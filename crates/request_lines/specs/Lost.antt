@@ -1,4 +1,4 @@
--- The requests of lines that are not held.
+-- The requests of lines for whose bytes there was no memory.
 use Rattle.std.specs.Prelude.{ℕ, ◌==◌, nat_lt, ◌&&◌, not, Bool, false, List, [], ◌∷◌, length, Option, Some, None, if◌then◌else◌}
 use Rattle.std.specs.Option.{option_map_or}
 use Rattle.request_lines.specs.declared.lines.Line.{Line}
@@ -24,6 +24,6 @@ abbrev pub lost_from : Option ℕ → Line
 lost_from None = Silent
 lost_from (Some first) = if first == 35 then Silent else Lost
 
--- the request of a line that is not held: none for an empty line and a comment, which begins with `#`
+-- the request of such a line: none for an empty line and a comment, which begins with `#`
 abbrev pub lost_by : List ℕ → Line
 lost_by line = lost_from (beginning_of line).first

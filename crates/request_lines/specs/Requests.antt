@@ -1,72 +1,122 @@
--- The requests of the lines of a request list. The lines of a text are std's `lines`.
-use Rattle.std.specs.Prelude.{ℕ, List, [], ◌∷◌, nat_eq, if◌then◌else◌, codes}
+-- The forms of request lines. From this one table follow the request of a line, and why a line is not a request. The lines of a text are
+-- std's `lines`.
+use Rattle.std.specs.Prelude.{ℕ, ◌%◌, ◌==◌, Bool, true, false, List, [], ◌∷◌, drop, length, nat_eq, Option, Some, None, Result, Ok, Err, if◌then◌else◌, codes}
 use Rattle.std.specs.List.{starts_with}
+use Rattle.std.specs.Option.{option_map_or}
+use Rattle.std.specs.Result.{result_err, result_unwrap_or}
 use Rattle.std.specs.Str.{bytes_eq}
-use Rattle.request_lines.specs.declared.lines.Line.{Line}
-use Rattle.request_lines.specs.declared.lines.Line.TheVariants.{Silent, Unknown, Frame, Use, Insert, Replace, Delete, Move, Copy, Blank, Hold, Script, Count, Stats}
-use Rattle.text_words.specs.Words.{words_of, number_of, after_word, with_word, at_end}
+use Rattle.text_words.specs.Words.{words_of, number_of, after_word}
 use Rattle.request_lines.specs.HexWords.{bytes_of}
+use Rattle.request_lines.specs.declared.edit.Edit.TheVariants.{Insert, Replace, Delete, Move, Copy, Blank, Hold}
+use Rattle.request_lines.specs.declared.lines.Line.{Line}
+use Rattle.request_lines.specs.declared.lines.Line.TheVariants.{Silent, Unknown, Frame, Use, Edit, Script, Count, Stats}
+use Rattle.request_lines.specs.declared.misfit.Misfit.{Misfit}
+use Rattle.request_lines.specs.declared.misfit.Misfit.TheVariants.{NoRequest, Missing, TooMany, NoNumber, OddDigits, NoBytes}
 
--- a line that continues with a number, and with the words after it
-abbrev pub with_number : (ℕ → List (List ℕ) → Line) → List (List ℕ) → Line
-with_number next words = with_word Unknown number_of next words
+-- what a word after a command is: a number, or bytes
+pub data Kind : Type 0 where
+  Number : Kind
+  Bytes : Kind
 
--- a line that continues with bytes, and with the words after them
-abbrev pub with_bytes : (List ℕ → List (List ℕ) → Line) → List (List ℕ) → Line
-with_bytes next words = with_word Unknown bytes_of next words
+-- a request that still takes the values of words of these kinds
+abbrev pub Taking : List Kind → Type 0
+Taking [] = Line
+Taking (Number ∷ kinds) = ℕ → Taking kinds
+Taking (Bytes ∷ kinds) = List ℕ → Taking kinds
 
--- each command, from the words after it
-abbrev pub frame_by : List (List ℕ) → Line
-frame_by words = with_number (λ n. at_end Unknown (Frame n)) words
+-- what follows a command: words of these kinds and no others, or a text of one word or more
+pub data Form : Type 0 where
+  Words : (kinds : List Kind) → Taking kinds → Form
+  Text : (List ℕ → Line) → Form
 
-abbrev pub use_by : List (List ℕ) → Line
-use_by words = with_number (λ source. at_end Unknown (Use source)) words
+-- a command, what follows it, and the request that they make
+pub record Command : Type 0 where
+  pub name : List ℕ
+  pub form : Form
 
-abbrev pub insert_by : List (List ℕ) → Line
-insert_by words = with_number (λ at. with_number (λ stamp. with_bytes (λ bytes. at_end Unknown (Insert at stamp bytes)))) words
+abbrev pub command : List ℕ → Form → Command
+command name form = record { name = name; form = form }
 
-abbrev pub replace_by : List (List ℕ) → Line
-replace_by words = with_number (λ at. with_bytes (λ bytes. at_end Unknown (Replace at bytes))) words
+abbrev pub commands : List Command
+commands =
+    command (codes "frame") (Words (Number ∷ []) Frame)
+    ∷ command (codes "use") (Words (Number ∷ []) Use)
+    ∷ command (codes "insert") (Words (Number ∷ Number ∷ Bytes ∷ []) (λ at stamp bytes. Edit (Insert at stamp bytes)))
+    ∷ command (codes "replace") (Words (Number ∷ Bytes ∷ []) (λ at bytes. Edit (Replace at bytes)))
+    ∷ command (codes "delete") (Words (Number ∷ []) (λ at. Edit (Delete at)))
+    ∷ command (codes "move") (Words (Number ∷ Number ∷ []) (λ from to. Edit (Move from to)))
+    ∷ command (codes "copy") (Words (Number ∷ Number ∷ Number ∷ []) (λ source from at. Edit (Copy source from at)))
+    ∷ command (codes "blank") (Words (Number ∷ Number ∷ Number ∷ []) (λ at width height. Edit (Blank at width height)))
+    ∷ command (codes "hold") (Words (Number ∷ []) (λ at. Edit (Hold at)))
+    ∷ command (codes "script") (Text Script)
+    ∷ command (codes "count") (Words [] Count)
+    ∷ command (codes "stats") (Words [] Stats)
+    ∷ []
 
-abbrev pub delete_by : List (List ℕ) → Line
-delete_by words = with_number (λ at. at_end Unknown (Delete at)) words
+-- the form of the first command with this name, if there is one
+abbrev pub form_in : List Command → List ℕ → Option Form
+form_in [] name = None
+form_in (first ∷ others) name = if bytes_eq name first.name then Some first.form else form_in others name
 
-abbrev pub move_by : List (List ℕ) → Line
-move_by words = with_number (λ from. with_number (λ to. at_end Unknown (Move from to))) words
+-- why a word does not write bytes
+abbrev pub no_bytes : List ℕ → Misfit
+no_bytes word = if length word % 2 == 1 then OddDigits word else NoBytes word
 
-abbrev pub copy_by : List (List ℕ) → Line
-copy_by words = with_number (λ source. with_number (λ from. with_number (λ at. at_end Unknown (Copy source from at)))) words
+-- the number that the first word writes, or why there is none
+abbrev pub first_number : List (List ℕ) → Result ℕ Misfit
+first_number [] = Err Missing
+first_number (word ∷ words) = option_map_or Ok (number_of word) (Err (NoNumber word))
 
-abbrev pub blank_by : List (List ℕ) → Line
-blank_by words = with_number (λ at. with_number (λ width. with_number (λ height. at_end Unknown (Blank at width height)))) words
+-- the bytes that the first word writes, or why there are none
+abbrev pub first_bytes : List (List ℕ) → Result (List ℕ) Misfit
+first_bytes [] = Err Missing
+first_bytes (word ∷ words) = option_map_or Ok (bytes_of word) (Err (no_bytes word))
 
-abbrev pub hold_by : List (List ℕ) → Line
-hold_by words = with_number (λ at. at_end Unknown (Hold at)) words
+-- a line that continues with a value, if there is one
+abbrev pub with_value : {A : Type 0} → Result A Misfit → (A → Result Line Misfit) → Result Line Misfit
+with_value (Ok value) next = next value
+with_value (Err misfit) next = Err misfit
 
--- a script: the text after the command, which has these words
-abbrev pub script_by : List ℕ → List (List ℕ) → Line
-script_by text [] = Unknown
-script_by text (word ∷ words) = Script text
+-- the request that words of these kinds make, or the first of them that does not fit
+abbrev pub read_words : (kinds : List Kind) → Taking kinds → List (List ℕ) → Result Line Misfit
+read_words [] request [] = Ok request
+read_words [] request (word ∷ words) = Err (TooMany word)
+read_words (Number ∷ kinds) request words = with_value (first_number words) (λ n. read_words kinds (request n) (drop 1 words))
+read_words (Bytes ∷ kinds) request words = with_value (first_bytes words) (λ bytes. read_words kinds (request bytes) (drop 1 words))
 
--- the request of a line with these words and this text after the first: none if there are no words, or if the first begins with `#`
-abbrev pub asked_by_words : List ℕ → List (List ℕ) → Line
-asked_by_words text [] = Silent
-asked_by_words text (command ∷ words) =
-    if starts_with nat_eq command (codes "#") then Silent
-    else if bytes_eq command (codes "frame") then frame_by words
-    else if bytes_eq command (codes "use") then use_by words
-    else if bytes_eq command (codes "insert") then insert_by words
-    else if bytes_eq command (codes "replace") then replace_by words
-    else if bytes_eq command (codes "delete") then delete_by words
-    else if bytes_eq command (codes "move") then move_by words
-    else if bytes_eq command (codes "copy") then copy_by words
-    else if bytes_eq command (codes "blank") then blank_by words
-    else if bytes_eq command (codes "hold") then hold_by words
-    else if bytes_eq command (codes "script") then script_by text words
-    else if bytes_eq command (codes "count") then at_end Unknown Count words
-    else if bytes_eq command (codes "stats") then at_end Unknown Stats words
-    else Unknown
+-- the request of a text, which has these words, if it has one
+abbrev pub read_text : (List ℕ → Line) → List ℕ → List (List ℕ) → Result Line Misfit
+read_text request text [] = Err Missing
+read_text request text (word ∷ words) = Ok (request text)
+
+-- the request of what follows a command, if it has its form
+abbrev pub read_form : Option Form → List ℕ → List (List ℕ) → Result Line Misfit
+read_form None text words = Err NoRequest
+read_form (Some (Words kinds request)) text words = read_words kinds request words
+read_form (Some (Text request)) text words = read_text request text words
+
+-- the request of a text after the command with this name
+abbrev pub read_after : List ℕ → List ℕ → Result Line Misfit
+read_after name text = read_form (form_in commands name) text (words_of text)
+
+-- a line with these words, and this text after the first: silent if there are no words, or if the first begins with `#`
+abbrev pub read_by_words : List (List ℕ) → List ℕ → Result Line Misfit
+read_by_words [] text = Ok Silent
+read_by_words (name ∷ words) text = if starts_with nat_eq name (codes "#") then Ok Silent else read_after name text
+
+-- the request of a line, or why it is not one
+abbrev pub read_of : List ℕ → Result Line Misfit
+read_of line = read_by_words (words_of line) (after_word line)
 
 -- the request of a line
 abbrev pub asked_by : List ℕ → Line
-asked_by line = asked_by_words (after_word line) (words_of line)
+asked_by line = result_unwrap_or (read_of line) Unknown
+
+-- why a line is not a request, if it is not one
+abbrev pub misfit_of : List ℕ → Option Misfit
+misfit_of line = result_err (read_of line)
+
+-- whether a line is not a request
+abbrev pub is_unknown : Line → Bool
+is_unknown Unknown = true
+is_unknown line = false

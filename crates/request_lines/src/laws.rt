@@ -1,21 +1,23 @@
-// Worked lines, as functions without code.
-ghost use Rattle.std.specs.Prelude.{◌≡◌, ◌∷◌, [], codes};
+// Laws and worked lines, as functions without code.
+ghost use Rattle.std.specs.Prelude.{◌≡◌, ◌∷◌, [], None, Some, codes};
+ghost use Rattle.request_lines.specs.declared.edit.Edit.TheVariants as edits;
 ghost use Rattle.request_lines.specs.declared.lines.Line.TheVariants as requests;
 ghost use Rattle.request_lines.specs.Lost.{lost_by};
-ghost use Rattle.request_lines.specs.Requests.{asked_by};
+ghost use Rattle.request_lines.specs.Requests.{asked_by, misfit_of};
+ghost use Rattle.request_lines.specs.declared.misfit.Misfit.TheVariants as misfits;
 
 /// The requests of worked lines.
 #[tactic(auto, unfolding(hex::specs::Hex::decode_pairs))]
 pub fn worked_lines()
-    ensures insert { asked_by (codes "insert 1 2 0aF9") ≡ requests.Insert 1 2 (10 ∷ 249 ∷ []) }
-    ensures replace { asked_by (codes "  replace  3  - ") ≡ requests.Replace 3 [] }
-    ensures delete { asked_by (codes "delete 18446744073709551615") ≡ requests.Delete 18446744073709551615 }
-    ensures move_up { asked_by (codes "move 0 2") ≡ requests.Move 0 2 }
+    ensures insert { asked_by (codes "insert 1 2 0aF9") ≡ requests.Edit (edits.Insert 1 2 (10 ∷ 249 ∷ [])) }
+    ensures replace { asked_by (codes "  replace  3  - ") ≡ requests.Edit (edits.Replace 3 []) }
+    ensures delete { asked_by (codes "delete 18446744073709551615") ≡ requests.Edit (edits.Delete 18446744073709551615) }
+    ensures move_up { asked_by (codes "move 0 2") ≡ requests.Edit (edits.Move 0 2) }
     ensures choose { asked_by (codes "use 1") ≡ requests.Use 1 }
-    ensures copy { asked_by (codes "copy 0 1 2") ≡ requests.Copy 0 1 2 }
+    ensures copy { asked_by (codes "copy 0 1 2") ≡ requests.Edit (edits.Copy 0 1 2) }
     ensures copy_without_index { asked_by (codes "copy 0 1") ≡ requests.Unknown }
-    ensures blank { asked_by (codes "blank 0 16 9") ≡ requests.Blank 0 16 9 }
-    ensures hold { asked_by (codes "hold 1") ≡ requests.Hold 1 }
+    ensures blank { asked_by (codes "blank 0 16 9") ≡ requests.Edit (edits.Blank 0 16 9) }
+    ensures hold { asked_by (codes "hold 1") ≡ requests.Edit (edits.Hold 1) }
     ensures no_height { asked_by (codes "blank 0 16") ≡ requests.Unknown }
     ensures count { asked_by (codes "count") ≡ requests.Count }
     ensures stats { asked_by (codes "stats") ≡ requests.Stats }
@@ -26,7 +28,22 @@ pub fn worked_lines()
     ensures long { asked_by (codes "delete 000000000000000000001") ≡ requests.Unknown }
 {}
 
-/// The requests of worked lines that are not held.
+/// Why worked lines are not requests.
+#[tactic(auto, unfolding(hex::specs::Hex::decode_pairs))]
+pub fn worked_misfits()
+    ensures no_request { misfit_of (codes "play 1") ≡ Some misfits.NoRequest }
+    ensures missing { misfit_of (codes "move 1") ≡ Some misfits.Missing }
+    ensures no_text { misfit_of (codes "script ") ≡ Some misfits.Missing }
+    ensures too_many { misfit_of (codes "frame 1 2 x") ≡ Some (misfits.TooMany (codes "2")) }
+    ensures no_number { misfit_of (codes "insert 1 b 0G") ≡ Some (misfits.NoNumber (codes "b")) }
+    ensures odd_digits { misfit_of (codes "insert 1 2 0aF") ≡ Some (misfits.OddDigits (codes "0aF")) }
+    ensures no_bytes { misfit_of (codes "insert 1 2 0G 3") ≡ Some (misfits.NoBytes (codes "0G")) }
+    ensures request { misfit_of (codes "copy 0 1 2") ≡ None }
+    ensures comment { misfit_of (codes " # frame") ≡ None }
+    ensures empty { misfit_of [] ≡ None }
+{}
+
+/// The requests of worked lines for whose bytes there was no memory.
 pub fn worked_lost_lines()
     ensures empty { lost_by [] ≡ requests.Silent }
     ensures spaces { lost_by (codes "   ") ≡ requests.Silent }

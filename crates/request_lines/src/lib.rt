@@ -1,13 +1,19 @@
-//! The lines of a request list, and the request of each line.
+//! The lines of a request list, and the request of each line, or why it is not one.
 #![tactic(auto)]
 
+mod edit;
 mod hex_text;
 pub mod laws;
 mod lines;
 mod lost;
-mod script_text;
+mod misfit;
+mod part;
+mod text_lines;
 
+pub use edit::Edit;
 pub use hex_text::Hex;
-pub use lines::{Line, next_line, read_line, without_carriage_return};
+pub use lines::{Line, line_misfit, parse_line, read_line};
 pub use lost::Beginning;
-pub use script_text::ScriptText;
+pub use misfit::Misfit;
+pub use part::Part;
+pub use text_lines::{next_line, without_carriage_return};

@@ -1,4 +1,4 @@
-// Lines whose bytes are not held.
+// Lines for whose bytes there was no memory.
 ghost use Rattle.std.specs.Prelude.{◌≡◌, ℕ, List, [], ◌++◌, if◌then◌else◌};
 ghost use Rattle.std.specs.Str.Lines.{strip_carriage_return};
 ghost use Rattle.text_words.specs.Words.{from_word};

@@ -72,7 +72,7 @@ impl<E: Write> Messages<'_, E> {
 
     /// Takes note of an edit that was accepted.
     fn note_edit(&mut self, session: &Session, line: &[u8]) {
-        if !is_edit(&read_line(line)) {
+        if !matches!(read_line(line), Line::Edit(_)) {
             return;
         }
         if let Some(edited) = self.edited.get_mut(session.current()) {
@@ -94,20 +94,6 @@ impl<E: Write> Messages<'_, E> {
         }
         self.no_text = self.no_text.saturating_add(1);
         self.no_text <= MOST_NO_TEXT
-    }
-}
-
-/// Whether a request changes packets.
-fn is_edit(line: &Line<'_>) -> bool {
-    match line {
-        Line::Insert { .. }
-        | Line::Replace { .. }
-        | Line::Delete { .. }
-        | Line::Move { .. }
-        | Line::Copy { .. }
-        | Line::Blank { .. }
-        | Line::Hold { .. } => true,
-        _ => false,
     }
 }
 

@@ -1,6 +1,6 @@
 use Rattle.std.proofs.Common.{subst}
 use Rattle.packet_edits.specs.Marks.{StoreValue}
-use Rattle.frame_session.specs.declared.edit.Edit.TheVariants.{Insert, Replace, Delete, Move, Blank, Hold}
+use Rattle.request_lines.specs.declared.edit.Edit.TheVariants.{Insert, Replace, Delete, Move, Blank, Hold}
 use Rattle.frame_session.specs.Cached.{lists_of}
 use Rattle.frame_session.specs.Edits.{EditAnswers}
 use Rattle.frame_session.proofs.Stores.{edited_here, found}

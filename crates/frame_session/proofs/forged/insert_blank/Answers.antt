@@ -1,6 +1,6 @@
 use Rattle.std.proofs.Common.{◌≡◌, ℕ, List, Ok, refl, sym, ap, ◌∙◌}
 use Rattle.packet_forge.specs.Packets.{blank_of}
-use Rattle.frame_session.specs.declared.edit.Edit.TheVariants.{Blank}
+use Rattle.request_lines.specs.declared.edit.Edit.TheVariants.{Blank}
 use Rattle.frame_session.proofs.Forging.{insertion_gives, insertion_leaves}
 use Rattle.frame_session.proofs.forged.insert_blank.Goals as goal
 

@@ -1,5 +1,5 @@
 use Rattle.std.proofs.Common.{◌≡◌, ℕ, List, Option, Ok, refl, sym, ap, ◌∙◌}
-use Rattle.frame_session.specs.declared.edit.Edit.TheVariants.{Hold}
+use Rattle.request_lines.specs.declared.edit.Edit.TheVariants.{Hold}
 use Rattle.frame_session.specs.Edits.{hold_bytes, hold_bytes_at}
 use Rattle.frame_session.proofs.Forging.{insertion_gives, insertion_leaves}
 use Rattle.frame_session.proofs.forged.insert_hold.Goals as goal

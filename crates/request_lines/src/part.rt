@@ -2,13 +2,13 @@ ghost use Rattle.std.specs.Prelude.{◌≡◌};
 
 use std::marker::Model;
 
-/// The script text of a request line, not yet parsed. A contract sees its bytes.
+/// A part of a request line: a word, or the text of a script. A contract sees its bytes.
 #[derive(Drop)]
-pub struct ScriptText<'a> {
+pub struct Part<'a> {
     text: &'a [u8],
 }
 
-impl<'a> Model for ScriptText<'a> {
+impl<'a> Model for Part<'a> {
     ghost use Rattle.std.specs.Prelude.{ℕ, List};
 
     ghost Value = { List ℕ };
@@ -16,12 +16,12 @@ impl<'a> Model for ScriptText<'a> {
     ghost view = { λ s. s.text.now };
 }
 
-impl<'a> ScriptText<'a> {
-    /// The text of these bytes.
-    pub fn new(text: &'a [u8]) -> ScriptText<'a>
+impl<'a> Part<'a> {
+    /// The part with these bytes.
+    pub fn new(text: &'a [u8]) -> Part<'a>
         ensures { result ≡ text.now }
     {
-        ScriptText { text }
+        Part { text }
     }
 
     /// Its bytes.

@@ -1,6 +1,6 @@
 use Rattle.std.proofs.Common.{arith}
 use Rattle.request_lines.proofs.TextLines.{cut_first, cut_last}
-use Rattle.request_lines.proofs.lines.next_line.Goals as goal
+use Rattle.request_lines.proofs.text_lines.next_line.Goals as goal
 
 pub returns-in-empty-clause-next : goal.returns-in-empty-clause-next
 returns-in-empty-clause-next c =
