@@ -8,6 +8,10 @@ from .facts import Facts
 from .inputs import is_input
 
 
+# Packets that are read together, at most.
+MOST_TOGETHER = 1 << 16
+
+
 class Operation(NamedTuple):
     """A change of the packets of a source that was made, or that takes one back. `numbers` are those of the request line; where the line
     has the bytes of a packet, `packet` is its number in the pool."""
@@ -158,7 +162,7 @@ class Contents:
     def has_key_tag(self, number):
         if number < self.of_files:
             item, index = self.where(number)
-            return bool(item.index.keys[index])
+            return bool(item.index.tags[index] & ivf.KEY)
         data = self.made[number - self.of_files][1]
         return ivf.is_key(data) if isinstance(data, bytes) else data[0] == "blank"
 
@@ -203,8 +207,27 @@ class Contents:
     def pieces(self, source=0):
         """The text of an IVF file of the packets of a source, piece by piece."""
         stream = self.streams[source]
-        packets = ((self.stamp(number), self.bytes(number)) for number in stream)
-        return ivf.pieces(self.inputs.all[source].head, len(stream), packets)
+        yield self.inputs.all[source].head.text(len(stream))
+        yield from self.records(stream)
+
+    def records(self, stream):
+        """The records of packets as an IVF file has them. Those that follow each other in a file are read together."""
+        place = 0
+        while place < len(stream):
+            number = stream[place]
+            if number >= self.of_files:
+                data = self.bytes(number)
+                yield ivf.RECORD.pack(len(data), self.stamp(number))
+                yield data
+                place += 1
+                continue
+            item, first = self.where(number)
+            end, index = place + 1, first + 1
+            limit = min(len(stream), place + MOST_TOGETHER, place + len(item.index) - first)
+            while end < limit and stream[end] == number + end - place:
+                end, index = end + 1, index + 1
+            yield from item.read_records(first, index)
+            place = end
 
     def save(self, path, pad=False, source=0):
         """Writes the packets of a source as an IVF file."""

@@ -9,13 +9,14 @@ import json
 import os
 import subprocess
 import tempfile
+import threading
 from array import array
 
 from . import ivf
 from .errors import Ended
 
 MOST_TIME = 300
-KEY, SHOWN, REFUSED = 1, 2, 4
+KEY, SHOWN, REFUSED = ivf.KEY, ivf.SHOWN, 4
 # Causes that are those of the packets before.
 OF_OTHERS = ("NoKeyFrame", "lost")
 
@@ -50,9 +51,10 @@ def outlines(lines):
     names = next(lines, b"").decode("ascii").rstrip("\n").split("\t")
     kind, show, size, cause = (names.index(name) if name in names else 0 for name in ("kind", "show", "size", "cause"))
     for line in lines:
-        columns = line.decode("ascii").rstrip("\n").split("\t")
-        flags = KEY * (columns[kind] == "key") + SHOWN * (columns[show] == "shown") + REFUSED * (columns[cause] != "-")
-        yield flags, columns[size] if columns[size] != "-" else None, columns[cause] if columns[cause] != "-" else None
+        columns = line.rstrip(b"\n").split(b"\t")
+        sides, why = columns[size], columns[cause]
+        flags = KEY * (columns[kind] == b"key") + SHOWN * (columns[show] == b"shown") + REFUSED * (why != b"-")
+        yield flags, sides.decode("ascii") if sides != b"-" else None, why.decode("ascii") if why != b"-" else None
 
 
 class Facts:
@@ -62,6 +64,9 @@ class Facts:
         self.contents = contents
         self.flags = bytearray()
         self.sizes, self.causes = {}, {}
+        # Whether the packets of the files were listed.
+        self.is_learnt = False
+        self.lock = threading.RLock()
 
     def learn_files(self):
         """Lists the files, once. Packets that are refused because of those before them are listed again by themselves."""
@@ -77,10 +82,12 @@ class Facts:
             raise OSError("vp8list and the client do not find the same packets")
         for number, found in zip(again, self.by_themselves(again)):
             self.put(number, *found)
+        self.is_learnt = True
 
     def add(self, flags, size, cause):
-        self.flags.append(0)
-        self.put(len(self.flags) - 1, flags, size, cause)
+        self.flags.append(flags)
+        if size is not None or cause is not None:
+            self.put(len(self.flags) - 1, flags, size, cause)
 
     def put(self, number, flags, size, cause):
         self.flags[number] = flags
@@ -100,13 +107,17 @@ class Facts:
         return list(outlines(run_on(self.contents.lister, packets)))[1::2]
 
     def learn(self):
-        """Lists the packets that are new."""
+        """Lists the packets that are new. Other threads wait."""
         contents = self.contents
-        if not self.flags:
-            self.learn_files()
-        new = range(len(self.flags), contents.of_files + len(contents.made))
-        for found in self.by_themselves(new):
-            self.add(*found)
+        with self.lock:
+            if not self.is_learnt:
+                self.flags.clear()
+                self.sizes.clear()
+                self.causes.clear()
+                self.learn_files()
+            new = range(len(self.flags), contents.of_files + len(contents.made))
+            for found in self.by_themselves(new):
+                self.add(*found)
 
     def of_range(self, source, numbers):
         """The facts of the packets of a range, of all if it is None, as dictionaries."""

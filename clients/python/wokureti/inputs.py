@@ -77,6 +77,17 @@ class Input:
         self.check()
         return data
 
+    def read_records(self, first, end):
+        """The bytes of the records of packets, piece by piece."""
+        index = self.records()
+        place = index.starts[first] - ivf.RECORD.size
+        stop = index.starts[end - 1] + index.sizes[end - 1]
+        while place < stop:
+            data = os.pread(self.descriptor, min(stop - place, ivf.WINDOW), place)
+            self.check()
+            place += len(data)
+            yield data
+
     def close(self):
         if self.descriptor is not None:
             os.close(self.descriptor)
