@@ -57,6 +57,7 @@ class Contents:
             self.streams.append(array("I", range(count, count + records)))
             count += records
         self.of_files = count
+        self.file_sizes = None
         # Of the packets that edits made: the time stamp, and the bytes, or what the program makes them of.
         self.made = []
         self.forged = {}
@@ -158,6 +159,15 @@ class Contents:
             item, index = self.where(number)
             return item.index.sizes[index]
         return len(self.bytes(number))
+
+    def bytes_of(self, numbers):
+        """The number of bytes of packets."""
+        if self.file_sizes is None:
+            self.file_sizes = array("I")
+            for item in self.inputs.all:
+                self.file_sizes += item.records().sizes
+        sizes, count = self.file_sizes, self.of_files
+        return sum(sizes[number] if number < count else self.size(number) for number in numbers)
 
     def has_key_tag(self, number):
         if number < self.of_files:

@@ -131,22 +131,37 @@ class Facts:
         begin = first
         while begin and not self.flags[stream[begin]] & KEY:
             begin -= 1
-        # Once a key frame's header was accepted, inter frames may follow.
-        follows = any(self.flags[number] & (KEY | REFUSED) == KEY for number in stream[:begin])
+        # Once a key frame's header was accepted, inter frames may follow, and a packet is listed by itself.
+        follows = any(self.flags[number] & (KEY | REFUSED) == KEY for number in stream[: begin + 1])
+        start, lost = (first, self.lost(stream, begin, first)) if follows else (begin, first)
         key = [(0, self.contents.forge("blank", 1, 1))] if follows else []
-        packets = (*key, *((self.contents.stamp(number), self.contents.bytes(number)) for number in stream[begin:end]))
+        packets = (*key, *((self.contents.stamp(number), self.contents.bytes(number)) for number in stream[start:end]))
         lines = list(run_on(self.contents.lister, packets, "--json"))[len(key) :]
-        frames, bytes_before = self.before(stream, end)
-        shift = bytes_before[begin] - sum(ivf.RECORD.size + len(data) for _, data in key)
-        return [placed(json.loads(lines[place - begin]), place, frames[place], shift) for place in wanted]
+        frames, bytes_before = self.before(stream, start, end)
+        shift = bytes_before[0] - sum(ivf.RECORD.size + len(data) for _, data in key)
+        found = [placed(json.loads(lines[place - start]), place, frames[place - start], shift) for place in wanted]
+        for facts in found:
+            if facts["packet"] < lost:
+                facts["cause"] = "lost"
+        return found
 
-    def before(self, stream, end):
-        """For each packet up to `end` how many shown ones, and how many bytes of records, come before it."""
-        frames, places, shown, place = array("I"), array("Q"), 0, 0
-        for number in stream[:end]:
-            frames.append(shown)
+    def lost(self, stream, begin, first):
+        """The end of the packets, starting at `first`, that are lost with a refused one between the key packet `begin` and `first`."""
+        end = first
+        if any(self.flags[number] & REFUSED for number in stream[begin:first]):
+            while end < len(stream) and not self.flags[stream[end]] & KEY:
+                end += 1
+        return end
+
+    def before(self, stream, start, end):
+        """For each packet from `start` to `end` how many shown ones, and how many bytes of records, come before it."""
+        shown = self.flags.translate(bytes(bool(flags & SHOWN) for flags in range(256)))
+        frames, places = array("I"), array("Q")
+        count, place = sum(map(shown.__getitem__, stream[:start])), ivf.RECORD.size * start + self.contents.bytes_of(stream[:start])
+        for number in stream[start:end]:
+            frames.append(count)
             places.append(place)
-            shown += bool(self.flags[number] & SHOWN)
+            count += shown[number]
             place += ivf.RECORD.size + self.contents.size(number)
         return frames, places
 
