@@ -63,7 +63,7 @@ class Check:
         try:
             # An unedited file is checked as it is, with the end of it that is no whole record.
             as_it_is = item.descriptor is not None and len(self.stream) == len(item.records()) and not any(self.view.timeline(0).edited)
-            given = os.open(f"/dev/fd/{item.descriptor}", os.O_RDONLY | os.O_CLOEXEC) if as_it_is else subprocess.PIPE
+            given = item.again() if as_it_is else subprocess.PIPE
             try:
                 self.process = subprocess.Popen(
                     words_of(contents), stdin=given, stdout=subprocess.PIPE, stderr=subprocess.DEVNULL if terminal is None else terminal

@@ -74,10 +74,14 @@ class Facts:
         for item in self.contents.inputs.all:
             if not len(item.records()):
                 continue
-            for flags, size, cause in outlines(run(self.contents.lister, f"/dev/fd/{item.descriptor}", pass_fds=(item.descriptor,))):
-                if cause in OF_OTHERS:
-                    again.append(len(self.flags))
-                self.add(flags, size, cause)
+            descriptor = item.again()
+            try:
+                for flags, size, cause in outlines(run(self.contents.lister, f"/dev/fd/{descriptor}", pass_fds=(descriptor,))):
+                    if cause in OF_OTHERS:
+                        again.append(len(self.flags))
+                    self.add(flags, size, cause)
+            finally:
+                os.close(descriptor)
         if len(self.flags) != self.contents.of_files:
             raise OSError("vp8list and the client do not find the same packets")
         for number, found in zip(again, self.by_themselves(again)):

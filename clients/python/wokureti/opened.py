@@ -42,7 +42,7 @@ class Opened(live.Live):
                     self.current = self.make_view(self.current, lends=False)
                 self.changed.notify_all()
 
-    def view(self):
+    def current_view(self):
         """The view of the current revision."""
         found = self.current
         if found is not None and found.revision == self.revision:
@@ -101,7 +101,7 @@ class Opened(live.Live):
 
     def checked(self):
         """The check of the current stream, begun now if it is another one than that of the check before."""
-        view = self.view()
+        view = self.current_view()
         with self.check_lock:
             check = self.check
             if check is None or check.error or not check.is_of(view):

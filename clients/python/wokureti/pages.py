@@ -20,6 +20,7 @@ KINDS = {
     ".css": "text/css; charset=utf-8",
     ".svg": "image/svg+xml",
 }
+REFUSALS = (404, 409, 412)
 # The edits of one request, at most.
 MOST_LINES = 20000
 # Frames whose origins are told at a time, at most; seconds that one search for a frame that differs takes.
@@ -53,6 +54,20 @@ class PageRoutes(Routes):
             }
         )
 
+    def answer(self, request):
+        """A browser reports each status of 400 and more as an error of the page: with `refusals=answers` a refusal is an answer."""
+        wants = request.query.pop("refusals", None) == "answers"
+        try:
+            response = super().answer(request)
+        except Refuse as refuse:
+            if not wants or refuse.status not in REFUSALS:
+                raise
+            response = as_json(refuse.members, refuse.status)
+        if wants and response.status in REFUSALS:
+            response.headers.append(("X-Refused", str(response.status)))
+            response.status = 200
+        return response
+
     def read(self, request, parts):
         if len(parts) == 2 and parts[0] == "page":
             kind, text = self.files.get(parts[1] or "index.html", (None, None))
@@ -66,7 +81,7 @@ class PageRoutes(Routes):
     def session(self, request):
         """What the page shows of the session."""
         self.only(request)
-        view = self.live.view()
+        view = self.live.current_view()
         first = view.timeline(0)
         members = {
             "revision": view.revision,
@@ -83,7 +98,7 @@ class PageRoutes(Routes):
             "undone": view.undone,
             "saved": self.live.saved == view.revision,
             "save": self.live.save_path,
-            "list": self.live.edits_path,
+            "list": os.fspath(self.live.edits_path),
             "listed": view.pool.is_listed,
             "restarts": len(self.live.events),
             "shown": first.frames[-1],
@@ -108,7 +123,7 @@ class PageRoutes(Routes):
     def timeline(self, request):
         """Packets as they are drawn."""
         self.only(request, "source", "first", "per", "count")
-        view = self.live.view()
+        view = self.live.current_view()
         source = self.source_of(request, view)
         first, per, count = self.number(request, "first", 0), self.number(request, "per", 1), self.number(request, "count", 1024)
         if not 1 <= per <= 1 << 20 or not 1 <= count <= MOST_ENTRIES:
@@ -123,7 +138,7 @@ class PageRoutes(Routes):
     def origins(self, request):
         """For each frame of a range the source and the packet that it shows, and the frame of the opened file there."""
         self.only(request, "from", "count")
-        view = self.live.view()
+        view = self.live.current_view()
         first, count = self.number(request, "from", 0), min(self.number(request, "count", 256), MOST_ORIGINS)
         found = [view.origin(frame) for frame in range(first, min(first + count, view.frames))]
         before = [self.original_frame(view, *origin) for origin in found]
@@ -138,7 +153,7 @@ class PageRoutes(Routes):
     def place(self, request):
         """The first frame that shows a packet."""
         self.only(request, "packet", "source")
-        view = self.live.view()
+        view = self.live.current_view()
         source = self.source_of(request, view)
         packet = self.number(request, "packet", 0)
         return as_json({"revision": view.revision, "source": source, "packet": packet, "frame": view.frame_of(source, packet)})
@@ -166,10 +181,10 @@ class PageRoutes(Routes):
     def repairs(self, request):
         """The repairs that can work for a finding of the current check."""
         self.only(request, "check", "finding")
-        check, view = self.live.checked(), self.live.view()
-        if self.number(request, "check", 0) != check.number:
+        number, place = self.number(request, "check", 0), self.number(request, "finding", 0)
+        check, view = self.live.checked(), self.live.current_view()
+        if number != check.number:
             raise Refuse(412, "the stream was changed", revision=view.revision)
-        place = self.number(request, "finding", 0)
         if place >= len(check.findings):
             raise Refuse(404, "there is no such finding")
         found = Proposals(view, self.titles).of(check.findings[place])
@@ -177,13 +192,13 @@ class PageRoutes(Routes):
 
     def y4m(self, picture, headers=()):
         width, height, samples = picture
-        text = header_of((width, height), self.live.view().rate) + MARK + samples
+        text = header_of((width, height), self.live.current_view().rate) + MARK + samples
         return Response(200, "video/x-yuv4mpeg", text, headers=headers)
 
     def before(self, request, name):
         """A frame of a file as it was opened."""
         self.only(request, "source")
-        view = self.live.view()
+        view = self.live.current_view()
         source = self.source_of(request, view)
         number, _, kind = name.partition(".")
         if not number.isdecimal() or len(number) > 18 or kind != "y4m":
@@ -193,7 +208,7 @@ class PageRoutes(Routes):
     def differs(self, request):
         """The next frame that is another one than that of the opened file, as far as a quarter of a second goes. `next` is where to go on."""
         self.only(request, "from", "step")
-        view = self.live.view()
+        view = self.live.current_view()
         step = -1 if request.query.get("step") == "-1" else 1
         frame, limit, found = self.number(request, "from", 0), time.monotonic() + SEARCH_TIME, None
         frames = view.frames
@@ -222,7 +237,7 @@ class PageRoutes(Routes):
         """A frame, or the findings of a group of pictures, after edits that are not made."""
         self.only(request)
         members = parse_body(request.body, {"lines": list, "frame": int, "findings": int, "revision": int})
-        lines, view = checked_lines(members), self.live.view()
+        lines, view = checked_lines(members), self.live.current_view()
         if members.get("revision", view.revision) != view.revision:
             raise Refuse(412, "the stream was changed", revision=view.revision)
         with self.live.lock:
@@ -237,7 +252,7 @@ class PageRoutes(Routes):
     def stream(self, request):
         """The current packets of source 0 as an IVF file."""
         self.only(request)
-        view = self.live.view()
+        view = self.live.current_view()
         timeline, stream = view.timeline(0), view.streams[0]
         head = view.contents.inputs.all[0].head.text(len(stream))
         length = len(head) + 12 * len(stream) + sum(timeline.sizes)

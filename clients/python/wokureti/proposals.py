@@ -69,7 +69,10 @@ class Proposals:
             data = self.contents.bytes(number)
             if data in stamps:
                 found[stamps[data] - self.contents.stamp(number)] += 1
-        return found.most_common(1)[0][0] if found else None
+        if not found:
+            return None
+        shift, count = found.most_common(1)[0]
+        return 0 if found[0] == count else shift
 
     def others(self, near):
         """The sources that are a second recording: number, shift, and packets by time stamp."""

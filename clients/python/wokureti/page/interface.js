@@ -5,11 +5,12 @@ export const BASE = new URL("../", document.baseURI);
 /** A request that was refused: the status, the program's reply if it has one, and the reason. */
 export class Refusal extends Error {
   constructor(status, members) {
-    super(members.reason || members.error || `status ${status}`);
+    // The reason begins with the command that was refused, which is known here.
+    const reason = (members.reason || "").replace(/^\w+: /, "");
+    super(reason || members.error || `status ${status}`);
     this.status = status;
     this.reply = members.reply || "";
-    this.reason = members.reason || "";
-    this.sentence = members.error || "";
+    this.reason = reason;
   }
 }
 
@@ -20,19 +21,23 @@ export class Unreachable extends Error {}
 export const waiting = new Map();
 let next = 0;
 
+/** Sends a request. A refusal is an answer with a header of its own, since a browser reports other statuses as errors of the page. */
 async function ask(path, options, what) {
   const number = next++;
   if (what) waiting.set(number, { what, since: performance.now() });
   try {
-    const response = await fetch(new URL(path, BASE), options);
-    if (response.ok) return response;
+    const url = new URL(path, BASE);
+    url.searchParams.set("refusals", "answers");
+    const response = await fetch(url, options);
+    const status = Number(response.headers.get("X-Refused")) || response.status;
+    if (status < 400) return response;
     let members = {};
     try {
       members = await response.json();
     } catch {
-      members = { error: `the server answered with status ${response.status}` };
+      members = { error: `the server answered with status ${status}` };
     }
-    throw new Refusal(response.status, members);
+    throw new Refusal(status, members);
   } catch (error) {
     if (error instanceof Refusal || error.name === "AbortError") throw error;
     throw new Unreachable("the server of this page does not answer: was it ended?");

@@ -264,6 +264,12 @@ export class Timeline {
       const kind = tile.kinds[place];
       const tall = Math.max(3, Math.sqrt(tile.bytes[place] / most) * room);
       context.fillStyle = colours[kind];
+      if (kind === "r" || kind === "p") {
+        // A broken packet may be small: its column is tinted.
+        context.globalAlpha = 0.22;
+        context.fillRect(left, MARKS, Math.max(1, wide - gap), base - MARKS);
+        context.globalAlpha = 1;
+      }
       context.fillRect(left, base - tall, Math.max(0.75, wide - gap), tall);
       if (tile.marks.has(place)) mark(context, left + wide / 2, MARKS - 2, colours.edit);
       const number = Math.floor(tile.frames[place] / step);
