@@ -506,8 +506,7 @@ class Checks(PageCase):
             with open(path, "wb") as file:
                 file.writelines(ivf.pieces(ivf.Head(16, 16, 30, 1), len(others), others))
             self.serve(path)
-            kind = "stamp_repeats" if len(others) > len(packets) else "stamp_goes_back"
-            repairs = self.repairs(kind)
+            repairs = self.repairs("stamp_repeats" if len(others) > len(packets) else "stamp_skips")
             self.step(*repairs[0]["lines"])
             room = self.folder()
             (room / "out.ivf").write_bytes(self.ask("/stream.ivf")[2])

@@ -1,5 +1,6 @@
 """wokureti open: the page of a stream, in a browser."""
 
+import contextlib
 import os
 import sys
 import webbrowser
@@ -33,6 +34,13 @@ def names_beside(stream):
     return f"{stem}.edits", free_name(f"{stem}-edited.ivf")
 
 
+def drop_empty(path, is_new):
+    """A list that was made here, and that no edit was written to, goes."""
+    with contextlib.suppress(OSError):
+        if is_new and not os.path.getsize(path):
+            os.unlink(path)
+
+
 def show(url):
     """Opens a browser, if there is one with windows. Whether it was started."""
     if not (os.environ.get("DISPLAY") or os.environ.get("WAYLAND_DISPLAY")):
@@ -51,7 +59,11 @@ def run(options, titles, edits, save, port, has_browser, pad):
     beside = names_beside(titles[0])
     path, save_path = edits or beside[0], save or beside[1]
     is_new = not os.path.lexists(path)
-    live = Opened(options, path, save_path, pad, save_at_end=save is not None)
+    try:
+        live = Opened(options, path, save_path, pad, save_at_end=save is not None)
+    except BaseException:
+        drop_empty(path, is_new)
+        raise
     count = len(live.session.edits)
     if count:
         print(f"{path}: {count} {'edit' if count == 1 else 'edits'} made", file=sys.stderr, flush=True)
@@ -68,8 +80,7 @@ def run(options, titles, edits, save, port, has_browser, pad):
         lines = len(live.session.edits)
         if lines:
             print(f"wokureti: {lines} {'edit is' if lines == 1 else 'edits are'} in {path}: the next `wokureti open` goes on from there", file=sys.stderr)
-        elif is_new and not os.path.getsize(path):
-            os.unlink(path)
+        drop_empty(path, is_new)
         if live.written and lines:
             print(f"wokureti: the edited stream was saved to {save_path}", file=sys.stderr)
     return 0

@@ -7,6 +7,8 @@ from typing import NamedTuple
 MOST_EDITS = 10000
 # Packets on each side of a finding, and of the second recording, that are compared to find by how much its time stamps differ.
 NEAR, MOST_COMPARED = 2000, 50000
+# Packets that were moved or doubled are at most so far away.
+NEAR_BY = 64
 # Findings after which a packet is not shown as it was coded.
 BROKEN = ("refused", "past_end", "unread", "empty", "no_bytes")
 
@@ -101,7 +103,13 @@ class Proposals:
                 yield Proposal("second", title, [f"copy {source} {index} {packet}", f"delete {packet + 1}"], packet)
 
     def of_hole(self, packet, before, stamp):
-        """Packets for those that the time stamps say are missing before a packet."""
+        """Packets for those that the time stamps say are missing before a packet: they may come later."""
+        late = [index for index in range(packet + 1, min(len(self.stream), packet + NEAR_BY)) if before < self.stamp(index) < stamp]
+        if late:
+            names = f"packet {late[0]}" if len(late) == 1 else f"{len(late)} packets that come later"
+            lines = [f"move {index} {packet + turn}" for turn, index in enumerate(late)]
+            yield Proposal("move", f"Move {names} to {packet}, where the time stamps belong", lines, packet)
+            return
         for source, shift, stamps in self.others(packet):
             group = [index for other in sorted(stamps) if before < other + shift < stamp for index in stamps[other]]
             if group:
@@ -173,11 +181,11 @@ class Proposals:
 
     def of_doubles(self, packet):
         """A packet that is there twice."""
-        before = range(max(0, packet - 64), packet)
+        before = range(max(0, packet - NEAR_BY), packet)
         data, stamp = self.contents.bytes(self.stream[packet]), self.stamp(packet)
         twin = next((index for index in before if self.stamp(index) == stamp and self.contents.bytes(self.stream[index]) == data), None)
         if twin is not None and data:
             yield Proposal("remove", f"Remove packet {packet}: it is packet {twin} again", [f"delete {packet}"], max(0, packet - 1))
-        place = next((index for index in range(max(0, packet - 64), packet) if self.stamp(index) > stamp), None)
+        place = next((index for index in before if self.stamp(index) > stamp), None)
         if place is not None:
             yield Proposal("move", f"Move packet {packet} to {place}, where its time stamp belongs", [f"move {packet} {place}"], place)

@@ -77,7 +77,7 @@ class Timeline:
         self.sizes = array("I", map(pool.sizes.__getitem__, stream))
         self.keys = bytes(map(pool.keys.__getitem__, stream))
         self.frames = array("I", accumulate(map(pool.shown.__getitem__, stream), initial=0))
-        self.edited = edited(stream, base)
+        self.edited = edited(stream, base, pool.contents.of_files)
         self.lose()
 
     def next_key(self, index):
@@ -122,11 +122,22 @@ class Timeline:
         return bisect.bisect_right(self.frames, frame) - 1
 
 
-def edited(stream, base):
-    """For each packet whether an edit made or moved it, or removed the packets before it."""
+def edited(stream, base, of_files):
+    """For each packet whether an edit made or moved it, or removed packets before it."""
     if stream == array("I", range(base, base + len(stream))):
         return bytes(len(stream))
-    return bytes(map(operator.ne, stream, map((1).__add__, chain([base - 1], stream))))
+    marks = bytearray(map(operator.ne, stream, map((1).__add__, chain([base - 1], stream))))
+    # After packets that edits made, a packet of the file is marked only if it neither follows the one before them, nor has its number.
+    place = marks.find(1)
+    while place >= 0:
+        if stream[place] < of_files:
+            before = place - 1
+            while before >= 0 and stream[before] >= of_files:
+                before -= 1
+            last = stream[before] if before >= 0 else base - 1
+            marks[place] = stream[place] - last not in (1, place - before)
+        place = marks.find(1, place + 1)
+    return bytes(marks)
 
 
 def runs_of(words, nodes, counts):

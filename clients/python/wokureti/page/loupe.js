@@ -29,8 +29,9 @@ export class Loupe {
   constructor(picture) {
     this.picture = picture;
     this.isOn = false;
-    this.x = 0;
-    this.y = 0;
+    // No position yet: the middle of the picture.
+    this.x = null;
+    this.y = null;
     picture.canvas.addEventListener("pointermove", (event) => this.point(event));
   }
 
@@ -44,7 +45,9 @@ export class Loupe {
     if (!this.isOn || !this.picture.now) return;
     const box = this.picture.canvas.getBoundingClientRect();
     const { width, height } = this.picture.now;
-    this.move(Math.floor(((event.clientX - box.left) / box.width) * width) - this.x, Math.floor(((event.clientY - box.top) / box.height) * height) - this.y);
+    this.x = Math.floor(((event.clientX - box.left) / box.width) * width);
+    this.y = Math.floor(((event.clientY - box.top) / box.height) * height);
+    this.show();
   }
 
   move(across, down) {
@@ -57,6 +60,8 @@ export class Loupe {
     const { now, before } = this.picture;
     find("loupe").hidden = !this.isOn || !now;
     if (!this.isOn || !now) return;
+    this.x ??= now.width >> 1;
+    this.y ??= now.height >> 1;
     this.x = Math.max(0, Math.min(now.width - 1, this.x));
     this.y = Math.max(0, Math.min(now.height - 1, this.y));
     const context = find("loupe-canvas").getContext("2d");

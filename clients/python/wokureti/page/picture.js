@@ -17,9 +17,7 @@ export function draw(canvas, pixels, width, height) {
 /** How large a picture is shown: a number of pixels of the page for each sample. */
 export function scaleOf(size, width, height, room) {
   if (size !== "fit") return Number(size);
-  const most = Math.min(room.width / width, room.height / height);
-  // Whole numbers keep all samples alike, where there is room for them.
-  return most >= 1 ? Math.max(1, most >= 2 ? Math.floor(most) : most) : most;
+  return Math.min(room.width / width, room.height / height);
 }
 
 /** Whether the browser can draw frames of samples by itself, which is faster: only used in playback. */
@@ -64,6 +62,7 @@ export class Picture {
     this.split = 0.5;
     this.now = null;
     this.before = null;
+    this.isFirst = true;
     this.useVideo = hasFrames;
     new ResizeObserver(() => this.fit()).observe(this.stage);
     this.handle = find("split-handle");
@@ -77,6 +76,8 @@ export class Picture {
     this.before = before;
     this.refuse(null);
     this.paint(isPlaying);
+    if (this.isFirst) performance.mark("first picture");
+    this.isFirst = false;
   }
 
   /** Says why there is no picture; null takes that away. */

@@ -224,6 +224,8 @@ export class Timeline {
     const most = whole ? whole.bytes.reduce((one, other) => Math.max(one, other), 1) : 1;
     this.drawBars(most);
     this.drawOverview(whole, most);
+    if (whole && !this.isDrawn) performance.mark("first timeline");
+    this.isDrawn = this.isDrawn || whole !== null;
     this.drawn = performance.now() - started;
   }
 
