@@ -377,7 +377,7 @@ class Steps(PageCase):
 
     def test_numbers(self):
         self.serve()
-        for path in ("/timeline?per=0", "/timeline?count=0", "/timeline?count=5000", f"/timeline?per={1 << 21}", "/timeline?first=x", "/timeline?x=1", "/origins?from=-1", "/place?packet=x", "/check?from=x", "/differs?from=x", "/session?x=1", "/progress?x=1", "/repairs?finding=x", "/stream.ivf?x=1"):
+        for path in ("/timeline?per=0", "/timeline?count=0", "/timeline?count=5000", f"/timeline?per={1 << 21}", "/timeline?first=x", "/timeline?x=1", "/origins?from=-1", "/place?packet=x", "/check?from=x", "/differs?from=x", "/session?x=1", "/progress?x=1", "/repairs?packet=x", "/stream.ivf?x=1"):
             self.assertEqual(self.ask(path)[0], 400, path)
         self.assertEqual(self.members(f"/timeline?first={10**17}")["kinds"], "")
         for path in ("/timeline?source=1", "/place?source=1", "/before/frames/x.y4m", "/before/frames/-1.y4m", f"/before/frames/{'9' * 40}.y4m", "/before/frames", "/before/frames/0.y4m/x"):
@@ -404,8 +404,9 @@ class Checks(PageCase):
         self.change("script trim 0 0 2")
         self.assertEqual(self.checked()["check"], other["check"])
         self.change("undo")
+        # Nor after undo: these packets were checked already.
         self.change("undo")
-        self.assertEqual(self.checked()["findings"], wanted)
+        self.assertEqual((self.checked()["findings"], self.checked()["check"]), (wanted, found["check"]))
 
     def test_a_file_that_is_cut_off(self):
         path = self.folder() / "cut.ivf"
@@ -436,9 +437,9 @@ class Checks(PageCase):
         self.assertTrue(self.checked()["over"])
 
     def repairs(self, kind):
-        found = self.checked()
-        place = next(number for number, finding in enumerate(found["findings"]) if finding["kind"] == kind)
-        return self.members(f"/repairs?check={found['check']}&finding={place}")["repairs"]
+        finding = next(finding for finding in self.checked()["findings"] if finding["kind"] == kind)
+        numbers = "".join(f"&{name}={finding[name]}" for name in ("packet", "before", "stamp") if isinstance(finding.get(name), int))
+        return self.members(f"/repairs?kind={kind}{numbers}")["repairs"]
 
     def test_repairs_of_a_refused_packet(self):
         path = self.broken()
@@ -523,13 +524,13 @@ class Checks(PageCase):
         (room / "out.ivf").write_bytes(self.ask("/stream.ivf")[2])
         self.assertEqual(packets_of(room / "out.ivf"), packets_of(SCENES))
 
-    def test_repairs_of_what_is_gone(self):
+    def test_repairs_of_what_is_not_there(self):
         self.serve(self.broken())
-        found = self.checked()
-        self.assertEqual(self.ask(f"/repairs?check={found['check']}&finding=999")[0], 404)
-        self.change("delete 0")
-        self.assertEqual(self.ask(f"/repairs?check={found['check']}&finding=0")[0], 412)
-
+        self.assertEqual(self.ask("/repairs?kind=refused&packet=999")[0], 404)
+        for query in ("kind=refused&packet=x", "kind=stamp_skips&packet=5", "x=1"):
+            self.assertEqual(self.ask(f"/repairs?{query}")[0], 400, query)
+        for query in ("kind=nonsense&packet=5", "kind=no_rate", "kind=refused"):
+            self.assertEqual([repair["name"] for repair in self.members(f"/repairs?{query}")["repairs"]], ["keep"])
 
 class Previews(PageCase):
     def preview(self, **body):

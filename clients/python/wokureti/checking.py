@@ -41,7 +41,9 @@ class Check:
         return self.stream is stream or self.stream == stream
 
     def stop(self):
-        """Ends the check; its findings are not needed any more."""
+        """Ends the check if it is not over."""
+        if self.is_over:
+            return
         self.stopped.set()
         process = self.process
         if process is not None:

@@ -8,10 +8,14 @@ import contextlib
 import fcntl
 import os
 import stat
+import time
 
 from .contents import Contents
 from .errors import Refused
 from .files import write_whole
+
+# Seconds.
+LOCK_TIME = 1
 
 
 def words_of(line):
@@ -52,7 +56,7 @@ class EditFile:
         try:
             if not stat.S_ISREG(os.fstat(self.descriptor).st_mode):
                 raise ValueError(f"{path!r} is not a file")
-            fcntl.flock(self.descriptor, fcntl.LOCK_EX | fcntl.LOCK_NB)
+            self.lock()
         except BlockingIOError:
             os.close(self.descriptor)
             raise ValueError(f"{path!r} is the list of another session that is open") from None
@@ -60,6 +64,17 @@ class EditFile:
             os.close(self.descriptor)
             raise
         self.size = os.fstat(self.descriptor).st_size
+
+    def lock(self):
+        """A process that another thread starts has the files of this one for a moment, so the lock is tried for a while."""
+        limit = time.monotonic() + LOCK_TIME
+        while True:
+            try:
+                return fcntl.flock(self.descriptor, fcntl.LOCK_EX | fcntl.LOCK_NB)
+            except BlockingIOError:
+                if time.monotonic() > limit:
+                    raise
+                time.sleep(0.01)
 
     def text(self):
         """What is in the file."""

@@ -86,11 +86,11 @@ class Live:
     def close(self):
         """Ends the programs. The edits are in the list; the stream is saved if it was changed since the last time."""
         with self.lock:
-            self.closed = True
             try:
                 if self.save_path is not None and self.saved != self.revision:
                     self.save()
             finally:
+                self.closed = True
                 self.drop_viewers()
                 self.session.kill()
                 self.room.cleanup()
@@ -170,7 +170,7 @@ class Live:
         """Writes the packets of source 0."""
         if self.save_path is None:
             raise ValueError("no file was named to save to")
-        self.session.save(self.save_path, self.pad)
+        self.alive().save(self.save_path, self.pad)
         self.saved, self.written = self.revision, True
         self.changed.notify_all()
         return self.save_path

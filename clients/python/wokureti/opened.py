@@ -13,6 +13,8 @@ from .views import Pool, View
 
 # The packets of a group that a preview checks, at most.
 MOST_GROUP = 1000
+# Checks whose findings are stored.
+MOST_CHECKS = 8
 
 
 class Opened(live.Live):
@@ -21,7 +23,7 @@ class Opened(live.Live):
     def __init__(self, options, edits=None, save=None, pad=False, save_at_end=True):
         self.pad, self.save_at_end = pad, save_at_end
         self.current, self.pool = None, None
-        self.check_lock, self.check, self.checks = threading.Lock(), None, 0
+        self.check_lock, self.check, self.checks, self.count = threading.Lock(), None, [], 0
         self.originals, self.preview = {}, Preview(options)
         # What goes on: a word, how much of it is done, of how much, and since when.
         self.doing = None
@@ -103,13 +105,21 @@ class Opened(live.Live):
         """The check of the current stream, begun now if it is another one than that of the check before."""
         view = self.current_view()
         with self.check_lock:
-            check = self.check
-            if check is None or check.error or not check.is_of(view):
-                if check is not None:
-                    check.stop()
-                self.checks += 1
-                self.check = Check(view, self.checks)
+            if self.check is None or self.check.error or not self.check.is_of(view):
+                self.check = self.known_check(view) or self.new_check(view)
             return self.check
+
+    def known_check(self, view):
+        """A check of the same packets that is over: after undo, nothing is checked again."""
+        return next((check for check in self.checks if check.is_over and not check.error and check.is_of(view)), None)
+
+    def new_check(self, view):
+        if self.check is not None:
+            self.check.stop()
+        self.count += 1
+        check = Check(view, self.count)
+        self.checks = [check, *(old for old in self.checks if old.is_over and not old.stopped.is_set())][:MOST_CHECKS]
+        return check
 
     def original(self, source):
         """A source as it was opened, without edits and without a script."""

@@ -179,15 +179,16 @@ class PageRoutes(Routes):
         return as_json(members)
 
     def repairs(self, request):
-        """The repairs that can work for a finding of the current check."""
-        self.only(request, "check", "finding")
-        number, place = self.number(request, "check", 0), self.number(request, "finding", 0)
-        check, view = self.live.checked(), self.live.current_view()
-        if number != check.number:
-            raise Refuse(412, "the stream was changed", revision=view.revision)
-        if place >= len(check.findings):
-            raise Refuse(404, "there is no such finding")
-        found = Proposals(view, self.titles).of(check.findings[place])
+        """The repairs that can work for a finding of the current stream."""
+        self.only(request, "kind", "packet", "before", "stamp")
+        view = self.live.current_view()
+        finding = {name: self.number(request, name, None) for name in ("packet", "before", "stamp")}
+        finding["kind"] = request.query.get("kind")
+        if finding["packet"] is not None and finding["packet"] >= len(view.streams[0]):
+            raise Refuse(404, "there is no such packet")
+        if finding["kind"] == "stamp_skips" and None in finding.values():
+            raise Refuse(400, "time stamps that skip have packet, before and stamp")
+        found = Proposals(view, self.titles).of(finding)
         return as_json({"revision": view.revision, "repairs": [proposal.members() for proposal in found]})
 
     def y4m(self, picture, headers=()):

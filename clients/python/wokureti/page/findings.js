@@ -150,14 +150,15 @@ export class Findings {
     this.timeline.setFindings(damage, over ? `checked ${check}` : `checking ${check} ${Math.floor(findings.length / 100)}`);
     const list = find("findings-list");
     const all = ordered(findings);
-    list.replaceChildren(...all.slice(0, this.most).map(({ finding, place }) => this.row(finding, place)));
+    list.replaceChildren(...all.slice(0, this.most).map(({ finding }) => this.row(finding)));
     find("findings-more").hidden = all.length <= this.most;
     find("findings-more").textContent = `Show more of ${all.length.toLocaleString("en")}`;
   }
 
-  row(finding, place) {
+  row(finding) {
     const entry = document.createElement("li");
     const key = keyOf(finding);
+    entry.dataset.key = key;
     entry.classList.toggle("is-kept", this.kept.has(key));
     const button = document.createElement("button");
     button.className = "row";
@@ -172,14 +173,14 @@ export class Findings {
     sub.className = "sub";
     sub.textContent = `${finding.severity} · ${placeOf(finding)}`;
     button.append(dot, text, sub);
-    button.addEventListener("click", () => this.press(entry, finding, place, key));
+    button.addEventListener("click", () => this.press(finding, key));
     entry.append(button);
     if (this.open && this.open.key === key) this.unfold(entry, this.open);
     return entry;
   }
 
   /** A click goes to the packet, and shows the repairs. */
-  async press(entry, finding, place, key) {
+  async press(finding, key) {
     const wasOpen = this.open && this.open.key === key;
     await this.leave();
     for (const old of find("findings-list").querySelectorAll("li.is-open")) fold(old);
@@ -189,13 +190,21 @@ export class Findings {
     const open = { key, finding, revision: this.model.revision, repairs: null };
     this.open = open;
     try {
-      const answer = await server.members(`repairs?check=${this.check.check}&finding=${place}`, "the repairs");
+      const given = ["kind", "packet", "before", "stamp"].filter((name) => name === "kind" || Number.isInteger(finding[name]));
+      const query = given.map((name) => `${name}=${finding[name]}`).join("&");
+      const answer = await server.members(`repairs?${query}`, "the repairs");
       open.repairs = answer.repairs;
     } catch (error) {
       open.repairs = [];
       this.status.say(error.message);
     }
-    if (this.open === open && entry.isConnected) this.unfold(entry, open);
+    if (this.open === open) this.unfoldOpen();
+  }
+
+  /** Shows the repairs below the finding that was pressed: the list may have been written again since. */
+  unfoldOpen() {
+    const entry = [...find("findings-list").children].find((one) => one.dataset.key === this.open?.key);
+    if (entry) this.unfold(entry, this.open);
   }
 
   unfold(entry, open) {
@@ -211,7 +220,7 @@ export class Findings {
       button.textContent = repair.title;
       button.title = repair.lines.length ? `${repair.lines.slice(0, 6).join("\n")}${repair.lines.length > 6 ? `\n… ${repair.lines.length} edits` : ""}` : "Nothing is changed";
       button.classList.toggle("is-shown", this.shown === repair);
-      button.addEventListener("click", () => (repair.lines.length ? this.preview(repair, entry) : this.keep(open, entry)));
+      button.addEventListener("click", () => (repair.lines.length ? this.preview(repair) : this.keep(open, entry)));
       item.append(button);
       list.append(item);
     }
@@ -219,9 +228,9 @@ export class Findings {
   }
 
   /** Shows the pictures with a repair, which is not made yet. */
-  async preview(repair, entry) {
+  async preview(repair) {
     this.shown = repair;
-    if (entry.isConnected && this.open) this.unfold(entry, this.open);
+    this.unfoldOpen();
     find("preview-bar").hidden = false;
     find("preview-text").textContent = repair.title;
     find("preview-result").textContent = "";
