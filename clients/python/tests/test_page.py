@@ -377,7 +377,7 @@ class Steps(PageCase):
 
     def test_numbers(self):
         self.serve()
-        for path in ("/timeline?per=0", "/timeline?count=0", "/timeline?count=5000", f"/timeline?per={1 << 21}", "/timeline?first=x", "/timeline?x=1", "/origins?from=-1", "/place?packet=x", "/check?from=x", "/differs?from=x", "/session?x=1", "/progress?x=1", "/repairs?packet=x", "/stream.ivf?x=1"):
+        for path in ("/timeline?per=0", "/timeline?count=0", "/timeline?count=5000", f"/timeline?per={1 << 21}", "/timeline?first=x", "/timeline?x=1", "/origins?from=-1", "/place?packet=x", "/check?from=x", "/differs?from=x", "/session?x=1", "/progress?x=1", "/repairs?packet=x", "/stream.ivf?x=1", "/repair_all?x=1"):
             self.assertEqual(self.ask(path)[0], 400, path)
         self.assertEqual(self.members(f"/timeline?first={10**17}")["kinds"], "")
         for path in ("/timeline?source=1", "/place?source=1", "/before/frames/x.y4m", "/before/frames/-1.y4m", f"/before/frames/{'9' * 40}.y4m", "/before/frames", "/before/frames/0.y4m/x"):
@@ -523,6 +523,29 @@ class Checks(PageCase):
         room = self.folder()
         (room / "out.ivf").write_bytes(self.ask("/stream.ivf")[2])
         self.assertEqual(packets_of(room / "out.ivf"), packets_of(SCENES))
+
+    def test_all_repairs_are_those_of_the_command(self):
+        path = self.broken(20)
+        packets = packets_of(path)
+        packets[6], packets[40] = BROKEN, packets[40][:4]
+        write_packets(path, packets)
+        for second in ((), (SCENES,), (ODD,)):
+            self.serve(path, sources=second)
+            found = self.members("/repair_all")
+            self.assertTrue(found["lines"])
+            before = self.ask("/stream.ivf")[2]
+            self.step(*found["lines"])
+            room = self.folder()
+            words = ["--second", second[0]] if second == (SCENES,) else []
+            status, out, errors = command("repair", path, room / "out.ivf", "--no-scan", *words)
+            self.assertEqual((status, errors), (1, ""))
+            (room / "mine.ivf").write_bytes(self.ask("/stream.ivf")[2])
+            self.assertEqual(packets_of(room / "mine.ivf"), packets_of(room / "out.ivf"))
+            self.assertEqual(out.decode().splitlines()[: len(found["said"])], found["said"])
+            self.change("undo")
+            self.assertEqual(self.ask("/stream.ivf")[2], before)
+        self.serve("-")
+        self.assertEqual(self.ask("/repair_all")[0], 409)
 
     def test_repairs_of_what_is_not_there(self):
         self.serve(self.broken())

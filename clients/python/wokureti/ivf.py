@@ -10,7 +10,7 @@ RECORD = struct.Struct("<IQ")
 MOST_PACKETS = 1 << 20
 # Bytes that are read at a time.
 WINDOW = 1 << 18
-KEY, SHOWN = 1, 2
+KEY, SHOWN, NO_BYTES = 1, 2, 8
 
 
 class Head(NamedTuple):
@@ -36,7 +36,7 @@ class NotIvf(ValueError):
 
 class Index:
     """Where the packets of a file are: for each its first byte, its size, its time stamp, and whether its tag is that of a key packet (`KEY`)
-    and of a shown one (`SHOWN`)."""
+    and of a shown one (`SHOWN`), and whether it has no bytes (`NO_BYTES`)."""
 
     def __init__(self):
         self.starts, self.sizes, self.stamps, self.tags = array("Q"), array("I"), array("Q"), bytearray()
@@ -78,9 +78,9 @@ def key_size(data):
 
 
 def tag_of(size, first):
-    """Whether a packet of this size with this first byte is a key packet, and whether it is shown."""
+    """Whether a packet of this size with this first byte is a key packet, whether it is shown, and whether it is empty."""
     if size < 3:
-        return SHOWN
+        return SHOWN | NO_BYTES * (size == 0)
     return KEY * (not first & 1) | SHOWN * bool(first & 16)
 
 
@@ -110,7 +110,7 @@ def read_index(descriptor):
         starts(place)
         sizes(size)
         stamps(stamp)
-        tags(TAGS[window[at + head_size]] if size >= 3 and at + head_size < len(window) else SHOWN)
+        tags(TAGS[window[at + head_size]] if size >= 3 and at + head_size < len(window) else SHOWN if size else SHOWN | NO_BYTES)
         place += size
     return head, index
 

@@ -6,6 +6,7 @@ import sys
 import webbrowser
 
 from . import serve
+from .errors import Ended
 from .opened import Opened
 from .pages import PageRoutes
 
@@ -61,8 +62,10 @@ def run(options, titles, edits, save, port, has_browser, pad):
     is_new = not os.path.lexists(path)
     try:
         live = Opened(options, path, save_path, pad, save_at_end=save is not None)
-    except BaseException:
+    except BaseException as error:
         drop_empty(path, is_new)
+        if isinstance(error, Ended) and ": input " in str(error):
+            raise Ended(error.status, f"{error}\n`wokureti repair {titles[0]} OUT` searches the packets of a damaged file") from None
         raise
     count = len(live.session.edits)
     if count:

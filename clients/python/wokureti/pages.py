@@ -5,10 +5,11 @@ import os
 import pathlib
 import time
 
+from . import ivf, repair
 from .errors import Refused
 from .frames import MARK
 from .proposals import Proposals
-from .routes import Routes
+from .routes import Routes, until_ended
 from .session import EDITS
 from .views import MOST_ENTRIES
 from .virtual import header_of
@@ -21,6 +22,8 @@ KINDS = {
     ".svg": "image/svg+xml",
 }
 REFUSALS = (404, 409, 412)
+# The steps of `wokureti repair` that act on packets.
+STEPS = frozenset(("double", "sort", "hold"))
 # The edits of one request, at most.
 MOST_LINES = 20000
 # Frames whose origins are told at a time, at most; seconds that one search for a frame that differs takes.
@@ -49,6 +52,7 @@ class PageRoutes(Routes):
                 ("place",): self.place,
                 ("check",): self.check_of,
                 ("repairs",): self.repairs,
+                ("repair_all",): self.repair_all,
                 ("differs",): self.differs,
                 ("stream.ivf",): self.stream,
             }
@@ -93,6 +97,7 @@ class PageRoutes(Routes):
             "sources": [len(stream) for stream in view.streams],
             "source": view.source,
             "script": view.script,
+            "edits_before": view.edits_before,
             "edits": [line for line, _ in view.edits],
             "steps": [step for _, step in view.edits],
             "undone": view.undone,
@@ -131,7 +136,7 @@ class PageRoutes(Routes):
         timeline = view.timeline(source)
         check = self.live.check
         if check is not None and source == 0 and check.is_of(view):
-            timeline.damage(check.inside)
+            timeline.damage(check)
         found = timeline.tile(min(first, len(timeline.stream)), per, count)
         return as_json({"revision": view.revision, "source": source, "first": first, "per": per, "packets": len(timeline.stream), **found})
 
@@ -190,6 +195,32 @@ class PageRoutes(Routes):
             raise Refuse(400, "time stamps that skip have packet, before and stamp")
         found = Proposals(view, self.titles).of(finding)
         return as_json({"revision": view.revision, "repairs": [proposal.members() for proposal in found]})
+
+    def repair_all(self, request):
+        """The edits that `wokureti repair` would make, with source 1 as the second recording if there is one, and what they do."""
+        self.only(request)
+        view = self.live.current_view()
+        contents = view.contents
+        data, *others = (b"".join(self.text(view, source)) for source in range(min(2, len(view.streams))))
+        given = (contents.program, contents.lister)
+        try:
+            try:
+                found = repair.repair(data, *given, *others, tables=contents.tables, steps=STEPS)
+            except ivf.NotIvf:
+                raise
+            except ValueError:
+                # Source 1 is another stream.
+                found = repair.repair(data, *given, tables=contents.tables, steps=STEPS)
+        except ivf.NotIvf as error:
+            raise Refuse(409, str(error)) from None
+        lines = repair.edits_of(data, found)
+        return as_json({"revision": view.revision, "lines": lines, "said": found.lines, "left": found.left})
+
+    def text(self, view, source):
+        """The packets of a source as an IVF file, in pieces."""
+        stream = view.streams[source]
+        yield view.contents.inputs.all[source].head.text(len(stream))
+        yield from view.contents.records(stream)
 
     def y4m(self, picture, headers=()):
         width, height, samples = picture
@@ -255,16 +286,11 @@ class PageRoutes(Routes):
         self.only(request)
         view = self.live.current_view()
         timeline, stream = view.timeline(0), view.streams[0]
-        head = view.contents.inputs.all[0].head.text(len(stream))
-        length = len(head) + 12 * len(stream) + sum(timeline.sizes)
+        length = ivf.HEAD.size + ivf.RECORD.size * len(stream) + sum(timeline.sizes)
         name = os.path.splitext(os.path.basename(self.titles[0]))[0]
         safe = "".join(letter if letter.isalnum() and letter.isascii() else "-" for letter in name) or "stream"
-
-        def pieces():
-            yield head
-            yield from view.contents.records(stream)
-
-        return Response(200, "video/x-ivf", length=length, headers=[("Content-Disposition", f'attachment; filename="{safe}-edited.ivf"')], pieces=pieces())
+        headers = [("Content-Disposition", f'attachment; filename="{safe}-edited.ivf"')]
+        return Response(200, "video/x-ivf", length=length, headers=headers, pieces=until_ended(self.text(view, 0)))
 
     def change(self, request):
         """An edit, several as one step, `undo`, `redo` or `save`."""

@@ -7,7 +7,7 @@ from array import array
 from itertools import accumulate, chain
 
 from . import ivf
-from .ivf import KEY, SHOWN
+from .ivf import KEY, NO_BYTES, SHOWN
 
 # Kinds of packets, each one worse than those before it: a column of several packets has the kind of its worst.
 INTER, HIDDEN, KEY_PACKET, FORGED, DROPPED, DAMAGED, LOST, BROKEN = range(8)
@@ -16,14 +16,20 @@ LETTERS = bytes.maketrans(bytes(range(8)), b"ihkfdplr")
 MOST_ENTRIES = 4096
 # Of an edit, at most so many characters are shown.
 MOST_TEXT = 200
+# The edits that are shown: the last ones.
+MOST_EDITS = 500
 
 
-def kind_of(size, tags):
-    if size == 0:
+def kind_of(tags):
+    if tags & NO_BYTES:
         return DROPPED
     if not tags & SHOWN:
         return HIDDEN
     return KEY_PACKET if tags & KEY else INTER
+
+
+# What is said of each value of tags.
+KIND_OF, KEY_OF, SHOWN_OF = (bytes(map(say, range(256))) for say in (kind_of, KEY.__and__, lambda tags: bool(tags & SHOWN)))
 
 
 class Pool:
@@ -35,9 +41,9 @@ class Pool:
         for item in contents.inputs.all:
             index = item.records()
             self.sizes += index.sizes
-            self.keys += bytes(map(KEY.__and__, index.tags))
-            self.shown += bytes(index.tags).translate(bytes(bool(tags & SHOWN) for tags in range(256)))
-            self.kinds += bytes(map(kind_of, index.sizes, index.tags))
+            self.keys += index.tags.translate(KEY_OF)
+            self.shown += index.tags.translate(SHOWN_OF)
+            self.kinds += index.tags.translate(KIND_OF)
         self.is_listed = False
         # For each source how many shown packets of its file come before each of them.
         self.files = {}
@@ -54,7 +60,7 @@ class Pool:
             self.sizes.append(len(data))
             self.keys.append(tags & KEY)
             self.shown.append(bool(tags & SHOWN))
-            self.kinds.append(kind_of(len(data), tags) if isinstance(made, bytes) else FORGED)
+            self.kinds.append(kind_of(tags) if isinstance(made, bytes) else FORGED)
             has_bytes = has_bytes or (isinstance(made, bytes) and made != b"")
         if has_bytes and self.is_listed:
             contents.listed.learn()
@@ -73,11 +79,19 @@ class Timeline:
 
     def __init__(self, pool, stream, base):
         self.stream = stream
-        self.kinds = bytearray(map(pool.kinds.__getitem__, stream))
-        self.sizes = array("I", map(pool.sizes.__getitem__, stream))
-        self.keys = bytes(map(pool.keys.__getitem__, stream))
-        self.frames = array("I", accumulate(map(pool.shown.__getitem__, stream), initial=0))
-        self.edited = edited(stream, base, pool.contents.of_files)
+        # The check whose findings are marked, and how many of them.
+        self.marked = (None, 0)
+        if stream == array("I", range(base, base + len(stream))):
+            # A file as it is: its part of the pool.
+            part = slice(base, base + len(stream))
+            self.kinds, self.sizes, self.keys = pool.kinds[part], pool.sizes[part], bytes(pool.keys[part])
+            shown, self.edited = pool.shown[part], bytes(len(stream))
+        else:
+            self.kinds = bytearray(map(pool.kinds.__getitem__, stream))
+            self.sizes = array("I", map(pool.sizes.__getitem__, stream))
+            self.keys = bytes(map(pool.keys.__getitem__, stream))
+            shown, self.edited = map(pool.shown.__getitem__, stream), edited(stream, base, pool.contents.of_files)
+        self.frames = array("I", accumulate(shown, initial=0))
         self.lose()
 
     def next_key(self, index):
@@ -95,11 +109,15 @@ class Timeline:
             self.kinds[place + 1 : end] = bytes([LOST]) * (end - place - 1)
             place = self.kinds.find(BROKEN, end)
 
-    def damage(self, packets):
-        """Marks packets that are read past their end, or not to it."""
+    def damage(self, check):
+        """Marks the packets that are read past their end, or not to it, as far as a check is."""
+        known, count = self.marked
+        count = count if known is check else 0
+        packets = check.inside[count:]
         for place in packets:
             if place < len(self.kinds):
                 self.kinds[place] = max(self.kinds[place], DAMAGED)
+        self.marked = (check, count + len(packets))
 
     def tile(self, first, per, count):
         """Entries for columns of `per` packets each, starting at a packet: the worst kinds, the largest sizes, the frames, and which are edited."""
@@ -124,8 +142,6 @@ class Timeline:
 
 def edited(stream, base, of_files):
     """For each packet whether an edit made or moved it, or removed packets before it."""
-    if stream == array("I", range(base, base + len(stream))):
-        return bytes(len(stream))
     marks = bytearray(map(operator.ne, stream, map((1).__add__, chain([base - 1], stream))))
     # After packets that edits made, a packet of the file is marked only if it neither follows the one before them, nor has its number.
     place = marks.find(1)
@@ -185,8 +201,9 @@ class View:
         if before is not None:
             before.before = None
         self.script, self.source = contents.script, contents.current
-        self.edits = [(entry.line[:MOST_TEXT], entry.step) for entry in edits.entries]
-        self.undone = [line[:MOST_TEXT] for line in edits.undone]
+        self.edits_before = max(0, len(edits.entries) - MOST_EDITS)
+        self.edits = [(entry.line[:MOST_TEXT], entry.step) for entry in edits.entries[-MOST_EDITS:]]
+        self.undone = [line[:MOST_TEXT] for line in edits.undone[:MOST_EDITS]]
 
     def timeline(self, source):
         """The timeline of a source, made when it is asked for first."""

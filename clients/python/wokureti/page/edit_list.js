@@ -3,7 +3,6 @@
 import { packetOfLine } from "./steps.js";
 
 const find = (id) => document.getElementById(id);
-const MOST = 500;
 
 export class EditList {
   constructor(model, editing) {
@@ -14,19 +13,18 @@ export class EditList {
 
   write() {
     const { session } = this.model;
-    const { edits, undone, steps } = session;
+    const { edits, undone, steps, edits_before: before } = session;
     const key = `${session.revision} ${session.instance} ${session.saved}`;
     if (key === this.key) return;
     this.key = key;
-    find("edits-count").textContent = edits.length ? edits.length.toLocaleString("en") : "";
+    find("edits-count").textContent = edits.length ? (before + edits.length).toLocaleString("en") : "";
     find("edits-text").textContent = edits.length
       ? `Each edit is in ${session.list} already. Save writes the stream to ${session.save}.`
       : "No edits yet. Select packets in the timeline and delete, hold or drop them, or take a repair of a finding.";
     const list = find("edits-list");
     list.replaceChildren();
-    const from = Math.max(0, edits.length - MOST);
-    if (from) list.append(note(`${from.toLocaleString("en")} edits before these`));
-    for (let place = from; place < edits.length; place++) list.append(this.row(edits[place], place + 1, place, steps[place] !== steps[place + 1]));
+    if (before) list.append(note(`${before.toLocaleString("en")} edits before these`));
+    edits.forEach((line, place) => list.append(this.row(line, before + place + 1, place, steps[place] !== steps[place + 1])));
     undone.slice(0, 50).forEach((line) => list.append(this.row(line, "", null, false)));
     list.lastElementChild?.scrollIntoView({ block: "nearest" });
   }
@@ -57,7 +55,7 @@ export class EditList {
       back.className = "here";
       back.textContent = "Back to here";
       back.title = "Undo the edits after this one";
-      back.addEventListener("click", () => this.editing.undoTo(place + 1));
+      back.addEventListener("click", () => this.editing.undoTo(number));
       entry.append(back);
     }
     return entry;

@@ -102,9 +102,10 @@ export class Editing {
 
   /** Takes edits back until so many are left. */
   async undoTo(count) {
-    while (this.model.session.edits.length > count) {
-      const before = this.model.session.edits.length;
-      if (!(await this.undo()) || this.model.session.edits.length >= before) return;
+    const left = () => this.model.session.edits_before + this.model.session.edits.length;
+    while (left() > count) {
+      const before = left();
+      if (!(await this.undo()) || left() >= before) return;
     }
   }
 

@@ -74,6 +74,7 @@ export class Findings {
       this.most += STEP;
       this.write();
     });
+    find("repair-all").addEventListener("click", () => this.previewAll());
     find("preview-take").addEventListener("click", () => this.take());
     find("preview-leave").addEventListener("click", () => this.leave());
   }
@@ -137,6 +138,7 @@ export class Findings {
           : `All ${packets.toLocaleString("en")} packets were checked: nothing was found.`
         : `Checking: ${done.toLocaleString("en")} of ${packets.toLocaleString("en")} packets, ${totals}.`;
     find("check-text").textContent = text;
+    find("repair-all-line").hidden = !over || damage < 2;
     find("check-status").textContent = over ? `checked, ${totals}` : `checking ${done.toLocaleString("en")} of ${packets.toLocaleString("en")} packets`;
     const count = find("findings-count");
     count.textContent = damage || notes ? (damage || notes).toLocaleString("en") : "";
@@ -233,6 +235,7 @@ export class Findings {
     this.unfoldOpen();
     find("preview-bar").hidden = false;
     find("preview-text").textContent = repair.title;
+    find("preview-text").title = "";
     find("preview-result").textContent = "";
     const { revision } = this.model;
     await this.viewer.setPreview(repair.lines);
@@ -243,6 +246,26 @@ export class Findings {
       find("preview-result").textContent = damage ? `damage up to the next key frame: ${damage}` : "no damage up to the next key frame";
     } catch (error) {
       if (this.shown === repair) find("preview-result").textContent = error.message;
+    }
+  }
+
+  /** Shows the pictures with all repairs that the command wokureti repair would make. */
+  async previewAll() {
+    const button = find("repair-all");
+    button.disabled = true;
+    try {
+      const { lines, said, left } = await server.members("repair_all", "the repairs");
+      if (!lines.length) {
+        this.status.say("nothing can be repaired without a person");
+        return;
+      }
+      const title = `${said.length.toLocaleString("en")} steps, ${lines.length.toLocaleString("en")} edits${left ? `, ${left} packets stay damaged` : ""}`;
+      await this.preview({ title, lines, packet: this.model.packet });
+      find("preview-text").title = said.slice(0, 40).join("\n");
+    } catch (error) {
+      this.status.say(error.message);
+    } finally {
+      button.disabled = false;
     }
   }
 

@@ -59,7 +59,7 @@ function post(path, body, what, signal) {
 export async function change(lines, revision) {
   const body = typeof lines === "string" ? { line: lines } : { lines };
   if (revision !== null) body.revision = revision;
-  return (await post("edits", body, "edit")).json();
+  return (await post("edits", body, lines === "save" ? "the stream to be saved" : "edit")).json();
 }
 
 /** A frame of a response: width, height, samples, and the revision that it is of. */

@@ -62,6 +62,8 @@ export function nameOf(event) {
 
 /** Whether an element takes the key itself. */
 export function takes(element, name) {
+  // A text that is selected on the page is copied as a text.
+  if (name === "Ctrl+c" && !getSelection().isCollapsed) return true;
   if (!element || element === document.body) return false;
   if (element.closest("dialog")) return true;
   const isText = element.matches("textarea, input:not([type=file])");

@@ -6,9 +6,8 @@ import * as server from "./interface.js";
 const AT_ONCE = 4;
 const AHEAD = 16;
 
-/** The frame that is due after some seconds, in a range that begins again at its end if it loops; null after the end. */
-export function frameDue(start, direction, rate, seconds, range, isLoop) {
-  const passed = Math.floor(seconds * rate);
+/** The frame that is due after some frames' time, in a range that begins again at its end if it loops; null after the end. */
+export function frameDue(start, direction, passed, range, isLoop) {
   const count = range.end - range.first;
   if (count <= 0) return null;
   const place = direction > 0 ? start - range.first + passed : range.end - 1 - start + passed;
@@ -21,7 +20,7 @@ export function frameDue(start, direction, rate, seconds, range, isLoop) {
 export function framesAhead(frame, direction, count, range, isLoop) {
   const found = [];
   for (let turn = 0; turn < count; turn++) {
-    const due = frameDue(frame, direction, 1, turn, range, isLoop);
+    const due = frameDue(frame, direction, turn, range, isLoop);
     if (due === null) break;
     if (found.includes(due)) break;
     found.push(due);
@@ -71,7 +70,7 @@ export class Player {
     this.since = performance.now();
     this.shown = 0;
     this.dropped = 0;
-    this.last = null;
+    this.passed = -1;
     this.window = [];
   }
 
@@ -102,27 +101,24 @@ export class Player {
     if (!this.speed) return;
     const direction = Math.sign(this.speed);
     const now = performance.now();
-    const due = frameDue(this.start, direction, this.model.rate * Math.abs(this.speed), (now - this.since) / 1000, this.range, this.isLoop);
+    const passed = Math.floor(((now - this.since) / 1000) * this.model.rate * Math.abs(this.speed));
+    const due = frameDue(this.start, direction, passed, this.range, this.isLoop);
     if (due === null) {
-      const end = direction > 0 ? this.range.end - 1 : this.range.first;
-      this.model.frame = end;
+      this.model.frame = direction > 0 ? this.range.end - 1 : this.range.first;
       this.stop();
       return;
     }
     this.fetch(due, direction);
-    if (due !== this.last) this.present(due, now);
+    if (passed !== this.passed) this.present(due, passed, now);
     this.asked = requestAnimationFrame(() => this.tick());
   }
 
   /** Shows the frame that is due if it is here; else the last one stays, and this one is dropped once the next is due. */
-  present(due, now) {
-    if (due !== this.missed && this.last !== null) {
-      const skipped = Math.abs(due - this.last) - 1;
-      if (skipped > 0 && skipped < 1000 && this.counted !== due) this.dropped += skipped;
-    }
+  present(due, passed, now) {
     const frame = this.frames.here(due);
     if (!frame) return;
-    this.last = due;
+    this.dropped += passed - this.passed - 1;
+    this.passed = passed;
     this.shown++;
     this.window.push(now);
     while (this.window.length > 1 && now - this.window[0] > 1000) this.window.shift();

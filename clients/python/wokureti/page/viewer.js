@@ -23,7 +23,8 @@ export class Viewer {
     this.loupe = new Loupe(this.picture);
     // The edits of a preview, or null.
     this.preview = null;
-    this.turn = 0;
+    this.isStale = false;
+    this.showing = null;
     this.isPlaying = false;
     model.addEventListener("frame", () => this.isPlaying || this.show());
     model.addEventListener("session", () => this.show());
@@ -78,14 +79,32 @@ export class Viewer {
     return this.picture.view !== "frame";
   }
 
+  /** A frame of playback. */
+  present(frame) {
+    this.picture.show(frame, null, { isPlaying: true });
+    if (this.loupe.isOn) this.loupe.show();
+  }
+
   repaint() {
     if (this.picture.now || this.picture.before) this.picture.paint();
     this.loupe.show();
   }
 
-  /** Shows the current frame. */
-  async show() {
-    const turn = ++this.turn;
+  /** Shows the current frame. While one is fetched, others wait, and only the last of them is fetched then. */
+  show() {
+    this.isStale = true;
+    this.showing ??= this.catchUp().finally(() => (this.showing = null));
+    return this.showing;
+  }
+
+  async catchUp() {
+    while (this.isStale) {
+      this.isStale = false;
+      await this.showNow();
+    }
+  }
+
+  async showNow() {
     const { frame, frames } = this.model;
     const png = find("png");
     png.href = `../frames/${frame}.png`;
@@ -98,7 +117,7 @@ export class Viewer {
       return;
     }
     const [now, before] = await Promise.all([this.nowOf(frame), this.needsBefore || this.preview ? this.beforeOf(frame) : null]);
-    if (turn !== this.turn) return;
+    if (this.isPlaying || (this.isStale && frame !== this.model.frame)) return;
     if (now.frame) {
       this.picture.show(now.frame, this.needsBefore ? (before?.frame ?? null) : null);
     } else {
