@@ -13,11 +13,12 @@ import tempfile
 import threading
 import time
 import unittest
+from array import array
 from unittest import mock
 
 from support import DATA, ODD, SLOW, SMALL, Case, command, packets_of, process_of, serve, start, write_packets
 from test_serve import TOKEN, ServerCase
-from wokureti import Refused, Script, Session, ivf, programs
+from wokureti import Refused, Script, Session, ivf, programs, views
 from wokureti.opened import Opened
 from wokureti.pages import KINDS, PageRoutes, files_of_page
 from wokureti.web import Server
@@ -178,8 +179,8 @@ class Views(PageCase):
         found = self.assertTimeline()
         # The inserted packet of two bytes is refused, and what follows is lost up to the next key packet.
         self.assertEqual(found["kinds"][:6], "kirlll")
-        self.assertTrue({2, 3} <= set(found["edits"]), found["edits"])
-        self.assertLess(len(found["edits"]), 14)
+        # What was inserted, held, replaced, moved, and what follows a packet that is gone.
+        self.assertEqual(found["edits"], [2, 4, 6, 8, 21, 26, 27, 32])
         self.change("undo")
         self.assertEqual(self.assertTimeline()["edits"], [])
         self.assertEqual(self.members("/session")["packets"], count)
@@ -307,6 +308,43 @@ def letter_of(fact):
     return "k" if fact["kind"] == "key" else "i"
 
 
+class Timelines(Case):
+    def test_a_timeline_that_takes_over_another_is_the_same(self):
+        choose = random.Random(58)
+        pool, count = mock.Mock(), 60
+        for _ in range(300):
+            pool.kinds = bytearray(choose.choice(b"\0\0\0\1\2\3\4\7") for _ in range(count))
+            pool.sizes = array("I", (choose.randrange(100) for _ in range(count)))
+            pool.keys, pool.shown = bytearray(choose.randrange(2) for _ in range(count)), bytearray(choose.randrange(4) > 0 for _ in range(count))
+            own = range(5, 30)
+            old = views.Timeline(pool, array("I", own), own)
+            for _ in range(6):
+                stream = array("I", old.stream)
+                for _ in range(choose.choice([1, 1, 1, 3])):
+                    at = choose.randrange(len(stream))
+                    choose.choice([lambda: stream.pop(at), lambda: stream.insert(at, choose.randrange(count)), lambda: stream.insert(at, stream.pop()), lambda: stream.insert(len(stream), stream.pop(at))])()
+                found, wanted = views.Timeline(pool, stream, own, old), views.Timeline(pool, stream, own)
+                for name in ("kinds", "sizes", "keys", "frames", "edited"):
+                    self.assertEqual(getattr(found, name), getattr(wanted, name), name)
+                old = found
+
+    def test_marks_of_edits(self):
+        own = range(0, 10)
+        for stream, marked in (
+            ([0, 1, 2, 3, 4, 5, 6, 7, 8, 9], []),
+            ([0, 1, 2, 3, 4], []),
+            ([0, 1, 3, 4, 5, 6, 7, 8, 9], [2]),
+            ([1, 2, 3, 4, 5, 6, 7, 8, 9], [0]),
+            ([0, 1, 20, 2, 3, 4, 5, 6, 7, 8, 9], [2]),
+            ([0, 1, 20, 3, 4, 5, 6, 7, 8, 9], [2]),
+            ([0, 1, 20, 21, 4, 5, 6, 7, 8, 9], [2, 3]),
+            ([0, 1, 20, 21, 5, 6, 7, 8, 9], [2, 3, 4]),
+            ([0, 2, 1, 3, 4, 5, 6, 7, 8, 9], [1, 2, 3]),
+        ):
+            found = views.edited(array("I", stream), own, 0, len(stream), None)
+            self.assertEqual([place for place, mark in enumerate(found) if mark], marked, stream)
+
+
 class Steps(PageCase):
     def test_a_step(self):
         room = self.folder()
@@ -355,6 +393,21 @@ class Steps(PageCase):
             self.assertEqual(self.post_to("/edits", **body)[0], 400, str(body)[:60])
         self.assertEqual(self.post_to("/edits", lines=["delete 0"], revision=9)[0], 412)
         self.assertEqual(self.members("/session")["revision"], 1)
+
+    def test_refusals_as_answers(self):
+        self.serve(SCENES)
+        self.step("replace 5 1000")
+        for path, status in (("/frames/5.y4m", 409), ("/frames/99.y4m", 404), ("/before/frames/99.y4m", 404), ("/place?source=9", 404)):
+            plain = self.ask(path)
+            self.assertEqual((plain[0], plain[1]["X-Refused"]), (status, None), path)
+            found = self.ask(f"{path}{'&' if '?' in path else '?'}refusals=answers")
+            self.assertEqual((found[0], found[1]["X-Refused"], found[2]), (200, str(status), plain[2]), path)
+        for lines, status in ((["delete 99"], 409), (["delete 0"], 412)):
+            found = self.post_to("/edits?refusals=answers", lines=lines, revision=2 if status == 409 else 1)
+            self.assertEqual((found[0], found[1]["X-Refused"]), (200, str(status)))
+        self.assertEqual(self.post_to("/edits?refusals=answers", lines=[])[0], 400)
+        self.assertIsNone(self.ask("/frames/0.y4m?refusals=answers")[1]["X-Refused"])
+        self.assertEqual(self.members("/session")["revision"], 2)
 
     def test_a_change_needs_the_origin(self):
         self.serve()

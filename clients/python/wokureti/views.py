@@ -75,23 +75,34 @@ class Pool:
 
 
 class Timeline:
-    """The packets of a source: for each its kind, its size, and how many shown packets come before it."""
+    """The packets of a source: for each its kind, its size, and how many shown packets come before it. `own` are the packets of its file, and
+    `old` is the timeline before the last edits, of which most is taken over."""
 
-    def __init__(self, pool, stream, base):
+    def __init__(self, pool, stream, own, old=None):
         self.stream = stream
         # The check whose findings are marked, and how many of them.
         self.marked = (None, 0)
-        if stream == array("I", range(base, base + len(stream))):
-            # A file as it is: its part of the pool.
-            part = slice(base, base + len(stream))
-            self.kinds, self.sizes, self.keys = pool.kinds[part], pool.sizes[part], bytes(pool.keys[part])
-            shown, self.edited = pool.shown[part], bytes(len(stream))
+        first = end = 0
+        if stream == array("I", own[: len(stream)]):
+            # A file as it is, or the beginning of it: a part of the pool.
+            part = slice(own.start, own.start + len(stream))
+            kinds, self.sizes, keys = pool.kinds[part], pool.sizes[part], pool.keys[part]
+            self.frames, self.edited = array("I", accumulate(pool.shown[part], initial=0)), bytes(len(stream))
         else:
-            self.kinds = bytearray(map(pool.kinds.__getitem__, stream))
-            self.sizes = array("I", map(pool.sizes.__getitem__, stream))
-            self.keys = bytes(map(pool.keys.__getitem__, stream))
-            shown, self.edited = map(pool.shown.__getitem__, stream), edited(stream, base, pool.contents.of_files)
-        self.frames = array("I", accumulate(shown, initial=0))
+            if old is not None:
+                first = common(old.stream, stream)
+                end = common(old.stream[first:], stream[first:], -1)
+            new = stream[first : len(stream) - end]
+            kinds, self.sizes, keys = bytearray(map(pool.kinds.__getitem__, new)), array("I", map(pool.sizes.__getitem__, new)), bytes(map(pool.keys.__getitem__, new))
+            self.frames = array("I", accumulate(map(pool.shown.__getitem__, new), initial=old.frames[first] if old else 0))
+            if old is not None:
+                rest = len(old.stream) - end
+                kinds, self.sizes, keys = (one[:first] + two + one[rest:] for one, two in zip((old.sound, old.sizes, old.keys), (kinds, self.sizes, keys)))
+                shift = self.frames[-1] - old.frames[rest]
+                after = old.frames[rest + 1 :]
+                self.frames = old.frames[:first] + self.frames + (array("I", map(shift.__add__, after)) if shift else after)
+            self.edited = edited(stream, own, first, len(stream) - end, old)
+        self.kinds, self.sound, self.keys = bytearray(kinds), bytes(kinds), bytes(keys)
         self.lose()
 
     def next_key(self, index):
@@ -140,20 +151,47 @@ class Timeline:
         return bisect.bisect_right(self.frames, frame) - 1
 
 
-def edited(stream, base, of_files):
-    """For each packet whether an edit made or moved it, or removed packets before it."""
-    marks = bytearray(map(operator.ne, stream, map((1).__add__, chain([base - 1], stream))))
-    # After packets that edits made, a packet of the file is marked only if it neither follows the one before them, nor has its number.
+def common(one, other, step=1):
+    """How many items two arrays have in common at the beginning, or at the end if the step is -1."""
+    low, high = 0, min(len(one), len(other))
+    part = (lambda items, start, stop: items[start:stop]) if step > 0 else (lambda items, start, stop: items[len(items) - stop : len(items) - start])
+    while low < high:
+        middle = (low + high + 1) // 2
+        if part(one, low, middle) == part(other, low, middle):
+            low = middle
+        else:
+            high = middle - 1
+    return low
+
+
+def edited(stream, own, first, end, old):
+    """For each packet of a source whether an edit made or moved it, or removed packets before it. Only packets `first` to `end` are others than
+    in the old timeline, if there is one."""
+    while old is not None and end < len(stream) and stream[end] not in own:
+        end += 1
+    # The packet after the others may now follow another one.
+    end = min(len(stream), end + 1)
+    part, before = stream[first:end], [stream[first - 1] if first else own.start - 1]
+    follows = map(operator.eq, part, map((1).__add__, chain(before, part)))
+    marks = bytearray(map(operator.not_, map(operator.and_, follows, map(own.__contains__, part))))
     place = marks.find(1)
     while place >= 0:
-        if stream[place] < of_files:
-            before = place - 1
-            while before >= 0 and stream[before] >= of_files:
-                before -= 1
-            last = stream[before] if before >= 0 else base - 1
-            marks[place] = stream[place] - last not in (1, place - before)
+        marks[place] = is_marked(stream, own, first + place)
         place = marks.find(1, place + 1)
-    return bytes(marks)
+    if old is None:
+        return bytes(marks)
+    return old.edited[:first] + bytes(marks) + old.edited[len(old.edited) - (len(stream) - end) :]
+
+
+def is_marked(stream, own, place):
+    """After packets that edits made, a packet of the file is marked only if it neither follows the one before them, nor has its number."""
+    if stream[place] not in own:
+        return True
+    before = place - 1
+    while before >= 0 and stream[before] not in own:
+        before -= 1
+    last = stream[before] if before >= 0 else own.start - 1
+    return stream[place] - last not in (1, place - before)
 
 
 def runs_of(words, nodes, counts):
@@ -210,15 +248,10 @@ class View:
         with self.lock:
             found = self.timelines.get(source)
             if found is None:
-                found = self.taken_over(source) or Timeline(self.pool, self.streams[source], self.contents.bases[source])
-                self.timelines[source] = found
+                old = self.before.timelines.get(source) if self.before is not None else None
+                is_same = old is not None and old.stream is self.streams[source]
+                found = self.timelines[source] = old if is_same else Timeline(self.pool, self.streams[source], self.own(source), old)
             return found
-
-    def taken_over(self, source):
-        """The timeline of the view before, if the packets are the same."""
-        before = self.before
-        found = None if before is None else before.timelines.get(source)
-        return found if found is not None and found.stream is self.streams[source] else None
 
     def runs(self):
         """The frames that are served, as runs, and the frame after each of them."""
@@ -256,20 +289,24 @@ class View:
     def rate(self):
         return self.contents.rate
 
+    def own(self, source):
+        """The packets of the file of a source, as numbers of the pool."""
+        base = self.contents.bases[source]
+        return range(base, base + len(self.contents.inputs.all[source].records()))
+
     def shown_before(self, source, index):
         """The frame of a file at one of its packets: that of the next shown packet if it is hidden."""
         with self.lock:
             if source not in self.pool.files:
-                base, count = self.contents.bases[source], len(self.contents.inputs.all[source].records())
-                self.pool.files[source] = array("I", accumulate(self.pool.shown[base : base + count], initial=0))
+                own = self.own(source)
+                self.pool.files[source] = array("I", accumulate(self.pool.shown[own.start : own.stop], initial=0))
             frames = self.pool.files[source]
         return min(frames[index], frames[-1] - 1) if frames[-1] else None
 
     def original(self, source, packet):
         """The index that a packet had in the file, or that of the packet that was there in the place of one that an edit made."""
-        stream, base = self.streams[source], self.contents.bases[source]
-        count = len(self.contents.inputs.all[source].records())
-        own = range(base, base + count)
+        stream, own = self.streams[source], self.own(source)
+        base, count = own.start, len(own)
         if not count:
             return None
         place = packet

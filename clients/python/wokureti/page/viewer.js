@@ -127,7 +127,16 @@ export class Viewer {
       this.picture.refuse(now.text, now.title);
     }
     this.loupe.show();
+    this.note(before);
     this.describe(frame, now, before);
+  }
+
+  /** Says on the picture why it is not compared. */
+  note(before) {
+    const box = find("stage-note");
+    const isMissing = this.needsBefore && before && (!before.frame || (this.picture.now && !this.picture.isPaired && this.picture.view !== "pair"));
+    box.hidden = !isMissing;
+    if (isMissing) box.textContent = before.frame ? "Not compared: the sizes differ" : `Not compared. Before the edits: ${before.text}`;
   }
 
   /** The frame, or why there is none. */
