@@ -7,13 +7,24 @@ const STEP = 200;
 // Milliseconds between two looks at a check that goes on.
 const OFTEN = 200;
 
+const CAUSES = {
+  ShortPacket: "too short for its header",
+  Version: "of a version above 3",
+  StartCode: "the start code of a key frame is wrong",
+  Size: "width or height is 0",
+  NoKeyFrame: "no key frame comes before it",
+  FirstPartition: "the first partition is longer than the packet",
+  TokenSizes: "it ends inside the sizes of its partitions",
+  TokenPartition: "a partition is longer than the rest of the packet",
+};
+
 /** A finding in words. */
 export function sentence(finding) {
   const { kind } = finding;
   const where = finding.partition === null ? "first partition" : `token partition ${finding.partition}`;
   switch (kind) {
     case "refused":
-      return `refused ${finding.cause}${finding.lost ? `, ${finding.lost} packets are lost with it` : ""}`;
+      return `refused ${finding.cause}: ${CAUSES[finding.cause.split(" ")[0]] || "it cannot be decoded"}${lost(finding.lost)}`;
     case "past_end":
       return `${where}: ${finding.bytes} bytes read past its end`;
     case "unread":
@@ -43,6 +54,10 @@ export function sentence(finding) {
     default:
       return kind.replace(/_/g, " ");
   }
+}
+
+function lost(count) {
+  return count ? `; ${count.toLocaleString("en")} ${count === 1 ? "packet is" : "packets are"} lost with it` : "";
 }
 
 /** The place of a finding in words. */
@@ -187,7 +202,9 @@ export class Findings {
     await this.leave();
     for (const old of find("findings-list").querySelectorAll("li.is-open")) fold(old);
     this.open = null;
-    if (finding.packet !== null && this.model.source === 0) this.model.goPacket(Math.min(finding.packet, this.model.packets - 1)).catch(() => {});
+    // The check is of source 0.
+    if (this.model.source !== 0) await this.model.useSource(0);
+    if (finding.packet !== null) this.model.goPacket(Math.min(finding.packet, this.model.packets - 1)).catch(() => {});
     if (wasOpen) return;
     const open = { key, finding, revision: this.model.revision, repairs: null };
     this.open = open;

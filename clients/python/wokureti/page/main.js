@@ -119,13 +119,8 @@ model.addEventListener("session", () => {
 });
 model.addEventListener("frame", writeFrame);
 model.addEventListener("selection", writeSelection);
-find("source").addEventListener("change", () => {
-  model.source = Number(find("source").value);
-  model.packet = 0;
-  model.select(null);
-  model.send("session");
-  model.follow().catch(() => {});
-});
+find("source").addEventListener("change", () => model.useSource(Number(find("source").value)).catch(() => {}));
+model.addEventListener("session", () => (find("source").value = model.source));
 find("frame").addEventListener("change", () => {
   const number = Number(find("frame").value.replace(/[^\d]/g, ""));
   if (Number.isFinite(number)) model.go(number).catch(() => {});
@@ -231,9 +226,7 @@ async function begin() {
   await model.load();
   restarts = model.session.restarts;
   if (start.source && start.source < model.session.sources.length) {
-    model.source = start.source;
-    find("source").value = start.source;
-    model.send("session");
+    await model.useSource(start.source);
   }
   await model.go(model.frame);
   if (start.scale) timeline.setView(start.from || 0, start.scale);

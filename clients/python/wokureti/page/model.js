@@ -89,6 +89,15 @@ export class Model extends EventTarget {
     if (this.packet === asked && place.frame !== null) await this.go(Math.min(place.frame, this.frames - 1), { keepPacket: true });
   }
 
+  /** Shows another source in the timeline. */
+  useSource(source) {
+    this.source = source;
+    this.packet = 0;
+    this.select(null);
+    this.send("session");
+    return this.follow();
+  }
+
   select(first, end) {
     this.selection = first === null || end <= first ? null : { first, end };
     this.send("selection");
