@@ -180,6 +180,82 @@ def colours(browser, room):
     say(f"colours: {count} frames are those of `wokureti png`, byte for byte; ffmpeg's differ by at most {worst}; in playback the browser's own differ by at most {by_browser}")
 
 
+# What the functions of the modules return, for arguments whose results are known.
+FUNCTIONS = """
+    const modules = {};
+    for (const name of ["steps", "player", "script", "window", "fragment", "colours", "timeline", "tiles", "findings", "keys", "interface", "loupe"]) {
+      modules[name] = await import(new URL(`${name}.js`, document.baseURI));
+    }
+    const { steps, player, script, window: part, fragment, colours, timeline, tiles, findings, keys, interface: server, loupe } = modules;
+    const made = (lines) => {
+      const list = [..."abcdefghij"];
+      for (const line of lines) {
+        const [word, ...rest] = line.split(" ");
+        const at = rest.map(Number);
+        if (word === "delete") list.splice(at[0], 1);
+        if (word === "move") list.splice(at[1], 0, ...list.splice(at[0], 1));
+        if (word === "copy") list.splice(at[2], 0, list[at[1]]);
+        if (word === "hold") list.splice(at[0], 0, "-");
+        if (word === "replace") list[at[0]] = rest[1] === "-" ? "." : rest[1];
+      }
+      return list.join("");
+    };
+    const range = { first: 3, end: 7 };
+    const samples = Uint8Array.from({ length: 6 }, (_, place) => [81, 81, 81, 81, 90, 240][place]);
+    const frame = { width: 2, height: 2, samples };
+    const other = { width: 2, height: 2, samples: Uint8Array.from([81, 81, 81, 80, 90, 238]) };
+    const ivf = new Uint8Array(47);
+    ivf.set([0x44, 0x4b, 0x49, 0x46, 0, 0, 32]);
+    ivf.set([3], 32);
+    ivf.set([7, 8, 9], 44);
+    return [
+      made(steps.deleted(3, 6)), made(steps.held(3, 6)), made(steps.heldBefore(3, 6)), made(steps.dropped(3, 6)),
+      ...[0, 4, 6, 9, 10].map((at) => made(steps.moved(3, 6, at))),
+      ...[0, 3, 4, 6, 10].map((at) => made(steps.copied(0, 3, 6, at, true))),
+      steps.copied(1, 3, 5, 4, false), steps.ofSource(["x"], 1, 0), steps.ofSource(["x"], 0, 0),
+      steps.hexadecimal([0, 17, 255]), steps.hexadecimal([]), [...steps.packetOf(ivf)], [...steps.packetOf(ivf.subarray(1))].length,
+      [steps.packetOfLine("copy 1 2 3"), steps.packetOfLine("delete 7"), steps.packetOfLine("script -")],
+      [0, 1, 2, 3, 6].map((passed) => player.frameDue(5, 1, passed, range, true)), [0, 1, 2, 3].map((passed) => player.frameDue(5, -1, passed, range, false)),
+      player.framesAhead(5, 1, 9, range, true), player.framesAhead(5, -1, 9, range, false),
+      script.nodesOf(" trim 0  0 5;fade 1 2 3 4 5\\n;"), script.lineOf(""), script.lineOf("trim 0 0 5\\n\\n"), script.nodeOf("script: node 12: x"), script.rangeOf("a b;c\\nd", 3),
+      [0.3, 3, 70, 100, 101].map(part.stepOf), [9, 1500, 250000, 3e6].map(part.bytesText),
+      fragment.parse("#frame=5&scale=0.5&view=pair&x=1&frame=-1&source=a"), fragment.format({ frame: 5, view: "frame", source: 0, scale: 1 / 3, from: undefined }),
+      colours.colourOf(81, 90, 240), [...new Uint8Array(colours.toColour(frame).buffer)].slice(0, 8), colours.toDifference(frame, other, "colour", 16).map((pixel) => pixel & 255).join(),
+      colours.compared(frame, other).differing, colours.compared(frame, other).psnr.y.toFixed(4), colours.compared(frame, frame).psnr.v === Infinity, colours.toPlane(frame, "v")[3] & 255,
+      [2, 3, 9].map((value) => timeline.firstAt([1, 3, 5], value)), [1, 0.5, 0.3, 0.001].map(tiles.perOf),
+      findings.ordered([{ severity: "note" }, { severity: "damage" }]).map(({ place }) => place), keys.nameOf({ key: "Z", ctrlKey: true, shiftKey: true }), keys.nameOf({ key: "?", shiftKey: true }),
+      server.sizeOf(175, 143), loupe.textAt(frame, other, 1, 1),
+    ];"""
+RESULTS = [
+    "abcghij", "abc---ghij", "abc---ghij", "abc...ghij",
+    "defabcghij", "abcdefghij", "abcdefghij", "abcghidefj", "abcghijdef",
+    "defabcdefghij", "abcdefdefghij", "abcddefefghij", "abcdefdefghij", "abcdefghijdef",
+    ["copy 1 3 4", "copy 1 4 5"], ["use 1", "x"], ["x"],
+    "0011ff", "-", [7, 8, 9], 46,
+    [3, 7, None],
+    [5, 6, 3, 4, 3], [5, 4, 3, None],
+    [5, 6, 3, 4], [5, 4, 3],
+    ["trim 0 0 5", "fade 1 2 3 4 5"], "script -", "script trim 0 0 5", 12, [6, 7],
+    [1, 5, 100, 100, 200], ["9 B", "1.5 kB", "250 kB", "3.0 MB"],
+    {"frame": 5, "scale": 0.5, "view": "pair"}, "#frame=5&scale=0.333333",
+    [254, 0, 0], [254, 0, 0, 255, 254, 0, 0, 255], "32,32,32,32",
+    # One of four luma samples differs by 1: 10 log10(255 * 255 * 4).
+    2, f"{10 * math.log10(255 * 255 * 4):.4f}", True, 240,
+    [1, 1, 3], [1, 2, 4, 1024],
+    [1, 0], "Ctrl+Shift+Z", "?",
+    175 * 143 + 2 * 88 * 72, "x 1, y 1\nY 81  U 90  V 240\nbefore 80  90  238\nRGB 254, 0, 0\nmacroblock 0, 0",
+]  # fmt: skip
+
+
+def functions(page):
+    """The functions of the modules."""
+    found = page.browser.run(FUNCTIONS)
+    expect(len(found) == len(RESULTS), f"{len(found)} results, not {len(RESULTS)}")
+    for number, (one, wanted) in enumerate(zip(found, RESULTS)):
+        expect(one == wanted, f"result {number} is {one!r}, not {wanted!r}")
+    say(f"functions of the modules: {len(found)} results")
+
+
 def look(page):
     """Stepping, zooming and selecting."""
     browser = page.browser
@@ -605,6 +681,7 @@ def main():
         page = Page(browser, broken, "--source", clip, "--save", room / "saved.ivf")
         page.open()
         page.quiet("opening")
+        functions(page)
         look(page)
         find_and_repair(page, clip, place)
         page.quiet("findings")
