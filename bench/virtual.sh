@@ -17,7 +17,12 @@ clip() {
 }
 small=${1:-$(clip 640x360 1500k)}
 large=${2:-$(clip 1920x1080 6M)}
-PYTHONPATH="$here/../clients/python" PYTHONDONTWRITEBYTECODE=1 exec python3 - "$small" "$large" <<'END_OF_PYTHON'
+PYTHONDONTWRITEBYTECODE=1
+export PYTHONDONTWRITEBYTECODE
+if command -v chromium > /dev/null && command -v chromedriver > /dev/null; then
+    python3 "$here/page.py" "$small" "$large"
+fi
+PYTHONPATH="$here/../clients/python" exec python3 - "$small" "$large" <<'END_OF_PYTHON'
 import atexit, http.client, os, random, statistics, struct, subprocess, sys, tempfile, time
 from wokureti import Session, programs
 

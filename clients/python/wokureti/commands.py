@@ -80,6 +80,46 @@ def run_cat(given):
     return 1 if refusals else 0
 
 
+def add_served(parser):
+    """The arguments of a server."""
+    parser.add_argument("stream", metavar="IN", help="IVF file; `-` is an empty stream")
+    parser.add_argument("--source", action="append", default=[], metavar="B", help="another stream: source 1, 2, and so on")
+    parser.add_argument("--cache", type=int, metavar="N", help="number of decoded states that are cached")
+    parser.add_argument("--port", type=int, default=0, metavar="N", help="the port; a free one if missing")
+    parser.add_argument("--tables", metavar="FILE", help="3012 bytes that replace the long tables of RFC 6386")
+
+
+def served(given, folder):
+    """The options of a session."""
+    stream, *sources = (convert.as_ivf(path, folder) for path in [given.stream, *given.source])
+    return {"stream": stream, "sources": sources, "cache": given.cache, "tables": given.tables}
+
+
+def add_open(commands):
+    parser = commands.add_parser(
+        "open",
+        help="a page in the browser to look at a stream, edit it, compare and repair it",
+        description="Opens a page in the browser, on 127.0.0.1: a timeline of the packets, the picture, the frame before the edits next to it, the "
+        "findings of `vp8list --check` with the repairs that can work, and all edits, with undo. IN is only read. Each edit is in a list, "
+        "IN.edits, before it is answered, and the next run goes on from there. Ctrl-C ends it.",
+    )
+    add_served(parser)
+    parser.add_argument("--edits", metavar="FILE", help="the list of edits; next to IN, with the ending .edits, if missing")
+    parser.add_argument("--save", metavar="FILE", help="the file that Save writes, and the end, if something was edited since; a new file next to IN if missing")
+    parser.add_argument("--no-pad", action="store_true", help="packets that hold the picture are saved as they are, and libvpx does not show them")
+    parser.add_argument("--no-browser", action="store_true", help="only prints the address")
+    parser.set_defaults(run=run_open)
+
+
+def run_open(given):
+    from . import opening
+
+    with tempfile.TemporaryDirectory(prefix="wokureti-") as folder:
+        options = served(given, folder)
+        titles = [given.stream, *given.source]
+        return opening.run(options, titles, given.edits, given.save, given.port, not given.no_browser, not given.no_pad)
+
+
 def add_serve(commands):
     parser = commands.add_parser(
         "serve",
@@ -87,13 +127,9 @@ def add_serve(commands):
         description="Starts a server on 127.0.0.1 and prints the URL of a YUV4MPEG2 file, which is made as it is read: ffplay, mpv, VLC and ffmpeg "
         "open it and seek in it. clients/README.md has the rest of the interface, with which the stream is edited. Ctrl-C ends it.",
     )
-    parser.add_argument("stream", metavar="IN", help="IVF file; `-` is an empty stream")
-    parser.add_argument("--source", action="append", default=[], metavar="B", help="another stream: source 1, 2, and so on")
-    parser.add_argument("--cache", type=int, metavar="N", help="number of decoded states that are cached")
+    add_served(parser)
     parser.add_argument("--edits", metavar="FILE", help="the list of edits: it is made first, and each edit is written to it")
     parser.add_argument("--save", metavar="FILE", help="the file that `save` writes, and the end, if something was edited since")
-    parser.add_argument("--port", type=int, default=0, metavar="N", help="the port; a free one if missing")
-    parser.add_argument("--tables", metavar="FILE", help="3012 bytes that replace the long tables of RFC 6386")
     parser.set_defaults(run=run_serve)
 
 
@@ -101,9 +137,7 @@ def run_serve(given):
     from . import serve
 
     with tempfile.TemporaryDirectory(prefix="wokureti-") as folder:
-        stream, *sources = (convert.as_ivf(path, folder) for path in [given.stream, *given.source])
-        options = {"stream": stream, "sources": sources, "cache": given.cache, "tables": given.tables}
-        return serve.run(options, given.edits, given.save, given.port)
+        return serve.run(served(given, folder), given.edits, given.save, given.port)
 
 
 def add_repair(commands):
@@ -223,6 +257,7 @@ def run_png(given):
 def parser_of():
     parser = argparse.ArgumentParser(prog="wokureti", description=ABOUT)
     commands = parser.add_subparsers(metavar="COMMAND", required=True)
+    add_open(commands)
     add_serve(commands)
     add_repair(commands)
     add_compare(commands)

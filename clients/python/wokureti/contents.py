@@ -8,6 +8,10 @@ from .facts import Facts
 from .inputs import is_input
 
 
+# Packets that are read together, at most.
+MOST_TOGETHER = 1 << 16
+
+
 class Operation(NamedTuple):
     """A change of the packets of a source that was made, or that takes one back. `numbers` are those of the request line; where the line
     has the bytes of a packet, `packet` is its number in the pool."""
@@ -53,6 +57,7 @@ class Contents:
             self.streams.append(array("I", range(count, count + records)))
             count += records
         self.of_files = count
+        self.file_sizes = None
         # Of the packets that edits made: the time stamp, and the bytes, or what the program makes them of.
         self.made = []
         self.forged = {}
@@ -155,10 +160,19 @@ class Contents:
             return item.index.sizes[index]
         return len(self.bytes(number))
 
+    def bytes_of(self, numbers):
+        """The number of bytes of packets."""
+        if self.file_sizes is None:
+            self.file_sizes = array("I")
+            for item in self.inputs.all:
+                self.file_sizes += item.records().sizes
+        sizes, count = self.file_sizes, self.of_files
+        return sum(sizes[number] if number < count else self.size(number) for number in numbers)
+
     def has_key_tag(self, number):
         if number < self.of_files:
             item, index = self.where(number)
-            return bool(item.index.keys[index])
+            return bool(item.index.tags[index] & ivf.KEY)
         data = self.made[number - self.of_files][1]
         return ivf.is_key(data) if isinstance(data, bytes) else data[0] == "blank"
 
@@ -203,8 +217,27 @@ class Contents:
     def pieces(self, source=0):
         """The text of an IVF file of the packets of a source, piece by piece."""
         stream = self.streams[source]
-        packets = ((self.stamp(number), self.bytes(number)) for number in stream)
-        return ivf.pieces(self.inputs.all[source].head, len(stream), packets)
+        yield self.inputs.all[source].head.text(len(stream))
+        yield from self.records(stream)
+
+    def records(self, stream):
+        """The records of packets as an IVF file has them. Those that follow each other in a file are read together."""
+        place = 0
+        while place < len(stream):
+            number = stream[place]
+            if number >= self.of_files:
+                data = self.bytes(number)
+                yield ivf.RECORD.pack(len(data), self.stamp(number))
+                yield data
+                place += 1
+                continue
+            item, first = self.where(number)
+            end, index = place + 1, first + 1
+            limit = min(len(stream), place + MOST_TOGETHER, place + len(item.index) - first)
+            while end < limit and stream[end] == number + end - place:
+                end, index = end + 1, index + 1
+            yield from item.read_records(first, index)
+            place = end
 
     def save(self, path, pad=False, source=0):
         """Writes the packets of a source as an IVF file."""

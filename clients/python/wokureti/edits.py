@@ -8,10 +8,14 @@ import contextlib
 import fcntl
 import os
 import stat
+import time
 
 from .contents import Contents
 from .errors import Refused
 from .files import write_whole
+
+# Seconds.
+LOCK_TIME = 1
 
 
 def words_of(line):
@@ -52,7 +56,7 @@ class EditFile:
         try:
             if not stat.S_ISREG(os.fstat(self.descriptor).st_mode):
                 raise ValueError(f"{path!r} is not a file")
-            fcntl.flock(self.descriptor, fcntl.LOCK_EX | fcntl.LOCK_NB)
+            self.lock()
         except BlockingIOError:
             os.close(self.descriptor)
             raise ValueError(f"{path!r} is the list of another session that is open") from None
@@ -60,6 +64,17 @@ class EditFile:
             os.close(self.descriptor)
             raise
         self.size = os.fstat(self.descriptor).st_size
+
+    def lock(self):
+        """A process that another thread starts has the files of this one for a moment, so the lock is tried for a while."""
+        limit = time.monotonic() + LOCK_TIME
+        while True:
+            try:
+                return fcntl.flock(self.descriptor, fcntl.LOCK_EX | fcntl.LOCK_NB)
+            except BlockingIOError:
+                if time.monotonic() > limit:
+                    raise
+                time.sleep(0.01)
 
     def text(self):
         """What is in the file."""
@@ -101,6 +116,8 @@ class EditList:
         self._contents = None
         self._step = 0
         self._depth = 0
+        # Whether the file is written only when a step is whole.
+        self._waits = False
         # How many entries the file has, and where each of them ends in it.
         self._ends = []
         self._file = None if path is None else EditFile(path)
@@ -110,6 +127,11 @@ class EditList:
 
     def __len__(self):
         return len(self._entries)
+
+    @property
+    def entries(self):
+        """The edits, with their steps: those of one step are taken back together."""
+        return self._entries
 
     def text(self):
         """The list as text."""
@@ -215,7 +237,7 @@ class EditList:
 
     def _write(self):
         """Brings the file up to date. After an error the next edit tries again."""
-        if self._file is None:
+        if self._file is None or self._waits:
             return
         del self._ends[len(self._entries) :]
         new = [entry.text.encode() for entry in self._entries[len(self._ends) :]]
@@ -224,6 +246,44 @@ class EditList:
         for text in new:
             start += len(text)
             self._ends.append(start)
+
+    def run_step(self, lines, timeout=None, progress=None):
+        """Makes edits as one step, and returns the reply to the last one. If one is refused, none is made, and what was undone can be made
+        again as before. `progress` is called with the number of edits that were made."""
+        before, reply = (len(self._entries), list(self._undone), self._after), ""
+        self._waits = True
+        try:
+            with self.step():
+                for number, line in enumerate(lines, 1):
+                    reply = self._session.request(line, timeout)
+                    if progress is not None:
+                        progress(number)
+        except Refused:
+            # If there is no memory to take them back, the edits before the refused one stay, in the program and in the list.
+            with self._written():
+                self._take_back(self._entries[before[0] :], timeout)
+                self._forget(*before)
+            raise
+        except BaseException:
+            self._forget(*before)
+            raise
+        finally:
+            self._waits = False
+        self._write()
+        return reply
+
+    @contextlib.contextmanager
+    def _written(self):
+        try:
+            yield
+        finally:
+            self._waits = False
+            self._write()
+
+    def _forget(self, count, undone, after):
+        """The list as it was when it had so many entries."""
+        del self._entries[count:]
+        self._undone, self._after = undone, after
 
     def _last_group(self):
         """How many entries the last step has, with the `use` lines after it."""
@@ -240,8 +300,16 @@ class EditList:
         """Takes back the last step, and returns its lines."""
         if not self._entries:
             return []
-        contents = self.contents()
         group = self._entries[len(self._entries) - self._last_group() :]
+        self._take_back(group, timeout)
+        del self._entries[len(self._entries) - len(group) :]
+        self._undone.append(group)
+        self._write()
+        return [entry.line for entry in group]
+
+    def _take_back(self, group, timeout):
+        """Takes back the last entries, the last one first."""
+        contents = self.contents()
         taken = 0
         try:
             for entry in reversed(group):
@@ -253,10 +321,6 @@ class EditList:
             for entry in group[len(group) - taken :]:
                 self._make(entry, timeout)
             raise
-        del self._entries[len(self._entries) - len(group) :]
-        self._undone.append(group)
-        self._write()
-        return [entry.line for entry in group]
 
     def _make(self, entry, timeout):
         """Makes an edit again."""

@@ -9,13 +9,14 @@ import json
 import os
 import subprocess
 import tempfile
+import threading
 from array import array
 
 from . import ivf
 from .errors import Ended
 
 MOST_TIME = 300
-KEY, SHOWN, REFUSED = 1, 2, 4
+KEY, SHOWN, REFUSED = ivf.KEY, ivf.SHOWN, 4
 # Causes that are those of the packets before.
 OF_OTHERS = ("NoKeyFrame", "lost")
 
@@ -50,9 +51,10 @@ def outlines(lines):
     names = next(lines, b"").decode("ascii").rstrip("\n").split("\t")
     kind, show, size, cause = (names.index(name) if name in names else 0 for name in ("kind", "show", "size", "cause"))
     for line in lines:
-        columns = line.decode("ascii").rstrip("\n").split("\t")
-        flags = KEY * (columns[kind] == "key") + SHOWN * (columns[show] == "shown") + REFUSED * (columns[cause] != "-")
-        yield flags, columns[size] if columns[size] != "-" else None, columns[cause] if columns[cause] != "-" else None
+        columns = line.rstrip(b"\n").split(b"\t")
+        sides, why = columns[size], columns[cause]
+        flags = KEY * (columns[kind] == b"key") + SHOWN * (columns[show] == b"shown") + REFUSED * (why != b"-")
+        yield flags, sides.decode("ascii") if sides != b"-" else None, why.decode("ascii") if why != b"-" else None
 
 
 class Facts:
@@ -62,6 +64,9 @@ class Facts:
         self.contents = contents
         self.flags = bytearray()
         self.sizes, self.causes = {}, {}
+        # Whether the packets of the files were listed.
+        self.is_learnt = False
+        self.lock = threading.RLock()
 
     def learn_files(self):
         """Lists the files, once. Packets that are refused because of those before them are listed again by themselves."""
@@ -69,18 +74,24 @@ class Facts:
         for item in self.contents.inputs.all:
             if not len(item.records()):
                 continue
-            for flags, size, cause in outlines(run(self.contents.lister, f"/dev/fd/{item.descriptor}", pass_fds=(item.descriptor,))):
-                if cause in OF_OTHERS:
-                    again.append(len(self.flags))
-                self.add(flags, size, cause)
+            descriptor = item.again()
+            try:
+                for flags, size, cause in outlines(run(self.contents.lister, f"/dev/fd/{descriptor}", pass_fds=(descriptor,))):
+                    if cause in OF_OTHERS:
+                        again.append(len(self.flags))
+                    self.add(flags, size, cause)
+            finally:
+                os.close(descriptor)
         if len(self.flags) != self.contents.of_files:
             raise OSError("vp8list and the client do not find the same packets")
         for number, found in zip(again, self.by_themselves(again)):
             self.put(number, *found)
+        self.is_learnt = True
 
     def add(self, flags, size, cause):
-        self.flags.append(0)
-        self.put(len(self.flags) - 1, flags, size, cause)
+        self.flags.append(flags)
+        if size is not None or cause is not None:
+            self.put(len(self.flags) - 1, flags, size, cause)
 
     def put(self, number, flags, size, cause):
         self.flags[number] = flags
@@ -100,13 +111,17 @@ class Facts:
         return list(outlines(run_on(self.contents.lister, packets)))[1::2]
 
     def learn(self):
-        """Lists the packets that are new."""
+        """Lists the packets that are new. Other threads wait."""
         contents = self.contents
-        if not self.flags:
-            self.learn_files()
-        new = range(len(self.flags), contents.of_files + len(contents.made))
-        for found in self.by_themselves(new):
-            self.add(*found)
+        with self.lock:
+            if not self.is_learnt:
+                self.flags.clear()
+                self.sizes.clear()
+                self.causes.clear()
+                self.learn_files()
+            new = range(len(self.flags), contents.of_files + len(contents.made))
+            for found in self.by_themselves(new):
+                self.add(*found)
 
     def of_range(self, source, numbers):
         """The facts of the packets of a range, of all if it is None, as dictionaries."""
@@ -120,22 +135,37 @@ class Facts:
         begin = first
         while begin and not self.flags[stream[begin]] & KEY:
             begin -= 1
-        # Once a key frame's header was accepted, inter frames may follow.
-        follows = any(self.flags[number] & (KEY | REFUSED) == KEY for number in stream[:begin])
+        # Once a key frame's header was accepted, inter frames may follow, and a packet is listed by itself.
+        follows = any(self.flags[number] & (KEY | REFUSED) == KEY for number in stream[: begin + 1])
+        start, lost = (first, self.lost(stream, begin, first)) if follows else (begin, first)
         key = [(0, self.contents.forge("blank", 1, 1))] if follows else []
-        packets = (*key, *((self.contents.stamp(number), self.contents.bytes(number)) for number in stream[begin:end]))
+        packets = (*key, *((self.contents.stamp(number), self.contents.bytes(number)) for number in stream[start:end]))
         lines = list(run_on(self.contents.lister, packets, "--json"))[len(key) :]
-        frames, bytes_before = self.before(stream, end)
-        shift = bytes_before[begin] - sum(ivf.RECORD.size + len(data) for _, data in key)
-        return [placed(json.loads(lines[place - begin]), place, frames[place], shift) for place in wanted]
+        frames, bytes_before = self.before(stream, start, end)
+        shift = bytes_before[0] - sum(ivf.RECORD.size + len(data) for _, data in key)
+        found = [placed(json.loads(lines[place - start]), place, frames[place - start], shift) for place in wanted]
+        for facts in found:
+            if facts["packet"] < lost:
+                facts["cause"] = "lost"
+        return found
 
-    def before(self, stream, end):
-        """For each packet up to `end` how many shown ones, and how many bytes of records, come before it."""
-        frames, places, shown, place = array("I"), array("Q"), 0, 0
-        for number in stream[:end]:
-            frames.append(shown)
+    def lost(self, stream, begin, first):
+        """The end of the packets, starting at `first`, that are lost with a refused one between the key packet `begin` and `first`."""
+        end = first
+        if any(self.flags[number] & REFUSED for number in stream[begin:first]):
+            while end < len(stream) and not self.flags[stream[end]] & KEY:
+                end += 1
+        return end
+
+    def before(self, stream, start, end):
+        """For each packet from `start` to `end` how many shown ones, and how many bytes of records, come before it."""
+        shown = self.flags.translate(bytes(bool(flags & SHOWN) for flags in range(256)))
+        frames, places = array("I"), array("Q")
+        count, place = sum(map(shown.__getitem__, stream[:start])), ivf.RECORD.size * start + self.contents.bytes_of(stream[:start])
+        for number in stream[start:end]:
+            frames.append(count)
             places.append(place)
-            shown += bool(self.flags[number] & SHOWN)
+            count += shown[number]
             place += ivf.RECORD.size + self.contents.size(number)
         return frames, places
 

@@ -69,13 +69,38 @@ class Input:
                 self.check()
         return self.index
 
+    def opened(self):
+        """The descriptor. `OSError` if the session is over."""
+        if self.descriptor is None:
+            raise OSError(f"{self.path} is not open any more")
+        return self.descriptor
+
+    def again(self):
+        """The file, opened again: it stays open when the session ends."""
+        found = os.open(f"/dev/fd/{self.opened()}", os.O_RDONLY | os.O_CLOEXEC)
+        if self.sign(os.fstat(found)) != self.signature:
+            os.close(found)
+            raise OSError(f"{self.path} was changed, or is not open any more")
+        return found
+
     def read(self, number, size=None):
         """The bytes of a packet, or the first ones of them."""
         index = self.records()
         count = index.sizes[number]
-        data = os.pread(self.descriptor, count if size is None else min(size, count), index.starts[number])
+        data = os.pread(self.opened(), count if size is None else min(size, count), index.starts[number])
         self.check()
         return data
+
+    def read_records(self, first, end):
+        """The bytes of the records of packets, piece by piece."""
+        index = self.records()
+        place = index.starts[first] - ivf.RECORD.size
+        stop = index.starts[end - 1] + index.sizes[end - 1]
+        while place < stop:
+            data = os.pread(self.opened(), min(stop - place, ivf.WINDOW), place)
+            self.check()
+            place += len(data)
+            yield data
 
     def close(self):
         if self.descriptor is not None:

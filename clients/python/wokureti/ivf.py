@@ -1,6 +1,5 @@
 """IVF files: a header of 32 bytes or more, and for each packet its size (4 bytes), its time stamp (8 bytes) and its bytes."""
 
-import io
 import os
 import struct
 from array import array
@@ -9,6 +8,9 @@ from typing import NamedTuple
 HEAD = struct.Struct("<4sHH4sHHIIII")
 RECORD = struct.Struct("<IQ")
 MOST_PACKETS = 1 << 20
+# Bytes that are read at a time.
+WINDOW = 1 << 18
+KEY, SHOWN, NO_BYTES = 1, 2, 8
 
 
 class Head(NamedTuple):
@@ -33,19 +35,14 @@ class NotIvf(ValueError):
 
 
 class Index:
-    """Where the packets of a file are: for each its first byte, its size, its time stamp, and whether its first byte is of a key tag."""
+    """Where the packets of a file are: for each its first byte, its size, its time stamp, and whether its tag is that of a key packet (`KEY`)
+    and of a shown one (`SHOWN`), and whether it has no bytes (`NO_BYTES`)."""
 
     def __init__(self):
-        self.starts, self.sizes, self.stamps, self.keys = array("Q"), array("I"), array("Q"), bytearray()
+        self.starts, self.sizes, self.stamps, self.tags = array("Q"), array("I"), array("Q"), bytearray()
 
     def __len__(self):
         return len(self.starts)
-
-    def add(self, start, size, stamp, is_key):
-        self.starts.append(start)
-        self.sizes.append(size)
-        self.stamps.append(stamp)
-        self.keys.append(is_key)
 
 
 def parse_head(text):
@@ -80,24 +77,41 @@ def key_size(data):
     return (width, height) if width and height else None
 
 
+def tag_of(size, first):
+    """Whether a packet of this size with this first byte is a key packet, whether it is shown, and whether it is empty."""
+    if size < 3:
+        return SHOWN | NO_BYTES * (size == 0)
+    return KEY * (not first & 1) | SHOWN * bool(first & 16)
+
+
+# What `tag_of` says for each first byte of a packet of 3 bytes or more.
+TAGS = bytes(tag_of(3, first) for first in range(256))
+
+
 def read_index(descriptor):
     """The head of the file, and the index of its whole records. The bytes of a record that is cut off are left out."""
-    with io.open(os.dup(descriptor), "rb", buffering=1 << 18) as file:
-        file.seek(0)
-        length_of_file = os.fstat(descriptor).st_size
-        head, place = parse_head(file.read(HEAD.size))
-        index = Index()
-        if place > length_of_file:
-            raise NotIvf(f"its header gives itself {place} bytes, more than there are")
-        while place + RECORD.size <= length_of_file:
-            file.seek(place)
-            text = file.read(RECORD.size + 1)
-            size, stamp = RECORD.unpack(text[: RECORD.size])
-            place += RECORD.size
-            if place + size > length_of_file:
+    length_of_file = os.fstat(descriptor).st_size
+    head, place = parse_head(os.pread(descriptor, HEAD.size, 0))
+    if place > length_of_file:
+        raise NotIvf(f"its header gives itself {place} bytes, more than there are")
+    index, window, base = Index(), b"", place
+    starts, sizes, stamps, tags = index.starts.append, index.sizes.append, index.stamps.append, index.tags.append
+    head_size, unpack = RECORD.size, RECORD.unpack_from
+    while place + head_size <= length_of_file:
+        at = place - base
+        if at + head_size >= len(window):
+            window, base, at = os.pread(descriptor, WINDOW, place), place, 0
+            if len(window) < head_size:
                 break
-            index.add(place, size, stamp, size >= 3 and not text[RECORD.size] & 1)
-            place += size
+        size, stamp = unpack(window, at)
+        place += head_size
+        if place + size > length_of_file:
+            break
+        starts(place)
+        sizes(size)
+        stamps(stamp)
+        tags(TAGS[window[at + head_size]] if size >= 3 and at + head_size < len(window) else SHOWN if size else SHOWN | NO_BYTES)
+        place += size
     return head, index
 
 

@@ -49,6 +49,9 @@ class Viewer:
 class Live:
     """The stream. A call waits until the one before it is done."""
 
+    # Whether packets are saved as with --pad, and whether they were saved.
+    pad = written = False
+
     def __init__(self, options, edits=None, save=None):
         self.options = dict(options, timeout=MOST_TIME)
         self.lock = threading.RLock()
@@ -83,11 +86,11 @@ class Live:
     def close(self):
         """Ends the programs. The edits are in the list; the stream is saved if it was changed since the last time."""
         with self.lock:
-            self.closed = True
             try:
                 if self.save_path is not None and self.saved != self.revision:
                     self.save()
             finally:
+                self.closed = True
                 self.drop_viewers()
                 self.session.kill()
                 self.room.cleanup()
@@ -122,20 +125,39 @@ class Live:
 
     def run(self, line):
         """Makes an edit, `undo`, `redo` or `save`, and returns the reply, or the lines that were undone or made again."""
+        return self.make(lambda: self.run_one(line))
+
+    def run_step(self, lines):
+        """Makes edits as one step for `undo`, and returns the reply to the last one. If one is refused, none is made."""
+        def step():
+            reply = self.session.edits.run_step(lines, progress=lambda done: self.on_progress(done, len(lines)))
+            self.tell()
+            return reply
+
+        return self.make(step)
+
+    def on_progress(self, done, total):
+        """So many edits of a step were made."""
+
+    def run_one(self, line):
+        if line == "save":
+            return self.save()
+        if line in ("undo", "redo"):
+            lines = self.session.undo() if line == "undo" else self.session.redo()
+            if lines:
+                self.tell()
+            return lines
+        reply = self.session.request(line)
+        self.tell()
+        return reply
+
+    def make(self, edit):
+        """What a function returns that edits the session. If the program ends, it is started again, and the edit is not made."""
         with self.lock:
             if self.session.is_over:
                 self.again("before this edit")
             try:
-                if line == "save":
-                    return self.save()
-                if line in ("undo", "redo"):
-                    lines = self.session.undo() if line == "undo" else self.session.redo()
-                    if lines:
-                        self.tell()
-                    return lines
-                reply = self.session.request(line)
-                self.tell()
-                return reply
+                return edit()
             except Ended as ended:
                 self.again(ended)
                 raise Lost("vp8serve ended; the edit was not made") from None
@@ -148,8 +170,9 @@ class Live:
         """Writes the packets of source 0."""
         if self.save_path is None:
             raise ValueError("no file was named to save to")
-        self.session.save(self.save_path)
-        self.saved = self.revision
+        self.alive().save(self.save_path, self.pad)
+        self.saved, self.written = self.revision, True
+        self.changed.notify_all()
         return self.save_path
 
     def picture(self, number, revision=None):

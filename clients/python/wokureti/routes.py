@@ -34,14 +34,15 @@ class Routes:
             ("edits",): self.edits,
             ("events",): self.events,
         }
+        self.posts = {("edits",): self.change}
 
     def check(self, request):
         """Refuses a request before its body is read."""
         if not hmac.compare_digest(request.parts[0].encode(), self.token.encode()) or len(request.parts) < 2:
             raise Refuse(404, "there is nothing here")
         if request.method == "POST":
-            if tuple(request.parts[1:]) != ("edits",):
-                raise Refuse(405, "only edits take a POST")
+            if tuple(request.parts[1:]) not in self.posts:
+                raise Refuse(405, f"only {' and '.join(path for path, in self.posts)} take a POST")
             if request.headers.get("origin") != self.server.origin:
                 raise Refuse(403, f"a change needs the header Origin: {self.server.origin}")
             kind = request.headers.get("content-type", "").split(";")[0].strip().lower()
@@ -58,12 +59,8 @@ class Routes:
         parts = tuple(request.parts[1:])
         try:
             if request.method == "POST":
-                return self.change(request)
-            if parts in self.reads:
-                return self.reads[parts](request)
-            if len(parts) == 2 and parts[0] == "frames":
-                return self.frame(request, parts[1])
-            raise Refuse(404, "there is nothing here")
+                return self.posts[parts](request)
+            return self.read(request, parts)
         except Refused as refused:
             status = 404 if refused.word == "NoSuchFrame" else 409
             return as_json({"error": str(refused), "reply": refused.reply, "reason": refused.reason}, status)
@@ -71,6 +68,13 @@ class Routes:
             raise Refuse(503, str(lost)) from None
         except OSError as error:
             raise Refuse(500, str(error)) from None
+
+    def read(self, request, parts):
+        if parts in self.reads:
+            return self.reads[parts](request)
+        if len(parts) == 2 and parts[0] == "frames":
+            return self.frame(request, parts[1])
+        raise Refuse(404, "there is nothing here")
 
     def number(self, request, name, default):
         text = request.query.get(name)
@@ -145,12 +149,11 @@ class Routes:
             if condition is not None and ranges.is_etag_of(condition, etag):
                 return Response(304, None, length=0, headers=[("ETag", etag)])
             width, height, samples = self.live.picture(number)
-            rate = self.live.rate()
         headers = [("ETag", etag)]
         if kind == "i420":
             return Response(200, "application/octet-stream", bytes(samples), headers=headers)
         if kind == "y4m":
-            return Response(200, "video/x-yuv4mpeg", header_of((width, height), rate) + b"FRAME\n" + samples, headers=headers)
+            return Response(200, "video/x-yuv4mpeg", header_of((width, height), self.live.rate()) + b"FRAME\n" + samples, headers=headers)
         matrix, full = request.query.get("matrix", "601"), request.query.get("full", "0")
         if matrix not in ("601", "709") or full not in ("0", "1"):
             raise Refuse(400, "matrix is 601 or 709, full is 0 or 1")
@@ -210,19 +213,21 @@ class Routes:
 
     def beats(self):
         """The revisions, the current one first."""
-        told, restarts = None, len(self.live.events)
+        told, restarts, saved = None, len(self.live.events), self.live.saved
         while not self.server.ended:
             with self.live.lock:
-                if told == self.live.revision and restarts == len(self.live.events):
+                if (told, restarts, saved) == (self.live.revision, len(self.live.events), self.live.saved):
                     self.live.changed.wait(BEAT)
-                revision, count = self.live.revision, len(self.live.events)
+                revision, count, was_saved = self.live.revision, len(self.live.events), self.live.saved
             if revision != told:
                 yield b'event: edit\ndata: {"revision": %d}\n\n' % revision
             elif count != restarts:
                 yield b'event: restarted\ndata: {"revision": %d}\n\n' % revision
+            elif was_saved != saved:
+                yield b'event: saved\ndata: {"revision": %d}\n\n' % revision
             else:
                 yield b": %d\n\n" % int(time.time())
-            told, restarts = revision, count
+            told, restarts, saved = revision, count, was_saved
 
 
 def parse_change(body):

@@ -12,18 +12,26 @@ from .web import Server
 
 def serve(live, port=0, out=None):
     """Serves a stream until the process is interrupted."""
+    def announce(address):
+        print(f"{address}clip.y4m", file=out or sys.stdout, flush=True)
+
+    serve_with(live, port, Routes, announce)
+
+
+def serve_with(live, port, routes, announce):
+    """Serves a stream with these routes until the process is interrupted. `announce` is called with the address."""
     server = Server(port)
     token = secrets.token_urlsafe(18)
-    server.routes = Routes(live, server, token)
+    server.routes = routes(live, server, token)
 
     def end(number, frame):
         raise KeyboardInterrupt
 
     signal.signal(signal.SIGTERM, end)
     thread = threading.Thread(target=server.serve, daemon=True)
-    thread.start()
-    print(f"{server.origin}/{token}/clip.y4m", file=out or sys.stdout, flush=True)
     try:
+        thread.start()
+        announce(f"{server.origin}/{token}/")
         while thread.is_alive():
             thread.join(3600)
     except KeyboardInterrupt:

@@ -1,0 +1,120 @@
+#!/usr/bin/env python3
+"""Times the page of `wokureti open` in Debian's chromium: from opening to the first picture, from an edit to the new picture, and playback.
+
+    bench/page.py CLIP-OF-640x360 CLIP-OF-1920x1080
+
+virtual.sh calls it if chromium is there.
+"""
+
+import pathlib
+import statistics
+import sys
+import tempfile
+import time
+
+sys.path.insert(0, str(pathlib.Path(__file__).resolve().parent.parent / "compare"))
+
+from browser import Browser  # noqa: E402
+from page import Page, make_million  # noqa: E402
+
+TURNS = 20
+
+
+def opening(browser, path, count):
+    """From the start of the command to its address, and from there to the first picture and to the timeline."""
+    found = []
+    for _ in range(3):
+        start = time.monotonic()
+        page = Page(browser, path)
+        address = time.monotonic() - start
+        page.open()
+        picture = browser.run("return performance.getEntriesByName('first picture')[0].startTime") / 1000
+        browser.wait("wokureti.timeline.window.count && wokureti.timeline.wholeTile()", seconds=120)
+        drawn = browser.run("return performance.getEntriesByName('first timeline')[0].startTime") / 1000
+        browser.wait("wokureti.model.session.listed", seconds=300)
+        listed = time.monotonic() - start
+        found.append((address, picture, drawn, listed))
+        page.end()
+    best = [min(column) for column in zip(*found)]
+    print(f"{count:,} packets: the address after {best[0]:.2f} s, then the first picture after {best[1]:.2f} s, the timeline after {best[2]:.2f} s; all headers listed {best[3]:.1f} s after the start", flush=True)
+
+
+# From a key to the new picture on the canvas, for each of some packets and for undo.
+EDITS = """
+    const { picture } = wokureti.viewer;
+    const press = (key, ctrlKey = false) => {
+      const since = performance.now();
+      return new Promise((done) => {
+        const { paint } = picture;
+        picture.paint = function (...given) {
+          delete picture.paint;
+          paint.apply(this, given);
+          requestAnimationFrame(() => done(performance.now() - since));
+        };
+        document.getElementById("timeline").dispatchEvent(new KeyboardEvent("keydown", { key, ctrlKey, bubbles: true, cancelable: true }));
+      });
+    };
+    const times = [];
+    for (let turn = 0; turn < arguments_turns; turn++) {
+      const packet = 40 + 11 * turn;
+      await wokureti.model.goPacket(packet);
+      await new Promise((done) => setTimeout(done, 300));
+      times.push(await press("d"));
+      await new Promise((done) => setTimeout(done, 600));
+      times.push(await press("z", true));
+      await new Promise((done) => setTimeout(done, 600));
+    }
+    return times;"""
+
+
+def edits(browser, clip, name):
+    page = Page(browser, clip)
+    page.open()
+    browser.wait("wokureti.findings.check && wokureti.findings.check.over", seconds=60)
+    times = browser.run(EDITS.replace("arguments_turns", str(TURNS)))
+    dropped, undone = times[::2], times[1::2]
+    print(f"{name}: from the key that drops a packet to the new picture {statistics.median(dropped):.0f} ms (at most {max(dropped):.0f}), from undo {statistics.median(undone):.0f} ms (at most {max(undone):.0f})", flush=True)
+    page.end()
+
+
+def playback(browser, clip, name):
+    """Frames a second that are shown: at the stream's rate, and at 8 times of it, which is more than there can be."""
+    page = Page(browser, clip)
+    page.open()
+    shown = []
+    for speed in (1, 8, -1):
+        script = f"""
+            await wokureti.model.go({0 if speed > 0 else 299});
+            wokureti.player.isLoop = true;
+            await wokureti.player.play({speed});
+            await new Promise((done) => setTimeout(done, 2000));
+            wokureti.player.shown = wokureti.player.dropped = 0;
+            const since = performance.now();
+            await new Promise((done) => setTimeout(done, 5000));
+            const {{ shown, dropped }} = wokureti.player;
+            wokureti.player.stop();
+            return [shown / (performance.now() - since) * 1000, dropped];"""
+        rate, dropped = browser.run(script)
+        shown.append(f"{'backward, ' if speed < 0 else ''}{abs(speed)} times: {rate:.1f}, {dropped} dropped")
+    print(f"{name}, frames a second of 30: {'; '.join(shown)}", flush=True)
+    page.end()
+
+
+def main():
+    small, large = sys.argv[1:]
+    with tempfile.TemporaryDirectory() as name, Browser() as browser:
+        room = pathlib.Path(name)
+        print(f"chromium {browser.version}", flush=True)
+        for count in (100, 100_000, 1 << 20):
+            path = room / f"{count}.ivf"
+            make_million(path, count)
+            opening(browser, path, count)
+        for clip, size in ((small, "640x360"), (large, "1920x1080")):
+            link = room / f"{size}.ivf"
+            link.symlink_to(clip)
+            edits(browser, link, size)
+            playback(browser, link, size)
+
+
+if __name__ == "__main__":
+    main()

@@ -1,0 +1,820 @@
+"""wokureti open: the files of the page, and what the page asks for."""
+
+import http.client
+import json
+import os
+import pathlib
+import random
+import re
+import signal
+import socket
+import subprocess
+import tempfile
+import threading
+import time
+import unittest
+from array import array
+from unittest import mock
+
+from support import DATA, ODD, SLOW, SMALL, Case, command, packets_of, process_of, serve, start, write_packets
+from test_serve import TOKEN, ServerCase
+from wokureti import Refused, Script, Session, ivf, programs, views
+from wokureti.opened import Opened
+from wokureti.pages import KINDS, PageRoutes, files_of_page
+from wokureti.web import Server
+
+BROKEN = b"\x10\x00"
+# Three clips of one size, with key packets at 0, 4, 16 and 32.
+ROOM = tempfile.TemporaryDirectory()
+SCENES = write_packets(
+    pathlib.Path(ROOM.name) / "scenes.ivf",
+    [data for name in ("scene-cuts", "error-resilient", "independent-partitions") for data in packets_of(DATA / f"{name}.ivf")],
+)
+
+
+class PageCase(ServerCase):
+    """A server with a page, in this process."""
+
+    def serve(self, stream=SMALL, edits=None, save=None, **options):
+        self.live = Opened({"stream": stream, **options}, edits, save)
+        self.server = Server()
+        titles = [os.path.basename(str(path)) for path in (stream, *options.get("sources", ()))]
+        self.server.routes = PageRoutes(self.live, self.server, TOKEN, titles)
+        thread = threading.Thread(target=self.server.serve, daemon=True)
+        thread.start()
+
+        def end():
+            self.server.end()
+            thread.join(5)
+            self.live.close()
+
+        self.addCleanup(end)
+        self.await_list()
+
+    def await_list(self):
+        limit = time.monotonic() + 10 * SLOW
+        while not self.members("/session")["listed"]:
+            self.assertLess(time.monotonic(), limit)
+            time.sleep(0.02)
+
+    def post_to(self, path, **body):
+        headers = {"Origin": self.server.origin, "Content-Type": "application/json"}
+        return self.ask(path, "POST", headers, json.dumps(body))
+
+    def step(self, *lines):
+        status, _, body = self.post_to("/edits", lines=list(lines))
+        self.assertEqual(status, 200, body)
+        return json.loads(body)
+
+    def picture(self, path):
+        """The samples of a frame."""
+        status, _, body = self.ask(path)
+        self.assertEqual(status, 200, body)
+        return body.partition(b"\nFRAME\n")[2]
+
+    def checked(self):
+        """The findings of the current stream, once the check is over."""
+        limit = time.monotonic() + 20 * SLOW
+        while True:
+            found = self.members("/check")
+            if found["over"]:
+                self.assertIsNone(found["failed"])
+                return found
+            self.assertLess(time.monotonic(), limit)
+            time.sleep(0.02)
+
+    def broken(self, place=5, source=SCENES, data=BROKEN):
+        """A stream with one broken packet."""
+        packets = packets_of(source)
+        packets[place] = data
+        return write_packets(self.folder() / "broken.ivf", packets)
+
+
+def check_of(path):
+    """What vp8list --check says of a file."""
+    done = subprocess.run([programs.find("vp8list"), str(path), "--check", "--json"], capture_output=True, text=True, check=False, timeout=20 * SLOW)
+    return [json.loads(line) for line in done.stdout.splitlines()]
+
+
+class Files(PageCase):
+    def test_each_file_has_its_type_and_the_policy(self):
+        self.serve()
+        files = files_of_page()
+        self.assertTrue({"index.html", "main.js", "page.css", "icon.svg"} <= set(files))
+        for name, (kind, text) in files.items():
+            status, headers, body = self.ask(f"/page/{name}")
+            self.assertEqual((status, headers["Content-Type"], body), (200, kind, text), name)
+            self.assertEqual(kind, KINDS[os.path.splitext(name)[1]])
+            self.assertEqual(headers["Content-Security-Policy"], "default-src 'self'")
+            self.assertEqual(headers["X-Content-Type-Options"], "nosniff")
+        self.assertEqual(self.ask("/page/")[2], files["index.html"][1])
+        for path in ("/page", "/page/x.js", "/page/../edits", "/page/main.js/", "/page//main.js", "/page/__init__.py", "/page/.", "/page/%2e%2e/routes.py", "/main.js"):
+            self.assertEqual(self.ask(path)[0], 404, path)
+        self.assertEqual(self.ask("/page/main.js?x=1")[0], 400)
+
+    def test_nothing_is_inline_or_from_elsewhere(self):
+        names = files_of_page()
+        for name, (_, text) in names.items():
+            text = text.decode().replace("http://www.w3.org/2000/svg", "")
+            self.assertNotRegex(text, r"https?://|//[\w.-]+\.\w+/|@import|\beval\(|new Function", name)
+            if name.endswith(".html"):
+                # The policy would refuse these.
+                self.assertNotRegex(text, r"<style|\sstyle=|\son\w+=|<script(?! type=\"module\" src=)|javascript:")
+            for other in re.findall(r'(?:from|import) "\./([\w.]+)"', text):
+                self.assertIn(other, names, name)
+
+    def test_serve_has_no_page(self):
+        from wokureti.live import Live
+        from wokureti.routes import Routes
+
+        self.serve()
+        live = Live({"stream": SMALL})
+        self.addCleanup(live.close)
+        self.server.routes = Routes(live, self.server, TOKEN)
+        for path in ("/page/", "/page/main.js", "/session", "/timeline", "/check", "/stream.ivf", "/before/frames/0.y4m"):
+            self.assertEqual(self.ask(path)[0], 404, path)
+
+
+class Views(PageCase):
+    def kinds(self, source=0, **query):
+        text = "".join(f"&{name}={value}" for name, value in query.items())
+        return self.members(f"/timeline?source={source}{text}")
+
+    def assertTimeline(self):
+        """Each entry is what vp8list says of the packet."""
+        with self.live.lock:
+            facts = self.live.session.packets(source=0)
+        found = self.kinds()
+        letters = "".join(letter_of(fact) for fact in facts)
+        forged = [place for place, letter in enumerate(found["kinds"]) if letter == "f"]
+        self.assertEqual("".join("f" if place in forged else letter for place, letter in enumerate(letters)), found["kinds"])
+        self.assertEqual(found["bytes"], [fact["bytes"] for fact in facts])
+        frames, shown = [], 0
+        for fact in facts:
+            frames.append(shown)
+            shown += fact["show"] == "shown"
+        self.assertEqual((found["frames"], found["packets"]), (frames, len(facts)))
+        # Columns of several packets.
+        order = "ihkfdplr"
+        for per in (2, 3, 64):
+            columns = self.kinds(per=per)
+            parts = [found["kinds"][place : place + per] for place in range(0, len(facts), per)]
+            self.assertEqual(columns["kinds"], "".join(max(part, key=order.index) for part in parts))
+            self.assertEqual(columns["bytes"], [max(found["bytes"][place : place + per]) for place in range(0, len(facts), per)])
+            self.assertEqual(columns["frames"], frames[::per])
+            self.assertEqual(columns["edits"], sorted({place // per for place in found["edits"]}))
+        return found
+
+    def test_timeline(self):
+        for clip in (SMALL, ODD, SCENES, DATA / "hidden-altref.ivf"):
+            self.serve(clip)
+            found = self.assertTimeline()
+            self.assertEqual(found["edits"], [])
+        self.assertIn("h", found["kinds"])
+
+    def test_timeline_of_edits(self):
+        self.serve(SCENES)
+        count = self.members("/session")["packets"]
+        self.step("hold 3", "replace 5 -", "replace 7 1000", "delete 20", "move 30 25", "insert 2 9 1000")
+        found = self.assertTimeline()
+        # The inserted packet of two bytes is refused, and what follows is lost up to the next key packet.
+        self.assertEqual(found["kinds"][:6], "kirlll")
+        # What was inserted, held, replaced, moved, and what follows a packet that is gone.
+        self.assertEqual(found["edits"], [2, 4, 6, 8, 21, 26, 27, 32])
+        self.change("undo")
+        self.assertEqual(self.assertTimeline()["edits"], [])
+        self.assertEqual(self.members("/session")["packets"], count)
+
+    def test_random_edits(self):
+        choose = random.Random(57)
+        self.serve(SMALL, sources=[ODD])
+        for _ in range(25):
+            count = self.members("/session")["packets"]
+            at = choose.randrange(count + 1)
+            line = choose.choice([f"delete {at}", f"hold {at}", f"replace {at} -", f"replace {at} 1000", f"copy 1 {choose.randrange(12)} {at}", f"move {at} {choose.randrange(count)}", f"blank {at} 16 16", "undo", "redo"])
+            self.assertIn(self.post(line)[0], (200, 409))
+            self.assertTimeline()
+
+    def test_damage_is_in_the_timeline_once_it_is_known(self):
+        packets = packets_of(SCENES)
+        place = next(number for number, data in enumerate(packets) if number > 3 and not ivf.is_key(data) and len(data) > 60)
+        packets[place] = packets[place][: len(packets[place]) // 2]
+        self.serve(write_packets(self.folder() / "a.ivf", packets))
+        found = self.checked()
+        inside = [finding["packet"] for finding in found["findings"] if finding["kind"] == "past_end"]
+        self.assertTrue(inside)
+        kinds = self.kinds()["kinds"]
+        self.assertEqual([number for number, kind in enumerate(kinds) if kind == "p"], sorted(set(inside)))
+
+    def test_session(self):
+        room = self.folder()
+        self.serve(SMALL, edits=room / "list", save=room / "out.ivf", sources=[ODD])
+        found = self.members("/session")
+        self.assertEqual([found[name] for name in ("revision", "packets", "frames", "sources", "source", "script", "edits", "undone", "saved", "listed")], [1, 12, 12, [12, 12], 0, "-", [], [], True, True])
+        self.assertEqual((found["names"], found["save"], found["list"]), (["small.ivf", "odd-size.ivf"], str(room / "out.ivf"), str(room / "list")))
+        self.step("delete 3", "delete 3")
+        self.change("delete 0")
+        self.change(f"replace 0 {'00' * 1000}")
+        self.change("undo")
+        self.change("script trim 0 0 4")
+        found = self.members("/session")
+        self.assertEqual((found["packets"], found["frames"], found["script"], found["saved"]), (9, 4, "trim 0 0 4", False))
+        self.assertEqual(found["edits"], ["delete 3", "delete 3", "delete 0", "script trim 0 0 4"])
+        first, *rest = found["steps"]
+        self.assertEqual([step == first for step in rest], [True, False, False])
+
+    def test_origins_and_places(self):
+        self.serve(SCENES, sources=[SMALL])
+        for lines in ([], ["delete 4", "hold 9", "replace 12 -"], ["script trim 0 5 9; splice 1 0"]):
+            if lines:
+                self.step(*lines)
+            session = self.members("/session")
+            found = self.members("/origins?count=4000")
+            self.assertEqual(len(found["packets"]), session["frames"])
+            with self.live.lock:
+                numbers = {(0, fact["packet"]): fact["frame"] for fact in self.live.session.packets(source=0)}
+            with self.session(SCENES) as other:
+                for line in lines[:0] if lines and lines[0].startswith("script") else lines:
+                    other.request(line)
+                if session["script"] != "-":
+                    for line in ("delete 4", "hold 9", "replace 12 -"):
+                        other.request(line)
+                for frame, origin in enumerate(zip(found["sources"], found["packets"])):
+                    if frame % 7 == 0:
+                        self.assertEqual(self.picture(f"/frames/{frame}.y4m"), other.frame(numbers[origin]).i420(), (lines, frame))
+            for frame in range(0, session["frames"], 5):
+                place = self.members(f"/place?packet={found['packets'][frame]}")
+                self.assertEqual(found["packets"][place["frame"]], found["packets"][frame])
+                self.assertLessEqual(place["frame"], frame)
+        self.assertEqual(self.members("/origins?from=100000&count=5")["packets"], [])
+        self.assertIsNone(self.members("/place?packet=3&source=1")["frame"])
+
+    def test_the_frames_before_the_edits(self):
+        self.serve(SCENES)
+        with self.session(SCENES) as other:
+            wanted = [frame.i420() for frame in other.frames(range(40))]
+        self.step("delete 4", "hold 10", "delete 11", "insert 20 0 -", "insert 20 0 -")
+        before = self.members("/origins?count=40")["before"]
+        self.assertEqual(before[:26], [0, 1, 2, 3, *range(5, 21), 20, 20, 21, 22, 23, 24])
+        for frame in (0, 10, 20, 39):
+            self.assertEqual(self.picture(f"/before/frames/{frame}.y4m"), wanted[frame])
+        self.assertEqual(self.ask("/before/frames/100000.y4m")[0], 404)
+        self.assertEqual(self.ask("/before/frames/0.png")[0], 404)
+        self.assertEqual(self.ask("/before/frames/0.y4m?source=1")[0], 404)
+
+    def test_the_next_frame_that_differs(self):
+        self.serve(SCENES)
+        self.assertEqual(self.next_other(0), None)
+        packets = packets_of(SCENES)
+        keys = [place for place, data in enumerate(packets) if ivf.is_key(data)]
+        self.assertGreater(len(keys), 1)
+        self.step(f"hold {keys[1] + 1}", f"delete {keys[1]}")
+        self.assertEqual(self.next_other(0), keys[1])
+        self.assertEqual(self.next_other(keys[1]), keys[1])
+        end = keys[2] if len(keys) > 2 else len(packets)
+        self.assertEqual(self.next_other(end), None)
+        self.assertEqual(self.next_other(len(packets) - 1, -1), end - 1)
+
+    def next_other(self, frame, step=1):
+        while True:
+            found = self.members(f"/differs?from={frame}&step={step}")
+            if found["next"] is None:
+                return found["frame"]
+            frame = found["next"]
+
+    def test_the_edited_stream(self):
+        room = self.folder()
+        self.serve(SCENES, save=room / "out.ivf")
+        self.step("delete 4", "hold 9", "replace 12 -", "move 20 3")
+        status, headers, body = self.ask("/stream.ivf")
+        self.assertEqual((status, headers["Content-Disposition"]), (200, 'attachment; filename="scenes-edited.ivf"'))
+        self.change("save")
+        self.assertEqual(body, (room / "out.ivf").read_bytes())
+        replies = serve(SCENES, ["delete 4", "hold 9", "replace 12 -", "move 20 3"], "--save", room / "other.ivf")
+        self.assertTrue(all(reply.startswith("ok") for reply in replies))
+        self.assertEqual(body, (room / "other.ivf").read_bytes())
+
+
+def letter_of(fact):
+    """The kind of a packet, from what vp8list says of it."""
+    if fact["cause"] == "lost":
+        return "l"
+    if fact["cause"] is not None:
+        return "r"
+    if fact["bytes"] == 0:
+        return "d"
+    if fact["show"] == "hidden":
+        return "h"
+    return "k" if fact["kind"] == "key" else "i"
+
+
+class Timelines(Case):
+    def test_a_timeline_that_takes_over_another_is_the_same(self):
+        choose = random.Random(58)
+        pool, count = mock.Mock(), 60
+        for _ in range(300):
+            pool.kinds = bytearray(choose.choice(b"\0\0\0\1\2\3\4\7") for _ in range(count))
+            pool.sizes = array("I", (choose.randrange(100) for _ in range(count)))
+            pool.keys, pool.shown = bytearray(choose.randrange(2) for _ in range(count)), bytearray(choose.randrange(4) > 0 for _ in range(count))
+            own = range(5, 30)
+            old = views.Timeline(pool, array("I", own), own)
+            for _ in range(6):
+                stream = array("I", old.stream)
+                for _ in range(choose.choice([1, 1, 1, 3])):
+                    at = choose.randrange(len(stream))
+                    choose.choice([lambda: stream.pop(at), lambda: stream.insert(at, choose.randrange(count)), lambda: stream.insert(at, stream.pop()), lambda: stream.insert(len(stream), stream.pop(at))])()
+                found, wanted = views.Timeline(pool, stream, own, old), views.Timeline(pool, stream, own)
+                for name in ("kinds", "sizes", "keys", "frames", "edited"):
+                    self.assertEqual(getattr(found, name), getattr(wanted, name), name)
+                old = found
+
+    def test_marks_of_edits(self):
+        own = range(0, 10)
+        for stream, marked in (
+            ([0, 1, 2, 3, 4, 5, 6, 7, 8, 9], []),
+            ([0, 1, 2, 3, 4], []),
+            ([0, 1, 3, 4, 5, 6, 7, 8, 9], [2]),
+            ([1, 2, 3, 4, 5, 6, 7, 8, 9], [0]),
+            ([0, 1, 20, 2, 3, 4, 5, 6, 7, 8, 9], [2]),
+            ([0, 1, 20, 3, 4, 5, 6, 7, 8, 9], [2]),
+            ([0, 1, 20, 21, 4, 5, 6, 7, 8, 9], [2, 3]),
+            ([0, 1, 20, 21, 5, 6, 7, 8, 9], [2, 3, 4]),
+            ([0, 2, 1, 3, 4, 5, 6, 7, 8, 9], [1, 2, 3]),
+        ):
+            found = views.edited(array("I", stream), own, 0, len(stream), None)
+            self.assertEqual([place for place, mark in enumerate(found) if mark], marked, stream)
+
+
+class Steps(PageCase):
+    def test_a_step(self):
+        room = self.folder()
+        self.serve(edits=room / "list")
+        self.assertEqual(self.step("delete 3", "delete 3", "hold 4"), {"reply": "ok 11", "revision": 2})
+        self.assertEqual((room / "list").read_text(), "delete 3\ndelete 3\nhold 4\n")
+        self.assertEqual(self.change("undo")["reply"], ["delete 3", "delete 3", "hold 4"])
+        self.assertEqual(((room / "list").read_text(), self.members("/session")["packets"]), ("", 12))
+        self.change("redo")
+        self.assertEqual(self.members("/session")["packets"], 11)
+
+    def test_a_step_that_is_refused_changes_nothing(self):
+        room = self.folder()
+        (room / "list").write_text("# a comment\ndelete 1\n# another one\n")
+        self.serve(edits=room / "list")
+        self.change("delete 2")
+        self.change("undo")
+        before = (self.members("/session"), (room / "list").read_text(), self.picture("/frames/5.y4m"))
+        for lines in (["delete 3", "hold 4", "delete 99"], ["use 1", "delete 0"], ["script trim 0 0 2", "script trim 9 9 9"], ["nonsense", "delete 0"], ["delete 3", "replace 0 zz"]):
+            status, _, body = self.post_to("/edits", lines=lines)
+            self.assertIn(status, (400, 409), body)
+            self.assertEqual((self.members("/session"), (room / "list").read_text(), self.picture("/frames/5.y4m")), before, lines)
+        # What was undone can still be made again, and the comments are there.
+        self.assertEqual(self.change("redo")["reply"], ["delete 2"])
+        self.assertTrue((room / "list").read_text().startswith("# a comment\ndelete 1\n"))
+        self.change("delete 0")
+        self.assertIn("# another one\n", (room / "list").read_text())
+
+    def test_a_step_while_the_program_dies(self):
+        self.serve(edits=self.folder() / "list")
+        self.step("delete 3", "delete 3")
+        self.change("undo")
+        os.kill(process_of(self.live.session), signal.SIGKILL)
+        with mock.patch("sys.stderr"):
+            status, _, _ = self.post_to("/edits", lines=["delete 0", "delete 0"])
+            self.assertIn(status, (200, 503))
+        found = self.members("/session")
+        self.assertEqual((found["packets"], found["edits"]), (10, ["delete 0"] * 2) if status == 200 else (12, []))
+        self.assertEqual(found["restarts"], 1)
+        if status == 503:
+            self.assertEqual(found["undone"], ["delete 3", "delete 3"])
+
+    def test_bodies(self):
+        self.serve()
+        for body in ({"lines": []}, {"lines": "delete 0"}, {"lines": [1]}, {"lines": ["undo"]}, {"lines": ["frame 0"]}, {"lines": ["delete 0\ndelete 0"]}, {"lines": ["delete 0"], "line": "delete 0"}, {"lines": ["delete 0"], "x": 1}, {"lines": ["delete 0"] * 20001}, {"lines": ["delete 0"], "revision": True}, {"lines": ["delete 0"], "revision": -1}, {}):
+            self.assertEqual(self.post_to("/edits", **body)[0], 400, str(body)[:60])
+        self.assertEqual(self.post_to("/edits", lines=["delete 0"], revision=9)[0], 412)
+        self.assertEqual(self.members("/session")["revision"], 1)
+
+    def test_refusals_as_answers(self):
+        self.serve(SCENES)
+        self.step("replace 5 1000")
+        for path, status in (("/frames/5.y4m", 409), ("/frames/99.y4m", 404), ("/before/frames/99.y4m", 404), ("/place?source=9", 404)):
+            plain = self.ask(path)
+            self.assertEqual((plain[0], plain[1]["X-Refused"]), (status, None), path)
+            found = self.ask(f"{path}{'&' if '?' in path else '?'}refusals=answers")
+            self.assertEqual((found[0], found[1]["X-Refused"], found[2]), (200, str(status), plain[2]), path)
+        for lines, status in ((["delete 99"], 409), (["delete 0"], 412)):
+            found = self.post_to("/edits?refusals=answers", lines=lines, revision=2 if status == 409 else 1)
+            self.assertEqual((found[0], found[1]["X-Refused"]), (200, str(status)))
+        self.assertEqual(self.post_to("/edits?refusals=answers", lines=[])[0], 400)
+        self.assertIsNone(self.ask("/frames/0.y4m?refusals=answers")[1]["X-Refused"])
+        self.assertEqual(self.members("/session")["revision"], 2)
+
+    def test_a_change_needs_the_origin(self):
+        self.serve()
+        for path in ("/edits", "/preview"):
+            for headers, status in (({}, 403), ({"Origin": "http://evil.example"}, 403), ({"Origin": self.server.origin, "Content-Type": "text/plain"}, 415)):
+                self.assertEqual(self.ask(path, "POST", {"Content-Type": "application/json", **headers}, '{"lines": ["delete 0"]}')[0], status)
+        for path in ("/session", "/timeline", "/check", "/stream.ivf", "/page/"):
+            self.assertEqual(self.post_to(path, lines=["delete 0"])[0], 405, path)
+        self.assertEqual(self.members("/session")["revision"], 1)
+
+    def test_progress_does_not_wait(self):
+        self.serve(SCENES)
+        with self.live.lock:
+            found = []
+            thread = threading.Thread(target=lambda: found.append((self.members("/progress"), self.members("/session"), self.members("/timeline"), self.members("/origins"))))
+            thread.start()
+            thread.join(10 * SLOW)
+            self.assertFalse(thread.is_alive())
+        self.assertEqual(found[0][0], {"revision": 1, "doing": None, "restarts": 0})
+
+    def test_numbers(self):
+        self.serve()
+        for path in ("/timeline?per=0", "/timeline?count=0", "/timeline?count=5000", f"/timeline?per={1 << 21}", "/timeline?first=x", "/timeline?x=1", "/origins?from=-1", "/place?packet=x", "/check?from=x", "/differs?from=x", "/session?x=1", "/progress?x=1", "/repairs?packet=x", "/stream.ivf?x=1", "/repair_all?x=1"):
+            self.assertEqual(self.ask(path)[0], 400, path)
+        self.assertEqual(self.members(f"/timeline?first={10**17}")["kinds"], "")
+        for path in ("/timeline?source=1", "/place?source=1", "/before/frames/x.y4m", "/before/frames/-1.y4m", f"/before/frames/{'9' * 40}.y4m", "/before/frames", "/before/frames/0.y4m/x"):
+            self.assertEqual(self.ask(path)[0], 404, path)
+
+
+class Checks(PageCase):
+    def test_findings_are_those_of_the_current_stream(self):
+        path = self.broken()
+        room = self.folder()
+        self.serve(path, save=room / "out.ivf")
+        wanted = check_of(path)
+        found = self.checked()
+        self.assertEqual(found["findings"], wanted)
+        self.assertEqual((found["damage"], found["notes"]), (sum(one["severity"] == "damage" for one in wanted), sum(one["severity"] == "note" for one in wanted)))
+        self.assertGreater(found["damage"], 0)
+        self.assertEqual(self.members("/check?from=1")["findings"], wanted[1:])
+        self.change("replace 5 -")
+        self.change("save")
+        other = self.checked()
+        self.assertEqual(other["findings"], check_of(room / "out.ivf"))
+        self.assertNotEqual(other["check"], found["check"])
+        # A script changes no packet, so nothing is checked again.
+        self.change("script trim 0 0 2")
+        self.assertEqual(self.checked()["check"], other["check"])
+        self.change("undo")
+        # Nor after undo: these packets were checked already.
+        self.change("undo")
+        self.assertEqual((self.checked()["findings"], self.checked()["check"]), (wanted, found["check"]))
+
+    def test_a_file_that_is_cut_off(self):
+        path = self.folder() / "cut.ivf"
+        path.write_bytes(SCENES.read_bytes()[:-7])
+        self.serve(path)
+        self.assertEqual(self.checked()["findings"], check_of(path))
+        self.assertIn("cut_record", [finding["kind"] for finding in self.checked()["findings"]])
+        self.step("delete 0")
+        self.assertNotIn("cut_record", [finding["kind"] for finding in self.checked()["findings"]])
+
+    def test_an_empty_stream(self):
+        self.serve("-")
+        found = self.members("/session")
+        self.assertEqual((found["packets"], found["frames"]), (0, 0))
+        self.assertEqual(self.members("/timeline")["kinds"], "")
+        self.assertEqual(self.checked()["damage"], 0)
+        self.step("blank 0 16 16", "hold 1")
+        self.assertEqual(self.members("/timeline")["kinds"], "ff")
+        self.assertEqual(self.members("/origins")["before"], [None, None])
+        self.assertEqual(self.members("/differs")["frame"], 0)
+
+    def test_a_check_that_is_stopped_by_edits(self):
+        self.serve(SCENES)
+        for _ in range(10):
+            self.members("/check")
+            self.step("delete 1")
+        self.change("undo")
+        self.assertTrue(self.checked()["over"])
+
+    def repairs(self, kind):
+        finding = next(finding for finding in self.checked()["findings"] if finding["kind"] == kind)
+        numbers = "".join(f"&{name}={finding[name]}" for name in ("packet", "before", "stamp") if isinstance(finding.get(name), int))
+        return self.members(f"/repairs?kind={kind}{numbers}")["repairs"]
+
+    def test_repairs_of_a_refused_packet(self):
+        path = self.broken()
+        self.serve(path, sources=[SCENES])
+        repairs = self.repairs("refused")
+        self.assertEqual([repair["name"] for repair in repairs], ["second", "hold", "hold_all", "drop", "keep"])
+        texts = {}
+        for repair in repairs:
+            if repair["lines"]:
+                self.step(*repair["lines"])
+                texts[repair["name"]] = self.ask("/stream.ivf")[2]
+                findings = self.checked()["findings"]
+                self.assertNotIn("refused", [finding["kind"] for finding in findings], repair)
+                if repair["name"] in ("second", "hold_all"):
+                    self.assertEqual([finding for finding in findings if finding["severity"] == "damage"], [], repair)
+                # The time stamps stay.
+                self.assertEqual([finding for finding in findings if finding["kind"].startswith("stamp")], [], repair)
+                self.change("undo")
+        room = self.folder()
+        (room / "second.ivf").write_bytes(texts["second"])
+        self.assertEqual(packets_of(room / "second.ivf"), packets_of(SCENES))
+        # Each held picture is the one before.
+        (room / "held.ivf").write_bytes(texts["hold_all"])
+        end = next(place for place, data in enumerate(packets_of(SCENES)) if place > 5 and ivf.is_key(data))
+        with self.session(room / "held.ivf") as held, self.session(SCENES) as whole:
+            for frame in range(5, end):
+                self.assertEqual(held.frame(frame).i420(), whole.frame(4).i420())
+            self.assertEqual(held.frame(end).i420(), whole.frame(end).i420())
+
+    def test_repairs_of_a_broken_key_packet(self):
+        packets = packets_of(SCENES)
+        key = next(place for place, data in enumerate(packets) if place and ivf.is_key(data))
+        self.serve(self.broken(key, data=packets[key][:3] + b"\0\0\0" + packets[key][6:]))
+        for repair in self.repairs("refused"):
+            if repair["lines"]:
+                self.step(*repair["lines"])
+                self.assertNotIn("refused", [finding["kind"] for finding in self.checked()["findings"]], repair)
+                self.change("undo")
+
+    def test_repairs_of_the_first_packet(self):
+        self.serve(self.broken(0))
+        repairs = self.repairs("refused")
+        self.assertEqual([repair["name"] for repair in repairs], ["remove", "keep"])
+        self.step(*repairs[0]["lines"])
+        self.assertEqual([finding["kind"] for finding in self.checked()["findings"] if finding["severity"] == "damage"], [])
+
+    def test_repairs_of_a_hole(self):
+        _, packets = ivf.read_packets(SCENES)
+        path = self.folder() / "a.ivf"
+        with open(path, "wb") as file:
+            file.writelines(ivf.pieces(ivf.Head(16, 16, 30, 1), len(packets) - 3, packets[:7] + packets[10:]))
+        self.serve(path, sources=[SCENES])
+        repairs = self.repairs("stamp_skips")
+        self.assertEqual([repair["name"] for repair in repairs], ["second", "drop", "keep"])
+        self.assertEqual(len(repairs[1]["lines"]), 3)
+        self.step(*repairs[0]["lines"])
+        room = self.folder()
+        (room / "out.ivf").write_bytes(self.ask("/stream.ivf")[2])
+        self.assertEqual(ivf.read_packets(room / "out.ivf")[1], packets)
+
+    def test_repairs_of_a_double_and_of_an_order(self):
+        _, packets = ivf.read_packets(SCENES)
+        for others in (packets[:6] + packets[5:], packets[:5] + [packets[6], packets[5]] + packets[7:]):
+            path = self.folder() / "a.ivf"
+            with open(path, "wb") as file:
+                file.writelines(ivf.pieces(ivf.Head(16, 16, 30, 1), len(others), others))
+            self.serve(path)
+            repairs = self.repairs("stamp_repeats" if len(others) > len(packets) else "stamp_skips")
+            self.step(*repairs[0]["lines"])
+            room = self.folder()
+            (room / "out.ivf").write_bytes(self.ask("/stream.ivf")[2])
+            self.assertEqual(ivf.read_packets(room / "out.ivf")[1], packets)
+
+    def test_repairs_of_a_file_that_is_cut_off(self):
+        path = self.folder() / "cut.ivf"
+        path.write_bytes(SCENES.read_bytes()[:-2000])
+        self.serve(path, sources=[SCENES])
+        repairs = self.repairs("cut_record")
+        self.assertEqual([repair["name"] for repair in repairs], ["second", "keep"])
+        self.step(*repairs[0]["lines"])
+        room = self.folder()
+        (room / "out.ivf").write_bytes(self.ask("/stream.ivf")[2])
+        self.assertEqual(packets_of(room / "out.ivf"), packets_of(SCENES))
+
+    def test_all_repairs_are_those_of_the_command(self):
+        path = self.broken(20)
+        packets = packets_of(path)
+        packets[6], packets[40] = BROKEN, packets[40][:4]
+        write_packets(path, packets)
+        for second in ((), (SCENES,), (ODD,)):
+            self.serve(path, sources=second)
+            found = self.members("/repair_all")
+            self.assertTrue(found["lines"])
+            before = self.ask("/stream.ivf")[2]
+            self.step(*found["lines"])
+            room = self.folder()
+            words = ["--second", second[0]] if second == (SCENES,) else []
+            status, out, errors = command("repair", path, room / "out.ivf", "--no-scan", *words)
+            self.assertEqual((status, errors), (1, ""))
+            (room / "mine.ivf").write_bytes(self.ask("/stream.ivf")[2])
+            self.assertEqual(packets_of(room / "mine.ivf"), packets_of(room / "out.ivf"))
+            self.assertEqual(out.decode().splitlines()[: len(found["said"])], found["said"])
+            self.change("undo")
+            self.assertEqual(self.ask("/stream.ivf")[2], before)
+        self.serve("-")
+        self.assertEqual(self.ask("/repair_all")[0], 409)
+
+    def test_repairs_of_what_is_not_there(self):
+        self.serve(self.broken())
+        self.assertEqual(self.ask("/repairs?kind=refused&packet=999")[0], 404)
+        for query in ("kind=refused&packet=x", "kind=stamp_skips&packet=5", "x=1"):
+            self.assertEqual(self.ask(f"/repairs?{query}")[0], 400, query)
+        for query in ("kind=nonsense&packet=5", "kind=no_rate", "kind=refused"):
+            self.assertEqual([repair["name"] for repair in self.members(f"/repairs?{query}")["repairs"]], ["keep"])
+
+class Previews(PageCase):
+    def preview(self, **body):
+        return self.post_to("/preview", **body)
+
+    def test_a_preview_changes_nothing(self):
+        room = self.folder()
+        self.serve(SCENES, edits=room / "list")
+        self.step("delete 3")
+        before = (self.members("/session"), (room / "list").read_text(), self.picture("/frames/8.y4m"))
+        for lines in (["hold 6", "delete 7"], ["replace 6 -"], [], ["delete 0"], ["hold 6", "delete 7"]):
+            with self.session(SCENES) as other:
+                for line in ("delete 3", *lines):
+                    other.request(line)
+                try:
+                    wanted = other.frame(8).i420()
+                except Refused as refused:
+                    wanted = refused.reply
+            status, _, body = self.preview(lines=lines, frame=8)
+            if isinstance(wanted, str):
+                self.assertEqual((status, json.loads(body)["reply"]), (409, wanted))
+            else:
+                self.assertEqual((status, body.partition(b"\nFRAME\n")[2] == wanted), (200, True), lines)
+            self.assertEqual((self.members("/session"), (room / "list").read_text(), self.picture("/frames/8.y4m")), before)
+        # It follows the edits that are made, and those that are undone.
+        self.change("undo")
+        with self.session(SCENES) as other:
+            other.hold(6)
+            wanted = other.frame(9).i420()
+        self.assertEqual(self.preview(lines=["hold 6"], frame=9)[2].partition(b"\nFRAME\n")[2], wanted)
+        self.assertEqual(self.preview(lines=["delete 99999"], frame=0)[0], 409)
+        self.assertEqual(self.preview(lines=["hold 6"], frame=99999)[0], 404)
+        self.assertEqual(self.preview(lines=["hold 6"], frame=9)[2].partition(b"\nFRAME\n")[2], wanted)
+
+    def test_findings_of_a_preview(self):
+        self.serve(self.broken(), sources=[SCENES])
+        for lines, kinds in ((["copy 1 5 5", "delete 6"], set()), ([], {"refused"})):
+            status, _, body = self.preview(lines=lines, findings=5)
+            self.assertEqual(status, 200, body)
+            damage = [finding for finding in json.loads(body)["findings"] if finding["severity"] == "damage"]
+            self.assertEqual({finding["kind"] for finding in damage}, kinds)
+            self.assertTrue(all(finding["packet"] == 5 for finding in damage))
+
+    def test_bodies(self):
+        self.serve()
+        for body in ({}, {"lines": []}, {"lines": ["delete 0"]}, {"frame": 0, "lines": ["undo"]}, {"frame": -1, "lines": []}, {"frame": "0", "lines": []}, {"frame": True, "lines": []}, {"frame": 0, "lines": [], "x": 1}):
+            self.assertEqual(self.preview(**body)[0], 400, body)
+        self.assertEqual(self.preview(lines=[], frame=0, revision=7)[0], 412)
+
+
+class Killed(PageCase):
+    def test_the_page_goes_on(self):
+        self.serve(SCENES, edits=self.folder() / "list")
+        self.step("delete 3", "replace 5 1000")
+        before = {path: self.members(path) for path in ("/timeline", "/origins", "/place?packet=4")}
+        kinds = self.members("/session")
+        with mock.patch("sys.stderr"):
+            os.kill(process_of(self.live.session), signal.SIGKILL)
+            self.assertEqual(self.ask("/frames/2.y4m")[0], 200)
+        self.await_list()
+        found = self.members("/session")
+        self.assertEqual({**kinds, "restarts": 1}, found)
+        for path, members in before.items():
+            self.assertEqual(self.members(path), members)
+        self.change("undo")
+        self.assertEqual(self.members("/session")["edits"], [])
+
+    def test_the_programs_of_previews_and_of_the_frames_before(self):
+        self.serve(SCENES)
+        body = {"lines": ["hold 3"], "frame": 5}
+        wanted = (self.post_to("/preview", **body)[2], self.picture("/before/frames/5.y4m"))
+        with mock.patch("sys.stderr"):
+            for live in (self.live.preview.live, self.live.originals[0]):
+                os.kill(process_of(live.session), signal.SIGKILL)
+            self.assertEqual((self.post_to("/preview", **body)[2], self.picture("/before/frames/5.y4m")), wanted)
+
+    def test_events_say_that_it_was_saved(self):
+        self.serve(save=self.folder() / "out.ivf")
+        with socket.create_connection(("127.0.0.1", self.server.port), timeout=5 * SLOW) as sock:
+            sock.sendall(self.head(f"GET /{TOKEN}/events HTTP/1.1"))
+            file = sock.makefile("rb")
+            while file.readline().strip():
+                pass
+            self.assertEqual([file.readline() for _ in range(3)], [b"event: edit\n", b'data: {"revision": 1}\n', b"\n"])
+            self.change("delete 3")
+            self.assertEqual([file.readline() for _ in range(3)], [b"event: edit\n", b'data: {"revision": 2}\n', b"\n"])
+            self.change("save")
+            self.assertEqual([file.readline() for _ in range(3)], [b"event: saved\n", b'data: {"revision": 2}\n', b"\n"])
+            file.close()
+
+
+class TheCommand(Case):
+    LIMIT = 40
+
+    def open(self, *words):
+        process = start("open", *words, "--no-browser", stdout=subprocess.PIPE, stderr=subprocess.PIPE)
+        self.addCleanup(process.kill)
+        url = process.stdout.readline().decode().strip()
+        found = re.fullmatch(r"http://(127\.0\.0\.1:\d+)/([\w-]{20,})/page/", url)
+        self.assertTrue(found, url)
+        return process, *found.groups()
+
+    def ask(self, host, path, line=None):
+        one = http.client.HTTPConnection(host, timeout=10 * SLOW)
+        headers = {"Origin": f"http://{host}", "Content-Type": "application/json"} if line else {}
+        one.request("POST" if line else "GET", path, json.dumps({"line": line}) if line else None, headers)
+        response = one.getresponse()
+        body = response.read()
+        one.close()
+        return response.status, body
+
+    def end(self, process, ending=signal.SIGINT):
+        process.send_signal(ending)
+        self.assertEqual(process.wait(10 * SLOW), 0)
+        out, errors = process.stdout.read(), process.stderr.read().decode()
+        process.stdout.close()
+        process.stderr.close()
+        self.assertEqual(out, b"")
+        return errors
+
+    def test_it_says_where_the_edits_are(self):
+        room = self.folder()
+        clip = write_packets(room / "a clip.ivf", packets_of(SMALL))
+        process, host, token = self.open(clip)
+        self.assertEqual(self.ask(host, f"/{token}/page/")[0], 200)
+        errors = self.end(process)
+        self.assertNotIn("edits are", errors)
+        # Nothing was edited, so nothing is left.
+        self.assertEqual(sorted(path.name for path in room.iterdir()), ["a clip.ivf"])
+        for turn, ending in enumerate((signal.SIGINT, signal.SIGTERM)):
+            process, host, token = self.open(clip)
+            self.assertEqual(json.loads(self.ask(host, f"/{token}/session")[1])["packets"], 12 - turn)
+            self.assertEqual(self.ask(host, f"/{token}/edits", "delete 3")[0], 200)
+            errors = self.end(process, ending)
+            self.assertIn(str(room / "a clip.edits"), errors)
+        self.assertEqual((room / "a clip.edits").read_text(), "delete 3\ndelete 3\n")
+        self.assertEqual(sorted(path.name for path in room.iterdir()), ["a clip.edits", "a clip.ivf"])
+
+    def test_it_saves_to_a_new_file(self):
+        room = self.folder()
+        clip = write_packets(room / "clip.ivf", packets_of(SMALL))
+        (room / "clip-edited.ivf").write_text("another file")
+        process, host, token = self.open(clip)
+        self.ask(host, f"/{token}/edits", "delete 3")
+        status, body = self.ask(host, f"/{token}/edits", "save")
+        self.assertEqual((status, json.loads(body)["reply"]), (200, str(room / "clip-edited-2.ivf")))
+        self.assertIn("clip-edited-2.ivf", self.end(process))
+        self.assertEqual((room / "clip-edited.ivf").read_text(), "another file")
+        self.assertEqual(packets_of(room / "clip-edited-2.ivf"), packets_of(SMALL)[:3] + packets_of(SMALL)[4:])
+
+    def test_it_saves_at_the_end_if_it_was_asked_to(self):
+        room = self.folder()
+        clip = write_packets(room / "clip.ivf", packets_of(SMALL))
+        process, host, token = self.open(clip, "--edits", room / "list", "--save", room / "out.ivf")
+        self.ask(host, f"/{token}/edits", "hold 3")
+        self.end(process)
+        # The packet that holds the picture is saved so that libvpx shows it.
+        with Session(clip) as other:
+            other.hold(3)
+            other.save(room / "plain.ivf")
+            other.save(room / "padded.ivf", pad=True)
+        self.assertEqual((room / "out.ivf").read_bytes(), (room / "padded.ivf").read_bytes())
+        process, host, token = self.open(clip, "--edits", room / "list", "--save", room / "out.ivf", "--no-pad")
+        self.ask(host, f"/{token}/edits", "save")
+        self.end(process)
+        self.assertEqual((room / "out.ivf").read_bytes(), (room / "plain.ivf").read_bytes())
+
+    def test_it_does_not_start(self):
+        room = self.folder()
+        status, out, errors = command("open", room / "nowhere.ivf", "--no-browser")
+        self.assertEqual((status, out, "cannot read" in errors), (2, b"", True))
+        self.assertEqual(list(room.iterdir()), [])
+        clip = write_packets(room / "clip.ivf", packets_of(SMALL))
+        process, _, _ = self.open(clip)
+        status, out, errors = command("open", clip, "--no-browser")
+        self.assertEqual((status, out, "another session" in errors), (2, b"", True))
+        self.end(process)
+
+    def test_names_beside(self):
+        from wokureti.opening import free_name, names_beside
+
+        room = self.folder()
+        self.assertEqual(names_beside(f"{room}/clip.webm"), (f"{room}/clip.edits", f"{room}/clip-edited.ivf"))
+        self.assertEqual(names_beside("-"), ("stream.edits", "stream-edited.ivf"))
+        self.assertEqual(names_beside("/dev/fd/5"), ("5.edits", "5-edited.ivf"))
+        (room / "a.ivf").write_text("")
+        os.symlink(room / "gone", room / "a-2.ivf")
+        self.assertEqual(free_name(f"{room}/a.ivf"), f"{room}/a-3.ivf")
+
+
+class Scripts(PageCase):
+    def test_origins_of_random_scripts(self):
+        choose = random.Random(1957)
+        self.serve(SMALL, sources=[SMALL])
+        with self.session(SMALL) as other:
+            wanted = [frame.i420() for frame in other.frames()]
+        for _ in range(20):
+            script = Script()
+            for _ in range(choose.randrange(1, 6)):
+                node, last = choose.randrange(script.last + 1), script.last
+                choose.choice([lambda: script.source(choose.randrange(2)), lambda: script.trim(node, choose.randrange(8), choose.randrange(1, 9)), lambda: script.splice(node, last)])()
+            self.change(f"script {script}")
+            session, found = self.members("/session"), self.members("/origins?count=4000")
+            self.assertEqual(session["frames"], self.members("/")["frames"], str(script))
+            self.assertEqual(len(found["packets"]), min(4000, session["frames"]))
+            for frame in choose.sample(range(session["frames"]), min(6, session["frames"])):
+                self.assertEqual(self.picture(f"/frames/{frame}.y4m"), wanted[found["packets"][frame]], (str(script), frame))
+
+
+if __name__ == "__main__":
+    unittest.main()

@@ -1,0 +1,187 @@
+"""The stream that a page shows: with its views, its check, the stream before the edits, and previews of edits."""
+
+import contextlib
+import json
+import threading
+import time
+
+from . import checks, facts, live
+from .checking import Check
+from .errors import Ended, Refused
+from .views import Pool, View
+
+
+# The packets of a group that a preview checks, at most.
+MOST_GROUP = 1000
+# Checks whose findings are stored.
+MOST_CHECKS = 8
+
+
+class Opened(live.Live):
+    """A stream with what a page needs. What is not the program's own work is answered while the program works."""
+
+    def __init__(self, options, edits=None, save=None, pad=False, save_at_end=True):
+        self.pad, self.save_at_end = pad, save_at_end
+        self.current, self.pool = None, None
+        self.check_lock, self.check, self.checks, self.count = threading.Lock(), None, [], 0
+        self.originals, self.preview = {}, Preview(options)
+        # What goes on: a word, how much of it is done, of how much, and since when.
+        self.doing = None
+        super().__init__(options, edits, save)
+        threading.Thread(target=self.list_files, daemon=True).start()
+
+    # Views
+
+    def list_files(self):
+        """Lists the headers of all packets; until that is done, no packet is known to be refused."""
+        with contextlib.suppress(OSError, Ended, live.Lost, Refused):
+            with self.lock:
+                contents = self.contents()
+            contents.listed.learn()
+            with self.lock:
+                if self.pool is not None and self.pool.contents is contents:
+                    self.pool.refuse(contents.listed)
+                    self.current = self.make_view(self.current, lends=False)
+                self.changed.notify_all()
+
+    def current_view(self):
+        """The view of the current revision."""
+        found = self.current
+        if found is not None and found.revision == self.revision:
+            return found
+        with self.lock:
+            found = self.current
+            if found is None or found.revision != self.revision:
+                found = self.current = self.make_view(found)
+            return found
+
+    def make_view(self, before, lends=True):
+        contents = self.contents()
+        if self.pool is None or self.pool.contents is not contents:
+            self.pool, before = Pool(contents), None
+            if contents.listed.is_learnt:
+                self.pool.refuse(contents.listed)
+        else:
+            self.pool.grow(contents)
+        return View(self.revision, contents, self.pool, self.session.edits, before, lends)
+
+    def tell(self):
+        super().tell()
+        if self.current is not None:
+            self.current = self.make_view(self.current)
+
+    def again(self, ended):
+        super().again(ended)
+        # Its packets are read again, and listed again.
+        self.current, self.pool = None, None
+        threading.Thread(target=self.list_files, daemon=True).start()
+
+    # Edits
+
+    def make(self, edit):
+        self.doing = ("edit", 0, 1, time.monotonic())
+        try:
+            return super().make(edit)
+        finally:
+            self.doing = None
+
+    def on_progress(self, done, total):
+        self.doing = ("edit", done, total, self.doing[3])
+
+    def close(self):
+        if not self.save_at_end:
+            self.saved = self.revision
+        with self.check_lock:
+            if self.check is not None:
+                self.check.stop()
+        for original in self.originals.values():
+            original.close()
+        self.preview.close()
+        super().close()
+
+    # What is beside the stream
+
+    def checked(self):
+        """The check of the current stream, begun now if it is another one than that of the check before."""
+        view = self.current_view()
+        with self.check_lock:
+            if self.check is None or self.check.error or not self.check.is_of(view):
+                self.check = self.known_check(view) or self.new_check(view)
+            return self.check
+
+    def known_check(self, view):
+        """A check of the same packets that is over: after undo, nothing is checked again."""
+        return next((check for check in self.checks if check.is_over and not check.error and check.is_of(view)), None)
+
+    def new_check(self, view):
+        if self.check is not None:
+            self.check.stop()
+        self.count += 1
+        check = Check(view, self.count)
+        self.checks = [check, *(old for old in self.checks if old.is_over and not old.stopped.is_set())][:MOST_CHECKS]
+        return check
+
+    def original(self, source):
+        """A source as it was opened, without edits and without a script."""
+        with self.check_lock:
+            if source not in self.originals:
+                path = [self.options["stream"], *self.options.get("sources", ())][source]
+                self.originals[source] = live.Live({**self.options, "stream": path, "sources": ()})
+            return self.originals[source]
+
+
+class Preview:
+    """A program that makes edits so that their pictures can be seen before they are made."""
+
+    def __init__(self, options):
+        self.options, self.live, self.lock = options, None, threading.Lock()
+
+    def follow(self, lines):
+        """Makes the list of the edits these lines."""
+        if self.live is None:
+            self.live = live.Live(self.options)
+        mine = list(self.live.session.edits)
+        common = next((place for place, pair in enumerate(zip(mine, lines)) if pair[0] != pair[1]), min(len(mine), len(lines)))
+        while len(mine) > common:
+            self.live.run("undo")
+            mine = list(self.live.session.edits)
+        for line in lines[len(mine) :]:
+            self.live.run(line)
+
+    def picture(self, lines, frame):
+        """The width, height and samples of a frame after these edits."""
+        with self.lock:
+            self.follow(lines)
+            return self.live.picture(frame)
+
+    def findings(self, lines, packet):
+        """What vp8list --check says of the group of pictures that has a packet of source 0, after these edits."""
+        with self.lock:
+            self.follow(lines)
+            contents = self.live.contents()
+            stream = contents.streams[0]
+            first, end = group_of(contents, stream, packet)
+            packets = [(contents.stamp(number), contents.bytes(number)) for number in stream[first:end]]
+        tables = [] if contents.tables is None else ["--tables", checks.path(contents.tables)]
+        found = [json.loads(line) for line in facts.run_on(contents.lister, packets, "--check", "--json", *tables, statuses=(0, 1))]
+        found = [finding for finding in found if finding["packet"] is not None]
+        for finding in found:
+            finding["packet"] += first
+        return found
+
+    def close(self):
+        with self.lock:
+            if self.live is not None:
+                self.live.close()
+                self.live = None
+
+
+def group_of(contents, stream, packet):
+    """The packets from the key packet at or before a packet to the next one, as a range of indexes."""
+    packet = min(packet, len(stream) - 1)
+    first, end = max(packet, 0), packet + 1
+    while first > 0 and not contents.has_key_tag(stream[first]):
+        first -= 1
+    while end < len(stream) and not contents.has_key_tag(stream[end]):
+        end += 1
+    return first, min(end, first + MOST_GROUP)

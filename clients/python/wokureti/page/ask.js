@@ -1,0 +1,39 @@
+// A dialog with a few fields.
+
+const find = (id) => document.getElementById(id);
+
+/** Asks for values; `fields` are objects with name, label, value, and kind or choices. Returns the values, or null. */
+export function ask(title, action, fields) {
+  const dialog = find("ask");
+  dialog.querySelector("h2").textContent = title;
+  dialog.querySelector("button[value=yes]").textContent = action;
+  const place = dialog.querySelector(".fields");
+  place.replaceChildren();
+  const inputs = {};
+  for (const { name, label, value, choices, most } of fields) {
+    const line = document.createElement("label");
+    const input = document.createElement(choices ? "select" : "input");
+    if (choices) {
+      for (const [text, chosen] of choices) input.append(new Option(text, chosen));
+    } else {
+      input.type = "number";
+      input.min = 0;
+      input.required = true;
+      if (most !== undefined) input.max = most;
+    }
+    input.value = value;
+    inputs[name] = input;
+    line.append(label, input);
+    place.append(line);
+  }
+  dialog.returnValue = "";
+  dialog.showModal();
+  place.querySelector("input, select")?.focus();
+  return new Promise((answer) => {
+    dialog.addEventListener(
+      "close",
+      () => answer(dialog.returnValue === "yes" ? Object.fromEntries(Object.entries(inputs).map(([name, input]) => [name, input.value])) : null),
+      { once: true },
+    );
+  });
+}

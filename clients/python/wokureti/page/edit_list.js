@@ -1,0 +1,70 @@
+// The list of edits: a line goes to its packet; edits can be taken back up to it.
+
+import { packetOfLine } from "./steps.js";
+
+const find = (id) => document.getElementById(id);
+
+export class EditList {
+  constructor(model, editing) {
+    this.model = model;
+    this.editing = editing;
+    model.addEventListener("session", () => this.write());
+  }
+
+  write() {
+    const { session } = this.model;
+    const { edits, undone, steps, edits_before: before } = session;
+    const key = `${session.revision} ${session.instance} ${session.saved}`;
+    if (key === this.key) return;
+    this.key = key;
+    find("edits-count").textContent = edits.length ? (before + edits.length).toLocaleString("en") : "";
+    find("edits-text").textContent = edits.length
+      ? `Each edit is in ${session.list} already. Save writes the stream to ${session.save}.`
+      : "No edits yet. Select packets in the timeline and delete, hold or drop them, or take a repair of a finding.";
+    const list = find("edits-list");
+    list.replaceChildren();
+    if (before) list.append(note(`${before.toLocaleString("en")} edits before these`));
+    edits.forEach((line, place) => list.append(this.row(line, before + place + 1, place, steps[place] !== steps[place + 1])));
+    undone.slice(0, 50).forEach((line) => list.append(this.row(line, "", null, false)));
+    list.lastElementChild?.scrollIntoView({ block: "nearest" });
+  }
+
+  row(line, number, place, isEnd) {
+    const entry = document.createElement("li");
+    const button = document.createElement("button");
+    button.className = "row";
+    const count = document.createElement("span");
+    count.className = "number";
+    count.textContent = number;
+    const text = document.createElement("span");
+    text.className = "text";
+    text.textContent = line.length > 90 ? `${line.slice(0, 90)}…` : line;
+    button.append(count, text);
+    entry.append(button);
+    if (place === null) {
+      entry.className = "is-undone";
+      button.title = "Undone; Redo makes it again";
+      button.disabled = true;
+      return entry;
+    }
+    const packet = packetOfLine(line);
+    if (line.startsWith("script")) button.addEventListener("click", () => find("tab-script").click());
+    else if (packet !== null) button.addEventListener("click", () => this.model.goPacket(Math.min(packet, this.model.packets - 1)).catch(() => {}));
+    if (isEnd && place + 1 < this.model.session.edits.length) {
+      const back = document.createElement("button");
+      back.className = "here";
+      back.textContent = "Back to here";
+      back.title = "Undo the edits after this one";
+      back.addEventListener("click", () => this.editing.undoTo(number));
+      entry.append(back);
+    }
+    return entry;
+  }
+}
+
+function note(text) {
+  const entry = document.createElement("li");
+  entry.className = "muted";
+  entry.textContent = text;
+  return entry;
+}

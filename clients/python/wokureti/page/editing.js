@@ -1,0 +1,226 @@
+// The edits of the page: each is one step, and a refusal changes nothing.
+
+import { ask } from "./ask.js";
+import * as server from "./interface.js";
+import { notice } from "./status.js";
+import * as steps from "./steps.js";
+
+const find = (id) => document.getElementById(id);
+// Half of the body that the server takes, as HEX.
+const MOST_BYTES = (8 << 20) / 2 - 100;
+
+export class Editing {
+  constructor(model, status) {
+    this.model = model;
+    this.status = status;
+    this.clipboard = null;
+    this.queue = Promise.resolve();
+    const press = (id, act) => find(id).addEventListener("click", () => act());
+    press("undo", () => this.undo());
+    press("redo", () => this.redo());
+    press("save", () => this.save());
+    press("delete", () => this.delete());
+    press("hold", () => this.hold());
+    press("drop", () => this.drop());
+    press("copy", () => this.copy(false));
+    press("cut", () => this.copy(true));
+    press("paste", () => this.paste());
+    press("insert-blank", () => this.blank());
+    press("replace-file", () => find("file").click());
+    press("replace-source", () => this.replaceBySource());
+    find("file").addEventListener("change", () => this.replaceByFile());
+    for (const name of ["session", "selection", "packet"]) model.addEventListener(name, () => this.enable());
+  }
+
+  enable() {
+    const { session, chosen } = this.model;
+    if (!session) return;
+    find("undo").disabled = !session.edits.length;
+    find("redo").disabled = !session.undone.length;
+    find("undo").title = session.edits.length ? `Undo: ${session.edits[session.edits.length - 1].slice(0, 60)} (Ctrl+Z)` : "Nothing to undo";
+    find("redo").title = session.undone.length ? `Redo: ${session.undone[0].slice(0, 60)} (Ctrl+Shift+Z)` : "Nothing to redo";
+    find("save").disabled = session.saved;
+    for (const id of ["delete", "hold", "drop", "copy", "cut"]) find(id).disabled = !chosen;
+    find("paste").disabled = !this.clipboard;
+  }
+
+  /** Makes edits one after the other. Returns whether they were made; a refusal is shown, and returned by `refused`. */
+  make(lines, said, { refused = null, isQuiet = false } = {}) {
+    const turn = this.queue.then(() => this.makeNow(lines, said, refused, isQuiet));
+    this.queue = turn.catch(() => {});
+    return turn;
+  }
+
+  async makeNow(lines, said, refused, isQuiet) {
+    if (!lines.length) return false;
+    const isStep = Array.isArray(lines);
+    const since = performance.now();
+    performance.mark("edit");
+    try {
+      const answer = await server.change(lines, lines === "save" ? null : this.model.revision);
+      await this.model.load();
+      const text = typeof said === "function" ? said(answer.reply) : said;
+      if (text && !isQuiet) this.status.say(`${text} (${Math.round(performance.now() - since)} ms)`);
+      this.last = answer.reply;
+      return true;
+    } catch (error) {
+      if (error.status === 412) {
+        await this.model.load();
+        notice("The stream was changed in another place, so nothing was done. Look, and try again.", { isBad: true });
+        return false;
+      }
+      if (refused && (await refused(error))) return false;
+      if (error instanceof server.Refusal && error.reply) {
+        notice(`Refused, and nothing was changed: ${error.reason || error.reply}`, { isBad: true, id: "refused" });
+      } else {
+        notice(error.message, { isBad: true, id: "refused" });
+      }
+      await this.model.load().catch(() => {});
+      return false;
+    }
+  }
+
+  /** Makes a step on the source that the timeline shows. */
+  step(lines, said, options = {}) {
+    return this.make(steps.ofSource(lines, this.model.source, this.model.session.source), said, options);
+  }
+
+  undo() {
+    return this.make("undo", (lines) => (lines.length ? `undone: ${named(lines)}` : "there is nothing to undo"));
+  }
+
+  redo() {
+    return this.make("redo", (lines) => (lines.length ? `made again: ${named(lines)}` : "there is nothing to redo"));
+  }
+
+  save() {
+    return this.make("save", (path) => {
+      notice(`Saved to ${path}`, { id: "saved" });
+      return `saved to ${path}`;
+    });
+  }
+
+  /** Takes edits back until so many are left. */
+  async undoTo(count) {
+    const left = () => this.model.session.edits_before + this.model.session.edits.length;
+    while (left() > count) {
+      const before = left();
+      if (!(await this.undo()) || left() >= before) return;
+    }
+  }
+
+  async delete() {
+    const { chosen } = this.model;
+    if (!chosen) return;
+    const { first, end } = chosen;
+    if (await this.step(steps.deleted(first, end), `${packets(chosen)} deleted`)) {
+      this.model.select(null);
+      await this.model.goPacket(Math.min(first, this.model.packets - 1));
+    }
+  }
+
+  async hold() {
+    const { chosen } = this.model;
+    if (!chosen) return;
+    const { first, end } = chosen;
+    const said = `the picture before is held in the place of ${packets(chosen)}`;
+    // A broken key packet gives no size: then the last one before it does.
+    const again = (error) => {
+      if (error.reply !== "refused Size" || first === 0) return false;
+      queueMicrotask(() => this.step(steps.heldBefore(first, end), said));
+      return true;
+    };
+    await this.step(steps.held(first, end), said, { refused: again });
+  }
+
+  drop() {
+    const { chosen } = this.model;
+    if (chosen) return this.step(steps.dropped(chosen.first, chosen.end), `${packets(chosen)} dropped`);
+  }
+
+  copy(isMove) {
+    const { chosen, source, session } = this.model;
+    if (!chosen) return;
+    this.clipboard = { ...chosen, source, isMove, revision: session.revision };
+    this.enable();
+    this.status.say(`${packets(chosen)} ${isMove ? "to move" : "to copy"}: go to a packet, and paste before it`);
+  }
+
+  async paste() {
+    const { clipboard, model } = this;
+    if (!clipboard) return;
+    const { first, end, source, isMove, revision } = clipboard;
+    const at = model.packet;
+    if (revision !== model.revision && !(await this.isStillThere(clipboard))) return;
+    if (isMove && source === model.source) {
+      const lines = steps.moved(first, end, at);
+      if (!lines.length) return this.status.say("they are there already");
+      if (await this.step(lines, `${packets(clipboard)} moved to ${at}`)) {
+        this.clipboard = null;
+        const start = at < first ? at : at - (end - first);
+        model.select(start, start + end - first);
+      }
+    } else if (await this.step(steps.copied(source, first, end, at, source === model.source), `${packets(clipboard)} copied to ${at}`)) {
+      model.select(at, at + end - first);
+      if (source === model.source && at <= first) this.clipboard = { ...clipboard, first: first + end - first, end: end + end - first };
+      if (this.clipboard) this.clipboard.revision = model.revision;
+    }
+    this.enable();
+  }
+
+  /** The packets that were remembered may be others after an edit. */
+  isStillThere({ end, source }) {
+    if (end <= this.model.session.sources[source]) {
+      this.clipboard.revision = this.model.revision;
+      return true;
+    }
+    this.status.say("the packets that were remembered are gone");
+    this.clipboard = null;
+    this.enable();
+    return false;
+  }
+
+  async blank() {
+    const { now } = this.viewer.picture;
+    const at = this.model.packet;
+    const found = await ask(`A grey key frame before packet ${at}`, "Insert", [
+      { name: "width", label: "Width", value: now ? now.width : 320, most: 16383 },
+      { name: "height", label: "Height", value: now ? now.height : 180, most: 16383 },
+    ]);
+    if (found) await this.step([`blank ${at} ${Number(found.width)} ${Number(found.height)}`], `a grey frame is inserted at ${at}`);
+  }
+
+  async replaceByFile() {
+    const [file] = find("file").files;
+    const at = this.model.packet;
+    if (!file) return;
+    const bytes = steps.packetOf(new Uint8Array(await file.arrayBuffer()));
+    find("file").value = "";
+    if (bytes.length > MOST_BYTES) {
+      notice(`${file.name} has ${bytes.length.toLocaleString("en")} bytes; a packet that the page sends has at most ${MOST_BYTES.toLocaleString("en")}.`, { isBad: true });
+      return;
+    }
+    await this.step([`replace ${at} ${steps.hexadecimal(bytes)}`], `packet ${at} has the bytes of ${file.name}`);
+  }
+
+  async replaceBySource() {
+    const { session, packet: at, source } = this.model;
+    const others = session.names.map((name, number) => [`${number}: ${name}`, number]).filter(([, number]) => number !== source);
+    const found = await ask(`Replace packet ${at}`, "Replace", [
+      { name: "source", label: "Source", value: others[0][1], choices: others },
+      { name: "packet", label: "Packet of it", value: at },
+    ]);
+    if (!found) return;
+    const lines = [`copy ${Number(found.source)} ${Number(found.packet)} ${at}`, `delete ${at + 1}`];
+    await this.step(lines, `packet ${at} is packet ${found.packet} of source ${found.source}`);
+  }
+}
+
+/** Packets in words. */
+export function packets({ first, end }) {
+  return end === first + 1 ? `packet ${first}` : `packets ${first} to ${end - 1}`;
+}
+
+function named(lines) {
+  return lines.length === 1 ? lines[0].slice(0, 80) : `${lines.length} edits`;
+}

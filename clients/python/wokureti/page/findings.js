@@ -1,0 +1,340 @@
+// The findings of vp8list --check, and the repairs that can work for each of them.
+
+import * as server from "./interface.js";
+
+const find = (id) => document.getElementById(id);
+const STEP = 200;
+// Milliseconds between two looks at a check that goes on.
+const OFTEN = 200;
+
+const CAUSES = {
+  ShortPacket: "too short for its header",
+  Version: "of a version above 3",
+  StartCode: "the start code of a key frame is wrong",
+  Size: "width or height is 0",
+  NoKeyFrame: "no key frame comes before it",
+  FirstPartition: "the first partition is longer than the packet",
+  TokenSizes: "it ends inside the sizes of its partitions",
+  TokenPartition: "a partition is longer than the rest of the packet",
+};
+
+/** A finding in words. */
+export function sentence(finding) {
+  const { kind } = finding;
+  const where = finding.partition === null ? "first partition" : `token partition ${finding.partition}`;
+  switch (kind) {
+    case "refused":
+      return `refused ${finding.cause}: ${CAUSES[finding.cause.split(" ")[0]] || "it cannot be decoded"}${lost(finding.lost)}`;
+    case "past_end":
+      return `${where}: ${finding.bytes} bytes read past its end`;
+    case "unread":
+      return `${where}: ${finding.bytes} of ${finding.size} bytes are not read`;
+    case "empty":
+      return `${where}: no bytes, which libvpx calls corrupt`;
+    case "no_bytes":
+      return "no bytes, at which vpxdec ends";
+    case "stamp_repeats":
+      return `time stamp ${finding.stamp} repeats`;
+    case "stamp_goes_back":
+      return `time stamp ${finding.stamp} goes back from ${finding.before}`;
+    case "stamp_skips":
+      return `time stamp ${finding.stamp} skips from ${finding.before}`;
+    case "size_changes":
+      return `size ${finding.before} changes to ${finding.size}`;
+    case "never_shown":
+      return "hidden, never shown";
+    case "frame_count":
+      return `${finding.claimed} frames in the header, ${finding.packets} packets`;
+    case "frame_size":
+      return `size ${finding.claimed} in the header, first key packet ${finding.size}`;
+    case "no_rate":
+      return `rate ${finding.rate}, scale ${finding.scale} in the header`;
+    case "cut_record":
+      return `record ${finding.record} at byte ${finding.byte} is cut off, ${finding.left} bytes are left`;
+    default:
+      return kind.replace(/_/g, " ");
+  }
+}
+
+function lost(count) {
+  return count ? `; ${count.toLocaleString("en")} ${count === 1 ? "packet is" : "packets are"} lost with it` : "";
+}
+
+/** The place of a finding in words. */
+export function placeOf(finding) {
+  if (finding.packet === null) return finding.kind === "cut_record" ? "end of the file" : "header";
+  return `packet ${finding.packet}${finding.frame === null ? ", hidden" : `, frame ${finding.frame}`}`;
+}
+
+/** Damage before notes, each in the order of packets. */
+export function ordered(findings) {
+  const rank = (finding) => (finding.severity === "damage" ? 0 : 1);
+  return findings.map((finding, place) => ({ finding, place })).sort((one, other) => rank(one.finding) - rank(other.finding) || one.place - other.place);
+}
+
+/** A finding as a text that stays the same if the finding does. */
+function keyOf(finding) {
+  return JSON.stringify({ ...finding, frame: undefined });
+}
+
+export class Findings {
+  constructor(model, viewer, editing, timeline, status) {
+    Object.assign(this, { model, viewer, editing, timeline, status });
+    this.check = null;
+    this.open = null;
+    this.most = STEP;
+    this.kept = new Set();
+    model.addEventListener("session", () => this.follow());
+    find("findings-more").addEventListener("click", () => {
+      this.most += STEP;
+      this.write();
+    });
+    find("repair-all").addEventListener("click", () => this.previewAll());
+    find("preview-take").addEventListener("click", () => this.take());
+    find("preview-leave").addEventListener("click", () => this.leave());
+  }
+
+  /** Follows the check of the current stream until it is over. */
+  async follow() {
+    if (this.open && this.open.revision !== this.model.revision) this.close();
+    if (this.following) {
+      this.again = true;
+      return;
+    }
+    this.following = true;
+    try {
+      do {
+        this.again = false;
+        await this.watch();
+      } while (this.again);
+    } catch (error) {
+      find("check-text").textContent = error.message;
+    } finally {
+      this.following = false;
+    }
+  }
+
+  async watch() {
+    let found = [];
+    let number = null;
+    for (;;) {
+      const answer = await server.members(`check?from=${found.length}`);
+      if (answer.check !== number) {
+        // Another stream is checked.
+        number = answer.check;
+        if (answer.from > 0) {
+          found = [];
+          continue;
+        }
+      }
+      found.push(...answer.findings);
+      const isNew = !this.check || this.check.check !== number || this.check.findings.length !== found.length || this.check.over !== answer.over;
+      // Those of the stream before stay until this check is over, or has found something, or takes long.
+      if (answer.over || found.length || (this.check && this.check.check === number)) {
+        this.check = { ...answer, findings: found };
+        if (isNew) this.write();
+      }
+      this.tell(answer);
+      if (answer.over || this.again) return;
+      await new Promise((done) => setTimeout(done, OFTEN));
+    }
+  }
+
+  tell({ over, done, packets, damage, notes, failed }) {
+    const bar = find("check-bar");
+    bar.hidden = over;
+    bar.value = packets ? done / packets : 0;
+    const totals = `damage: ${damage.toLocaleString("en")}, notes: ${notes.toLocaleString("en")}`;
+    const text = failed
+      ? `The check failed: ${failed}`
+      : over
+        ? damage || notes
+          ? `All ${packets.toLocaleString("en")} packets were checked, ${totals}.`
+          : `All ${packets.toLocaleString("en")} packets were checked: nothing was found.`
+        : `Checking: ${done.toLocaleString("en")} of ${packets.toLocaleString("en")} packets, ${totals}.`;
+    find("check-text").textContent = text;
+    find("repair-all-line").hidden = !over || damage < 2;
+    find("check-status").textContent = over ? `checked, ${totals}` : `checking ${done.toLocaleString("en")} of ${packets.toLocaleString("en")} packets`;
+    const count = find("findings-count");
+    count.textContent = damage || notes ? (damage || notes).toLocaleString("en") : "";
+    count.classList.toggle("bad", damage > 0);
+    count.title = totals;
+  }
+
+  write() {
+    const { findings, check, over } = this.check;
+    const damage = [...new Set(findings.filter(({ severity, packet }) => severity === "damage" && packet !== null).map(({ packet }) => packet))];
+    this.timeline.setFindings(damage, over ? `checked ${check}` : `checking ${check} ${Math.floor(findings.length / 100)}`);
+    const list = find("findings-list");
+    const all = ordered(findings);
+    list.replaceChildren(...all.slice(0, this.most).map(({ finding }) => this.row(finding)));
+    find("findings-more").hidden = all.length <= this.most;
+    find("findings-more").textContent = `Show more of ${all.length.toLocaleString("en")}`;
+  }
+
+  row(finding) {
+    const entry = document.createElement("li");
+    const key = keyOf(finding);
+    entry.dataset.key = key;
+    entry.classList.toggle("is-kept", this.kept.has(key));
+    const button = document.createElement("button");
+    button.className = "row";
+    button.setAttribute("aria-expanded", "false");
+    const dot = document.createElement("span");
+    dot.className = `dot${finding.severity === "damage" ? "" : " note"}`;
+    dot.title = finding.severity;
+    const text = document.createElement("span");
+    text.className = "text";
+    text.textContent = sentence(finding);
+    const sub = document.createElement("span");
+    sub.className = "sub";
+    sub.textContent = `${finding.severity} · ${placeOf(finding)}`;
+    button.append(dot, text, sub);
+    button.addEventListener("click", () => this.press(finding, key));
+    entry.append(button);
+    if (this.open && this.open.key === key) this.unfold(entry, this.open);
+    return entry;
+  }
+
+  /** A click goes to the packet, and shows the repairs. */
+  async press(finding, key) {
+    const wasOpen = this.open && this.open.key === key;
+    await this.leave();
+    for (const old of find("findings-list").querySelectorAll("li.is-open")) fold(old);
+    this.open = null;
+    // The check is of source 0.
+    if (this.model.source !== 0) await this.model.useSource(0);
+    if (finding.packet !== null) this.model.goPacket(Math.min(finding.packet, this.model.packets - 1)).catch(() => {});
+    if (wasOpen) return;
+    const open = { key, finding, revision: this.model.revision, repairs: null };
+    this.open = open;
+    try {
+      const given = ["kind", "packet", "before", "stamp"].filter((name) => name === "kind" || Number.isInteger(finding[name]));
+      const query = given.map((name) => `${name}=${finding[name]}`).join("&");
+      const answer = await server.members(`repairs?${query}`, "the repairs");
+      open.repairs = answer.repairs;
+    } catch (error) {
+      open.repairs = [];
+      this.status.say(error.message);
+    }
+    if (this.open === open) this.unfoldOpen();
+  }
+
+  /** Shows the repairs below the finding that was pressed: the list may have been written again since. */
+  unfoldOpen() {
+    const entry = [...find("findings-list").children].find((one) => one.dataset.key === this.open?.key);
+    if (entry) this.unfold(entry, this.open);
+  }
+
+  unfold(entry, open) {
+    if (!open.repairs) return;
+    entry.classList.add("is-open");
+    entry.querySelector(".row").setAttribute("aria-expanded", "true");
+    entry.querySelector(".repairs")?.remove();
+    const list = document.createElement("ul");
+    list.className = "repairs";
+    for (const repair of open.repairs) {
+      const item = document.createElement("li");
+      const button = document.createElement("button");
+      button.textContent = repair.title;
+      button.title = repair.lines.length ? `${repair.lines.slice(0, 6).join("\n")}${repair.lines.length > 6 ? `\n… ${repair.lines.length} edits` : ""}` : "Nothing is changed";
+      button.classList.toggle("is-shown", this.shown === repair);
+      button.addEventListener("click", () => (repair.lines.length ? this.preview(repair) : this.keep(open, entry)));
+      item.append(button);
+      list.append(item);
+    }
+    entry.append(list);
+  }
+
+  /** Shows the pictures with a repair, which is not made yet. */
+  async preview(repair) {
+    this.shown = repair;
+    this.unfoldOpen();
+    find("preview-bar").hidden = false;
+    find("preview-text").textContent = repair.title;
+    find("preview-text").title = "";
+    find("preview-result").textContent = "";
+    const { revision } = this.model;
+    await this.viewer.setPreview(repair.lines);
+    try {
+      const { findings } = await server.previewFindings(repair.lines, repair.packet, revision);
+      if (this.shown !== repair) return;
+      const damage = findings.filter(({ severity }) => severity === "damage").length;
+      find("preview-result").textContent = damage ? `damage up to the next key frame: ${damage}` : "no damage up to the next key frame";
+    } catch (error) {
+      if (this.shown === repair) find("preview-result").textContent = error.message;
+    }
+  }
+
+  /** Shows the pictures with all repairs that the command wokureti repair would make. */
+  async previewAll() {
+    const button = find("repair-all");
+    button.disabled = true;
+    try {
+      const { lines, said, left } = await server.members("repair_all", "the repairs");
+      if (!lines.length) {
+        this.status.say("nothing can be repaired without a person");
+        return;
+      }
+      const title = `${said.length.toLocaleString("en")} steps, ${lines.length.toLocaleString("en")} edits${left ? `, ${left} packets stay damaged` : ""}`;
+      await this.preview({ title, lines, packet: this.model.packet });
+      find("preview-text").title = said.slice(0, 40).join("\n");
+    } catch (error) {
+      this.status.say(error.message);
+    } finally {
+      button.disabled = false;
+    }
+  }
+
+  async take() {
+    const repair = this.shown;
+    if (!repair) return;
+    const { packet } = repair;
+    this.close();
+    const isMade = await this.editing.make(this.model.session.source === 0 ? repair.lines : ["use 0", ...repair.lines], repair.title);
+    await this.viewer.setPreview(null);
+    if (isMade) await this.model.goPacket(Math.min(packet, this.model.packets - 1));
+  }
+
+  /** Goes back from a preview. */
+  async leave() {
+    if (!this.shown) return;
+    this.shown = null;
+    find("preview-bar").hidden = true;
+    for (const button of find("findings-list").querySelectorAll(".is-shown")) button.classList.remove("is-shown");
+    await this.viewer.setPreview(null);
+  }
+
+  close() {
+    if (this.shown) {
+      this.shown = null;
+      find("preview-bar").hidden = true;
+      this.viewer.preview = null;
+    }
+    this.open = null;
+    for (const old of find("findings-list").querySelectorAll("li.is-open")) fold(old);
+  }
+
+  keep(open, entry) {
+    this.leave();
+    if (this.kept.has(open.key)) this.kept.delete(open.key);
+    else this.kept.add(open.key);
+    entry.classList.toggle("is-kept", this.kept.has(open.key));
+    fold(entry);
+    this.open = null;
+  }
+
+  /** Goes to the next damage after the current packet, or to the one before it. */
+  go(step) {
+    const packets = [...new Set((this.check?.findings || []).filter(({ packet }) => packet !== null).map(({ packet }) => packet))].sort((one, other) => one - other);
+    const { packet } = this.model;
+    const next = step > 0 ? packets.find((one) => one > packet) : packets.filter((one) => one < packet).pop();
+    if (next !== undefined) this.model.goPacket(next).catch(() => {});
+  }
+}
+
+function fold(entry) {
+  entry.classList.remove("is-open");
+  entry.querySelector(".row").setAttribute("aria-expanded", "false");
+  entry.querySelector(".repairs")?.remove();
+}

@@ -1,0 +1,91 @@
+// Frames that were fetched: those of the current revision, and those before the edits.
+
+import * as server from "./interface.js";
+
+const MOST_BYTES = 192 << 20;
+
+export class Frames {
+  constructor(model) {
+    this.model = model;
+    this.found = new Map();
+    this.bytes = 0;
+    model.addEventListener("session", () => this.forget());
+  }
+
+  /** Drops frames of other revisions. */
+  forget() {
+    for (const [key, entry] of this.found) {
+      if (entry.revision !== null && entry.revision !== this.model.revision) this.drop(key);
+    }
+  }
+
+  drop(key) {
+    const entry = this.found.get(key);
+    if (!entry) return;
+    this.bytes -= entry.bytes;
+    this.found.delete(key);
+    entry.control.abort();
+  }
+
+  /** The frame, fetched if it is not here. A refused one is an error, which is kept too. */
+  get(frame) {
+    const { revision } = this.model;
+    return this.fetch(`now ${frame}`, revision, (signal) => server.frame(frame, signal));
+  }
+
+  before(source, frame) {
+    return this.fetch(`before ${source} ${frame}`, null, (signal) => server.frameBefore(source, frame, signal));
+  }
+
+  /** The frame if it is here, else null. */
+  here(frame) {
+    const entry = this.found.get(`now ${frame}`);
+    return entry && entry.revision === this.model.revision ? entry.value : null;
+  }
+
+  isAsked(frame) {
+    return this.found.has(`now ${frame}`);
+  }
+
+  fetch(key, revision, ask) {
+    const old = this.found.get(key);
+    if (old && old.revision === revision) {
+      // The entries that were used last are at the end.
+      this.found.delete(key);
+      this.found.set(key, old);
+      return old.promise;
+    }
+    this.drop(key);
+    const control = new AbortController();
+    const entry = { revision, control, value: null, bytes: 0, promise: null };
+    entry.promise = ask(control.signal).then(
+      (frame) => {
+        entry.value = frame;
+        if (this.found.get(key) === entry) {
+          entry.bytes = frame.samples.length;
+          this.bytes += entry.bytes;
+          this.trim();
+        }
+        return frame;
+      },
+      (error) => {
+        // A frame that is refused stays so at this revision; anything else is tried again.
+        if (!(error instanceof server.Refusal) || error.status >= 500) {
+          if (this.found.get(key) === entry) this.drop(key);
+        }
+        entry.error = error;
+        throw error;
+      },
+    );
+    entry.promise.catch(() => {});
+    this.found.set(key, entry);
+    return entry.promise;
+  }
+
+  trim() {
+    for (const key of this.found.keys()) {
+      if (this.bytes <= MOST_BYTES) return;
+      if (this.found.get(key).value) this.drop(key);
+    }
+  }
+}

@@ -1,0 +1,126 @@
+// The interface of the server: clients/README.md says what each request answers.
+
+export const BASE = new URL("../", document.baseURI);
+
+/** A request that was refused: the status, the program's reply if it has one, and the reason. */
+export class Refusal extends Error {
+  constructor(status, members) {
+    // The reason begins with the command that was refused, which is known here.
+    const reason = (members.reason || "").replace(/^\w+: /, "");
+    super(reason || members.error || `status ${status}`);
+    this.status = status;
+    this.reply = members.reply || "";
+    this.reason = reason;
+  }
+}
+
+/** The server cannot be reached. */
+export class Unreachable extends Error {}
+
+// Requests that are not answered yet, with when each began: what goes on is shown if one takes long.
+export const waiting = new Map();
+let next = 0;
+
+/** Sends a request. A refusal is an answer with a header of its own, since a browser reports other statuses as errors of the page. */
+async function ask(path, options, what) {
+  const number = next++;
+  if (what) waiting.set(number, { what, since: performance.now() });
+  try {
+    const url = new URL(path, BASE);
+    url.searchParams.set("refusals", "answers");
+    const response = await fetch(url, options);
+    const status = Number(response.headers.get("X-Refused")) || response.status;
+    if (status < 400) return response;
+    let members = {};
+    try {
+      members = await response.json();
+    } catch {
+      members = { error: `the server answered with status ${status}` };
+    }
+    throw new Refusal(status, members);
+  } catch (error) {
+    if (error instanceof Refusal || error.name === "AbortError") throw error;
+    throw new Unreachable("the server of this page does not answer: was it ended?");
+  } finally {
+    waiting.delete(number);
+  }
+}
+
+/** The JSON object of a path. `what` names what is waited for. */
+export async function members(path, what = "", signal = undefined) {
+  return (await ask(path, { signal }, what)).json();
+}
+
+function post(path, body, what, signal) {
+  return ask(path, { method: "POST", headers: { "Content-Type": "application/json" }, body: JSON.stringify(body), signal }, what);
+}
+
+/** Makes edits as one step, or `undo`, `redo` or `save`, if the stream is still that of the revision. */
+export async function change(lines, revision) {
+  const body = typeof lines === "string" ? { line: lines } : { lines };
+  if (revision !== null) body.revision = revision;
+  return (await post("edits", body, lines === "save" ? "the stream to be saved" : "edit")).json();
+}
+
+/** A frame of a response: width, height, samples, and the revision that it is of. */
+async function frameOf(response) {
+  const bytes = new Uint8Array(await response.arrayBuffer());
+  const revision = Number((response.headers.get("ETag") || "").replace(/"/g, "").split("-")[1] || 0);
+  return { ...parseFrame(bytes), revision };
+}
+
+/** The first frame of a YUV4MPEG2 text. */
+export function parseFrame(bytes) {
+  const end = bytes.indexOf(10);
+  const line = new TextDecoder().decode(bytes.subarray(0, end));
+  const found = /^YUV4MPEG2 W(\d+) H(\d+)/.exec(line);
+  const [width, height] = [Number(found[1]), Number(found[2])];
+  const samples = bytes.subarray(end + 1 + 6);
+  if (samples.length !== sizeOf(width, height)) throw new Error("a frame was cut off");
+  return { width, height, samples };
+}
+
+/** The number of samples of a frame. */
+export function sizeOf(width, height) {
+  return width * height + 2 * ((width + 1) >> 1) * ((height + 1) >> 1);
+}
+
+export async function frame(number, signal) {
+  return frameOf(await ask(`frames/${number}.y4m`, { signal }, `frame ${number}`));
+}
+
+export async function frameBefore(source, number, signal) {
+  return frameOf(await ask(`before/frames/${number}.y4m?source=${source}`, { signal }, `frame ${number} before the edits`));
+}
+
+export async function previewFrame(lines, number, revision, signal) {
+  return frameOf(await post("preview", { lines, frame: number, revision }, "preview", signal));
+}
+
+export async function previewFindings(lines, packet, revision, signal) {
+  return (await post("preview", { lines, findings: packet, revision }, "", signal)).json();
+}
+
+/** Calls `heard` with the name of each event of the server, as long as the page is visible. */
+export function listen(heard) {
+  let source = null;
+  const start = () => {
+    if (source || document.hidden) return;
+    source = new EventSource(new URL("events", BASE));
+    for (const name of ["edit", "restarted", "saved"]) {
+      source.addEventListener(name, (event) => heard(name, JSON.parse(event.data).revision));
+    }
+    source.addEventListener("error", () => heard("lost", null));
+    source.addEventListener("open", () => heard("open", null));
+  };
+  // A browser has six connections to a server: pages that are not seen leave theirs to the others.
+  document.addEventListener("visibilitychange", () => {
+    if (document.hidden) {
+      source?.close();
+      source = null;
+    } else {
+      start();
+    }
+  });
+  start();
+}

@@ -1,0 +1,127 @@
+// The keys, and the list of them.
+
+const find = (id) => document.getElementById(id);
+
+/** Each key has names as `KeyboardEvent.key` has them, a text, and what it does. */
+export function keysOf({ model, player, timeline, editing, findings, viewer, palette }) {
+  const step = (count) => () => model.go(model.frame + count);
+  const playOn = (direction) => () => {
+    const same = Math.sign(player.speed) === direction;
+    return player.play(same ? Math.sign(player.speed) * Math.min(8, Math.abs(player.speed) * 2) : direction);
+  };
+  return [
+    { keys: ["ArrowLeft"], show: "←", text: "back one frame", act: step(-1) },
+    { keys: ["ArrowRight"], show: "→", text: "forward one frame", act: step(1) },
+    { keys: ["Shift+ArrowLeft"], show: "Shift ←", text: "extend the selection to the left (on the picture: move the loupe)", act: () => extend(model, -1) },
+    { keys: ["Shift+ArrowRight"], show: "Shift →", text: "extend the selection to the right", act: () => extend(model, 1) },
+    { keys: ["PageUp"], show: "Page Up", text: "back 10 frames", act: step(-10) },
+    { keys: ["PageDown"], show: "Page Down", text: "forward 10 frames", act: step(10) },
+    { keys: ["Home"], show: "Home", text: "first frame", act: () => model.go(0) },
+    { keys: ["End"], show: "End", text: "last frame", act: () => model.go(model.frames - 1) },
+    { keys: [" "], show: "Space", text: "play or stop", act: () => player.toggle() },
+    { keys: ["j", "J"], show: "J", text: "play backward; again: faster", act: playOn(-1) },
+    { keys: ["k", "K"], show: "K", text: "stop", act: () => player.stop() },
+    { keys: ["l", "L"], show: "L", text: "play forward; again: faster", act: playOn(1) },
+    { keys: ["i", "I"], show: "I", text: "the selection begins here", act: () => mark(model, true) },
+    { keys: ["o", "O"], show: "O", text: "the selection ends here", act: () => mark(model, false) },
+    { keys: ["Ctrl+a"], show: "Ctrl A", text: "select all packets", act: () => model.select(0, model.packets) },
+    { keys: ["Escape"], show: "Esc", text: "leave the preview, or drop the selection", act: () => palette.escape() },
+    { keys: ["Delete", "Backspace"], show: "Delete", text: "delete the selected packets", act: () => editing.delete() },
+    { keys: ["h", "H"], show: "H", text: "hold the picture before in their place", act: () => editing.hold() },
+    { keys: ["d", "D"], show: "D", text: "drop them: packets of no bytes", act: () => editing.drop() },
+    { keys: ["Ctrl+c"], show: "Ctrl C", text: "remember them", act: () => editing.copy(false) },
+    { keys: ["Ctrl+x"], show: "Ctrl X", text: "remember them, to move them", act: () => editing.copy(true) },
+    { keys: ["Ctrl+v"], show: "Ctrl V", text: "insert them before the current packet", act: () => editing.paste() },
+    { keys: ["Ctrl+z"], show: "Ctrl Z", text: "undo", act: () => editing.undo() },
+    { keys: ["Ctrl+Shift+Z", "Ctrl+Shift+z", "Ctrl+y"], show: "Ctrl Shift Z", text: "redo", act: () => editing.redo() },
+    { keys: ["Ctrl+s"], show: "Ctrl S", text: "save", act: () => editing.save() },
+    { keys: ["+", "="], show: "+", text: "zoom in", act: () => timeline.zoom(2) },
+    { keys: ["-"], show: "−", text: "zoom out", act: () => timeline.zoom(0.5) },
+    { keys: ["0"], show: "0", text: "the whole stream", act: () => timeline.zoomAll() },
+    { keys: ["1"], show: "1 2 3 4", text: "frame, pair, split, difference", act: () => viewer.choose_view("frame") },
+    { keys: ["2"], act: () => viewer.choose_view("pair") },
+    { keys: ["3"], act: () => viewer.choose_view("split") },
+    { keys: ["4"], act: () => viewer.choose_view("difference") },
+    { keys: ["f", "F"], show: "F", text: "fit the picture", act: () => viewer.choose_size("fit") },
+    { keys: ["p", "P"], show: "P", text: "the loupe", act: () => viewer.loupe.toggle() },
+    { keys: ["n"], show: "N", text: "next frame that differs; with Shift the one before", act: () => viewer.nextDifference(1) },
+    { keys: ["N", "Shift+N"], act: () => viewer.nextDifference(-1) },
+    { keys: ["."], show: ".", text: "next finding", act: () => findings.go(1) },
+    { keys: [","], show: ",", text: "the finding before", act: () => findings.go(-1) },
+    { keys: ["g", "G"], show: "G", text: "type the number of a frame", act: () => find("frame").select() },
+    { keys: ["?"], show: "?", text: "this list", act: () => palette.showKeys() },
+  ];
+}
+
+/** The name of the key of an event. */
+export function nameOf(event) {
+  const isCommand = event.ctrlKey || event.metaKey;
+  const isNamed = event.key.length > 1;
+  return `${isCommand ? "Ctrl+" : ""}${event.shiftKey && (isNamed || isCommand) ? "Shift+" : ""}${event.key}`;
+}
+
+/** Whether an element takes the key itself. */
+export function takes(element, name) {
+  // A text that is selected on the page is copied as a text.
+  if (name === "Ctrl+c" && !getSelection().isCollapsed) return true;
+  if (!element || element === document.body) return false;
+  if (element.closest("dialog")) return true;
+  const isText = element.matches("textarea, input:not([type=file])");
+  if (isText) return !["Ctrl+s", "Escape"].includes(name);
+  if (element.matches("select")) return !name.startsWith("Ctrl+");
+  if (element.matches("button, a")) return name === " " || name === "Enter";
+  return false;
+}
+
+export function listen(keys, loupe) {
+  const byName = new Map(keys.flatMap((key) => key.keys.map((name) => [name, key])));
+  document.addEventListener("keydown", (event) => {
+    const name = nameOf(event);
+    if (event.altKey || event.defaultPrevented || takes(event.target, name)) return;
+    const moves = { "Shift+ArrowLeft": [-1, 0], "Shift+ArrowRight": [1, 0], "Shift+ArrowUp": [0, -1], "Shift+ArrowDown": [0, 1] }[name];
+    if (loupe.isOn && moves && event.target.id === "stage") {
+      event.preventDefault();
+      loupe.move(...moves);
+      return;
+    }
+    const key = byName.get(name);
+    if (!key) return;
+    event.preventDefault();
+    Promise.resolve(key.act()).catch(() => {});
+  });
+}
+
+/** Writes the list of keys. */
+export function write(keys) {
+  const body = find("keys").querySelector("tbody");
+  body.replaceChildren();
+  for (const { show, text } of keys) {
+    if (!show) continue;
+    const row = body.insertRow();
+    const cell = row.insertCell();
+    show.split(" ").forEach((part, place) => {
+      const key = document.createElement("kbd");
+      key.textContent = part;
+      cell.append(...(place ? [" ", key] : [key]));
+    });
+    row.insertCell().textContent = text;
+  }
+}
+
+/** Sets the beginning or the end of the selection at the current packet. */
+export function mark(model, isBegin) {
+  const { packet, selection } = model;
+  if (isBegin) model.select(packet, selection && selection.end > packet ? selection.end : packet + 1);
+  else model.select(selection && selection.first <= packet ? selection.first : packet, packet + 1);
+}
+
+/** Moves the current packet, and the end of the selection with it. */
+export function extend(model, step) {
+  const { packet, selection, packets } = model;
+  const next = Math.max(0, Math.min(packets - 1, packet + step));
+  let { first, end } = selection || { first: packet, end: packet + 1 };
+  if (packet === end - 1 && (step > 0 || end - first > 1)) end = next + 1;
+  else first = Math.min(next, end - 1);
+  model.select(first, end);
+  return model.goPacket(next);
+}

@@ -1,0 +1,36 @@
+// The kinds of packets: the letter of the interface, the variable of the colour, and the name. Each one is worse than those before it.
+
+export const KINDS = [
+  { letter: "i", colour: "--inter", name: "inter" },
+  { letter: "h", colour: "--hidden", name: "hidden" },
+  { letter: "k", colour: "--key", name: "key" },
+  { letter: "f", colour: "--forged", name: "forged" },
+  { letter: "d", colour: "--dropped", name: "dropped (no bytes)" },
+  { letter: "p", colour: "--damaged", name: "read past its end" },
+  { letter: "l", colour: "--lost", name: "lost with a refused one" },
+  { letter: "r", colour: "--refused", name: "refused" },
+];
+
+export const NAMES = Object.fromEntries(KINDS.map(({ letter, name }) => [letter, name]));
+
+/** The colours of the theme that is on, by letter and by variable. */
+export function theme() {
+  const style = getComputedStyle(document.documentElement);
+  const value = (name) => style.getPropertyValue(name).trim();
+  const found = Object.fromEntries(KINDS.map(({ letter, colour }) => [letter, value(colour)]));
+  for (const name of ["text", "muted", "line", "line-strong", "grid", "selection", "cursor", "edit", "accent", "panel", "back", "refused"]) {
+    found[name] = value(`--${name}`);
+  }
+  return found;
+}
+
+/** Writes the legend. */
+export function writeLegend(place) {
+  for (const { colour, name } of KINDS) {
+    const entry = document.createElement("span");
+    const patch = document.createElement("i");
+    patch.style.background = `var(${colour})`;
+    entry.append(patch, name);
+    place.append(entry);
+  }
+}

@@ -1,0 +1,244 @@
+// Starts the page.
+
+import { Editing } from "./editing.js";
+import { EditList } from "./edit_list.js";
+import { Findings } from "./findings.js";
+import { Fragment, parse } from "./fragment.js";
+import { Frames } from "./frames.js";
+import * as server from "./interface.js";
+import * as keys from "./keys.js";
+import { writeLegend } from "./kinds.js";
+import { Model } from "./model.js";
+import { PacketFacts } from "./packet_facts.js";
+import { Player } from "./player.js";
+import { ScriptPanel } from "./script.js";
+import { Status, notice } from "./status.js";
+import { Timeline } from "./timeline.js";
+import { Viewer } from "./viewer.js";
+
+const find = (id) => document.getElementById(id);
+const start = parse(location.hash);
+const model = new Model();
+const status = new Status();
+const frames = new Frames(model);
+const timeline = new Timeline(model);
+const viewer = new Viewer(model, frames, status);
+const player = new Player(model, frames, viewer);
+const editing = new Editing(model, status);
+const findings = new Findings(model, viewer, editing, timeline, status);
+const packetFacts = new PacketFacts(model);
+const scriptPanel = new ScriptPanel(model, editing);
+const editList = new EditList(model, editing);
+editing.viewer = viewer;
+
+// Panels
+
+const tabs = [...document.querySelectorAll("[role=tab]")];
+let panel = "findings";
+
+function showPanel(name) {
+  panel = name;
+  for (const tab of tabs) {
+    const isShown = tab.getAttribute("aria-controls") === name;
+    tab.setAttribute("aria-selected", String(isShown));
+    tab.tabIndex = isShown ? 0 : -1;
+    find(tab.getAttribute("aria-controls")).hidden = !isShown;
+  }
+  packetFacts.soon();
+  fragment.soon();
+}
+
+tabs.forEach((tab, place) => {
+  tab.addEventListener("click", () => showPanel(tab.getAttribute("aria-controls")));
+  tab.addEventListener("keydown", (event) => {
+    const step = { ArrowRight: 1, ArrowLeft: -1 }[event.key];
+    if (!step) return;
+    event.preventDefault();
+    const other = tabs[(place + step + tabs.length) % tabs.length];
+    other.focus();
+    other.click();
+  });
+});
+
+// The address
+
+const fragment = new Fragment(() => ({
+  frame: model.frame,
+  source: model.source,
+  from: timeline.isAll ? undefined : timeline.window.from,
+  scale: timeline.isAll ? undefined : timeline.window.scale,
+  view: viewer.picture.view,
+  plane: viewer.picture.plane,
+  size: viewer.picture.size,
+  panel,
+}));
+timeline.onview = () => fragment.soon();
+for (const name of ["frame", "session"]) model.addEventListener(name, () => fragment.soon());
+document.querySelector("#viewer .tools").addEventListener("click", () => fragment.soon());
+
+// The head, and what is current
+
+function time(frame) {
+  const seconds = frame / model.rate;
+  const whole = Math.floor(seconds);
+  const parts = [Math.floor(whole / 3600), Math.floor(whole / 60) % 60, whole % 60].map((part) => String(part).padStart(2, "0"));
+  return `${parts.join(":")}.${String(Math.floor((seconds - whole) * 1000)).padStart(3, "0")}`;
+}
+
+function writeFrame() {
+  if (document.activeElement !== find("frame")) find("frame").value = model.frame;
+  find("time").textContent = model.session ? `of ${model.frames.toLocaleString("en")} · ${time(model.frame)}` : "";
+}
+
+function writeSelection() {
+  const { selection } = model;
+  find("selection-text").textContent = selection ? `${(selection.end - selection.first).toLocaleString("en")} packets selected, ${selection.first} to ${selection.end - 1}` : "";
+}
+
+function writeHead() {
+  const { names, rate, script, saved, sources, save, edits } = model.session;
+  find("name").textContent = names[0];
+  document.title = `${saved ? "" : "• "}${names[0]} – Wokureti`;
+  const facts = [`${model.session.packets.toLocaleString("en")} packets`, `${model.frames.toLocaleString("en")} frames`, `${(rate[0] / rate[1]).toFixed(3).replace(/\.?0+$/, "")} frames a second`];
+  if (script !== "-") facts.push("with a script");
+  find("facts").textContent = facts.join(" · ");
+  find("saved").textContent = saved ? (edits.length ? "saved" : "") : "not saved";
+  find("save").title = `Save the edited stream to ${save} (Ctrl+S)`;
+  const label = find("source-label");
+  label.hidden = sources.length < 2;
+  find("replace-source").hidden = sources.length < 2;
+  if (find("source").options.length !== sources.length) {
+    find("source").replaceChildren(...names.map((name, number) => new Option(`${number}: ${name}`, number)));
+    find("source").value = model.source;
+  }
+}
+
+model.addEventListener("session", () => {
+  writeHead();
+  writeFrame();
+});
+model.addEventListener("frame", writeFrame);
+model.addEventListener("selection", writeSelection);
+find("source").addEventListener("change", () => model.useSource(Number(find("source").value)).catch(() => {}));
+model.addEventListener("session", () => (find("source").value = model.source));
+find("frame").addEventListener("change", () => {
+  const number = Number(find("frame").value.replace(/[^\d]/g, ""));
+  if (Number.isFinite(number)) model.go(number).catch(() => {});
+});
+find("frame").addEventListener("keydown", (event) => {
+  if (event.key === "Enter" || event.key === "Escape") find("frame").blur();
+});
+find("frame").addEventListener("blur", writeFrame);
+
+// Playback
+
+player.onchange = () => {
+  timeline.isPlaying = player.isPlaying;
+  find("play").setAttribute("aria-label", player.isPlaying ? "Stop" : "Play");
+  find("play-path").setAttribute("d", player.isPlaying ? "M4 3h3v10H4zM9 3h3v10H9z" : "M4 3v10l9-5z");
+  if (!player.isPlaying) find("playing").textContent = "";
+};
+let told = 0;
+player.onframe = () => {
+  const now = performance.now();
+  if (now - told < 250) return;
+  told = now;
+  const speed = player.speed === 1 ? "" : `${player.speed} times, `;
+  find("playing").textContent = `${speed}${player.measured.toFixed(1)} frames a second, ${player.dropped} dropped`;
+};
+find("play").addEventListener("click", () => player.toggle());
+find("loop").addEventListener("click", () => {
+  player.isLoop = !player.isLoop;
+  find("loop").setAttribute("aria-pressed", String(player.isLoop));
+  player.restart();
+});
+for (const [id, go] of [
+  ["first", () => model.go(0)],
+  ["back", () => model.go(model.frame - 1)],
+  ["forward", () => model.go(model.frame + 1)],
+  ["last", () => model.go(model.frames - 1)],
+]) {
+  find(id).addEventListener("click", () => go().catch(() => {}));
+}
+
+// Keys
+
+const palette = {
+  escape: () => (findings.shown ? findings.leave() : model.select(null)),
+  showKeys: () => find("keys").showModal(),
+};
+const list = keys.keysOf({ model, player, timeline, editing, findings, viewer, palette });
+keys.write(list);
+keys.listen(list, viewer.loupe);
+find("help").addEventListener("click", palette.showKeys);
+
+// What the server says
+
+let isLost = false;
+let restarts = null;
+
+async function reload() {
+  const before = model.session;
+  await model.load();
+  if (!before) return;
+  if (before.instance !== model.session.instance) location.reload();
+  if (before.revision !== model.session.revision) await model.go(model.frame);
+}
+
+server.listen((name) => {
+  if (name === "lost") {
+    isLost = true;
+    status.say("the server of this page does not answer: was it ended?");
+    return;
+  }
+  if (isLost && name === "open") {
+    isLost = false;
+    status.say("the server answers again");
+  }
+  if (name === "restarted") notice("vp8serve ended. It was started again, and all edits are there.", { id: "restarted" });
+  reload().catch((error) => status.say(error.message));
+});
+
+// Until all headers are listed, no packet is known to be refused.
+async function awaitList() {
+  while (!model.session.listed) {
+    await new Promise((done) => setTimeout(done, 400));
+    await model.load();
+  }
+}
+
+addEventListener("beforeunload", (event) => {
+  if (model.session && !model.session.saved) event.preventDefault();
+});
+
+async function begin() {
+  writeLegend(find("legend"));
+  model.frame = start.frame || 0;
+  if (start.view) viewer.choose_view(start.view);
+  if (start.plane) viewer.choose_plane(start.plane);
+  if (start.size) viewer.choose_size(start.size);
+  if (start.panel && find(`tab-${start.panel}`)) showPanel(start.panel);
+  // The first picture is asked for before anything else is known.
+  server.frame(model.frame).then(
+    (frame) => viewer.picture.now || viewer.picture.show(frame),
+    () => {},
+  );
+  await model.load();
+  restarts = model.session.restarts;
+  if (start.source && start.source < model.session.sources.length) {
+    await model.useSource(start.source);
+  }
+  await model.go(model.frame);
+  if (start.scale) timeline.setView(start.from || 0, start.scale);
+  find("timeline").focus({ focusVisible: false });
+  status.say(restarts ? `vp8serve was started again ${restarts} times` : "ready");
+  document.body.dataset.ready = "yes";
+  awaitList().catch((error) => status.say(error.message));
+}
+
+// For tests.
+window.wokureti = { model, frames, viewer, player, timeline, editing, findings, editList, scriptPanel };
+begin().catch((error) => {
+  status.say(error.message);
+  notice(error.message, { isBad: true });
+});

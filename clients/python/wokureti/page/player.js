@@ -1,0 +1,152 @@
+// Playback at the stream's rate, in both directions. Frames are fetched ahead; those that come late are dropped.
+
+import * as server from "./interface.js";
+
+// Frames that are asked for at a time, and how far ahead.
+const AT_ONCE = 4;
+const AHEAD = 16;
+
+/** The frame that is due after some frames' time, in a range that begins again at its end if it loops; null after the end. */
+export function frameDue(start, direction, passed, range, isLoop) {
+  const count = range.end - range.first;
+  if (count <= 0) return null;
+  const place = direction > 0 ? start - range.first + passed : range.end - 1 - start + passed;
+  if (place >= count && !isLoop) return null;
+  const turned = place % count;
+  return direction > 0 ? range.first + turned : range.end - 1 - turned;
+}
+
+/** The frames that come next, in the order of playback. */
+export function framesAhead(frame, direction, count, range, isLoop) {
+  const found = [];
+  for (let turn = 0; turn < count; turn++) {
+    const due = frameDue(frame, direction, turn, range, isLoop);
+    if (due === null) break;
+    if (found.includes(due)) break;
+    found.push(due);
+  }
+  return found;
+}
+
+export class Player {
+  constructor(model, frames, viewer) {
+    this.model = model;
+    this.frames = frames;
+    this.viewer = viewer;
+    this.speed = 0;
+    this.isLoop = false;
+    this.flying = 0;
+    model.addEventListener("session", () => this.speed && this.restart());
+  }
+
+  get isPlaying() {
+    return this.speed !== 0;
+  }
+
+  toggle() {
+    return this.isPlaying ? this.stop() : this.play(1);
+  }
+
+  /** Plays at a speed: 1 is that of the stream, -1 the same backward. */
+  async play(speed) {
+    if (!this.model.frames) return;
+    const range = await this.rangeOf();
+    let start = this.model.frame;
+    const isOutside = start < range.first || start >= range.end;
+    if (isOutside || (speed > 0 && start === range.end - 1) || (speed < 0 && start === range.first)) {
+      if (isOutside || this.isLoop || !this.isPlaying) start = speed > 0 ? range.first : range.end - 1;
+    }
+    this.range = range;
+    this.speed = speed;
+    this.begin(start);
+    this.viewer.isPlaying = true;
+    this.onchange?.();
+    cancelAnimationFrame(this.asked);
+    this.asked = requestAnimationFrame(() => this.tick());
+  }
+
+  begin(start) {
+    this.start = start;
+    this.since = performance.now();
+    this.shown = 0;
+    this.dropped = 0;
+    this.passed = -1;
+    this.window = [];
+  }
+
+  /** The frames that are played: those of the selection if there is one and it loops, else all. */
+  async rangeOf() {
+    const { selection, source, frames } = this.model;
+    if (!this.isLoop || !selection) return { first: 0, end: frames };
+    const [first, last] = await Promise.all([selection.first, selection.end - 1].map((packet) => server.members(`place?packet=${packet}&source=${source}`)));
+    if (first.frame === null || last.frame === null || last.frame < first.frame) return { first: 0, end: frames };
+    return { first: first.frame, end: Math.min(frames, last.frame + 1) };
+  }
+
+  async restart() {
+    const { speed } = this;
+    if (speed) await this.play(speed);
+  }
+
+  stop() {
+    if (!this.speed) return;
+    this.speed = 0;
+    cancelAnimationFrame(this.asked);
+    this.viewer.isPlaying = false;
+    this.onchange?.();
+    this.model.go(this.model.frame).catch(() => {});
+  }
+
+  tick() {
+    if (!this.speed) return;
+    const direction = Math.sign(this.speed);
+    const now = performance.now();
+    const passed = Math.floor(((now - this.since) / 1000) * this.model.rate * Math.abs(this.speed));
+    const due = frameDue(this.start, direction, passed, this.range, this.isLoop);
+    if (due === null) {
+      this.model.frame = direction > 0 ? this.range.end - 1 : this.range.first;
+      this.stop();
+      return;
+    }
+    this.fetch(due, direction);
+    if (passed !== this.passed) this.present(due, passed, now);
+    this.asked = requestAnimationFrame(() => this.tick());
+  }
+
+  /** Shows the frame that is due if it is here; else the last one stays, and this one is dropped once the next is due. */
+  present(due, passed, now) {
+    const frame = this.frames.here(due);
+    if (!frame) return;
+    this.dropped += passed - this.passed - 1;
+    this.passed = passed;
+    this.shown++;
+    this.window.push(now);
+    while (this.window.length > 1 && now - this.window[0] > 1000) this.window.shift();
+    this.model.frame = due;
+    const origin = this.model.known(due);
+    if (origin && origin.source === this.model.source) this.model.packet = origin.packet;
+    else this.model.origin(due).catch(() => {});
+    this.viewer.present(frame);
+    this.model.send("frame");
+    this.onframe?.();
+  }
+
+  /** Frames a second in the last second. */
+  get measured() {
+    if (!this.window || this.window.length < 2) return 0;
+    return ((this.window.length - 1) * 1000) / (this.window[this.window.length - 1] - this.window[0]);
+  }
+
+  fetch(due, direction) {
+    const step = Math.max(1, Math.round(Math.abs(this.speed)));
+    for (const frame of framesAhead(due, direction, AHEAD * Math.min(step, 2), this.range, this.isLoop)) {
+      if (this.flying >= AT_ONCE) return;
+      if (this.frames.isAsked(frame)) continue;
+      this.flying++;
+      this.frames
+        .get(frame)
+        .catch(() => {})
+        .finally(() => this.flying--);
+    }
+  }
+}

@@ -1,0 +1,116 @@
+// The script as text, a node a line; a refusal is shown at its node.
+
+const find = (id) => document.getElementById(id);
+
+/** The nodes of a text: separated by lines or by `;`. Empty ones at the end go. */
+export function nodesOf(text) {
+  const nodes = text.split(/[;\n]/).map((node) => node.trim().replace(/\s+/g, " "));
+  while (nodes.length && nodes[nodes.length - 1] === "") nodes.pop();
+  return nodes;
+}
+
+/** The request line of a text. */
+export function lineOf(text) {
+  return `script ${nodesOf(text).join("; ") || "-"}`;
+}
+
+/** The text of a script, a node a line. */
+export function textOf(script) {
+  return script === "-" ? "" : nodesOf(script).join("\n");
+}
+
+/** The node that a reason names, counted from 1, or null. */
+export function nodeOf(reason) {
+  const found = /node (\d+)/.exec(reason);
+  return found ? Number(found[1]) : null;
+}
+
+/** The first and the last character of a node in a text. */
+export function rangeOf(text, node) {
+  let start = 0;
+  for (let number = 1; ; number++) {
+    const match = /[;\n]/.exec(text.slice(start));
+    const end = match ? start + match.index : text.length;
+    if (number === node || !match) return [start, end];
+    start = end + 1;
+  }
+}
+
+export class ScriptPanel {
+  constructor(model, editing) {
+    this.model = model;
+    this.editing = editing;
+    this.text = find("script-text");
+    this.shown = null;
+    model.addEventListener("session", () => this.follow());
+    find("script-form").addEventListener("submit", (event) => {
+      event.preventDefault();
+      this.set();
+    });
+    find("script-none").addEventListener("click", () => {
+      this.text.value = "";
+      this.set();
+    });
+    this.text.addEventListener("input", () => this.complain(null));
+    this.text.addEventListener("scroll", () => (find("script-numbers").scrollTop = this.text.scrollTop));
+    this.text.addEventListener("keydown", (event) => {
+      if (event.key === "Enter" && (event.ctrlKey || event.metaKey)) {
+        event.preventDefault();
+        this.set();
+      }
+    });
+    this.number();
+  }
+
+  /** Shows the script of the session, unless another text is being written. */
+  follow() {
+    const { script } = this.model.session;
+    if (script === this.shown) return;
+    const isWritten = this.shown !== null && nodesOf(this.text.value).join("; ") !== nodesOf(textOf(this.shown)).join("; ");
+    if (!isWritten || document.activeElement !== this.text) {
+      this.text.value = textOf(script);
+      this.complain(null);
+    }
+    this.shown = script;
+    find("tab-script").classList.toggle("is-set", script !== "-");
+  }
+
+  set() {
+    return this.editing.make([lineOf(this.text.value)], "the script is set", {
+      refused: (error) => {
+        if (!error.reply) return false;
+        this.complain(error.reason || error.reply);
+        return true;
+      },
+    });
+  }
+
+  /** Shows why the text was refused, at its node; null takes that away. */
+  complain(reason) {
+    const box = find("script-error");
+    box.hidden = reason === null;
+    box.textContent = reason === null ? "" : `Refused: ${reason}`;
+    this.text.setAttribute("aria-invalid", String(reason !== null));
+    const node = reason === null ? null : nodeOf(reason);
+    this.number(node);
+    if (node === null) return;
+    const [start, end] = rangeOf(this.text.value, node);
+    this.text.focus();
+    this.text.setSelectionRange(start, end);
+  }
+
+  /** Numbers the lines by their nodes. */
+  number(bad = null) {
+    const list = find("script-numbers");
+    list.replaceChildren();
+    let node = 1;
+    for (const line of this.text.value.split("\n")) {
+      const count = Math.max(1, line.split(";").length);
+      const entry = document.createElement("li");
+      entry.textContent = count > 1 ? `${node}+` : node;
+      entry.classList.toggle("bad", bad !== null && bad >= node && bad < node + count);
+      list.append(entry);
+      node += count;
+    }
+  }
+}

@@ -1,0 +1,91 @@
+// The line that says what goes on, and notices.
+
+import * as server from "./interface.js";
+
+const find = (id) => document.getElementById(id);
+// Milliseconds after which a request that is not answered is shown.
+const SOON = 300;
+
+export class Status {
+  constructor() {
+    this.text = "";
+    this.restarts = null;
+    this.until = 0;
+    this.polling = false;
+    setInterval(() => this.look(), 150);
+  }
+
+  /** Says a sentence until the next one comes. */
+  say(text) {
+    this.text = text;
+    this.until = 0;
+    this.write(text, null);
+  }
+
+  /** Says how much of something is done. */
+  progress(text, done, total) {
+    this.until = performance.now() + 600;
+    this.write(`${text}: ${done.toLocaleString("en")} of ${total.toLocaleString("en")}`, total ? done / total : 0);
+  }
+
+  write(text, part) {
+    if (find("status").textContent !== text) find("status").textContent = text;
+    const bar = find("status-bar");
+    bar.hidden = part === null;
+    if (part !== null) bar.value = part;
+  }
+
+  /** Shows the request that is not answered for the longest time, with a number. */
+  look() {
+    if (performance.now() < this.until) return;
+    const oldest = [...server.waiting.values()].sort((one, other) => one.since - other.since)[0];
+    const passed = oldest ? performance.now() - oldest.since : 0;
+    if (passed < SOON) {
+      if (this.isBusy) this.write(this.text, null);
+      this.isBusy = false;
+      return;
+    }
+    this.isBusy = true;
+    const seconds = `${(passed / 1000).toFixed(1)} s`;
+    if (oldest.what === "edit") {
+      this.ask(seconds);
+    } else {
+      this.write(`${oldest.what.startsWith("frame") ? "decoding" : "waiting for"} ${oldest.what}: ${seconds}`, null);
+    }
+  }
+
+  /** How far the server is with an edit. */
+  async ask(seconds) {
+    if (this.polling) return;
+    this.polling = true;
+    try {
+      const { doing } = await server.members("progress");
+      if (doing && doing.total > 1) this.progress("edits made", doing.done, doing.total);
+      else this.write(`an edit is being applied: ${seconds}`, null);
+    } catch {
+      this.write(`waiting for the edit: ${seconds}`, null);
+    } finally {
+      this.polling = false;
+    }
+  }
+}
+
+/** Shows a notice, which goes by itself if it is not bad. */
+export function notice(text, { isBad = false, id = "" } = {}) {
+  const place = find("notices");
+  for (const old of [...place.children]) if (id && old.dataset.id === id) old.remove();
+  const box = document.createElement("div");
+  box.className = `notice${isBad ? " bad" : ""}`;
+  box.dataset.id = id;
+  const said = document.createElement("span");
+  said.textContent = text;
+  const close = document.createElement("button");
+  close.textContent = "×";
+  close.setAttribute("aria-label", "Close");
+  close.addEventListener("click", () => box.remove());
+  box.append(said, close);
+  place.append(box);
+  while (place.children.length > 4) place.firstChild.remove();
+  if (!isBad) setTimeout(() => box.remove(), 6000);
+  return box;
+}

@@ -1,0 +1,429 @@
+// The timeline: a bar a packet, or a column for several.
+
+import { NAMES, theme } from "./kinds.js";
+import { COLUMNS, Tiles, perOf } from "./tiles.js";
+import { Window, bytesText, stepOf } from "./window.js";
+
+const find = (id) => document.getElementById(id);
+const RULER = 20;
+const MARKS = 14;
+
+export class Timeline {
+  constructor(model) {
+    this.model = model;
+    this.box = find("timeline");
+    this.canvas = find("bars");
+    this.overview = find("overview");
+    this.window = new Window();
+    this.tiles = new Tiles(() => this.redraw());
+    this.findings = [];
+    this.state = "";
+    this.theme = theme();
+    this.isAll = true;
+    this.drawn = 0;
+    matchMedia("(prefers-color-scheme: dark)").addEventListener("change", () => {
+      this.theme = theme();
+      this.redraw();
+    });
+    new ResizeObserver(() => this.resize()).observe(this.box);
+    model.addEventListener("session", () => this.changed());
+    for (const name of ["frame", "packet"]) model.addEventListener(name, () => this.moved());
+    model.addEventListener("selection", () => this.redraw());
+    this.box.addEventListener("wheel", (event) => this.wheel(event), { passive: false });
+    this.box.addEventListener("pointerdown", (event) => this.press(event));
+    this.box.addEventListener("pointermove", (event) => this.hover(event));
+    this.box.addEventListener("pointerleave", () => (find("tip").hidden = true));
+    this.overview.addEventListener("pointerdown", (event) => this.scroll(event));
+    find("zoom-in").addEventListener("click", () => this.zoom(2));
+    find("zoom-out").addEventListener("click", () => this.zoom(0.5));
+    find("zoom-all").addEventListener("click", () => this.zoomAll());
+  }
+
+  resize() {
+    const ratio = devicePixelRatio || 1;
+    for (const canvas of [this.canvas, this.overview]) {
+      canvas.width = Math.round(canvas.clientWidth * ratio);
+      canvas.height = Math.round(canvas.clientHeight * ratio);
+    }
+    this.window.width = Math.max(1, this.canvas.clientWidth);
+    if (this.isAll) this.window.all();
+    this.window.clamp();
+    this.redraw();
+  }
+
+  changed() {
+    const { model, window } = this;
+    const isNew = window.count === 0;
+    window.count = model.packets;
+    this.tiles.use(model.revision, model.source, `${model.session.listed} ${this.state}`);
+    if (this.isAll || isNew) window.all();
+    window.clamp();
+    this.describe();
+    this.redraw();
+  }
+
+  /** The findings of the check, in the order of packets, and a text that changes with them. */
+  setFindings(findings, state) {
+    this.findings = findings;
+    if (state !== this.state) {
+      this.state = state;
+      if (this.model.session) this.tiles.use(this.model.revision, this.model.source, `${this.model.session.listed} ${state}`);
+    }
+    this.redraw();
+  }
+
+  moved() {
+    if (this.isPlaying) this.window.follow(this.model.packet);
+    else if (!this.isHeld) this.window.reveal(this.model.packet);
+    this.describe();
+    this.redraw();
+  }
+
+  describe() {
+    const { model, box } = this;
+    box.setAttribute("aria-valuemax", Math.max(0, model.frames - 1));
+    box.setAttribute("aria-valuenow", model.frame);
+    box.setAttribute("aria-valuetext", `frame ${model.frame}, packet ${model.packet} of ${model.packets}`);
+  }
+
+  zoom(factor, pixel = this.window.pixelOf(this.model.packet + 0.5)) {
+    const inside = pixel >= 0 && pixel <= this.window.width ? pixel : this.window.width / 2;
+    this.window.zoom(factor, inside);
+    this.isAll = this.window.scale <= this.window.least * 1.0001;
+    this.redraw();
+    this.onview?.();
+  }
+
+  zoomAll() {
+    this.isAll = true;
+    this.window.all();
+    this.redraw();
+    this.onview?.();
+  }
+
+  /** Shows these packets: the first one, and the pixels of each. */
+  setView(from, scale) {
+    this.isAll = false;
+    this.window.scale = scale;
+    this.window.from = from;
+    this.window.clamp();
+    this.redraw();
+  }
+
+  wheel(event) {
+    event.preventDefault();
+    const unit = event.deltaMode === 1 ? 16 : event.deltaMode === 2 ? 120 : 1;
+    const across = event.shiftKey ? event.deltaY : event.deltaX;
+    if (Math.abs(across) > Math.abs(event.shiftKey ? 0 : event.deltaY)) {
+      this.window.pan(across * unit);
+      this.redraw();
+      this.onview?.();
+      return;
+    }
+    this.zoom(Math.exp((-event.deltaY * unit) / 300), event.clientX - this.box.getBoundingClientRect().left);
+  }
+
+  pixel(event, element = this.box) {
+    return event.clientX - element.getBoundingClientRect().left;
+  }
+
+  /** A click goes to a packet; a drag selects packets; on the numbers it goes along. */
+  press(event) {
+    if (event.button !== 0 || !this.model.packets) return;
+    this.box.focus();
+    this.box.setPointerCapture(event.pointerId);
+    const { model } = this;
+    const limit = (packet) => Math.max(0, Math.min(model.packets - 1, packet));
+    const start = limit(this.window.packetAt(this.pixel(event)));
+    const onNumbers = event.clientY - this.box.getBoundingClientRect().top > this.canvas.clientHeight - RULER;
+    const from = event.shiftKey ? (model.selection ? model.selection.first : model.packet) : start;
+    let dragged = event.shiftKey;
+    this.isHeld = true;
+    if (event.shiftKey) model.select(Math.min(from, start), Math.max(from, start) + 1);
+    else model.goPacket(start).catch(() => {});
+    const begun = event.clientX;
+    const move = (moved) => {
+      const here = limit(this.window.packetAt(this.pixel(moved)));
+      if (onNumbers && !event.shiftKey) {
+        if (here !== model.packet) model.goPacket(here).catch(() => {});
+        return;
+      }
+      dragged = dragged || Math.abs(moved.clientX - begun) > 3;
+      if (dragged) model.select(Math.min(from, here), Math.max(from, here) + 1);
+    };
+    const end = () => {
+      this.isHeld = false;
+      this.box.removeEventListener("pointermove", move);
+      this.box.removeEventListener("pointerup", end);
+      this.box.removeEventListener("pointercancel", end);
+      if (!dragged && !onNumbers) model.select(null);
+    };
+    this.box.addEventListener("pointermove", move);
+    this.box.addEventListener("pointerup", end);
+    this.box.addEventListener("pointercancel", end);
+  }
+
+  /** Drags the part of the overview that the timeline shows. */
+  scroll(event) {
+    this.overview.setPointerCapture(event.pointerId);
+    const go = (moved) => {
+      const { window } = this;
+      window.from = (this.pixel(moved, this.overview) / window.width) * window.count - window.span / 2;
+      window.clamp();
+      this.redraw();
+      this.onview?.();
+    };
+    const end = () => {
+      this.overview.removeEventListener("pointermove", go);
+      this.overview.removeEventListener("pointerup", end);
+      this.overview.removeEventListener("pointercancel", end);
+    };
+    this.overview.addEventListener("pointermove", go);
+    this.overview.addEventListener("pointerup", end);
+    this.overview.addEventListener("pointercancel", end);
+    go(event);
+  }
+
+  hover(event) {
+    const packet = this.window.packetAt(this.pixel(event));
+    const tip = find("tip");
+    const found = packet >= 0 && packet < this.window.count ? this.entry(packet) : null;
+    tip.hidden = !found;
+    if (!found) return;
+    const { per, first, kind, bytes, frame } = found;
+    const end = Math.min(first + per, this.window.count) - 1;
+    tip.textContent = per === 1 ? `packet ${first} · frame ${frame} · ${NAMES[kind]} · ${bytesText(bytes)}` : `packets ${first} to ${end} · ${NAMES[kind]} · up to ${bytesText(bytes)}`;
+    const pixel = this.pixel(event);
+    tip.style.left = pixel > this.window.width / 2 ? "" : `${pixel + 12}px`;
+    tip.style.right = pixel > this.window.width / 2 ? `${this.window.width - pixel + 12}px` : "";
+    tip.style.top = "4px";
+  }
+
+  /** The column that has a packet at the current zoom, if its tile is here. */
+  entry(packet) {
+    const per = perOf(this.window.scale);
+    const column = Math.floor(packet / per);
+    const tile = this.tiles.get(per, Math.floor(column / COLUMNS));
+    const place = column % COLUMNS;
+    if (!tile || place >= tile.kinds.length) return null;
+    return { per, first: column * per, kind: tile.kinds[place], bytes: tile.bytes[place], frame: tile.frames[place] };
+  }
+
+  redraw() {
+    if (this.asked) return;
+    this.asked = requestAnimationFrame(() => {
+      this.asked = 0;
+      this.draw();
+    });
+  }
+
+  draw() {
+    if (!this.model.session) return;
+    const started = performance.now();
+    const whole = this.wholeTile();
+    const most = whole ? whole.bytes.reduce((one, other) => Math.max(one, other), 1) : 1;
+    this.drawBars(most);
+    this.drawOverview(whole, most);
+    if (whole && !this.isDrawn) performance.mark("first timeline");
+    this.isDrawn = this.isDrawn || whole !== null;
+    this.drawn = performance.now() - started;
+  }
+
+  wholeTile() {
+    const { count } = this.window;
+    return count ? this.tiles.get(perOf(COLUMNS / count), 0) : null;
+  }
+
+  drawBars(most) {
+    const { window, canvas, theme: colours } = this;
+    const ratio = canvas.width / window.width;
+    const height = canvas.height / ratio;
+    const context = canvas.getContext("2d", { alpha: false });
+    context.setTransform(ratio, 0, 0, ratio, 0, 0);
+    context.fillStyle = colours.panel;
+    context.fillRect(0, 0, window.width, height);
+    if (!window.count) return;
+    const base = height - RULER;
+    const room = base - MARKS - 4;
+    this.drawGrid(context, most, base, room);
+    const per = perOf(window.scale);
+    const wide = window.scale * per;
+    const gap = wide >= 4 ? 1 : 0;
+    const first = Math.max(0, Math.floor(window.from / per));
+    const end = Math.ceil(Math.min(window.count, window.from + window.span + per) / per);
+    const labels = [];
+    const step = stepOf(70 / window.scale);
+    let label = -Infinity;
+    for (let column = first; column < end; column++) {
+      const tile = this.tiles.get(per, Math.floor(column / COLUMNS));
+      const place = column % COLUMNS;
+      const left = (column * per - window.from) * window.scale;
+      if (!tile || place >= tile.kinds.length) {
+        context.fillStyle = colours.grid;
+        context.fillRect(left, base - 6, Math.max(1, wide - gap), 6);
+        continue;
+      }
+      const kind = tile.kinds[place];
+      const tall = Math.max(3, Math.sqrt(tile.bytes[place] / most) * room);
+      context.fillStyle = colours[kind];
+      if (kind === "r" || kind === "p") {
+        // A broken packet may be small: its column is tinted.
+        context.globalAlpha = 0.22;
+        context.fillRect(left, MARKS, Math.max(1, wide - gap), base - MARKS);
+        context.globalAlpha = 1;
+      }
+      context.fillRect(left, base - tall, Math.max(0.75, wide - gap), tall);
+      if (tile.marks.has(place)) mark(context, left + wide / 2, MARKS - 2, colours.edit);
+      const number = Math.floor(tile.frames[place] / step);
+      const shown = per > 1 || kind !== "h";
+      if (number !== label && shown) {
+        if (label !== -Infinity || tile.frames[place] % step === 0) labels.push([left, number * step]);
+        label = number;
+      }
+    }
+    this.drawNumbers(context, labels, base, height);
+    this.drawFindings(context);
+    this.drawSelection(context, base);
+    this.drawCursor(context, height, base);
+  }
+
+  drawGrid(context, most, base, room) {
+    context.strokeStyle = this.theme.grid;
+    context.fillStyle = this.theme.muted;
+    context.lineWidth = 1;
+    context.font = "10px system-ui, sans-serif";
+    this.scaleTexts = [];
+    for (const part of [1, 0.25]) {
+      const y = Math.round(base - Math.sqrt(part) * room) + 0.5;
+      context.beginPath();
+      context.moveTo(0, y);
+      context.lineTo(this.window.width, y);
+      context.stroke();
+      this.scaleTexts.push([bytesText(Math.round(most * part)), y]);
+    }
+  }
+
+  drawNumbers(context, labels, base, height) {
+    const { theme: colours, window } = this;
+    context.fillStyle = colours.back;
+    context.fillRect(0, base, window.width, height - base);
+    context.fillStyle = colours["line-strong"];
+    context.fillRect(0, base, window.width, 1);
+    context.font = "11px system-ui, sans-serif";
+    context.textAlign = "left";
+    for (const [left, number] of labels) {
+      context.fillStyle = colours["line-strong"];
+      context.fillRect(Math.round(left), base, 1, 6);
+      context.fillStyle = colours.muted;
+      context.fillText(number.toLocaleString("en"), left + 4, base + 14);
+    }
+    context.font = "10px system-ui, sans-serif";
+    context.textAlign = "right";
+    for (const [text, y] of this.scaleTexts) {
+      const wide = context.measureText(text).width;
+      context.fillStyle = colours.panel;
+      context.globalAlpha = 0.8;
+      context.fillRect(window.width - wide - 8, y - 6, wide + 8, 12);
+      context.globalAlpha = 1;
+      context.fillStyle = colours.muted;
+      context.fillText(text, window.width - 4, y + 3.5);
+    }
+    context.textAlign = "left";
+  }
+
+  /** Damage as a dot above its packet. */
+  drawFindings(context) {
+    if (this.model.source !== 0) return;
+    const { findings, window } = this;
+    let last = -10;
+    for (let place = firstAt(findings, Math.floor(window.from)); place < findings.length; place++) {
+      const pixel = window.pixelOf(findings[place] + 0.5);
+      if (pixel > window.width) break;
+      if (pixel - last < 4) continue;
+      last = pixel;
+      context.fillStyle = this.theme.refused;
+      context.beginPath();
+      context.arc(pixel, 5, 3, 0, 2 * Math.PI);
+      context.fill();
+    }
+  }
+
+  drawSelection(context, base) {
+    const { selection } = this.model;
+    if (!selection) return;
+    const left = this.window.pixelOf(selection.first);
+    const right = Math.max(left + 1, this.window.pixelOf(selection.end));
+    context.fillStyle = this.theme.selection;
+    context.fillRect(left, 0, right - left, base);
+    context.fillStyle = this.theme.accent;
+    context.fillRect(left - 0.5, 0, 1.5, base);
+    context.fillRect(right - 1, 0, 1.5, base);
+  }
+
+  drawCursor(context, height, base) {
+    const { window, model, theme: colours } = this;
+    const left = window.pixelOf(model.packet);
+    const middle = left + Math.max(1, window.scale) / 2;
+    context.fillStyle = colours.cursor;
+    context.globalAlpha = 0.14;
+    if (window.scale > 2) context.fillRect(left, 0, window.scale, base);
+    context.globalAlpha = 1;
+    context.fillRect(Math.round(middle) - 0.5, 0, 1.5, height);
+    context.beginPath();
+    context.moveTo(middle - 6, base + 1);
+    context.lineTo(middle + 6, base + 1);
+    context.lineTo(middle, base - 6);
+    context.fill();
+  }
+
+  drawOverview(whole, most) {
+    const { overview: canvas, window, theme: colours } = this;
+    const ratio = canvas.width / window.width;
+    const height = canvas.height / ratio;
+    const context = canvas.getContext("2d", { alpha: false });
+    context.setTransform(ratio, 0, 0, ratio, 0, 0);
+    context.fillStyle = colours.back;
+    context.fillRect(0, 0, window.width, height);
+    if (!whole || !window.count) return;
+    const scale = window.width / window.count;
+    const wide = Math.max(1, whole.per * scale);
+    for (let column = 0; column < whole.kinds.length; column++) {
+      const tall = Math.max(2, Math.sqrt(whole.bytes[column] / most) * (height - 4));
+      context.fillStyle = colours[whole.kinds[column]];
+      context.fillRect(column * whole.per * scale, height - tall, wide, tall);
+    }
+    const left = window.from * scale;
+    const right = Math.max(left + 3, (window.from + window.span) * scale);
+    context.fillStyle = colours.back;
+    context.globalAlpha = 0.62;
+    context.fillRect(0, 0, left, height);
+    context.fillRect(right, 0, window.width - right, height);
+    context.globalAlpha = 1;
+    context.strokeStyle = colours.accent;
+    context.lineWidth = 1.5;
+    context.strokeRect(left + 0.75, 0.75, Math.max(1.5, Math.min(right, window.width) - left - 1.5), height - 1.5);
+    context.fillStyle = colours.cursor;
+    context.fillRect(Math.round(this.model.packet * scale), 0, 1, height);
+  }
+}
+
+/** A small triangle that says that an edit was here. */
+function mark(context, x, y, colour) {
+  context.fillStyle = colour;
+  context.beginPath();
+  context.moveTo(x - 4, y - 5);
+  context.lineTo(x + 4, y - 5);
+  context.lineTo(x, y + 1);
+  context.fill();
+}
+
+/** The place of the first number that is at least a value, in a list that ascends. */
+export function firstAt(list, value) {
+  let [low, high] = [0, list.length];
+  while (low < high) {
+    const middle = (low + high) >> 1;
+    if (list[middle] < value) low = middle + 1;
+    else high = middle;
+  }
+  return low;
+}

@@ -1,0 +1,338 @@
+"""The routes that `wokureti open` has more than `wokureti serve`: the files of its page, and what the page asks for."""
+
+import json
+import os
+import pathlib
+import time
+
+from . import ivf, repair
+from .errors import Refused
+from .frames import MARK
+from .proposals import Proposals
+from .routes import Routes, until_ended
+from .session import EDITS
+from .views import MOST_ENTRIES
+from .virtual import header_of
+from .web import Refuse, Response, as_json
+
+KINDS = {
+    ".html": "text/html; charset=utf-8",
+    ".js": "text/javascript; charset=utf-8",
+    ".css": "text/css; charset=utf-8",
+    ".svg": "image/svg+xml",
+}
+REFUSALS = (404, 409, 412)
+# The steps of `wokureti repair` that act on packets.
+STEPS = frozenset(("double", "sort", "hold"))
+# The edits of one request, at most.
+MOST_LINES = 20000
+# Frames whose origins are told at a time, at most; seconds that one search for a frame that differs takes.
+MOST_ORIGINS, SEARCH_TIME = 4096, 0.25
+
+
+def files_of_page():
+    """The files of the page, by their names: nothing else is served as a file."""
+    folder = pathlib.Path(__file__).resolve().parent / "page"
+    return {path.name: (KINDS[path.suffix], path.read_bytes()) for path in sorted(folder.iterdir()) if path.suffix in KINDS}
+
+
+class PageRoutes(Routes):
+    """The routes of a stream that has a page."""
+
+    def __init__(self, live, server, token, titles):
+        super().__init__(live, server, token)
+        self.titles, self.files = titles, files_of_page()
+        self.posts[("preview",)] = self.preview
+        self.reads.update(
+            {
+                ("session",): self.session,
+                ("progress",): self.progress,
+                ("timeline",): self.timeline,
+                ("origins",): self.origins,
+                ("place",): self.place,
+                ("check",): self.check_of,
+                ("repairs",): self.repairs,
+                ("repair_all",): self.repair_all,
+                ("differs",): self.differs,
+                ("stream.ivf",): self.stream,
+            }
+        )
+
+    def answer(self, request):
+        """A browser reports each status of 400 and more as an error of the page: with `refusals=answers` a refusal is an answer."""
+        wants = request.query.pop("refusals", None) == "answers"
+        try:
+            response = super().answer(request)
+        except Refuse as refuse:
+            if not wants or refuse.status not in REFUSALS:
+                raise
+            response = as_json(refuse.members, refuse.status)
+        if wants and response.status in REFUSALS:
+            response.headers.append(("X-Refused", str(response.status)))
+            response.status = 200
+        return response
+
+    def read(self, request, parts):
+        if len(parts) == 2 and parts[0] == "page":
+            kind, text = self.files.get(parts[1] or "index.html", (None, None))
+            if kind is not None:
+                self.only(request)
+                return Response(200, kind, text)
+        if len(parts) == 3 and parts[:2] == ("before", "frames"):
+            return self.before(request, parts[2])
+        return super().read(request, parts)
+
+    def session(self, request):
+        """What the page shows of the session."""
+        self.only(request)
+        view = self.live.current_view()
+        first = view.timeline(0)
+        members = {
+            "revision": view.revision,
+            "instance": self.live.instance,
+            "names": self.titles,
+            "packets": len(view.streams[0]),
+            "frames": view.frames,
+            "rate": list(view.rate),
+            "sources": [len(stream) for stream in view.streams],
+            "source": view.source,
+            "script": view.script,
+            "edits_before": view.edits_before,
+            "edits": [line for line, _ in view.edits],
+            "steps": [step for _, step in view.edits],
+            "undone": view.undone,
+            "saved": self.live.saved == view.revision,
+            "save": self.live.save_path,
+            "list": os.fspath(self.live.edits_path),
+            "listed": view.pool.is_listed,
+            "restarts": len(self.live.events),
+            "shown": first.frames[-1],
+        }
+        return as_json(members)
+
+    def progress(self, request):
+        """What goes on. Nothing waits here."""
+        self.only(request)
+        doing, found = self.live.doing, None
+        if doing is not None:
+            what, done, total, since = doing
+            found = {"what": what, "done": done, "total": total, "seconds": round(time.monotonic() - since, 1)}
+        return as_json({"revision": self.live.revision, "doing": found, "restarts": len(self.live.events)})
+
+    def source_of(self, request, view):
+        source = self.number(request, "source", 0)
+        if source >= len(view.streams):
+            raise Refuse(404, "there is no such source")
+        return source
+
+    def timeline(self, request):
+        """Packets as they are drawn."""
+        self.only(request, "source", "first", "per", "count")
+        view = self.live.current_view()
+        source = self.source_of(request, view)
+        first, per, count = self.number(request, "first", 0), self.number(request, "per", 1), self.number(request, "count", 1024)
+        if not 1 <= per <= 1 << 20 or not 1 <= count <= MOST_ENTRIES:
+            raise Refuse(400, f"per is 1 to {1 << 20}, count 1 to {MOST_ENTRIES}")
+        timeline = view.timeline(source)
+        check = self.live.check
+        if check is not None and source == 0 and check.is_of(view):
+            timeline.damage(check)
+        found = timeline.tile(min(first, len(timeline.stream)), per, count)
+        return as_json({"revision": view.revision, "source": source, "first": first, "per": per, "packets": len(timeline.stream), **found})
+
+    def origins(self, request):
+        """For each frame of a range the source and the packet that it shows, and the frame of the opened file there."""
+        self.only(request, "from", "count")
+        view = self.live.current_view()
+        first, count = self.number(request, "from", 0), min(self.number(request, "count", 256), MOST_ORIGINS)
+        found = [view.origin(frame) for frame in range(first, min(first + count, view.frames))]
+        before = [self.original_frame(view, *origin) for origin in found]
+        members = {"sources": [source for source, _ in found], "packets": [packet for _, packet in found], "before": before}
+        return as_json({"revision": view.revision, "from": first, **members})
+
+    def original_frame(self, view, source, packet):
+        """The frame that the file of a source shows at a packet, or None."""
+        index = view.original(source, packet)
+        return None if index is None else view.shown_before(source, index)
+
+    def place(self, request):
+        """The first frame that shows a packet."""
+        self.only(request, "packet", "source")
+        view = self.live.current_view()
+        source = self.source_of(request, view)
+        packet = self.number(request, "packet", 0)
+        return as_json({"revision": view.revision, "source": source, "packet": packet, "frame": view.frame_of(source, packet)})
+
+    def check_of(self, request):
+        """The findings of the current stream so far, starting at one of them."""
+        self.only(request, "from")
+        check = self.live.checked()
+        first = self.number(request, "from", 0)
+        is_over = check.is_over
+        members = {
+            "revision": self.live.revision,
+            "check": check.number,
+            "from": first,
+            "findings": check.findings[first:],
+            "damage": check.damage,
+            "notes": check.notes,
+            "done": check.done,
+            "packets": len(check.stream),
+            "over": is_over,
+            "failed": check.error,
+        }
+        return as_json(members)
+
+    def repairs(self, request):
+        """The repairs that can work for a finding of the current stream."""
+        self.only(request, "kind", "packet", "before", "stamp")
+        view = self.live.current_view()
+        finding = {name: self.number(request, name, None) for name in ("packet", "before", "stamp")}
+        finding["kind"] = request.query.get("kind")
+        if finding["packet"] is not None and finding["packet"] >= len(view.streams[0]):
+            raise Refuse(404, "there is no such packet")
+        if finding["kind"] == "stamp_skips" and None in finding.values():
+            raise Refuse(400, "time stamps that skip have packet, before and stamp")
+        found = Proposals(view, self.titles).of(finding)
+        return as_json({"revision": view.revision, "repairs": [proposal.members() for proposal in found]})
+
+    def repair_all(self, request):
+        """The edits that `wokureti repair` would make, with source 1 as the second recording if there is one, and what they do."""
+        self.only(request)
+        view = self.live.current_view()
+        contents = view.contents
+        data, *others = (b"".join(self.text(view, source)) for source in range(min(2, len(view.streams))))
+        given = (contents.program, contents.lister)
+        try:
+            try:
+                found = repair.repair(data, *given, *others, tables=contents.tables, steps=STEPS)
+            except ivf.NotIvf:
+                raise
+            except ValueError:
+                # Source 1 is another stream.
+                found = repair.repair(data, *given, tables=contents.tables, steps=STEPS)
+        except ivf.NotIvf as error:
+            raise Refuse(409, str(error)) from None
+        lines = repair.edits_of(data, found)
+        return as_json({"revision": view.revision, "lines": lines, "said": found.lines, "left": found.left})
+
+    def text(self, view, source):
+        """The packets of a source as an IVF file, in pieces."""
+        stream = view.streams[source]
+        yield view.contents.inputs.all[source].head.text(len(stream))
+        yield from view.contents.records(stream)
+
+    def y4m(self, picture, headers=()):
+        width, height, samples = picture
+        text = header_of((width, height), self.live.current_view().rate) + MARK + samples
+        return Response(200, "video/x-yuv4mpeg", text, headers=headers)
+
+    def before(self, request, name):
+        """A frame of a file as it was opened."""
+        self.only(request, "source")
+        view = self.live.current_view()
+        source = self.source_of(request, view)
+        number, _, kind = name.partition(".")
+        if not number.isdecimal() or len(number) > 18 or kind != "y4m":
+            raise Refuse(404, "there is nothing here")
+        return self.y4m(self.live.original(source).picture(int(number)))
+
+    def differs(self, request):
+        """The next frame that is another one than that of the opened file, as far as a quarter of a second goes. `next` is where to go on."""
+        self.only(request, "from", "step")
+        view = self.live.current_view()
+        step = -1 if request.query.get("step") == "-1" else 1
+        frame, limit, found = self.number(request, "from", 0), time.monotonic() + SEARCH_TIME, None
+        frames = view.frames
+        while 0 <= frame < frames and found is None and time.monotonic() < limit:
+            if self.live.revision != view.revision:
+                raise Refuse(412, "the stream was changed", revision=self.live.revision)
+            if self.is_other(view, frame):
+                found = frame
+            frame += step
+        is_over = found is not None or not 0 <= frame < frames
+        return as_json({"revision": view.revision, "frame": found, "next": None if is_over else frame, "frames": frames})
+
+    def is_other(self, view, frame):
+        """Whether a frame differs from the one of the opened file."""
+        source, packet = view.origin(frame)
+        other = self.original_frame(view, source, packet)
+        pictures = []
+        for one, number in ((self.live, frame), (self.live.original(source), other)):
+            try:
+                pictures.append(None if number is None else one.picture(number))
+            except Refused as refused:
+                pictures.append(refused.word)
+        return pictures[0] != pictures[1]
+
+    def preview(self, request):
+        """A frame, or the findings of a group of pictures, after edits that are not made."""
+        self.only(request)
+        members = parse_body(request.body, {"lines": list, "frame": int, "findings": int, "revision": int})
+        lines, view = checked_lines(members), self.live.current_view()
+        if members.get("revision", view.revision) != view.revision:
+            raise Refuse(412, "the stream was changed", revision=view.revision)
+        with self.live.lock:
+            made = list(self.live.alive().edits)
+        if "findings" in members:
+            found = self.live.preview.findings(made + lines, members["findings"])
+            return as_json({"revision": view.revision, "findings": found})
+        if "frame" not in members:
+            raise Refuse(400, "a preview is of a frame, or of findings")
+        return self.y4m(self.live.preview.picture(made + lines, members["frame"]))
+
+    def stream(self, request):
+        """The current packets of source 0 as an IVF file."""
+        self.only(request)
+        view = self.live.current_view()
+        timeline, stream = view.timeline(0), view.streams[0]
+        length = ivf.HEAD.size + ivf.RECORD.size * len(stream) + sum(timeline.sizes)
+        name = os.path.splitext(os.path.basename(self.titles[0]))[0]
+        safe = "".join(letter if letter.isalnum() and letter.isascii() else "-" for letter in name) or "stream"
+        headers = [("Content-Disposition", f'attachment; filename="{safe}-edited.ivf"')]
+        return Response(200, "video/x-ivf", length=length, headers=headers, pieces=until_ended(self.text(view, 0)))
+
+    def change(self, request):
+        """An edit, several as one step, `undo`, `redo` or `save`."""
+        self.only(request)
+        members = parse_body(request.body, {"line": str, "lines": list, "revision": int})
+        if "lines" not in members:
+            return super().change(request)
+        lines = checked_lines(members)
+        if not lines or "line" in members:
+            raise Refuse(400, "a change is of a line, or of lines")
+        with self.live.lock:
+            revision = members.get("revision")
+            if revision is not None and revision != self.live.revision:
+                raise Refuse(412, "the stream was changed", revision=self.live.revision)
+            try:
+                reply = self.live.run_step(lines)
+            except ValueError as error:
+                raise Refuse(400, str(error)) from None
+            return as_json({"reply": reply, "revision": self.live.revision})
+
+
+def parse_body(body, kinds):
+    """The members of a JSON object, each of its kind."""
+    try:
+        members = json.loads(body.decode())
+    except (UnicodeDecodeError, ValueError, RecursionError):
+        raise Refuse(400, "the body is not JSON") from None
+    if not isinstance(members, dict) or not set(members) <= set(kinds):
+        raise Refuse(400, f"the body is an object with {', '.join(kinds)}")
+    for name, value in members.items():
+        if not isinstance(value, kinds[name]) or isinstance(value, bool) or (kinds[name] is int and not 0 <= value < 1 << 60):
+            raise Refuse(400, f"{name} is not of its kind")
+    return members
+
+
+def checked_lines(members):
+    """The edits of a body."""
+    lines = members.get("lines", [])
+    if len(lines) > MOST_LINES:
+        raise Refuse(400, f"a step has at most {MOST_LINES} edits")
+    for line in lines:
+        if not isinstance(line, str) or "\n" in line or "\r" in line or line.strip(" ").split(" ")[0] not in EDITS:
+            raise Refuse(400, "lines are edits")
+    return lines
+

@@ -1,0 +1,707 @@
+#!/usr/bin/env python3
+"""Uses the page of `wokureti open` in a real browser, and compares what it shows with ffmpeg and with vp8serve.
+
+    compare/page.py [--shots FOLDER]
+
+Debian's chromium, chromium-driver and ffmpeg must be there. With --shots the pictures for the documents are written to a folder.
+README.md says more.
+"""
+
+import base64
+import contextlib
+import json
+import math
+import os
+import pathlib
+import signal
+import struct
+import subprocess
+import sys
+import tempfile
+import time
+import urllib.request
+
+from browser import Browser
+
+TOP = pathlib.Path(__file__).resolve().parent.parent
+sys.path.insert(0, str(TOP / "clients/python"))
+
+from wokureti import Session, ivf, programs  # noqa: E402
+from wokureti.frames import sides  # noqa: E402
+
+# Milliseconds that a step of the wheel may take.
+MOST_STEP = 50
+# By how much a colour may differ from ffmpeg's, which rounds otherwise.
+ROUNDING = 1
+faults = []
+
+
+def say(text):
+    print(text, flush=True)
+
+
+def expect(is_right, text):
+    """Counts what is not as it must be."""
+    if not is_right:
+        faults.append(text)
+        say(f"WRONG: {text}")
+
+
+def make_clip(path, size, frames, picture="mandelbrot", group=50):
+    words = ["ffmpeg", "-nostdin", "-v", "error", "-y", "-f", "lavfi", "-i", f"{picture}=size={size}:rate=25", "-frames:v", str(frames)]
+    subprocess.run([*words, "-c:v", "libvpx", "-deadline", "realtime", "-cpu-used", "8", "-b:v", "1M", "-g", str(group), "-auto-alt-ref", "0", str(path)], check=True)
+
+
+def break_packet(clip, path, place):
+    """The clip with a packet that was cut to two bytes."""
+    head, packets = ivf.read_packets(clip)
+    packets[place] = (packets[place][0], packets[place][1][:2])
+    with open(path, "wb") as file:
+        file.writelines(ivf.pieces(head, len(packets), packets))
+
+
+def make_million(path, count=1 << 20):
+    """One key frame of 16x16, and repeats of it."""
+    with Session("-") as session:
+        session.blank(0, 16, 16)
+        session.hold(1)
+        key, hold = session.packet(0), session.packet(1)
+    with open(path, "wb") as file:
+        file.write(struct.pack("<4sHH4sHHIIII", b"DKIF", 0, 32, b"VP80", 16, 16, 30, 1, count, 0))
+        file.write(struct.pack("<IQ", len(key), 0) + key)
+        file.write(b"".join(struct.pack("<IQ", len(hold), number) + hold for number in range(1, count)))
+
+
+class Page:
+    """A browser on the page of a stream."""
+
+    def __init__(self, browser, *words):
+        self.browser = browser
+        command = [sys.executable, "-m", "wokureti", "open", *map(str, words), "--no-browser"]
+        env = dict(os.environ, PYTHONPATH=str(TOP / "clients/python"), PYTHONDONTWRITEBYTECODE="1")
+        self.process = subprocess.Popen(command, env=env, stdout=subprocess.PIPE, stderr=subprocess.PIPE, text=True)
+        self.address = self.process.stdout.readline().strip()
+
+    def open(self, fragment=""):
+        self.browser.open(self.address + fragment)
+        self.ready()
+
+    def ready(self):
+        self.browser.wait("document.body.dataset.ready === 'yes'", seconds=60)
+
+    def end(self):
+        """Ends the command, and returns what it says."""
+        with contextlib.suppress(OSError):
+            self.browser.open("about:blank")
+        self.process.send_signal(signal.SIGINT)
+        said = self.process.communicate(timeout=60)[1]
+        expect(self.process.returncode == 0, f"the command ended with status {self.process.returncode}: {said}")
+        return said
+
+    def members(self, path):
+        with urllib.request.urlopen(self.address.replace("/page/", f"/{path}"), timeout=60) as answer:
+            return json.loads(answer.read())
+
+    def at(self, frame):
+        self.browser.wait(f"wokureti.model.frame === {frame} && wokureti.viewer.picture.now && document.getElementById('picture-text').textContent.startsWith('frame {frame},')")
+
+    def pixels(self):
+        """The red, green and blue of the canvas."""
+        found = self.browser.run(
+            """const canvas = document.getElementById("now-canvas");
+            const data = canvas.getContext("2d").getImageData(0, 0, canvas.width, canvas.height).data;
+            let text = "";
+            for (let place = 0; place < data.length; place += 4) text += String.fromCharCode(data[place], data[place + 1], data[place + 2]);
+            return [canvas.width, canvas.height, btoa(text)];"""
+        )
+        return found[0], found[1], base64.b64decode(found[2])
+
+    def quiet(self, what):
+        """Nothing is wrong in the console. What it has of reading canvases back is about this comparison."""
+        errors = [error for error in self.browser.errors() if "willReadFrequently" not in error]
+        expect(not errors, f"{what}: the console has {errors[:3]}")
+
+
+def by_ffmpeg(clip, frame, width, height):
+    """Red, green and blue of a frame that ffmpeg decodes and converts, each chroma sample as large as the luma samples that it covers. ffmpeg
+    scales chroma of odd sizes, so the samples get a row and a column more for the conversion."""
+    words = ["ffmpeg", "-nostdin", "-v", "error", "-i", str(clip), "-vf", f"select=eq(n\\,{frame})", "-frames:v", "1", "-f", "rawvideo", "-pix_fmt", "yuv420p", "-"]
+    samples = subprocess.run(words, stdout=subprocess.PIPE, check=True).stdout
+    across, down = width + width % 2, height + height % 2
+    rows = [samples[row * width : (row + 1) * width] for row in range(height)]
+    rows = [row + row[-1:] * (across - width) for row in rows]
+    rows += rows[-1:] * (down - height)
+    words = ["ffmpeg", "-v", "error", "-f", "rawvideo", "-pix_fmt", "yuv420p", "-s", f"{across}x{down}", "-i", "-"]
+    scale = "scale=flags=neighbor+accurate_rnd+full_chroma_int:in_h_chr_pos=128:in_v_chr_pos=128"
+    words += ["-vf", scale, "-f", "rawvideo", "-pix_fmt", "rgb24", "-"]
+    found = subprocess.run(words, input=b"".join(rows) + samples[width * height :], stdout=subprocess.PIPE, check=True).stdout
+    return b"".join(found[3 * row * across : 3 * (row * across + width)] for row in range(height))
+
+
+def greatest(one, other):
+    return max((abs(left - right) for left, right in zip(one, other)), default=0) if len(one) == len(other) else 256
+
+
+def psnr(one, other):
+    """The PSNR of two planes, as a number."""
+    total = sum((left - right) ** 2 for left, right in zip(one, other))
+    return math.inf if not total else 10 * math.log10(255 * 255 * len(one) / total)
+
+
+def colours(browser, room):
+    """The pixels of the canvas are those of ffmpeg's PNG."""
+    worst = by_browser = count = 0
+    clips = [(TOP / "examples/mandelbrot.ivf", (0, 20, 47)), (TOP / "crates/gate_clips/data/odd-size.ivf", (0, 5)), (TOP / "crates/gate_clips/data/small.ivf", (3,))]
+    make_clip(room / "bars.ivf", "352x288", 20, "smptebars")
+    clips.append((room / "bars.ivf", (7,)))
+    for clip, frames in clips:
+        page = Page(browser, clip, "--edits", room / "list-of-colours", "--save", room / "saved-colours.ivf")
+        page.open()
+        for frame in frames:
+            browser.run(f"await wokureti.model.go({frame})")
+            page.at(frame)
+            width, height, mine = page.pixels()
+            theirs = by_ffmpeg(clip, frame, width, height)
+            worst = max(worst, greatest(mine, theirs))
+            # What `wokureti png` writes is the same, byte for byte.
+            with Session(clip) as session:
+                exact = session.frame(frame).rgb().tobytes()
+            expect(mine == exact, f"{clip.name}, frame {frame}: the canvas is not the frame")
+            # In playback the browser converts the samples itself.
+            browser.run("const { picture } = wokureti.viewer; picture.show(picture.now, null, { isPlaying: true })")
+            by_browser = max(by_browser, greatest(page.pixels()[2], mine))
+            count += 1
+        page.quiet(clip.name)
+        page.end()
+        for name in ("list-of-colours", "saved-colours.ivf"):
+            with contextlib.suppress(FileNotFoundError):
+                os.unlink(room / name)
+    expect(worst <= ROUNDING, f"colours differ by {worst} from ffmpeg's")
+    say(f"colours: {count} frames are those of `wokureti png`, byte for byte; ffmpeg's differ by at most {worst}; in playback the browser's own differ by at most {by_browser}")
+
+
+# What the functions of the modules return, for arguments whose results are known.
+FUNCTIONS = """
+    const modules = {};
+    for (const name of ["steps", "player", "script", "window", "fragment", "colours", "timeline", "tiles", "findings", "keys", "interface", "loupe"]) {
+      modules[name] = await import(new URL(`${name}.js`, document.baseURI));
+    }
+    const { steps, player, script, window: part, fragment, colours, timeline, tiles, findings, keys, interface: server, loupe } = modules;
+    const made = (lines) => {
+      const list = [..."abcdefghij"];
+      for (const line of lines) {
+        const [word, ...rest] = line.split(" ");
+        const at = rest.map(Number);
+        if (word === "delete") list.splice(at[0], 1);
+        if (word === "move") list.splice(at[1], 0, ...list.splice(at[0], 1));
+        if (word === "copy") list.splice(at[2], 0, list[at[1]]);
+        if (word === "hold") list.splice(at[0], 0, "-");
+        if (word === "replace") list[at[0]] = rest[1] === "-" ? "." : rest[1];
+      }
+      return list.join("");
+    };
+    const range = { first: 3, end: 7 };
+    const samples = Uint8Array.from({ length: 6 }, (_, place) => [81, 81, 81, 81, 90, 240][place]);
+    const frame = { width: 2, height: 2, samples };
+    const other = { width: 2, height: 2, samples: Uint8Array.from([81, 81, 81, 80, 90, 238]) };
+    const ivf = new Uint8Array(47);
+    ivf.set([0x44, 0x4b, 0x49, 0x46, 0, 0, 32]);
+    ivf.set([3], 32);
+    ivf.set([7, 8, 9], 44);
+    return [
+      made(steps.deleted(3, 6)), made(steps.held(3, 6)), made(steps.heldBefore(3, 6)), made(steps.dropped(3, 6)),
+      ...[0, 4, 6, 9, 10].map((at) => made(steps.moved(3, 6, at))),
+      ...[0, 3, 4, 6, 10].map((at) => made(steps.copied(0, 3, 6, at, true))),
+      steps.copied(1, 3, 5, 4, false), steps.ofSource(["x"], 1, 0), steps.ofSource(["x"], 0, 0),
+      steps.hexadecimal([0, 17, 255]), steps.hexadecimal([]), [...steps.packetOf(ivf)], [...steps.packetOf(ivf.subarray(1))].length,
+      [steps.packetOfLine("copy 1 2 3"), steps.packetOfLine("delete 7"), steps.packetOfLine("script -")],
+      [0, 1, 2, 3, 6].map((passed) => player.frameDue(5, 1, passed, range, true)), [0, 1, 2, 3].map((passed) => player.frameDue(5, -1, passed, range, false)),
+      player.framesAhead(5, 1, 9, range, true), player.framesAhead(5, -1, 9, range, false),
+      script.nodesOf(" trim 0  0 5;fade 1 2 3 4 5\\n;"), script.lineOf(""), script.lineOf("trim 0 0 5\\n\\n"), script.nodeOf("script: node 12: x"), script.rangeOf("a b;c\\nd", 3),
+      [0.3, 3, 70, 100, 101].map(part.stepOf), [9, 1500, 250000, 3e6].map(part.bytesText),
+      fragment.parse("#frame=5&scale=0.5&view=pair&x=1&frame=-1&source=a"), fragment.format({ frame: 5, view: "frame", source: 0, scale: 1 / 3, from: undefined }),
+      colours.colourOf(81, 90, 240), [...new Uint8Array(colours.toColour(frame).buffer)].slice(0, 8), colours.toDifference(frame, other, "colour", 16).map((pixel) => pixel & 255).join(),
+      colours.compared(frame, other).differing, colours.compared(frame, other).psnr.y.toFixed(4), colours.compared(frame, frame).psnr.v === Infinity, colours.toPlane(frame, "v")[3] & 255,
+      [2, 3, 9].map((value) => timeline.firstAt([1, 3, 5], value)), [1, 0.5, 0.3, 0.001].map(tiles.perOf),
+      findings.ordered([{ severity: "note" }, { severity: "damage" }]).map(({ place }) => place), keys.nameOf({ key: "Z", ctrlKey: true, shiftKey: true }), keys.nameOf({ key: "?", shiftKey: true }),
+      server.sizeOf(175, 143), loupe.textAt(frame, other, 1, 1),
+    ];"""
+RESULTS = [
+    "abcghij", "abc---ghij", "abc---ghij", "abc...ghij",
+    "defabcghij", "abcdefghij", "abcdefghij", "abcghidefj", "abcghijdef",
+    "defabcdefghij", "abcdefdefghij", "abcddefefghij", "abcdefdefghij", "abcdefghijdef",
+    ["copy 1 3 4", "copy 1 4 5"], ["use 1", "x"], ["x"],
+    "0011ff", "-", [7, 8, 9], 46,
+    [3, 7, None],
+    [5, 6, 3, 4, 3], [5, 4, 3, None],
+    [5, 6, 3, 4], [5, 4, 3],
+    ["trim 0 0 5", "fade 1 2 3 4 5"], "script -", "script trim 0 0 5", 12, [6, 7],
+    [1, 5, 100, 100, 200], ["9 B", "1.5 kB", "250 kB", "3.0 MB"],
+    {"frame": 5, "scale": 0.5, "view": "pair"}, "#frame=5&scale=0.333333",
+    [254, 0, 0], [254, 0, 0, 255, 254, 0, 0, 255], "32,32,32,32",
+    # One of four luma samples differs by 1: 10 log10(255 * 255 * 4).
+    2, f"{10 * math.log10(255 * 255 * 4):.4f}", True, 240,
+    [1, 1, 3], [1, 2, 4, 1024],
+    [1, 0], "Ctrl+Shift+Z", "?",
+    175 * 143 + 2 * 88 * 72, "x 1, y 1\nY 81  U 90  V 240\nbefore 80  90  238\nRGB 254, 0, 0\nmacroblock 0, 0",
+]  # fmt: skip
+
+
+def functions(page):
+    """The functions of the modules."""
+    found = page.browser.run(FUNCTIONS)
+    expect(len(found) == len(RESULTS), f"{len(found)} results, not {len(RESULTS)}")
+    for number, (one, wanted) in enumerate(zip(found, RESULTS)):
+        expect(one == wanted, f"result {number} is {one!r}, not {wanted!r}")
+    say(f"functions of the modules: {len(found)} results")
+
+
+def look(page):
+    """Stepping, zooming and selecting."""
+    browser = page.browser
+    browser.run("document.getElementById('timeline').focus()")
+    for keys, frame in ((["Right"], 1), (["Right"], 2), (["Left"], 1), (["PageDown"], 11), (["End"], 249), (["Home"], 0)):
+        browser.key(*keys)
+        browser.wait(f"wokureti.model.frame === {frame}")
+    browser.click("#frame")
+    browser.run("document.getElementById('frame').select()")
+    browser.type("#frame", "42")
+    browser.key("Enter")
+    page.at(42)
+    box = browser.run("const box = document.getElementById('timeline').getBoundingClientRect(); return [box.left, box.top, box.width, box.height]")
+    before = browser.run("return wokureti.timeline.window.scale")
+    for _ in range(4):
+        browser.wheel(box[0] + box[2] / 4, box[1] + 40, -200)
+    browser.wait(f"wokureti.timeline.window.scale > {2 * before}")
+    browser.key("+")
+    browser.wait(f"wokureti.timeline.window.scale > {4 * before}")
+    browser.run("document.getElementById('timeline').focus()")
+    browser.key("0")
+    browser.wait(f"Math.abs(wokureti.timeline.window.scale - {before}) < 1e-6")
+    # A click goes to a packet, a drag selects.
+    pixel = browser.run("return wokureti.timeline.window.pixelOf(100.5)")
+    browser.drag([(box[0] + pixel, box[1] + 60)])
+    browser.wait("wokureti.model.packet === 100 && wokureti.model.frame === 100")
+    first, last = (browser.run(f"return wokureti.timeline.window.pixelOf({packet}.5)") for packet in (120, 140))
+    browser.drag([(box[0] + first, box[1] + 60), (box[0] + (first + last) / 2, box[1] + 60), (box[0] + last, box[1] + 60)])
+    found = browser.run("return wokureti.model.selection")
+    expect(found == {"first": 120, "end": 141}, f"the selection is {found}")
+    browser.key("Escape")
+    browser.wait("wokureti.model.selection === null")
+    browser.run("await wokureti.model.go(30)")
+    browser.key("i")
+    browser.run("await wokureti.model.go(35)")
+    browser.key("o")
+    found = browser.run("return wokureti.model.selection")
+    expect(found == {"first": 30, "end": 36}, f"I and O select {found}")
+    browser.key("Escape")
+    say("looking: keys, the number of a frame, wheel, click, drag, I and O")
+
+
+def find_and_repair(page, clip, place):
+    """Finds the broken packet, previews the repairs, takes one, takes it back, and takes that of the second recording."""
+    browser = page.browser
+    browser.wait("document.querySelector('#findings-list li')")
+    text = browser.run("return document.querySelector('#findings-list li').textContent")
+    expect("refused" in text and f"packet {place}" in text, f"the first finding is {text}")
+    browser.click("#findings-list li .row")
+    browser.wait("document.querySelectorAll('.repairs button').length > 3")
+    browser.wait(f"wokureti.model.packet === {place}")
+    names = browser.run("return [...document.querySelectorAll('.repairs button')].map((button) => button.textContent)")
+    expect(names[0].startswith("Take packet") and names[-1] == "Keep it as it is", f"the repairs are {names}")
+    browser.wait("!document.getElementById('refusal').hidden")
+    with Session(clip) as session:
+        wanted = session.frame(place).rgb().tobytes()
+        before = session.frame(place - 1).rgb().tobytes()
+    revision = browser.run("return wokureti.model.revision")
+    browser.run("document.querySelectorAll('.repairs button')[1].click()")
+    browser.wait("document.getElementById('preview-result').textContent !== '' && document.getElementById('refusal').hidden")
+    expect(page.pixels()[2] == before, "the preview of a held packet is not the picture before")
+    expect(page.members("session")["revision"] == revision, "a preview changed the stream")
+    browser.click("#preview-leave")
+    browser.wait("!document.getElementById('refusal').hidden")
+    browser.run("document.querySelectorAll('.repairs button')[1].click()")
+    browser.wait("document.getElementById('preview-result').textContent !== ''")
+    browser.click("#preview-take")
+    browser.wait(f"wokureti.model.revision === {revision + 1} && document.getElementById('refusal').hidden")
+    page.at(place)
+    expect(page.pixels()[2] == before, "a held packet does not show the picture before")
+    browser.run("document.getElementById('timeline').focus()")
+    browser.key("Control", "z")
+    browser.wait("!document.getElementById('refusal').hidden")
+    browser.key("Control", "Shift", "Z")
+    browser.wait("document.getElementById('refusal').hidden")
+    browser.key("Control", "z")
+    browser.wait("wokureti.findings.check && wokureti.findings.check.over && wokureti.findings.check.damage === 1 && document.querySelector('#findings-list li')")
+    browser.click("#findings-list li .row")
+    browser.wait("document.querySelectorAll('.repairs button').length > 3")
+    browser.run("document.querySelectorAll('.repairs button')[0].click()")
+    browser.wait("document.getElementById('preview-result').textContent.startsWith('no damage')")
+    expect(page.pixels()[2] == wanted, "the preview of the second recording's packet is not its picture")
+    browser.click("#preview-take")
+    browser.wait("wokureti.findings.check && wokureti.findings.check.over && wokureti.findings.check.damage === 0", seconds=30)
+    page.at(place)
+    expect(page.pixels()[2] == wanted, "the repaired picture is not that of the second recording")
+    say("findings: found, previewed, held, undone, made again, repaired with the packet of a second recording")
+
+
+def compare_views(page, clip, place):
+    """Pair, split and difference, and the numbers that are shown."""
+    browser = page.browser
+    browser.run("document.getElementById('timeline').focus()")
+    # The packets after a dropped one decode to other pictures.
+    browser.run(f"await wokureti.model.goPacket({place}); await wokureti.editing.drop()")
+    frame = place + 5
+    browser.run(f"await wokureti.model.go({frame})")
+    browser.key("2")
+    browser.wait("document.getElementById('picture-text').textContent.includes('PSNR')")
+    text = browser.run("return document.getElementById('picture-text').textContent")
+    with Session(clip) as session, Session(clip) as other:
+        other.replace(place, b"")
+        mine, theirs = other.frame(frame), session.frame(frame)
+    number = sum(left != right for left, right in zip(mine.i420(), theirs.i420()))
+    values = [psnr(getattr(mine, name).tobytes(), getattr(theirs, name).tobytes()) for name in "yuv"]
+    wanted = f"{number:,} of {len(mine.i420()):,} samples differ"
+    expect(wanted in text, f"{text}: not {wanted}")
+    for name, value in zip("YUV", values):
+        expect(f"{name} {value:.2f}" in text, f"{text}: PSNR of {name} is {value:.2f}")
+    browser.key("3")
+    browser.wait("!document.getElementById('split-handle').hidden")
+    width, height, pixels = page.pixels()
+    left, right = theirs.rgb().tobytes(), mine.rgb().tobytes()
+    half = width // 2
+    row = height // 2 * width * 3
+    expect(pixels[row : row + 3 * half] == left[row : row + 3 * half] and pixels[row + 3 * half : row + 3 * width] == right[row + 3 * half : row + 3 * width], "the split is not both pictures")
+    box = browser.run("const box = document.getElementById('now-canvas').getBoundingClientRect(); return [box.left, box.top, box.width, box.height]")
+    browser.drag([(box[0] + box[2] / 2, box[1] + 40), (box[0] + box[2] / 3, box[1] + 40), (box[0] + box[2] / 4, box[1] + 40)])
+    split = browser.run("return wokureti.viewer.picture.split")
+    expect(abs(split - 0.25) < 0.02, f"the split was dragged to {split}")
+    browser.run("document.getElementById('timeline').focus()")
+    browser.key("4")
+    browser.wait("!document.getElementById('gain-label').hidden")
+    pixels = page.pixels()[2]
+    (across, _), _, _ = sides(width, height)
+    planes = [(getattr(mine, name).tobytes(), getattr(theirs, name).tobytes()) for name in "yuv"]
+    wrong = 0
+    for y in range(0, height, 7):
+        for x in range(0, width, 5):
+            places = (y * across + x, y // 2 * ((width + 1) // 2) + x // 2, y // 2 * ((width + 1) // 2) + x // 2)
+            most = max(abs(one[at] - two[at]) for (one, two), at in zip(planes, places))
+            wrong += pixels[3 * (y * width + x)] != min(255, 8 * most)
+    expect(wrong == 0, f"the difference is wrong at {wrong} samples")
+    browser.key("1")
+    browser.run("await wokureti.model.go(100)")
+    browser.key("n")
+    browser.wait(f"wokureti.model.frame >= {place}", seconds=30)
+    with Session(clip) as session, Session(clip) as other:
+        other.replace(place, b"")
+        wanted = next(number for number in range(101, 250) if session.frame(number).i420() != other.frame(number).i420())
+    found = browser.run("return wokureti.model.frame")
+    expect(found == wanted, f"the next frame that differs is {wanted}, not {found}")
+    browser.key("Control", "z")
+    browser.wait("wokureti.model.session.undone.length > 0")
+    say("comparing: pair, split, difference, PSNR, samples, next difference")
+
+
+def edit(page):
+    """The other edits, and refusals, which change nothing."""
+    browser = page.browser
+    browser.run("document.getElementById('timeline').focus()")
+    lines = lambda: page.members("session")["edits"]  # noqa: E731
+    start = len(lines())
+    browser.run("await wokureti.model.goPacket(60); wokureti.model.select(60, 63)")
+    browser.key("Control", "c")
+    browser.run("await wokureti.model.goPacket(10)")
+    browser.key("Control", "v")
+    browser.wait(f"wokureti.model.session.edits.length === {start + 3}")
+    expect(lines()[start:] == ["copy 0 60 10", "copy 0 62 11", "copy 0 64 12"], f"a copy made {lines()[start:]}")
+    expect(page.members("session")["packets"] == 253, "a copy of three packets made others")
+    browser.key("Control", "z")
+    browser.wait(f"wokureti.model.session.edits.length === {start}")
+    browser.run("await wokureti.model.goPacket(60); wokureti.model.select(60, 63)")
+    browser.key("Control", "x")
+    browser.run("await wokureti.model.goPacket(80)")
+    browser.key("Control", "v")
+    browser.wait(f"wokureti.model.session.edits.length === {start + 3}")
+    expect(lines()[start:] == ["move 60 79"] * 3, f"a move made {lines()[start:]}")
+    browser.key("Control", "z")
+    browser.wait(f"wokureti.model.session.edits.length === {start}")
+    browser.run("wokureti.model.select(20, 25)")
+    browser.key("Delete")
+    browser.wait("wokureti.model.packets === 245")
+    browser.run("wokureti.model.select(30, 32)")
+    browser.key("h")
+    browser.wait(f"wokureti.model.session.edits.length === {start + 9}")
+    browser.click("#tab-edits")
+    shown = browser.run("return document.querySelectorAll('#edits-list li').length")
+    expect(shown == start + 9, f"the list shows {shown} edits")
+    browser.run("[...document.querySelectorAll('#edits-list .row')].at(-1).click()")
+    browser.wait("wokureti.model.packet === 31")
+    browser.run("[...document.querySelectorAll('#edits-list .here')].at(-1).click()")
+    browser.wait(f"wokureti.model.session.edits.length === {start + 5}")
+    browser.run("document.getElementById('timeline').focus()")
+    browser.key("Control", "z")
+    browser.wait("wokureti.model.packets === 250")
+    # What is refused.
+    before = page.members("session")
+    browser.run("await wokureti.editing.step(['delete 3', 'delete 99999'], '')")
+    browser.wait("document.querySelector('.notice.bad')")
+    text = browser.run("return document.querySelector('.notice.bad').textContent")
+    expect("packet 99999 does not exist" in text, f"the refusal says {text}")
+    expect(page.members("session") == before, "a refused step changed the stream")
+    expect(browser.run("return wokureti.model.packets") == 250, "a refused step changed the page")
+    browser.run("document.querySelector('.notice.bad button').click()")
+    # The script, refused at its second node, and set.
+    browser.click("#tab-script")
+    browser.type("#script-text", "trim 0 0 50\nfade 1 24 25 256")
+    browser.click("#script-form button.main")
+    browser.wait("!document.getElementById('script-error').hidden")
+    found = browser.run("const text = document.getElementById('script-text'); return [document.querySelector('#script-numbers .bad').textContent, text.value.slice(text.selectionStart, text.selectionEnd), document.getElementById('script-error').textContent]")
+    expect(found[0] == "2" and found[1] == "fade 1 24 25 256" and "node 2" in found[2], f"the refusal of the script: {found}")
+    expect(page.members("session") == before, "a refused script changed the stream")
+    browser.run("const text = document.getElementById('script-text'); text.focus(); text.setSelectionRange(text.value.length, text.value.length)")
+    browser.type("#script-text", " 0")
+    browser.key("Control", "Enter")
+    browser.wait("wokureti.model.frames === 50")
+    browser.run("await wokureti.model.go(49)")
+    page.at(49)
+    expect(set(page.pixels()[2]) <= {0, 1}, "the last frame of the fade is not black")
+    browser.run("document.getElementById('timeline').focus()")
+    browser.key("Control", "z")
+    browser.wait("wokureti.model.frames === 250")
+    # Files: bytes of a packet.
+    browser.run("await wokureti.model.goPacket(7)")
+    path = pathlib.Path(tempfile.gettempdir()) / f"page-{os.getpid()}.bin"
+    path.write_bytes(b"\x11\x00")
+    browser.click("#tab-packet")
+    browser.type("#file", str(path))
+    browser.wait("wokureti.model.session.edits.at(-1) === 'replace 7 1100'")
+    path.unlink()
+    browser.run("document.getElementById('timeline').focus()")
+    browser.key("Control", "z")
+    browser.wait("wokureti.model.session.edits.at(-1) !== 'replace 7 1100'")
+    browser.click("#tab-findings")
+    say("editing: copy, move, delete, hold, the list, refusals, the script, bytes of a file")
+
+
+def save_and_reload(page, path, clip):
+    browser = page.browser
+    browser.run("document.getElementById('timeline').focus()")
+    leaves = "const event = new Event('beforeunload', { cancelable: true }); window.dispatchEvent(event); return event.defaultPrevented"
+    expect(browser.run(leaves) is True, "closing does not ask although edits are not saved")
+    browser.key("Control", "s")
+    browser.wait("wokureti.model.session.saved")
+    expect(browser.run(leaves) is False, "closing asks although all is saved")
+    expect(path.read_bytes() == clip.read_bytes(), "the saved stream is not the whole clip")
+    browser.run("await wokureti.model.go(123); wokureti.timeline.zoom(6); wokureti.viewer.choose_plane('u')")
+    browser.wait("location.hash.includes('frame=123')")
+    hash_before = browser.run("return location.hash")
+    view = browser.run("return [wokureti.timeline.window.from, wokureti.timeline.window.scale]")
+    browser.reload()
+    page.ready()
+    page.at(123)
+    after = browser.run("return [wokureti.timeline.window.from, wokureti.timeline.window.scale]")
+    expect(browser.run("return location.hash") == hash_before and all(abs(one - two) < 0.01 for one, two in zip(view, after)), f"a reload shows {after}, not {view}")
+    browser.run("wokureti.viewer.choose_plane('colour'); wokureti.timeline.zoomAll()")
+    say("saving: asked for, saved, byte for byte the clip; a reload comes back to frame and zoom")
+
+
+def two_tabs(page):
+    browser = page.browser
+    first = browser.tabs()[0]
+    second = browser.new_tab()
+    browser.use_tab(second)
+    page.open("#frame=5")
+    page.at(5)
+    browser.run("await wokureti.editing.step(['delete 249'], '')")
+    browser.use_tab(first)
+    browser.wait("wokureti.model.packets === 249", seconds=10)
+    # An edit that is for an older revision is not made.
+    browser.run("wokureti.model.session.revision -= 1; await wokureti.editing.step(['delete 0'], '')")
+    browser.wait("document.querySelector('.notice.bad')")
+    expect(page.members("session")["packets"] == 249, "an edit of an older revision was made")
+    browser.run("await wokureti.editing.undo()")
+    browser.use_tab(second)
+    browser.wait("wokureti.model.packets === 250", seconds=10)
+    browser.send("DELETE", "/window")
+    browser.use_tab(first)
+    browser.run("document.querySelectorAll('.notice button').forEach((button) => button.click())")
+    say("two tabs: each shows the edits of the other; an edit for an older revision is not made")
+
+
+def kill(page):
+    """vp8serve is killed: the page says so, and goes on."""
+    browser = page.browser
+    children = subprocess.run(["pgrep", "-P", str(page.process.pid)], capture_output=True, text=True, check=False).stdout.split()
+    session = page.members("session")
+    browser.errors()
+    for child in children:
+        os.kill(int(child), signal.SIGKILL)
+    time.sleep(0.1)
+    browser.run("await wokureti.model.go(77)")
+    page.at(77)
+    browser.wait("[...document.querySelectorAll('.notice')].some((notice) => notice.textContent.includes('started again'))", seconds=10)
+    after = page.members("session")
+    expect(after["edits"] == session["edits"] and after["restarts"] == session["restarts"] + 1, "edits are gone after vp8serve was killed")
+    page.quiet("after vp8serve was killed")
+    say("killed: said, started again, all edits there")
+
+
+def play(browser, clip, name, seconds=4.0):
+    """Frames a second in playback."""
+    page = Page(browser, clip)
+    page.open()
+    rates = []
+    for speed in (1, -1, 4):
+        browser.run(f"await wokureti.model.go({0 if speed > 0 else 10**6}); await wokureti.player.play({speed})")
+        found = browser.run(f"await new Promise((done) => setTimeout(done, {int(seconds * 500)})); wokureti.player.shown = 0; wokureti.player.dropped = 0; const since = performance.now(); await new Promise((done) => setTimeout(done, {int(seconds * 500)})); const {{ shown, dropped, isPlaying }} = wokureti.player; return [shown, dropped, (performance.now() - since) / 1000, isPlaying]")
+        browser.run("wokureti.player.stop()")
+        rates.append((speed, found[0] / found[2], found[1]))
+    page.quiet(f"playback of {name}")
+    page.end()
+    say(f"playback of {name}: " + "; ".join(f"speed {speed}: {rate:.1f} frames a second, {dropped} dropped" for speed, rate, dropped in rates))
+
+
+def million(browser, room):
+    """A stream of 1,048,576 packets stays responsive."""
+    make_million(room / "million.ivf")
+    page = Page(browser, room / "million.ivf")
+    since = time.monotonic()
+    page.open()
+    opened = time.monotonic() - since
+    browser.wait("wokureti.timeline.window.count === 1048576 && wokureti.timeline.wholeTile()", seconds=60)
+    whole = time.monotonic() - since
+    box = browser.run("const box = document.getElementById('timeline').getBoundingClientRect(); return [box.left, box.top, box.width]")
+    steps = """
+        const box = document.getElementById("timeline");
+        const { left, top, width } = box.getBoundingClientRect();
+        const times = [];
+        for (let turn = 0; turn < 80; turn++) {
+          const since = performance.now();
+          box.dispatchEvent(new WheelEvent("wheel", { deltaY: turn < 40 ? -120 : 120, clientX: left + width * 0.7, clientY: top + 30, bubbles: true, cancelable: true }));
+          await new Promise((done) => requestAnimationFrame(() => requestAnimationFrame(done)));
+          times.push(performance.now() - since);
+        }
+        for (let turn = 0; turn < 40; turn++) {
+          const since = performance.now();
+          box.dispatchEvent(new WheelEvent("wheel", { deltaY: 300, shiftKey: true, clientX: left + width * 0.7, clientY: top + 30, bubbles: true, cancelable: true }));
+          await new Promise((done) => requestAnimationFrame(() => requestAnimationFrame(done)));
+          times.push(performance.now() - since);
+        }
+        return times;"""
+    browser.run(steps)
+    browser.wait("wokureti.model.session.listed", seconds=120)
+    browser.run("wokureti.timeline.zoomAll()")
+    times = sorted(browser.run(steps))
+    # Two frames of the browser are 33 ms; what is measured is from the wheel to the second frame after it.
+    expect(times[int(len(times) * 0.95)] < MOST_STEP, f"a step of the wheel takes {times[int(len(times) * 0.95)]:.0f} ms")
+    browser.wheel(box[0] + 500, box[1] + 30, -3000)
+    browser.wheel(box[0] + 500, box[1] + 30, -3000)
+    browser.wait("wokureti.timeline.window.scale > 1")
+    page.quiet("a million packets")
+    say(f"1,048,576 packets: open after {opened:.1f} s, the timeline after {whole:.1f} s; a step of the wheel takes {times[len(times) // 2]:.0f} ms, at most {times[-1]:.0f} ms")
+    page.end()
+
+
+def reachable(page):
+    """Everything has a name, is reached by the Tab key, and has enough contrast."""
+    browser = page.browser
+    nodes = browser.command("Accessibility.getFullAXTree")["nodes"]
+    roles = {"button", "link", "radio", "tab", "slider", "textbox", "combobox", "spinbutton"}
+    nameless = [node["role"]["value"] for node in nodes if not node.get("ignored") and node.get("role", {}).get("value") in roles and not node.get("name", {}).get("value")]
+    expect(not nameless, f"without a name: {nameless}")
+    named = sum(node.get("role", {}).get("value") in roles for node in nodes if not node.get("ignored"))
+    wanted = browser.run("return [...document.querySelectorAll('button, a, input, select, textarea, [tabindex]')].filter((one) => one.checkVisibility() && !one.disabled && one.tabIndex >= 0).map((one) => one.id || one.textContent.trim()).length")
+    browser.run("document.activeElement.blur(); window.focused = new Set()")
+    for _ in range(wanted + 12):
+        browser.key("Tab")
+        browser.run("window.focused.add(document.activeElement)")
+    missed = browser.run("return [...document.querySelectorAll('button, a, input, select, textarea, [tabindex]')].filter((one) => one.checkVisibility() && !one.disabled && one.tabIndex >= 0 && !window.focused.has(one)).map((one) => one.id || one.textContent.trim())")
+    expect(not missed, f"not reached by the Tab key: {missed}")
+    contrast = """
+        const parts = (text) => (text.match(/[\\d.]+/g) || []).map(Number);
+        const light = ([r, g, b]) => { const one = (v) => { v /= 255; return v <= 0.04045 ? v / 12.92 : ((v + 0.055) / 1.055) ** 2.4; }; return 0.2126 * one(r) + 0.7152 * one(g) + 0.0722 * one(b); };
+        const back = (one) => { for (let at = one; at; at = at.parentElement) { const found = parts(getComputedStyle(at).backgroundColor); if (found.length === 3 || found[3] === 1) return found; } return [255, 255, 255]; };
+        const low = [];
+        for (const one of document.querySelectorAll("body *")) {
+          if (!one.checkVisibility() || one.disabled || one.closest("[disabled], .is-kept, .is-undone") || ![...one.childNodes].some((node) => node.nodeType === 3 && node.textContent.trim())) continue;
+          const [a, b] = [light(parts(getComputedStyle(one).color)), light(back(one))];
+          const ratio = (Math.max(a, b) + 0.05) / (Math.min(a, b) + 0.05);
+          if (ratio < 4.5) low.push(`${one.id || one.className || one.tagName} ${one.textContent.trim().slice(0, 20)} ${ratio.toFixed(2)}`);
+        }
+        return low;"""
+    for is_dark in (True, False):
+        browser.set_theme(is_dark)
+        low = browser.run(contrast)
+        expect(not low, f"contrast below 4.5, {'dark' if is_dark else 'light'}: {low}")
+    browser.set_theme(True)
+    say(f"reachable: {named} elements with names, all by the Tab key, contrast 4.5 and more, dark and light")
+
+
+def shots(browser, room, folder, clip, broken):
+    """The pictures of the documents."""
+    folder = pathlib.Path(folder)
+    page = Page(browser, broken, "--source", clip)
+    page.open()
+    browser.wait("wokureti.findings.check && wokureti.findings.check.over && document.querySelector('#findings-list li')", seconds=30)
+    browser.run("document.querySelector('#findings-list li .row').click()")
+    browser.wait("document.querySelectorAll('.repairs button').length > 3")
+    browser.run("await wokureti.editing.make(['hold 20', 'delete 21', 'delete 150', 'delete 150'], '')")
+    browser.wait("wokureti.findings.check.over && document.querySelector('#findings-list li')", seconds=30)
+    browser.run("document.querySelector('#findings-list li .row').click()")
+    browser.wait("document.querySelectorAll('.repairs button').length > 3")
+    browser.run("document.querySelectorAll('.repairs button')[0].click()")
+    browser.wait("document.getElementById('preview-result').textContent !== ''")
+    time.sleep(0.5)
+    for is_dark, name in ((True, "page.png"), (False, "page-light.png")):
+        browser.set_theme(is_dark)
+        time.sleep(0.3)
+        (folder / name).write_bytes(browser.screenshot())
+    browser.set_theme(True)
+    browser.click("#preview-leave")
+    browser.run("await wokureti.model.goPacket(20); await wokureti.editing.step(['replace 24 -'], ''); await wokureti.model.go(30); wokureti.viewer.choose_view('split')")
+    browser.wait("document.getElementById('picture-text').textContent.includes('PSNR')")
+    time.sleep(0.5)
+    (folder / "page-split.png").write_bytes(browser.screenshot())
+    page.end()
+
+
+def main():
+    folder = sys.argv[2] if sys.argv[1:2] == ["--shots"] and len(sys.argv) == 3 else None
+    with tempfile.TemporaryDirectory() as name, Browser() as browser:
+        room = pathlib.Path(name)
+        say(f"chromium {browser.version}, vp8serve {subprocess.run([programs.find('vp8serve'), '--version'], capture_output=True, text=True, check=True).stdout.split()[1]}")
+        clip, broken, place = room / "clip.ivf", room / "broken.ivf", 93
+        make_clip(clip, "640x360", 250)
+        break_packet(clip, broken, place)
+        if folder:
+            shots(browser, room, folder, clip, broken)
+            return 0
+        colours(browser, room)
+        page = Page(browser, broken, "--source", clip, "--save", room / "saved.ivf")
+        page.open()
+        page.quiet("opening")
+        functions(page)
+        look(page)
+        find_and_repair(page, clip, place)
+        page.quiet("findings")
+        # In another group of pictures: before the edits, those of the first one are refused.
+        compare_views(page, clip, 120)
+        edit(page)
+        page.quiet("comparing and editing")
+        save_and_reload(page, room / "saved.ivf", clip)
+        two_tabs(page)
+        kill(page)
+        reachable(page)
+        said = page.end()
+        expect(str(broken.with_suffix(".edits")) in said, f"the end says {said}")
+        million(browser, room)
+        make_clip(room / "large.ivf", "1920x1080", 250)
+        play(browser, clip, "640x360")
+        play(browser, room / "large.ivf", "1920x1080")
+    say(f"{len(faults)} faults")
+    return 1 if faults else 0
+
+
+if __name__ == "__main__":
+    sys.exit(main())
