@@ -14,6 +14,9 @@ STYLE = """
   .edit { fill: #fff8c5; stroke: #9a6700; stroke-width: 1.8; }
   .again { fill: #9a6700; opacity: 0.22; }
   .line { stroke: #59636e; stroke-width: 1.3; fill: none; }
+  .flow { stroke: #0969da; stroke-width: 1.8; fill: none; stroke-dasharray: 6 4; }
+  .head-of-flow { fill: #0969da; }
+  .equal { fill: #9a6700; stroke: #2da44e; stroke-width: 4; }
   .warn { fill: #d1242f; }
   .mark { fill: #9a6700; }
   .head-of-arrow { fill: #59636e; }
@@ -28,6 +31,9 @@ STYLE = """
     .edit { fill: #3b2300; stroke: #d29922; }
     .again { fill: #d29922; opacity: 0.28; }
     .line { stroke: #9198a1; }
+    .flow { stroke: #4493f8; }
+    .head-of-flow { fill: #4493f8; }
+    .equal { fill: #d29922; stroke: #3fb950; }
     .warn { fill: #f85149; }
     .mark { fill: #d29922; }
     .head-of-arrow { fill: #9198a1; }
@@ -42,7 +48,9 @@ class Drawing:
             f"<title>{title}</title>",
             f"<style>{STYLE}</style>",
             '<defs><marker id="arrow" viewBox="0 0 8 8" refX="7" refY="4" markerWidth="7" markerHeight="7" orient="auto">'
-            '<path d="M0,0 L8,4 L0,8 z" class="head-of-arrow"/></marker></defs>',
+            '<path d="M0,0 L8,4 L0,8 z" class="head-of-arrow"/></marker>'
+            '<marker id="flow" viewBox="0 0 8 8" refX="7" refY="4" markerWidth="6" markerHeight="6" orient="auto">'
+            '<path d="M0,0 L8,4 L0,8 z" class="head-of-flow"/></marker></defs>',
         ]
 
     def box(self, x, y, width, height, kind="box"):
@@ -52,9 +60,11 @@ class Drawing:
         words = words.replace("&", "&amp;").replace("<", "&lt;")
         self.parts.append(f'<text x="{x}" y="{y}" text-anchor="{anchor}" class="{kind}">{words}</text>')
 
-    def arrow(self, *points):
+    def arrow(self, *points, kind="line"):
+        """A call, or with the kind `flow` data."""
         path = " ".join(f"{x},{y}" for x, y in points)
-        self.parts.append(f'<polyline points="{path}" class="line" marker-end="url(#arrow)"/>')
+        head = "flow" if kind == "flow" else "arrow"
+        self.parts.append(f'<polyline points="{path}" class="{kind}" marker-end="url(#{head})"/>')
 
     def dot(self, x, y, kind):
         self.parts.append(f'<circle cx="{x}" cy="{y}" r="7" class="{kind}"/>')
@@ -69,7 +79,7 @@ def stream():
     left, step, size = 96, 70, 54
     kinds = ["key", "edit", "box", "hidden", "box", "box", "key", "box", "broken", "box", "key", "box"]
     names = ["key", "inter", "inter", "hidden", "inter", "inter", "key", "inter", "broken", "inter", "key", "inter"]
-    cached = {0: True, 1: False, 2: False, 3: True, 4: True, 5: True, 6: True, 7: True}
+    cached = {0: "state", 1: "mark", 2: "mark", 3: "equal", 4: "state", 5: "state", 6: "state", 7: "state"}
     for y, words in [(44, "frames"), (138, "packets"), (202, "cached"), (216, "states")]:
         draw.text(8, y, words, "head", "start")
     draw.box(left + step - 8, 96, 3 * step - 8, 132, "again")
@@ -88,79 +98,94 @@ def stream():
                 draw.text(middle, 54, "refused", "small warn")
             frame += 1
         if index in cached:
-            draw.dot(middle, 206, "state" if cached[index] else "mark")
+            draw.dot(middle, 206, cached[index])
     draw.text(left + 2.5 * step - 8, 248, "replace 1: packets 1 to 3 are decoded again", "mark")
-    draw.text(left + 2.5 * step - 8, 265, "until the state equals the cached one (packet 3)", "small light")
+    draw.text(left + 2.5 * step - 8, 265, "the state after packet 3 equals the cached one, so those after it are used again", "small light")
     draw.text(left + 8 * step, 192, "packet 8 cannot be decoded: frames 7 and 8", "small warn", "start")
     draw.text(left + 8 * step, 207, "are refused as \u201cpacket 8\u201d, up to the next key", "small warn", "start")
     draw.dot(104, 296, "state")
     draw.text(118, 300, "cached, used again", "small", "start")
     draw.dot(262, 296, "mark")
-    draw.text(276, 300, "decoded again after the edit", "small", "start")
-    draw.text(470, 300, "a hidden packet serves no frame; a key packet depends on nothing before it", "small light", "start")
+    draw.text(276, 300, "decoded again", "small", "start")
+    draw.dot(380, 296, "equal")
+    draw.text(396, 300, "decoded again, and equal", "small", "start")
+    draw.text(556, 300, "a hidden packet serves no frame; a key packet needs nothing before it", "small light", "start")
     draw.save("stream.svg")
 
 
 def crates():
-    draw = Drawing(960, 560, "The crates, and how data flows from bytes to bytes")
+    draw = Drawing(960, 640, "The crates: which calls which, and how data flows from bytes to bytes")
 
-    def crate(x, y, name, does, width=170, kind="box"):
-        draw.box(x, y, width, 46, kind)
-        draw.text(x + width / 2, y + 19, name, "head")
-        draw.text(x + width / 2, y + 36, does, "small light")
+    def crate(x, y, name, does, width=150, kind="box"):
+        draw.box(x, y, width, 44, kind)
+        draw.text(x + width / 2, y + 18, name, "head")
+        draw.text(x + width / 2, y + 35, does, "small light")
 
     def data(x, y, words, anchor="middle"):
         draw.text(x, y, words, "small", anchor)
 
-    data(100, 22, "IVF bytes")
-    data(320, 22, "request lines")
-    data(780, 22, "YUV4MPEG2, replies, saved IVF")
-    crate(15, 50, "stream_files", "IVF, YUV4MPEG2, reading")
-    crate(235, 50, "vp8serve", "the program", 170, "key")
-    crate(455, 50, "script_nodes", "trim, splice, crop, fade")
-    draw.arrow((100, 28), (100, 48))
-    draw.arrow((320, 28), (320, 48))
-    crate(160, 150, "frame_session", "run: requests to replies", 320, "key")
-    draw.arrow((100, 97), (220, 148))
-    data(112, 130, "packets")
-    draw.arrow((320, 97), (320, 148))
-    draw.arrow((500, 97), (440, 148))
-    data(486, 132, "frame n is packet i, with these steps", "start")
-    draw.arrow((480, 172), (780, 172), (780, 30))
-    data(630, 166, "frames and replies")
-    crate(15, 250, "packet_edits", "packets, ids, marks")
-    crate(235, 250, "state_cache", "cached states, steps")
-    crate(455, 250, "packet_forge", "blank and hold packets")
-    draw.arrow((200, 197), (110, 248))
-    draw.arrow((320, 197), (320, 248))
-    draw.arrow((420, 197), (530, 248))
-    draw.arrow((186, 273), (233, 273))
-    data(250, 226, "edits", "end")
-    data(330, 226, "picture at packet i", "start")
-    crate(160, 350, "reference_frames", "one step: state and packet to state and picture", 320, "key")
-    draw.arrow((320, 297), (320, 348))
-    data(330, 326, "a packet, the state before it", "start")
+    data(90, 16, "IVF bytes")
+    data(262, 16, "request lines")
+    data(452, 16, "YUV4MPEG2, replies, saved IVF")
+    data(840, 16, "IVF bytes \u2192 lists, MD5s, findings")
+    crate(190, 46, "vp8serve", "the frame server", 150, "key")
+    crate(700, 46, "vp8list", "lists and checks", 150, "key")
+    draw.arrow((262, 22), (262, 44), kind="flow")
+    draw.arrow((90, 22), (90, 68), (188, 68), kind="flow")
+    draw.arrow((342, 60), (452, 60), (452, 22), kind="flow")
+    draw.arrow((775, 22), (775, 44), kind="flow")
+    crate(15, 126, "explanations", "why something was refused", 160)
+    crate(190, 126, "serve_program", "files, requests, replies")
+    crate(355, 126, "serve_arguments", "arguments, files named")
+    crate(560, 126, "list_program", "what vp8list writes", 150)
+    crate(725, 126, "stream_checks", "MD5s, findings", 105)
+    crate(840, 126, "stream_facts", "by frame_header", 112)
+    draw.arrow((265, 91), (265, 124))
+    draw.arrow((188, 148), (177, 148))
+    draw.arrow((342, 148), (353, 148))
+    draw.arrow((740, 91), (650, 124))
+    draw.arrow((712, 148), (723, 148))
+    draw.arrow((670, 126), (700, 112), (890, 112), (890, 124))
+    crate(190, 214, "frame_session", "run: requests to replies", 315, "key")
+    draw.arrow((265, 171), (265, 212))
+    data(276, 198, "packets, lines \u2192 frames, replies", "start")
+    crate(15, 214, "request_lines", "lines to requests", 150)
+    draw.arrow((188, 236), (167, 236))
+    crate(15, 302, "packet_edits", "packets, ids, marks")
+    crate(190, 302, "state_cache", "cached states")
+    crate(355, 302, "packet_forge", "blank and hold")
+    crate(520, 302, "script_nodes", "trim, splice, crop, fade")
+    draw.arrow((200, 259), (110, 300))
+    draw.arrow((265, 259), (265, 300))
+    draw.arrow((430, 259), (430, 300))
+    draw.arrow((490, 259), (560, 300))
+    draw.arrow((188, 324), (167, 324))
+    crate(190, 390, "reference_frames", "one step: state and packet to state and picture", 480, "key")
+    draw.arrow((265, 347), (265, 388))
+    data(276, 374, "a packet, the state before it \u2192 picture, the state after it", "start")
+    draw.arrow((777, 171), (777, 412), (672, 412))
     row = [
         ("frame_header", "tag, fields, partitions"),
         ("mode_parser", "modes, vectors"),
         ("token_parser", "coefficients"),
         ("transforms", "inverse DCT, WHT"),
         ("intra_predict", "intra blocks"),
-        ("inter_predict", "six-tap, bilinear"),
+        ("inter_predict", "six taps, two taps"),
         ("loop_filter", "edges of blocks"),
     ]
     for index, (name, does) in enumerate(row):
         x = 8 + index * 136
-        crate(x, 440, name, does, 128)
-        if index + 1 < len(row):
-            draw.arrow((x + 128, 463), (x + 136, 463))
-    draw.arrow((250, 397), (90, 438))
-    data(120, 418, "packet")
-    draw.arrow((880, 438), (880, 372), (482, 372))
-    data(690, 366, "filtered picture, the references after it")
-    crate(8, 508, "bool_coder", "bits", 264)
-    crate(280, 508, "vp8_tables", "long and short tables", 264)
-    crate(552, 508, "pixel_planes", "planes with a border, pictures", 400)
+        crate(x, 490, name, does, 128)
+        draw.arrow((220 + index * 70, 435), (x + 64, 488))
+    crate(8, 566, "bool_coder", "bits", 180)
+    crate(196, 566, "vp8_tables", "long and short tables", 200)
+    crate(404, 566, "pixel_planes", "planes with a border, pictures", 270)
+    crate(682, 566, "stream_files", "IVF, YUV4MPEG2, reading", 262)
+    draw.arrow((15, 630), (55, 630))
+    data(62, 634, "calls", "start")
+    draw.arrow((120, 630), (160, 630), kind="flow")
+    data(168, 634, "data", "start")
+    data(230, 634, "The four crates of the last row are used by those above that read bits, look up tables, hold pictures, or read and write files.", "start")
     draw.save("crates.svg")
 
 
