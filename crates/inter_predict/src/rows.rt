@@ -8,7 +8,7 @@ pub struct Rows<'a> {
 }
 
 /// A strip of samples to write: it begins at column `first`, and has `height` rows, `stride` samples
-/// apart. Its width is said by what writes it.
+/// apart. The writer sets the width.
 #[derive(Clone, Copy)]
 pub struct Strip {
     pub first: usize,
