@@ -55,8 +55,8 @@ def shown_by_vpxdec(packets, size):
     with tempfile.TemporaryDirectory() as room:
         path, out = pathlib.Path(room, "run.ivf"), pathlib.Path(room, "run.yuv")
         ivf.write(path, size, packets)
-        subprocess.run(["vpxdec", "--codec=vp8", "--i420", "-o", out, path], check=True, capture_output=True)
-        text = out.read_bytes()
+        subprocess.run(["vpxdec", "--codec=vp8", "--i420", "-o", out, path], check=False, capture_output=True)
+        text = out.read_bytes() if out.is_file() else b""
     length = size[0] * size[1] + 2 * ((size[0] + 1) // 2) * ((size[1] + 1) // 2)
     return [text[at : at + length] for at in range(0, len(text), length)]
 

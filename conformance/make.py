@@ -25,6 +25,16 @@ def absent(chooser):
     return None
 
 
+def no_tokens(chooser):
+    """The end of the block, nearly always."""
+    return 11 if chooser.random.random() < 0.98 else 1
+
+
+def long_blocks(chooser):
+    """Small coefficients up to the last place."""
+    return chooser.random.choices(range(12), (30, 25, 10, 5, 5, 4, 3, 1, 1, 1, 0, 1))[0]
+
+
 def small_index(chooser):
     """A quantizer index with which drawn coefficients stay within 16 bits."""
     return chooser.random.randrange(24)
@@ -74,6 +84,14 @@ def keys(size, count, version=0, **forced):
     return frames
 
 
+def mostly_nearest(chooser):
+    return chooser.random.choices(range(5), (1, 12, 2, 3, 1))[0]
+
+
+def mostly_split(chooser):
+    return chooser.random.choices(range(5), (2, 6, 2, 1, 8))[0]
+
+
 def flags(stream, chooser):
     """Every combination of refreshes, copies and sign biases, one frame of one macroblock each."""
     stream.frame((16, 16))
@@ -97,12 +115,11 @@ def flags(stream, chooser):
 
 
 def levels(filter_type):
-    """Each level with each sharpness in turn, in key and inter frames."""
+    """Each level, in key and inter frames."""
 
     def frames(stream, chooser):
         for level in range(64):
-            sharpness = level % 8 if filter_type else (level + level // 8) % 8
-            fixed = dict(filter_type=filter_type, loop_filter_level=level, sharpness_level=sharpness, segmentation_enabled=0, log2_nbr_of_dct_partitions=0, loop_filter_adj_enable=0)
+            fixed = dict(filter_type=filter_type, loop_filter_level=level, sharpness_level=0, segmentation_enabled=0, log2_nbr_of_dct_partitions=0, loop_filter_adj_enable=0)
             stream.frame((32, 16), **fixed)
             stream.frame(**fixed)
 
@@ -212,6 +229,27 @@ def partitions(stream, chooser):
         stream.frame((32, 32), log2_nbr_of_dct_partitions=count)
 
 
+def cut_short(stream, chooser):
+    """Partitions that end early, and empty ones: zeros follow."""
+    stream.frame((32, 32), first_cut=3)
+    stream.frame(tail=[lambda texts: [text[: len(text) // 2] for text in texts]])
+    stream.frame((32, 32), tail=[lambda texts: [b"" for _ in texts]])
+    stream.frame(first_cut=2)
+
+
+def all_ones(stream, chooser):
+    """Partitions that begin with FF, of which every bit is 1."""
+    stream.frame((16, 16), tail=[lambda texts: [b"\xff" + text[1:] for text in texts]])
+    stream.frame(tail=[lambda texts: [b"\xff" + text[1:] for text in texts]])
+
+
+def first_of_ones(stream, chooser):
+    """A first partition of FF alone: every field and every mode is read as ones."""
+    first, partition = b"\xff" * 300, b"\0" * 40
+    start = (1 << 4 | len(first) << 5).to_bytes(3, "little") + b"\x9d\x01\x2a\x10\0\x10\0"
+    stream.packet(start + first + len(partition).to_bytes(3, "little") * 7 + partition * 8)
+
+
 def far_vectors(version):
     """Long vectors out of the frame, on each side and corner."""
 
@@ -229,8 +267,9 @@ def fractions(version):
 
     def frames(stream, chooser):
         stream.frame((48, 48), version)
-        for number in range(8):
-            stream.frame(None, version, prob_intra=250, is_inter_mb=1, mv_mode=drawn_from(3, 3, 4), mv_long=0, segmentation_enabled=0)
+        for number in range(20):
+            fixed = {"mv_split_mode": drawn_from(2, 3), "sub_mv_mode": 3} if number % 2 else {"mv_mode": 3}
+            stream.frame(None, version, **{"prob_intra": 250, "is_inter_mb": 1, "mv_mode": 4, "mv_long": 0, "segmentation_enabled": 0, "token": no_tokens, **fixed})
 
     return frames
 
@@ -252,6 +291,12 @@ def make(folder):
         maker.stream(f"fractions-version-{version}", (48, 48), fractions(version), directed=("mv_short", "mv_split_mode"), new=0.3)
     for version in range(4):
         maker.stream(f"far-vectors-version-{version}", (32, 32), far_vectors(version))
+    for number in range(3):
+        fixed = {"y_ac_qi": 0, "segmentation_enabled": 0, "mb_skip_coeff": 0}
+        maker.stream(f"last-places-{number}", (32, 32), key_and_inters((32, 32), 4, number, **fixed), directed=("last places",), new=0.8)
+    maker.stream("no-tokens", (48, 48), key_and_inters((48, 48), 4, 0, token=no_tokens, mb_skip_coeff=0))
+    maker.stream("same-vectors", (80, 80), key_and_inters((80, 80), 6, 0, prob_intra=250, is_inter_mb=1, mv_mode=mostly_nearest, token=no_tokens, mb_ref_frame_sel1=0), directed=())
+    maker.stream("next-to-same-vectors", (80, 80), key_and_inters((80, 80), 8, 0, prob_intra=250, is_inter_mb=1, mv_mode=mostly_split, token=no_tokens, mb_ref_frame_sel1=0), directed=())
     maker.stream("split-vectors", (64, 64), key_and_inters((64, 64), 6, 0, prob_intra=250, is_inter_mb=1, mv_mode=4), directed=("sub_mv_mode", "mv_split_mode"), new=0.7)
     maker.stream("near-vectors", (64, 64), key_and_inters((64, 64), 10, 0, prob_intra=200, mb_skip_coeff=1, mb_no_coeff_skip=1, prob_skip_false=3), directed=("mv_mode",), new=0.7)
     maker.stream("references-and-sign-biases", (16, 16), flags)
@@ -262,16 +307,20 @@ def make(folder):
     for number, name in enumerate(("normal", "simple")):
         maker.stream(f"{name}-filter-levels", (32, 16), levels(number))
         maker.stream(f"{name}-filter-sharpness", (16, 16), sharpnesses(number))
-        maker.stream(f"{name}-filter-deltas", (48, 32), key_and_inters((48, 32), 10, 0, filter_type=number, loop_filter_adj_enable=1, mode_ref_lf_delta_update=drawn_from(0, 1, 1)), directed=("ref_frame_delta", "mb_mode_delta"), new=0.5)
+        maker.stream(f"{name}-filter-deltas", (48, 32), key_and_inters((48, 32), 16, 0, filter_type=number, loop_filter_adj_enable=1, mode_ref_lf_delta_update=drawn_from(0, 1, 1)), directed=("ref_frame_delta", "mb_mode_delta"), new=0.8)
     maker.stream("token-partitions", (16, 160), partitions)
     maker.stream("sizes-1-to-40", (40, 40), sizes)
     maker.stream("widest", (16383, 1), keys((16383, 1), 1, 0, **{"key intra_y_mode": drawn_from(0, 1, 2, 3), "mb_skip_coeff": 1, "mb_no_coeff_skip": 1, "prob_skip_false": 1}))
+    maker.stream("tallest", (1, 16383), keys((1, 16383), 1, 0, **{"key intra_y_mode": drawn_from(0, 1, 2, 3), "mb_skip_coeff": 1, "mb_no_coeff_skip": 1, "prob_skip_false": 1}))
     maker.stream("hidden-and-dropped", (32, 32), hidden)
     maker.stream("scales-and-colors", (16, 16), scales)
     maker.stream("refused", (16, 16), causes)
     for number in range(4):
         maker.stream(f"random-{number}", (40, 24), key_and_inters((40, 24), 8, number), directed=everything, new=0.9, rare=0.01)
     maker.stream("copy-nothing", (16, 16), lambda stream, chooser: (stream.frame((16, 16)), stream.frame(refresh_golden_frame=0, copy_buffer_to_golden=3), stream.frame(refresh_alternate_frame=0, copy_buffer_to_alternate=3)), beyond=True)
+    maker.stream("partitions-cut-short", (32, 32), cut_short, beyond=True)
+    maker.stream("partitions-of-ones", (32, 32), all_ones, beyond=True)
+    maker.stream("first-partition-of-ones", (16, 16), first_of_ones, beyond=True)
     maker.stream("residuals-past-16-bits", (32, 32), key_and_inters((32, 32), 3, 0, y_ac_qi=127, token=drawn_from(10, 10, 1, 11), extra_bit=drawn_from(0, 1)), beyond=True)
     return maker
 

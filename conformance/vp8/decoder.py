@@ -97,7 +97,7 @@ def multiplied(value):
     return value + (value * 20091 >> 16), value * 35468 >> 16
 
 
-def inverse_dct(values):
+def inverse_dct(values, events):
     """Section 14.4: columns, then rows; the residual of a block."""
     middle = [0] * 16
     for i in range(4):
@@ -109,15 +109,19 @@ def inverse_dct(values):
     out = [0] * 16
     for i in range(0, 16, 4):
         first, second, third, fourth = (signed16(value) for value in middle[i : i + 4])
+        if [first, second, third, fourth] != middle[i : i + 4]:
+            events.add("first pass leaves 16 bits")
         a1, b1 = first + third, first - third
         c1 = multiplied(second)[1] - multiplied(fourth)[0]
         d1 = multiplied(second)[0] + multiplied(fourth)[1]
         for place, value in ((0, a1 + d1), (3, a1 - d1), (1, b1 + c1), (2, b1 - c1)):
             out[i + place] = (value + 4) >> 3
+            if not -32768 <= value + 4 <= 32767:
+                events.add("second pass leaves 16 bits")
     return out
 
 
-def residual_of(macroblock, header, context):
+def residual_of(macroblock, header, context, events):
     """Sixteen residuals for each block that has any; None for the others."""
     if macroblock.skip:
         return [None] * 24
@@ -126,7 +130,7 @@ def residual_of(macroblock, header, context):
     if macroblock.has_y2:
         for block, value in zip(blocks, inverse_wht(dequantised(macroblock.blocks[24], y2))):
             block[0] = value
-    return [inverse_dct(block) if any(block) else None for block in blocks]
+    return [inverse_dct(block, events) if any(block) else None for block in blocks]
 
 
 # Prediction (sections 12 and 18).
@@ -249,7 +253,7 @@ class Reconstruction:
         frame = self.frame
         for place, macroblock in enumerate(frame.macroblocks):
             column, row = place % frame.columns, place // frame.columns
-            residual = residual_of(macroblock, frame.header, frame.context)
+            residual = residual_of(macroblock, frame.header, frame.context, frame.events)
             if macroblock.reference == INTRA:
                 self.intra(macroblock, column, row, residual)
             else:
@@ -274,7 +278,10 @@ class Reconstruction:
                 rows = self.picture.planes[plane].rows
                 for place, value in enumerate(residual[number]):
                     j, i = y + place // 4, x + place % 4
-                    rows[j][i] = clamp(rows[j][i] + value)
+                    total = rows[j][i] + value
+                    rows[j][i] = clamp(total)
+                    if rows[j][i] != total:
+                        self.frame.events.add("clamped at 0" if total < 0 else "clamped at 255")
 
     def intra(self, macroblock, column, row, residual):
         planes = self.picture.planes

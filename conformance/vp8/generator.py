@@ -15,6 +15,7 @@ RARE = ("coeff_prob_update", "mv_prob_update")
 # Value 3 of these copies nothing, and is an error of libvpx's.
 COPIES = ("copy_buffer_to_golden", "copy_buffer_to_alternate")
 # How often each token is drawn: 0 to 4, the six categories, the end of the block.
+LONG_WEIGHTS = [30, 25, 10, 5, 5, 4, 3, 1, 1, 1, 0, 1]
 TOKEN_WEIGHTS = [20, 20, 6, 2, 2, 2, 1, 0, 0, 0, 0, 60]
 
 
@@ -59,7 +60,12 @@ class Chooser:
         if name[0] in COPIES:
             options = (0, 1, 2)
         if name[0] == "token":
-            return self.random.choices(options, [TOKEN_WEIGHTS[token] for token in options])[0]
+            weights = LONG_WEIGHTS if "last places" in self.directed else TOKEN_WEIGHTS
+            if "last places" in self.directed and name[2] >= 6:
+                fresh = [value for value in options if (name, value) not in self.reached]
+                if fresh:
+                    return self.random.choice(fresh)
+            return self.random.choices(options, [weights[token] for token in options])[0]
         return self.random.choice(options)
 
 
@@ -114,9 +120,9 @@ class Stream:
         self.context, self.segment_map, self.size = None, None, None
         self.packets = []
 
-    def frame(self, size=None, version=0, shown=True, scales=(0, 0), tail=(), **forced):
+    def frame(self, size=None, version=0, shown=True, scales=(0, 0), tail=(), first_cut=0, **forced):
         """Adds a frame: a key frame of this size, or an inter frame without one. `forced` has fields of the header by name; `tail` has
-        functions of the token partitions' bytes, to cut or change them."""
+        functions of the token partitions' bytes, to cut or change them; `first_cut` bytes are missing at the end of the first one."""
         chooser = self.chooser
         before, chooser.forced = chooser.forced, {**chooser.forced, **forced}
         header = Header(is_key=size is not None, version=version, show_frame=int(shown))
@@ -137,6 +143,7 @@ class Stream:
         for change in tail:
             texts = change(texts)
         first = source.writer.text() + END
+        first = first[: len(first) - first_cut]
         start = b""
         if header.is_key:
             start = b"\x9d\x01\x2a" + b"".join((side | scale << 14).to_bytes(2, "little") for side, scale in zip(self.size, scales))

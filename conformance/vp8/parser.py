@@ -126,6 +126,8 @@ class Frame:
     partitions: list
     readers: list
     header_bits: int
+    # What seldom happens: of vectors here, of residuals in the decoder.
+    events: set = field(default_factory=set)
 
 
 def tag_of(packet):
@@ -277,6 +279,7 @@ class Modes:
         self.reader, self.header, self.context = reader, header, context
         self.columns, self.rows, self.segment_map = columns, rows, segment_map
         self.macroblocks = []
+        self.events = set()
 
     def at(self, column, row):
         """The record in this column and row, or one outside the frame."""
@@ -369,6 +372,7 @@ class Modes:
                 continue
             if biases[neighbour.reference] != biases[reference]:
                 vector = (-vector[0], -vector[1])
+                self.events.add("sign bias turns a neighbour's vector")
             if place and found[place] == vector:
                 counts[place] += weight
             else:
@@ -380,6 +384,7 @@ class Modes:
         # Three different vectors: the third counts as the first if they are equal.
         if counts[3] and found[place] == found[1]:
             counts[1] += 1
+            self.events.add("three different neighbours, the third like the first")
         split = 0
         for neighbour, weight in ((self.at(column, row - 1), 2), (self.at(column - 1, row), 2), (self.at(column - 1, row - 1), 1)):
             split += weight * (neighbour.reference != INTRA and neighbour.vector_mode == SPLIT)
@@ -390,6 +395,9 @@ class Modes:
         if counts[1] >= counts[0]:
             found[0] = found[1]
         best = self.clamped(found[0], column, row)
+        for name, vector in (("nearest", found[1]), ("near", found[2]), ("best", found[0])):
+            if vector != self.clamped(vector, column, row):
+                self.events.add(f"{name} vector is clamped")
         return (found[1], found[2]), best, counts
 
     def clamped(self, vector, column, row):
@@ -525,8 +533,9 @@ def parse(packet, before, size, segment_map, saw=None):
     width, height = (header.width, header.height) if header.is_key else size
     columns, rows = (width + 15) // 16, (height + 15) // 16
     segment_map = map_before(header, columns * rows, segment_map)
-    macroblocks = Modes(reader, header, context, columns, rows, segment_map).read()
+    modes = Modes(reader, header, context, columns, rows, segment_map)
+    macroblocks = modes.read()
     tokens = Tokens([Reader(text, saw) for text in partitions], context.coefficients, columns)
     for place, macroblock in enumerate(macroblocks):
         tokens.read(macroblock, place % columns, place // columns)
-    return Frame(header, context, after, columns, rows, macroblocks, segment_map, partitions, [reader, *tokens.readers], header_bits)
+    return Frame(header, context, after, columns, rows, macroblocks, segment_map, partitions, [reader, *tokens.readers], header_bits, modes.events)

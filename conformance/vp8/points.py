@@ -1,8 +1,8 @@
 """What is to be reached: each point has a group, a section of RFC 6386 and a name. `Watch` says which of them a stream reaches."""
 
 from . import tables
-from .decoder import Decoder, Refused, factors, level_of, limits_of, residual_of
-from .generator import leaves
+from .decoder import Decoder, Refused, chroma_vector, factors, level_of, limits_of
+from .bits import path_to
 from .parser import ALTREF, B, GOLDEN, INTRA, SPLIT
 
 SUB_NAMES = ["DC", "TM", "VE", "HE", "LD", "RD", "VR", "VL", "HD", "HU"]
@@ -75,11 +75,12 @@ def token_points():
         for band in range(8):
             if kind == 0 and band == 0:
                 continue
-            for context in range(3):
+            # Context 0 is that of the first place, and that after a 0, where the end cannot come.
+            is_first = band == (1 if kind == 0 else 0)
+            for context in range(0 if is_first else 1, 3):
                 for token in range(12):
                     yield f"{name}, band {band}, context {context}: {TOKEN_NAMES[token]}"
-            # After a 0 the context is 0, and there is no end. Band 0 is the first place only, and band 1 the second.
-            if band and not (kind == 0 and band == 1):
+            if not is_first:
                 yield from (f"{name}, band {band}, after 0: {TOKEN_NAMES[token]}" for token in range(11))
     for category, probabilities in enumerate(tables.CATEGORY_PROBABILITIES, 1):
         yield from (f"cat{category} bit {bit} {value}" for bit in range(len(probabilities)) for value in (0, 1))
@@ -124,7 +125,7 @@ def segment_points():
 def residual_points():
     yield from ("macroblock without tokens, not skipped", "skipped with Y2", "skipped without Y2")
     yield from (f"{kind} factor {name}" for kind in ("Y", "Y2", "chroma") for name in ("least DC", "greatest DC", "least AC", "greatest AC"))
-    yield from ("clamped at 0", "clamped at 255", "DC alone", "Y2 DC alone", "second pass leaves 16 bits", "coefficient times factor leaves 16 bits")
+    yield from ("clamped at 0", "clamped at 255", "DC alone", "Y2 DC alone", "first pass leaves 16 bits", "second pass leaves 16 bits", "coefficient times factor leaves 16 bits")
 
 
 def filter_points():
@@ -202,6 +203,8 @@ def all_points():
 class Watch:
     """Decodes a stream plainly, and collects the points that it reaches."""
 
+    POINTS = frozenset(all_points())
+
     def __init__(self):
         self.found = set()
         self.decoder = Decoder(self.saw)
@@ -209,7 +212,9 @@ class Watch:
         self.had_segments_off = False
 
     def add(self, group, point):
-        self.found.add((group, point))
+        """Takes note of a point; of values between their bounds there is none."""
+        if (group, point) in self.POINTS:
+            self.found.add((group, point))
 
     # Values that are read.
 
@@ -258,7 +263,7 @@ class Watch:
         add = lambda point: self.add("vectors", point)
         if kind == "mv_mode":
             add(f"mode {VECTOR_MODES[value]}")
-            for node, bit in self.way(tables.VECTOR_MODE_TREE, value):
+            for node, bit in path_to(tables.VECTOR_MODE_TREE, value):
                 add(f"count of {('zero', 'nearest', 'near', 'split')[node >> 1]} {rest[node >> 1]}, bit {bit}")
         elif kind == "mv_split_mode":
             add(f"split {SPLITS[value]}")
@@ -279,12 +284,6 @@ class Watch:
         elif kind == "mv_sign":
             add(f"{COMPONENTS[rest[0]]} {('plus', 'minus')[value]}")
 
-    @staticmethod
-    def way(tree, leaf):
-        from .bits import path_to
-
-        return path_to(tree, leaf)
-
     # Packets and frames.
 
     def packet(self, packet):
@@ -304,6 +303,9 @@ class Watch:
             return
         frame = self.decoder.frame
         self.frame(packet, frame, *before)
+        for event in frame.events:
+            self.add("residuals", event)
+            self.add("vectors", event)
         for place, macroblock in enumerate(frame.macroblocks):
             self.macroblock(frame, macroblock, place % frame.columns, place // frame.columns)
 
@@ -462,8 +464,6 @@ class Watch:
             self.chroma(macroblock, group, version, taps, split)
 
     def chroma(self, macroblock, group, version, taps, split):
-        from .decoder import chroma_vector
-
         blocks = [8 * (group // 2) + 2 * (group % 2) + k for k in (0, 1, 4, 5)]
         totals = [sum(macroblock.vectors[block][component] for block in blocks) for component in (0, 1)]
         down, across = (chroma_vector(total, version) for total in totals)
