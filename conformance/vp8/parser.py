@@ -203,7 +203,7 @@ def partitions_of(packet, start, count):
         at = start + 3 * number
         size = int.from_bytes(packet[at : at + 3], "little")
         if place + size > len(packet):
-            raise Refused("TokenPartition")
+            raise Refused(f"TokenPartition {number}")
         found.append(packet[place : place + size])
         place += size
     return [*found, packet[place:]]

@@ -294,7 +294,7 @@ class Watch:
         try:
             self.decoder.decode(packet)
         except Refused as refused:
-            self.add("refusals", "lost with a refused packet" if was_broken and not is_key else str(refused))
+            self.add("refusals", "lost with a refused packet" if was_broken and not is_key else str(refused).split()[0])
             return
         if was_broken:
             self.add("refusals", "key packet after a refused one")
