@@ -92,6 +92,40 @@ def mostly_split(chooser):
     return chooser.random.choices(range(5), (2, 6, 2, 1, 8))[0]
 
 
+def by_counts(chooser):
+    """The nearest vector where it counts 4, a new one among three split macroblocks, and else a split, so that both come up."""
+    _, nearest, _, split = chooser.name[1:]
+    if nearest == 4:
+        return 1
+    return 3 if split == 5 else chooser.random.choices(range(5), (1, 6, 1, 1, 8))[0]
+
+
+def few_alike(chooser):
+    """The nearest vector where it counts 4, and around it two neighbours alike and one that is not."""
+    return 1 if chooser.name[2] == 4 else chooser.random.choice((0, 3))
+
+
+def fifth_band(chooser):
+    """Tokens of Y2 up to band 5 with 1 before it, and there those that are seldom drawn."""
+    _, kind, band, context, _ = chooser.name
+    if kind == 1 and band == 5 and context == 1:
+        return chooser.random.choice((4, 5, 5))
+    return 1
+
+
+def last_points(stream, chooser):
+    """What the streams before this one do not reach."""
+    stream.frame((16, 16), 1)
+    stream.frame(None, 1, prob_intra=250, is_inter_mb=1, mv_mode=3, mv_long=0, mv_sign=0, **{"mb_skip_coeff": 0})
+    stream.frame((64, 64), mb_skip_coeff=1, mb_no_coeff_skip=1, prob_skip_false=3)
+    for number in range(6):
+        stream.frame(prob_intra=250, is_inter_mb=1, mb_ref_frame_sel1=0, mb_skip_coeff=1, mb_no_coeff_skip=1, prob_skip_false=3, mv_mode=by_counts)
+    for number in range(6):
+        stream.frame(prob_intra=250, is_inter_mb=1, mb_ref_frame_sel1=0, mb_skip_coeff=1, mb_no_coeff_skip=1, prob_skip_false=3, mv_mode=few_alike, mv_sign=0, mv_long=0)
+    for number in range(3):
+        stream.frame((16, 16), token=fifth_band, y_ac_qi=0, segmentation_enabled=0, mb_skip_coeff=0, loop_filter_adj_enable=1, mode_ref_lf_delta_update=1, ref_frame_delta=absent, **{"key intra_y_mode": 0})
+
+
 def flags(stream, chooser):
     """Every combination of refreshes, copies and sign biases, one frame of one macroblock each."""
     stream.frame((16, 16))
@@ -317,6 +351,7 @@ def make(folder):
     maker.stream("refused", (16, 16), causes)
     for number in range(4):
         maker.stream(f"random-{number}", (40, 24), key_and_inters((40, 24), 8, number), directed=everything, new=0.9, rare=0.01)
+    maker.stream("last-points", (64, 64), last_points, forced={("mv_short", 0): 1, ("mv_short", 1): 5})
     maker.stream("copy-nothing", (16, 16), lambda stream, chooser: (stream.frame((16, 16)), stream.frame(refresh_golden_frame=0, copy_buffer_to_golden=3), stream.frame(refresh_alternate_frame=0, copy_buffer_to_alternate=3)), beyond=True)
     maker.stream("partitions-cut-short", (32, 32), cut_short, beyond=True)
     maker.stream("partitions-of-ones", (32, 32), all_ones, beyond=True)

@@ -40,8 +40,11 @@ class Chooser:
         self.new = 0.5
         # Names of which values that were never chosen are taken first.
         self.directed = ()
+        # The name of the value that is being chosen, for functions in `forced`.
+        self.name = ()
 
     def value(self, name, options):
+        self.name = name
         forced = self.forced.get(name, self.forced.get(name[0]))
         if forced is not None:
             value = forced(self) if callable(forced) else forced
