@@ -1,0 +1,187 @@
+#!/usr/bin/env python3
+"""Runs another decoder over the streams, and says where it leaves RFC 6386.
+
+    run.py vpxdec | ffmpeg | gstreamer                one of these, if it is installed
+    run.py NAME COMMAND                               any other: {in} is the stream, {out} a file for I420 frames
+    run.py NAME COMMAND --md5                         it prints an MD5 of all frames, or of each, on standard output
+    run.py ... [--junit FILE] [--beyond] [STREAM ..]
+
+A stream is `same`, or the first frame that differs is shown, with the macroblock and the sample, what the macroblock is made of, and the points that the
+stream alone reaches. A stream in which the decoder shows fewer frames than the standard is compared as far as it goes. --beyond takes the
+streams in which libvpx leaves the standard, too. The last lines count streams, frames and points. The exit status is 1 if a stream differs.
+"""
+
+import argparse
+import concurrent.futures
+import hashlib
+import json
+import pathlib
+import re
+import subprocess
+import sys
+import tempfile
+import xml.etree.ElementTree as xml
+
+from vp8 import ivf
+from vp8.decoder import Decoder, Refused
+from vp8.parser import B, INTRA, SPLIT
+from vp8.points import MODE_NAMES, SUB_NAMES, VECTOR_MODES
+
+HERE = pathlib.Path(__file__).resolve().parent
+STREAMS, EXPECTED = HERE / "streams", HERE / "expected"
+KNOWN = {
+    "vpxdec": ["vpxdec", "--codec=vp8", "--i420", "-o", "{out}", "{in}"],
+    "ffmpeg": ["ffmpeg", "-nostdin", "-v", "error", "-y", "-i", "{in}", "-fps_mode", "passthrough", "-autoscale", "0", "-f", "rawvideo", "{out}"],
+    "gstreamer": ["gst-launch-1.0", "-q", "filesrc", "location={in}", "!", "ivfparse", "!", "avdec_vp8", "!", "filesink", "location={out}"],
+}
+
+
+def is_shown(packet):
+    return len(packet) < 3 or bool(packet[0] & 16)
+
+
+class Truth:
+    """What the standard gives for a stream: each shown frame with its packet, its samples and its records."""
+
+    def __init__(self, path):
+        self.frames = []
+        decoder = Decoder()
+        for number, packet in enumerate(ivf.read(path)):
+            try:
+                picture = decoder.decode(packet)
+            except Refused:
+                continue
+            if is_shown(packet):
+                self.frames.append((number, picture, decoder.frame))
+
+
+def ran(command, path, room, prints):
+    """The bytes that a decoder makes of a stream, or the MD5s that it prints, and its errors."""
+    out = pathlib.Path(room, "out")
+    words = [word.replace("{in}", str(path)).replace("{out}", str(out)) for word in command]
+    done = subprocess.run(words, stdin=subprocess.DEVNULL, capture_output=True, timeout=120, check=False)
+    errors = done.stderr.decode(errors="replace").strip().splitlines()
+    if prints:
+        return re.findall(r"\b[0-9a-f]{32}\b", done.stdout.decode(errors="replace")), errors
+    return out.read_bytes() if out.is_file() else done.stdout, errors
+
+
+def record_of(frame, place):
+    """What a macroblock is made of, in words."""
+    if frame is None:
+        return "a repeat of the last frame"
+    macroblock = frame.macroblocks[place]
+    words = [f"version {frame.header.version}", "key frame" if frame.header.is_key else "inter frame"]
+    if macroblock.reference == INTRA:
+        modes = " ".join(SUB_NAMES[mode] for mode in macroblock.subs) if macroblock.y_mode == B else ""
+        words += [f"luma {MODE_NAMES[macroblock.y_mode]} {modes}".strip(), f"chroma {MODE_NAMES[macroblock.uv_mode]}"]
+    else:
+        vectors = macroblock.vectors if macroblock.vector_mode == SPLIT else [macroblock.vector]
+        words += [("", "last", "golden", "altref")[macroblock.reference], VECTOR_MODES[macroblock.vector_mode]]
+        words.append("vectors " + " ".join(f"{down},{across}" for down, across in vectors))
+    words.append("skipped" if macroblock.skip else "tokens" if macroblock.has_tokens else "no tokens")
+    return ", ".join(words)
+
+
+def first_sample(ours, theirs, picture):
+    """The plane, column and row of the first sample that differs."""
+    place = next(number for number, pair in enumerate(zip(ours, theirs)) if pair[0] != pair[1])
+    for plane, (width, height) in enumerate(((picture.width, picture.height), *[((picture.width + 1) // 2, (picture.height + 1) // 2)] * 2)):
+        if place < width * height:
+            return plane, place % width, place // width
+        place -= width * height
+    raise ValueError("no sample")
+
+
+def difference(path, command, prints):
+    """None if a decoder gives the standard's frames, or a sentence, and how many frames are right before it."""
+    truth = Truth(path)
+    with tempfile.TemporaryDirectory() as room:
+        try:
+            theirs, errors = ran(command, path, room, prints)
+        except subprocess.TimeoutExpired:
+            return "it does not end", 0, len(truth.frames)
+    said = f" ({errors[-1][:120]})" if errors else ""
+    if prints:
+        samples = [picture.shown() for _, picture, _ in truth.frames]
+        wanted = [hashlib.md5(text).hexdigest() for text in samples]
+        if theirs in (wanted, [hashlib.md5(b"".join(samples)).hexdigest()]):
+            return None, len(samples), len(samples)
+        same = next((number for number, pair in enumerate(zip(wanted, theirs)) if pair[0] != pair[1]), min(len(wanted), len(theirs)))
+        return f"frame {same} differs{said}", same if len(theirs) > 1 else 0, len(samples)
+    place = 0
+    for number, (packet, picture, frame) in enumerate(truth.frames):
+        ours = picture.shown()
+        part = theirs[place : place + len(ours)]
+        if len(part) < len(ours):
+            return f"it shows {number} of {len(truth.frames)} frames{said}", number, len(truth.frames)
+        if part != ours:
+            plane, x, y = first_sample(ours, part, picture)
+            side = 8 if plane else 16
+            columns = (picture.width + 15) // 16
+            at = y // side * columns + x // side
+            where = f"frame {number}, packet {packet}, macroblock {x // side},{y // side}, {('Y', 'U', 'V')[plane]} sample {x},{y}"
+            return f"{where}: {record_of(frame, at)}{said}", number, len(truth.frames)
+        place += len(ours)
+    if place != len(theirs):
+        return f"it shows more than the {len(truth.frames)} frames{said}", len(truth.frames), len(truth.frames)
+    return None, len(truth.frames), len(truth.frames)
+
+
+def own_points(names):
+    """For each stream the points that it alone reaches."""
+    own = {}
+    for group, record in json.loads((HERE / "points.json").read_text()).items():
+        for point, streams in record["points"].items():
+            if len(streams) == 1:
+                own.setdefault(streams[0], []).append(f"{group}: {point}")
+    return {name: own.get(name, []) for name in names}
+
+
+def reached(names):
+    """How many points streams of these names reach, and how many all do."""
+    lists = [streams for record in json.loads((HERE / "points.json").read_text()).values() for streams in record["points"].values()]
+    return sum(bool(set(streams) & names) for streams in lists), sum(bool(streams) for streams in lists)
+
+
+def write_junit(path, name, results):
+    suite = xml.Element("testsuite", name=f"vp8 conformance, {name}", tests=str(len(results)), failures=str(sum(bool(text) for _, text, _, _ in results)))
+    for stream, text, _, _ in results:
+        case = xml.SubElement(suite, "testcase", classname=name, name=stream)
+        if text:
+            xml.SubElement(case, "failure", message=text)
+    xml.ElementTree(suite).write(path, encoding="utf-8", xml_declaration=True)
+
+
+def main():
+    parser = argparse.ArgumentParser(description=__doc__, formatter_class=argparse.RawDescriptionHelpFormatter)
+    parser.add_argument("name")
+    parser.add_argument("command", nargs="?")
+    parser.add_argument("streams", nargs="*")
+    parser.add_argument("--md5", action="store_true")
+    parser.add_argument("--beyond", action="store_true")
+    parser.add_argument("--junit")
+    asked = parser.parse_args()
+    command = KNOWN.get(asked.name) if asked.name in KNOWN else asked.command.split() if asked.command else None
+    if command is None:
+        parser.error(f"{asked.name} is not known: give its command")
+    wanted = set(asked.streams) | ({asked.command} if asked.name in KNOWN and asked.command else set())
+    paths = [path for path in sorted(STREAMS.rglob("*.ivf")) if (asked.beyond or path.parent == STREAMS) and (not wanted or path.stem in wanted)]
+    own = own_points([path.stem for path in paths])
+    results = []
+    with concurrent.futures.ThreadPoolExecutor(4) as pool:
+        for path, (text, same, frames) in zip(paths, pool.map(lambda path: difference(path, command, asked.md5), paths)):
+            results.append((path.stem, text, same, frames))
+            print(f"{path.stem}: {'same' if text is None else text}", flush=True)
+            if text and own[path.stem]:
+                print(f"    reached by this stream alone: {'; '.join(own[path.stem][:4])}{' ..' if len(own[path.stem]) > 4 else ''}")
+    good = {name for name, text, _, _ in results if text is None}
+    points = reached(good)
+    print(f"{asked.name}: {len(good)} of {len(results)} streams, {sum(row[2] for row in results)} of {sum(row[3] for row in results)} frames; streams that are the same reach {points[0]} of {points[1]} points")
+    if asked.junit:
+        write_junit(asked.junit, asked.name, results)
+    return 0 if len(good) == len(results) else 1
+
+
+if __name__ == "__main__":
+    sys.exit(main())
