@@ -16,6 +16,8 @@ from .files import write_whole
 
 # Seconds.
 LOCK_TIME = 1
+# The requests that are not edits, and the first word of their replies. The reply to an edit begins with `ok`.
+REPLIES = {"frame": "served", "count": "packets", "stats": "decoded"}
 
 
 def words_of(line):
@@ -26,7 +28,7 @@ def words_of(line):
 def is_edit(line):
     """Whether a line of a list is an edit, and not a comment or another request."""
     word = words_of(line).split(" ")[0]
-    return bool(word) and not word.startswith("#") and word not in ("frame", "count", "stats")
+    return bool(word) and not word.startswith("#") and word not in REPLIES
 
 
 class Entry:

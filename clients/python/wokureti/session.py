@@ -5,15 +5,13 @@ import time
 from typing import NamedTuple
 
 from . import checks, programs
-from .edits import EditList, words_of
+from .edits import REPLIES, EditList, words_of
 from .errors import Ended, Refused
 from .frames import frame_of
 from .inputs import Inputs
 from .pipes import Gone, Late, Pipes, Strange
 
 EDITS = frozenset(("use", "insert", "replace", "delete", "move", "copy", "blank", "hold", "script"))
-# How the reply begins that a request has if it is not refused; that of an edit begins with `ok`.
-REPLIES = {"frame": "served", "count": "packets", "stats": "decoded"}
 
 
 class Count(NamedTuple):
