@@ -5,6 +5,7 @@ import * as server from "./interface.js";
 // Frames that are asked for at a time, and how far ahead.
 const AT_ONCE = 4;
 const AHEAD = 16;
+const TOGETHER = 8;
 
 /** The frame that is due after some frames' time, in a range that begins again at its end if it loops; null after the end. */
 export function frameDue(start, direction, passed, range, isLoop) {
@@ -26,6 +27,13 @@ export function framesAhead(frame, direction, count, range, isLoop) {
     found.push(due);
   }
   return found;
+}
+
+/** The order in which frames are asked for. Backward, frames that are next to each other are decoded forward: the nearest of these groups first. */
+export function orderOf(frames, direction) {
+  if (direction > 0) return frames;
+  const group = (frame) => Math.floor(frame / TOGETHER);
+  return [...frames].sort((one, other) => group(other) - group(one) || one - other);
 }
 
 export class Player {
@@ -109,14 +117,23 @@ export class Player {
       return;
     }
     this.fetch(due, direction);
-    if (passed !== this.passed) this.present(due, passed, now);
+    if (passed !== this.passed) this.presentNewest(passed, direction, now);
     this.asked = requestAnimationFrame(() => this.tick());
   }
 
-  /** Shows the frame that is due if it is here; else the last one stays, and this one is dropped once the next is due. */
-  present(due, passed, now) {
-    const frame = this.frames.here(due);
-    if (!frame) return;
+  /** Shows the newest frame that is here of those that were due since the last one; those before it are dropped. */
+  presentNewest(passed, direction, now) {
+    for (let one = passed; one > Math.max(this.passed, passed - AHEAD); one--) {
+      const due = frameDue(this.start, direction, one, this.range, this.isLoop);
+      const frame = this.frames.here(due);
+      if (frame) {
+        this.present(due, frame, one, now);
+        return;
+      }
+    }
+  }
+
+  present(due, frame, passed, now) {
     this.dropped += passed - this.passed - 1;
     this.passed = passed;
     this.shown++;
@@ -139,7 +156,8 @@ export class Player {
 
   fetch(due, direction) {
     const step = Math.max(1, Math.round(Math.abs(this.speed)));
-    for (const frame of framesAhead(due, direction, AHEAD * Math.min(step, 2), this.range, this.isLoop)) {
+    const ahead = framesAhead(due, direction, AHEAD * Math.min(step, 2), this.range, this.isLoop);
+    for (const frame of orderOf(ahead, direction)) {
       if (this.flying >= AT_ONCE) return;
       if (this.frames.isAsked(frame)) continue;
       this.flying++;
