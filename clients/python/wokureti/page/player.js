@@ -6,6 +6,8 @@ import * as server from "./interface.js";
 const AT_ONCE = 4;
 const AHEAD = 16;
 const TOGETHER = 8;
+// Milliseconds that playback waits for its first frames.
+const MOST_WAIT = 600;
 
 /** The frame that is due after some frames' time, in a range that begins again at its end if it loops; null after the end. */
 export function frameDue(start, direction, passed, range, isLoop) {
@@ -76,6 +78,7 @@ export class Player {
   begin(start) {
     this.start = start;
     this.since = performance.now();
+    this.isReady = false;
     this.shown = 0;
     this.dropped = 0;
     this.passed = -1;
@@ -109,6 +112,10 @@ export class Player {
     if (!this.speed) return;
     const direction = Math.sign(this.speed);
     const now = performance.now();
+    if (!this.isReady && !this.fill(direction, now)) {
+      this.asked = requestAnimationFrame(() => this.tick());
+      return;
+    }
     const passed = Math.floor(((now - this.since) / 1000) * this.model.rate * Math.abs(this.speed));
     const due = frameDue(this.start, direction, passed, this.range, this.isLoop);
     if (due === null) {
@@ -119,6 +126,15 @@ export class Player {
     this.fetch(due, direction);
     if (passed !== this.passed) this.presentNewest(passed, direction, now);
     this.asked = requestAnimationFrame(() => this.tick());
+  }
+
+  /** Waits for the first frames, for a moment at most. The time of playback begins then. */
+  fill(direction, now) {
+    this.fetch(this.start, direction);
+    const first = framesAhead(this.start, direction, TOGETHER, this.range, this.isLoop);
+    this.isReady = now - this.since > MOST_WAIT || first.every((frame) => this.frames.here(frame));
+    if (this.isReady) this.since = now;
+    return this.isReady;
   }
 
   /** Shows the newest frame that is here of those that were due since the last one; those before it are dropped. */
