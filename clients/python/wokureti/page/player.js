@@ -5,6 +5,9 @@ import * as server from "./interface.js";
 // Frames that are asked for at a time, and how far ahead.
 const AT_ONCE = 4;
 const AHEAD = 16;
+const TOGETHER = 8;
+// Milliseconds that playback waits for its first frames.
+const MOST_WAIT = 600;
 
 /** The frame that is due after some frames' time, in a range that begins again at its end if it loops; null after the end. */
 export function frameDue(start, direction, passed, range, isLoop) {
@@ -26,6 +29,13 @@ export function framesAhead(frame, direction, count, range, isLoop) {
     found.push(due);
   }
   return found;
+}
+
+/** The order in which frames are asked for. Backward, frames that are next to each other are decoded forward: the nearest of these groups first. */
+export function orderOf(frames, direction) {
+  if (direction > 0) return frames;
+  const group = (frame) => Math.floor(frame / TOGETHER);
+  return [...frames].sort((one, other) => group(other) - group(one) || one - other);
 }
 
 export class Player {
@@ -68,6 +78,7 @@ export class Player {
   begin(start) {
     this.start = start;
     this.since = performance.now();
+    this.isReady = false;
     this.shown = 0;
     this.dropped = 0;
     this.passed = -1;
@@ -101,6 +112,10 @@ export class Player {
     if (!this.speed) return;
     const direction = Math.sign(this.speed);
     const now = performance.now();
+    if (!this.isReady && !this.fill(direction, now)) {
+      this.asked = requestAnimationFrame(() => this.tick());
+      return;
+    }
     const passed = Math.floor(((now - this.since) / 1000) * this.model.rate * Math.abs(this.speed));
     const due = frameDue(this.start, direction, passed, this.range, this.isLoop);
     if (due === null) {
@@ -109,14 +124,32 @@ export class Player {
       return;
     }
     this.fetch(due, direction);
-    if (passed !== this.passed) this.present(due, passed, now);
+    if (passed !== this.passed) this.presentNewest(passed, direction, now);
     this.asked = requestAnimationFrame(() => this.tick());
   }
 
-  /** Shows the frame that is due if it is here; else the last one stays, and this one is dropped once the next is due. */
-  present(due, passed, now) {
-    const frame = this.frames.here(due);
-    if (!frame) return;
+  /** Waits for the first frames, for a moment at most. The time of playback begins then. */
+  fill(direction, now) {
+    this.fetch(this.start, direction);
+    const first = framesAhead(this.start, direction, TOGETHER, this.range, this.isLoop);
+    this.isReady = now - this.since > MOST_WAIT || first.every((frame) => this.frames.here(frame));
+    if (this.isReady) this.since = now;
+    return this.isReady;
+  }
+
+  /** Shows the newest frame that is here of those that were due since the last one; those before it are dropped. */
+  presentNewest(passed, direction, now) {
+    for (let one = passed; one > Math.max(this.passed, passed - AHEAD); one--) {
+      const due = frameDue(this.start, direction, one, this.range, this.isLoop);
+      const frame = this.frames.here(due);
+      if (frame) {
+        this.present(due, frame, one, now);
+        return;
+      }
+    }
+  }
+
+  present(due, frame, passed, now) {
     this.dropped += passed - this.passed - 1;
     this.passed = passed;
     this.shown++;
@@ -139,7 +172,8 @@ export class Player {
 
   fetch(due, direction) {
     const step = Math.max(1, Math.round(Math.abs(this.speed)));
-    for (const frame of framesAhead(due, direction, AHEAD * Math.min(step, 2), this.range, this.isLoop)) {
+    const ahead = framesAhead(due, direction, AHEAD * Math.min(step, 2), this.range, this.isLoop);
+    for (const frame of orderOf(ahead, direction)) {
       if (this.flying >= AT_ONCE) return;
       if (this.frames.isAsked(frame)) continue;
       this.flying++;
