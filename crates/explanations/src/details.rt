@@ -185,11 +185,12 @@ fn bytes_detail(count: Option<usize>) -> Detail
 pub fn detail_of(session: &Session, line: &[u8], refusal: Refusal) -> Detail
     ensures { IsDetail session.now.now (asked_by line.now) refusal result }
 {
+    let request = read_line(line).unwrap_or(Line::Unknown);
     match refusal {
-        Refusal::Place => place_detail(session, &read_line(line)),
-        Refusal::Size => size_detail(session, &read_line(line)),
-        Refusal::NoSuchFrame => frame_detail(session, &read_line(line)),
-        Refusal::SizeDiffers => sizes_detail(session, &read_line(line)),
+        Refusal::Place => place_detail(session, &request),
+        Refusal::Size => size_detail(session, &request),
+        Refusal::NoSuchFrame => frame_detail(session, &request),
+        Refusal::SizeDiffers => sizes_detail(session, &request),
         Refusal::Packet { source, place, .. } => bytes_detail(session.packet_len(source, place)),
         _ => Detail::Nothing,
     }

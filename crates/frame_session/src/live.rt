@@ -140,7 +140,7 @@ impl LineRead {
         ensures { (line : List ℕ) → IsRead self.now line → IsAsked (if is_terminated then strip_carriage_return line else line) result }
     {
         if self.is_held {
-            read_line(self.text(is_terminated))
+            read_line(self.text(is_terminated)).unwrap_or(Line::Unknown)
         } else {
             self.beginning.request(is_terminated)
         }

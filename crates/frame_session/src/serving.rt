@@ -226,7 +226,8 @@ pub(crate) fn serve_all<F: Write, P: Write, V: Observer>(
         let Some((line, following)) = next_line(rest) else {
             return Ok(());
         };
-        let told = serve_line(session, read_line(line), frames, replies, flushing)?;
+        let request = read_line(line).unwrap_or(Line::Unknown);
+        let told = serve_line(session, request, frames, replies, flushing)?;
         observer.answered(session, line, told);
         rest = following;
     }

@@ -12,7 +12,6 @@ ghost use Rattle.frame_session.specs.Cached.{shown_counts_of, store_at, store_of
 ghost use Rattle.frame_session.specs.Sessions.{head_of_first, spare_of};
 ghost use Rattle.frame_session.specs.IsOrNoMemory.{IsOrNoMemory, IsFrameOrNoMemory};
 ghost use Rattle.frame_session.specs.Edits.{EditAnswers, WrittenAnswers};
-ghost use Rattle.request_lines.specs.declared.edit.Edit.TheVariants.{Insert, Replace};
 
 mod known;
 
@@ -252,47 +251,29 @@ impl Session {
         ensures refused { OnErr result (self.new ≡ self.old) }
     {
         match edit {
-            Edit::Insert { at, stamp, bytes } => self.insert_written(at, stamp, bytes),
-            Edit::Replace { at, bytes } => self.replace_written(at, bytes),
+            Edit::Insert { at, stamp, bytes } => {
+                if let Err(fault) = self.stores[self.current].may_insert(at) {
+                    return Err(Refusal::by(fault));
+                }
+                match bytes.read(self.alloc) {
+                    Ok(bytes) => self.edit(Edit::Insert { at, stamp, bytes }),
+                    Err(_) => Err(Refusal::NoMemory),
+                }
+            }
+            Edit::Replace { at, bytes } => {
+                if let Err(fault) = self.stores[self.current].may_replace(at) {
+                    return Err(Refusal::by(fault));
+                }
+                match bytes.read(self.alloc) {
+                    Ok(bytes) => self.edit(Edit::Replace { at, bytes }),
+                    Err(_) => Err(Refusal::NoMemory),
+                }
+            }
             Edit::Delete { at } => self.edit(Edit::Delete { at }),
             Edit::Move { from, to } => self.edit(Edit::Move { from, to }),
             Edit::Copy { source, from, at } => self.edit(Edit::Copy { source, from, at }),
             Edit::Blank { at, width, height } => self.edit(Edit::Blank { at, width, height }),
             Edit::Hold { at } => self.edit(Edit::Hold { at }),
-        }
-    }
-
-    /// Inserts a packet whose bytes are decoded only once nothing else is refused.
-    fn insert_written(&mut self, at: u64, stamp: u64, bytes: Hex<'_>) -> Result<u64, Refusal>
-        ensures returned { IsOrNoMemory (edit_answer self.old.now (Insert at stamp bytes.entry)) result }
-        ensures after { self.new.now ≡ now_after_edit (Insert at stamp bytes.entry) self.old.now result }
-        ensures stores { self.new.stores ≡ stores_after self.old.now.tables self.old.now.current (Insert at stamp bytes.entry) self.old.stores result }
-        ensures cache { CacheWithout self.old.now.current (id_removed (Insert at stamp bytes.entry) (current_list self.old.now) result) self.old.cache self.new.cache }
-        ensures refused { OnErr result (self.new ≡ self.old) }
-    {
-        if let Err(fault) = self.stores[self.current].may_insert(at) {
-            return Err(Refusal::by(fault));
-        }
-        match bytes.read(self.alloc) {
-            Ok(bytes) => self.edit(Edit::Insert { at, stamp, bytes }),
-            Err(_) => Err(Refusal::NoMemory),
-        }
-    }
-
-    /// Replaces a packet by bytes that are decoded only once nothing else is refused.
-    fn replace_written(&mut self, at: u64, bytes: Hex<'_>) -> Result<u64, Refusal>
-        ensures returned { IsOrNoMemory (edit_answer self.old.now (Replace at bytes.entry)) result }
-        ensures after { self.new.now ≡ now_after_edit (Replace at bytes.entry) self.old.now result }
-        ensures stores { self.new.stores ≡ stores_after self.old.now.tables self.old.now.current (Replace at bytes.entry) self.old.stores result }
-        ensures cache { CacheWithout self.old.now.current (id_removed (Replace at bytes.entry) (current_list self.old.now) result) self.old.cache self.new.cache }
-        ensures refused { OnErr result (self.new ≡ self.old) }
-    {
-        if let Err(fault) = self.stores[self.current].may_replace(at) {
-            return Err(Refusal::by(fault));
-        }
-        match bytes.read(self.alloc) {
-            Ok(bytes) => self.edit(Edit::Replace { at, bytes }),
-            Err(_) => Err(Refusal::NoMemory),
         }
     }
 

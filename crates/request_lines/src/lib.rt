@@ -12,7 +12,7 @@ mod text_lines;
 
 pub use edit::Edit;
 pub use hex_text::Hex;
-pub use lines::{Line, line_misfit, parse_line, read_line};
+pub use lines::{Line, line_misfit, read_line};
 pub use lost::Beginning;
 pub use misfit::Misfit;
 pub use part::Part;

@@ -89,7 +89,7 @@ fn ended<'a>(request: Line<'a>, rest: &'a [u8]) -> Result<Line<'a>, Misfit<'a>>
 /// `frame N`, `use K`, `insert AT STAMP HEX`, `replace AT HEX`, `delete AT`, `move FROM TO`,
 /// `copy S FROM AT`, `blank AT W H`, `hold AT`, `script TEXT`, `count` and `stats`. HEX is `-` or an even number of hexadecimal digits, TEXT is the rest of
 /// the line with at least one word, and the others are numbers.
-pub fn parse_line(line: &[u8]) -> Result<Line<'_>, Misfit<'_>>
+pub fn read_line(line: &[u8]) -> Result<Line<'_>, Misfit<'_>>
     ensures { result ≡ read_of line.now }
 {
     let Some((command, words)) = next_word(line) else {
@@ -126,23 +126,13 @@ pub fn parse_line(line: &[u8]) -> Result<Line<'_>, Misfit<'_>>
     }
 }
 
-/// The request of a line: `Unknown` if it is not one.
-pub fn read_line(line: &[u8]) -> Line<'_>
-    ensures { result ≡ asked_by line.now }
-{
-    match parse_line(line) {
-        Ok(request) => request,
-        Err(_) => Line::Unknown,
-    }
-}
-
 /// Why a line is not a request. It has a reason exactly if it is not one; a line without words and a comment have none.
 #[tactic(auto, using(crate::proofs::Exact::read_exact))]
 pub fn line_misfit(line: &[u8]) -> Option<Misfit<'_>>
     ensures misfit { result ≡ misfit_of line.now }
     ensures exact { is_some result ≡ is_unknown (asked_by line.now) }
 {
-    parse_line(line).err()
+    read_line(line).err()
 }
 
 fn frame_line(words: &[u8]) -> Result<Line<'_>, Misfit<'_>>

@@ -72,7 +72,7 @@ impl<E: Write> Messages<'_, E> {
 
     /// Takes note of an edit that was accepted.
     fn note_edit(&mut self, session: &Session, line: &[u8]) {
-        if !matches!(read_line(line), Line::Edit(_)) {
+        if !matches!(read_line(line), Ok(Line::Edit(_))) {
             return;
         }
         if let Some(edited) = self.edited.get_mut(session.current()) {
