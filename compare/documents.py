@@ -1,6 +1,7 @@
 #!/usr/bin/env python3
 """Runs the commands of docs/cookbook.md (or of the files named) as they stand, in order, in one bash and one new
-folder, and compares their output with the lines after `#`. A player is replaced by `cat`."""
+folder, and compares their output with the lines after `#`. A player is replaced by `cat`, and `wokureti open` is interrupted after some
+seconds."""
 
 import os
 import pathlib
@@ -65,6 +66,9 @@ def main():
                 stub = pathlib.Path(folder, "bin", player)
                 stub.write_text("#!/bin/sh\ncat > /dev/null\n")
                 stub.chmod(0o755)
+            page = pathlib.Path(folder, "bin", "wokureti")
+            page.write_text(f'#!/bin/sh\n[ "$1" != open ] || exec timeout -s INT 8 {TOP}/bin/wokureti "$@" --no-browser 2> /dev/null\nexec {TOP}/bin/wokureti "$@"\n')
+            page.chmod(0o755)
             wrong += run(path, folder)
     return 1 if wrong else 0
 

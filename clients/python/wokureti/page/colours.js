@@ -54,23 +54,25 @@ export function colourOf(y, u, v) {
   ];
 }
 
-/** A frame in colour, as pixels of 32 bits. */
+/** A frame in colour, as pixels of 32 bits. Two samples of luma in a row have one of each chroma plane. */
 export function toColour(frame) {
   const { width, height } = frame;
   const { y, u, v } = planes(frame);
   const out = new Uint32Array(width * height);
-  const across = u.width;
   for (let row = 0; row < height; row++) {
-    const chroma = (row >> 1) * across;
-    let place = row * width;
-    for (let column = 0; column < width; column++, place++) {
-      const light = LUMA[y.samples[place]];
-      const cb = u.samples[chroma + (column >> 1)];
-      const cr = v.samples[chroma + (column >> 1)];
-      const red = CLAMPED[((light + RED_OF_CR[cr]) >> SHIFT) + LOW];
-      const green = CLAMPED[((light + GREEN_OF_CR[cr] + GREEN_OF_CB[cb]) >> SHIFT) + LOW];
-      const blue = CLAMPED[((light + BLUE_OF_CB[cb]) >> SHIFT) + LOW];
-      out[place] = (255 << 24) | (blue << 16) | (green << 8) | red;
+    let chroma = (row >> 1) * u.width;
+    const end = (row + 1) * width;
+    for (let place = row * width; place < end; chroma++) {
+      const cb = u.samples[chroma];
+      const cr = v.samples[chroma];
+      const red = RED_OF_CR[cr];
+      const green = GREEN_OF_CR[cr] + GREEN_OF_CB[cb];
+      const blue = BLUE_OF_CB[cb];
+      for (const stop = Math.min(end, place + 2); place < stop; place++) {
+        const light = LUMA[y.samples[place]];
+        out[place] =
+          (255 << 24) | (CLAMPED[((light + blue) >> SHIFT) + LOW] << 16) | (CLAMPED[((light + green) >> SHIFT) + LOW] << 8) | CLAMPED[((light + red) >> SHIFT) + LOW];
+      }
     }
   }
   return out;
