@@ -1,4 +1,7 @@
 // The arguments of the command line.
+ghost use Rattle.std.specs.Prelude.{◌≡◌};
+ghost use Rattle.vp8list.specs.Options.{form_of, output_by};
+
 use clap::{Arg, ArgAction, ArgMatches, Command};
 use std::alloc::{AllocError, Global};
 use std::convert::AsStr;
@@ -169,13 +172,24 @@ fn command<'a>(alloc: Global) -> Result<Command<'a>, AllocError> {
     with_outputs(alloc, command)
 }
 
+/// The form of a check's findings.
+fn form_of(is_json: bool) -> Form
+    ensures { result ≡ form_of is_json }
+{
+    if is_json { Form::Objects } else { Form::Lines }
+}
+
 /// The output that `--json`, `--hash`, `--check` and `--strict` ask for; `None` if they do not go
 /// together.
-fn output_by(is_json: bool, is_hash: bool, is_check: bool, is_strict: bool) -> Option<Output> {
-    let form = if is_json { Form::Objects } else { Form::Lines };
+fn output_by(is_json: bool, is_hash: bool, is_check: bool, is_strict: bool) -> Option<Output>
+    ensures { result ≡ output_by is_json is_hash is_check is_strict }
+{
     match (is_hash, is_check) {
         (true, true) => None,
-        (false, true) => Some(Output::Findings(Checking { form, is_strict })),
+        (false, true) => Some(Output::Findings(Checking {
+            form: form_of(is_json),
+            is_strict,
+        })),
         (true, false) if !is_json && !is_strict => Some(Output::Hashes),
         (false, false) if !is_strict => Some(if is_json {
             Output::Objects
