@@ -3,3 +3,4 @@ pub mod HashedFiles
 pub mod CheckedFiles
 pub mod Objects
 pub mod Answers
+pub mod Details

@@ -1,9 +1,13 @@
 -- What the options ask for.
-use Rattle.std.specs.Prelude.{Bool, true, false, if◌then◌else◌, Option, Some, None}
+use Rattle.std.specs.Prelude.{Bool, true, false, ◌||◌, if◌then◌else◌, Option, Some, None}
 use Rattle.stream_checks.specs.declared.texts.Form.{Form}
 use Rattle.stream_checks.specs.declared.texts.Form.TheVariants.{Lines, Objects as ObjectLines}
 use Rattle.stream_outputs.specs.declared.answering.Output.{Output}
-use Rattle.stream_outputs.specs.declared.answering.Output.TheVariants.{List, Objects, Hashes, Findings}
+use Rattle.stream_outputs.specs.declared.answering.Output.TheVariants.{List, Objects, Hashes, Findings, Details}
+use Rattle.macroblock_lists.specs.declared.layouts.Form.TheVariants as forms
+use Rattle.macroblock_lists.specs.declared.layouts.What.{What}
+use Rattle.vp8list.specs.declared.arguments.Flags.{Flags}
+use Rattle.vp8list.specs.declared.ranges.Range.{Range}
 
 -- the form of a check's findings
 abbrev pub form_of : Bool → Form
@@ -18,3 +22,11 @@ output_by false true false false = Some Hashes
 output_by is_json true false is_strict = None
 output_by is_json false false true = None
 output_by is_json false false false = Some (if is_json then Objects else List)
+
+-- the output that asks for parts of packets: none without a range, or with another option than `--json`
+abbrev pub details_of : What → Bool → Option Range → Option Output
+details_of what is_json None = None
+details_of what is_json (Some range) = Some (Details (record { what = what; form = if is_json then forms.Objects else forms.Lines; first = range.first; last = range.last }))
+
+abbrev pub details_by : What → Option Range → Flags → Option Output
+details_by what range flags = if flags.is_hash || flags.is_check || flags.is_strict then None else details_of what flags.is_json range

@@ -4,6 +4,7 @@
 mod arguments;
 mod program;
 mod progress;
+mod ranges;
 mod reading;
 
 use message_writer::MessageWriter;

@@ -1,0 +1,55 @@
+-- What the program writes of single packets: their macroblocks, or their headers.
+use Rattle.std.specs.Prelude.{◌≡◌, ◌⊎◌, ℕ, ◌+◌, ◌-◌, ◌≤◌, List, length, Option, Some, None}
+use Rattle.std.specs.Io.KnownBytes.{Appends}
+use Rattle.vp8_tables.specs.Tables.{TableEntries}
+use Rattle.stream_files.specs.declared.ivf.Ivf.{Ivf}
+use Rattle.stream_files.specs.Ivf.{IsIvf, IvfRefuses}
+use Rattle.macroblock_lists.specs.Texts.{list_text}
+use Rattle.macroblock_lists.specs.declared.listing.Wanted.{Wanted}
+use Rattle.stream_outputs.specs.declared.details.Asked.{Asked}
+use Rattle.stream_outputs.specs.declared.fault.Fault.{Fault}
+use Rattle.stream_outputs.specs.declared.fault.Fault.TheVariants.{Input, NoPacket, CannotWrite, NoMemory}
+
+-- the index after the last packet that is asked for, in a stream of so many packets
+abbrev pub end_of : Option ℕ → ℕ → ℕ
+end_of None count = count
+end_of (Some last) count = last + 1
+
+-- the packets that are asked for, in a stream of so many
+pub record IsWanted (asked : Asked) (count : ℕ) (wanted : Wanted) : Type 0 where
+  pub inside : end_of asked.last count ≤ count
+  pub order : asked.first ≤ end_of asked.last count
+  pub what : wanted.what ≡ asked.what
+  pub form : wanted.form ≡ asked.form
+  pub first : wanted.first ≡ asked.first
+  pub number : wanted.count ≡ end_of asked.last count - asked.first
+
+-- or the first or the last of them that is not there
+abbrev pub IsAbsent : Asked → ℕ → Fault → Type 0
+IsAbsent asked count (NoPacket packet number) = (number ≡ count) × (count ≤ packet) × ((asked.first ≡ packet) ⊎ (asked.last ≡ Some packet))
+IsAbsent asked count _ = ⊥
+
+-- the bytes are an IVF file that has these packets, and the output gained their text
+pub record IsDetailed (asked : Asked) (tables : TableEntries) (bytes : List ℕ) (output output' : Option (List ℕ)) : Type 0 where
+  pub file : Ivf
+  pub read : IsIvf bytes file
+  pub inside : end_of asked.last (length file.packets) ≤ length file.packets
+  pub first : asked.first ≤ end_of asked.last (length file.packets)
+  pub written : Appends output output' (list_text asked.what asked.form tables file.packets asked.first (end_of asked.last (length file.packets) - asked.first))
+
+-- the bytes are an IVF file of so many packets that does not have this one, the first or the last that is asked for
+pub record HasNoPacket (asked : Asked) (bytes : List ℕ) (packet count : ℕ) : Type 0 where
+  pub file : Ivf
+  pub read : IsIvf bytes file
+  pub counted : length file.packets ≡ count
+  pub over : count ≤ packet
+  pub asked_for : (asked.first ≡ packet) ⊎ (asked.last ≡ Some packet)
+
+-- why they were not written: the bytes are not an IVF file, or a packet is not there, and then nothing was written; memory ran out; or the
+-- writer returned an error
+abbrev pub IsDetailFault : Asked → List ℕ → Option (List ℕ) → Option (List ℕ) → Fault → Type 0
+IsDetailFault asked bytes output output' (Input fault) = IvfRefuses bytes fault × (output' ≡ output)
+IsDetailFault asked bytes output output' (NoPacket packet count) = HasNoPacket asked bytes packet count × (output' ≡ output)
+IsDetailFault asked bytes output output' NoMemory = (file : Ivf) × IsIvf bytes file
+IsDetailFault asked bytes output output' CannotWrite = Unit {0}
+IsDetailFault asked bytes output output' _ = ⊥
