@@ -34,9 +34,13 @@ container_text path name =
     path ++ codes " is " ++ name ++ codes "; if its video is VP8: ffmpeg -i " ++ path ++ codes " -an -c copy out.ivf\n"
     ++ codes "any other video has to be coded again, which changes each frame: ffmpeg -i " ++ path ++ codes " -an -c:v libvpx out.ivf\n"
 
+-- of a file that one command converts
+abbrev pub line_text : List ℕ → List ℕ → List ℕ → List ℕ
+line_text path name options = path ++ codes " is " ++ name ++ codes ": ffmpeg -i " ++ path ++ codes " " ++ options ++ codes " out.ivf\n"
+
 -- the message for a file with this path
 abbrev pub format_text : List ℕ → Format → List ℕ
-format_text path WebM = path ++ codes " is a WebM or Matroska file: ffmpeg -i " ++ path ++ codes " -an -c copy -copyts out.ivf\n"
+format_text path WebM = line_text path (codes "a WebM or Matroska file") (codes "-an -c copy -copyts")
 format_text path Mp4 = container_text path (codes "an MP4 file")
 format_text path Avi = container_text path (codes "an AVI file")
-format_text path Y4m = path ++ codes " is a YUV4MPEG2 file, whose frames are not coded: ffmpeg -i " ++ path ++ codes " -c:v libvpx out.ivf\n"
+format_text path Y4m = line_text path (codes "a YUV4MPEG2 file, whose frames are not coded") (codes "-c:v libvpx")

@@ -1,7 +1,7 @@
 // The formats of files that are given for an IVF file.
 ghost use Rattle.std.specs.Prelude.{◌≡◌, OnOk};
 ghost use Rattle.std.specs.Io.KnownBytes.{Appends};
-ghost use Rattle.file_formats.specs.Formats.{container_text, format_of, format_text, is_avi, is_mp4, is_webm, is_y4m};
+ghost use Rattle.file_formats.specs.Formats.{container_text, format_of, format_text, is_avi, is_mp4, is_webm, is_y4m, line_text};
 
 use std::io::{self, Write};
 
@@ -79,20 +79,33 @@ fn write_container<E: Write>(errors: &mut E, path: &str, name: &str) -> io::Resu
     )
 }
 
+fn write_line<E: Write>(errors: &mut E, path: &str, name: &str, options: &str) -> io::Result<()>
+    ensures { OnOk result (Appends (E.contents errors.old) (E.contents errors.new) (line_text path.now name.now options.now)) }
+{
+    writeln!(
+        errors,
+        "{path} is {name}: ffmpeg -i {path} {options} out.ivf"
+    )
+}
+
 /// Writes which format the file at `path` has, and the `ffmpeg` command that makes an IVF file of it.
 pub fn write_format<E: Write>(errors: &mut E, path: &str, format: Format) -> io::Result<()>
     ensures { OnOk result (Appends (E.contents errors.old) (E.contents errors.new) (format_text path.now format)) }
 {
     match format {
-        Format::WebM => writeln!(
+        Format::WebM => write_line(
             errors,
-            "{path} is a WebM or Matroska file: ffmpeg -i {path} -an -c copy -copyts out.ivf"
+            path,
+            "a WebM or Matroska file",
+            "-an -c copy -copyts",
         ),
         Format::Mp4 => write_container(errors, path, "an MP4 file"),
         Format::Avi => write_container(errors, path, "an AVI file"),
-        Format::Y4m => writeln!(
+        Format::Y4m => write_line(
             errors,
-            "{path} is a YUV4MPEG2 file, whose frames are not coded: ffmpeg -i {path} -c:v libvpx out.ivf"
+            path,
+            "a YUV4MPEG2 file, whose frames are not coded",
+            "-c:v libvpx",
         ),
     }
 }

@@ -164,5 +164,5 @@ abbrev pub first_fields : Layout → Header → List ℕ
 first_fields layout header =
     frame_fields layout header ++ segment_fields layout header.segmentation header.context.segments ++ filter_fields layout header ++ partition_fields layout header
 
-abbrev pub header_fields : Layout → Header → List ℕ
+unfoldable pub header_fields : Layout → Header → List ℕ
 header_fields layout header = first_fields layout header ++ quantizer_fields layout header.quantizers ++ reference_fields layout header ++ last_fields layout header

@@ -72,10 +72,13 @@ force_members macroblock =
 abbrev pub block_member : List (List ℤ) → List ℕ
 block_member blocks = codes "\"blocks\":\"" ++ blocks_text blocks ++ codes "\","
 
+abbrev pub bits_member : ℕ → List ℕ
+bits_member bits = codes "\"token_bits\":" ++ decimal bits
+
 abbrev pub token_members : Macroblock → List ℕ
 token_members macroblock =
     block_member macroblock.coefficients ++ number_member (codes "coefficients") (count_of macroblock.coefficients)
-    ++ number_member (codes "greatest") (greatest_of macroblock.coefficients) ++ (codes "\"token_bits\":" ++ decimal macroblock.token_bits)
+    ++ number_member (codes "greatest") (greatest_of macroblock.coefficients) ++ bits_member macroblock.token_bits
 
 abbrev pub object_of : ℕ → Macroblock → List ℕ
 object_of packet macroblock =

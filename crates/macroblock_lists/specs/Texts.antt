@@ -48,9 +48,12 @@ abbrev pub sizes_text : Header → List ℕ
 sizes_text header = joined (λ partition. decimal partition.length) header.partitions.items
 
 -- the header alone
+abbrev pub packet_line : ℕ → List ℕ
+packet_line place = codes "packet\t" ++ decimal place ++ codes "\n"
+
 abbrev pub header_text : Form → ℕ → Header → List ℕ
 header_text forms.Lines place header =
-    codes "packet\t" ++ decimal place ++ codes "\n" ++ header_fields layouts.Lines header ++ codes "token_partition_sizes\t" ++ sizes_text header ++ codes "\n"
+    packet_line place ++ header_fields layouts.Lines header ++ codes "token_partition_sizes\t" ++ sizes_text header ++ codes "\n"
 header_text forms.Objects place header =
     codes "{" ++ number_member (codes "packet") place ++ header_fields layouts.Members header ++ codes "\"token_partition_sizes\":[" ++ sizes_text header ++ codes "]}\n"
 

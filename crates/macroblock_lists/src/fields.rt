@@ -105,10 +105,10 @@ fn write_delta_quantizers<W: Write>(
 ) -> Result<(), WriteFault>
     ensures { OnOk result (Appends (W.contents w.old) (W.contents w.new) (delta_quantizers layout quantizers)) }
 {
-    write_signed_field(w, layout, "y2_dc_delta", quantizers.y2_dc_delta)?;
-    write_signed_field(w, layout, "y2_ac_delta", quantizers.y2_ac_delta)?;
-    write_signed_field(w, layout, "uv_dc_delta", quantizers.uv_dc_delta)?;
-    write_signed_field(w, layout, "uv_ac_delta", quantizers.uv_ac_delta)
+    write_signed_field(w, layout, "y2_dc_delta", &quantizers.y2_dc_delta)?;
+    write_signed_field(w, layout, "y2_ac_delta", &quantizers.y2_ac_delta)?;
+    write_signed_field(w, layout, "uv_dc_delta", &quantizers.uv_dc_delta)?;
+    write_signed_field(w, layout, "uv_ac_delta", &quantizers.uv_ac_delta)
 }
 
 fn write_quantizer_fields<W: Write>(
@@ -119,7 +119,7 @@ fn write_quantizer_fields<W: Write>(
     ensures { OnOk result (Appends (W.contents w.old) (W.contents w.new) (quantizer_fields layout quantizers)) }
 {
     write_number_field(w, layout, "y_ac_qi", u64::from(quantizers.y_ac_index))?;
-    write_signed_field(w, layout, "y_dc_delta", quantizers.y_dc_delta)?;
+    write_signed_field(w, layout, "y_dc_delta", &quantizers.y_dc_delta)?;
     write_delta_quantizers(w, layout, quantizers)
 }
 
@@ -284,6 +284,7 @@ fn write_last_fields<W: Write>(
 }
 
 /// Writes the fields of a header.
+#[tactic(auto, unfolding(crate::specs::Fields::header_fields))]
 pub(crate) fn write_header_fields<W: Write>(
     w: &mut W,
     layout: Layout,

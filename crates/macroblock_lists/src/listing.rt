@@ -1,6 +1,6 @@
 //! The list of the macroblocks of packets, or of their headers.
 
-ghost use Rattle.std.specs.Prelude.{◌≡◌, ◌⊎◌, ◌+◌, ◌-◌, ◌<◌, ◌≤◌, ◌^◌, Ok, None, IfOk, IfSome, IsTrue, OnOk, length, map, slice_get};
+ghost use Rattle.std.specs.Prelude.{◌≡◌, ◌⊎◌, ◌+◌, ◌-◌, ◌<◌, ◌≤◌, ◌^◌, Ok, None, IfOk, IfSome, OnOk, true, length, map, slice_get};
 ghost use Rattle.std.specs.List.{flat_map, range_with_len};
 ghost use Rattle.std.specs.Io.KnownBytes.{Appends};
 ghost use Rattle.frame_header.specs.Tags.{has_key_tag};
@@ -31,16 +31,12 @@ pub enum ListFault {
 }
 
 impl From<NoMemory> for ListFault {
-    ghost from_gives = { λ fault. ListFault.NoMemory };
-
     fn from(_fault: NoMemory) -> ListFault {
         ListFault::NoMemory
     }
 }
 
 impl From<WriteFault> for ListFault {
-    ghost from_gives = { λ fault. ListFault.Write };
-
     fn from(_fault: WriteFault) -> ListFault {
         ListFault::Write
     }
@@ -78,7 +74,7 @@ fn head_of(what: What, form: Form) -> &'static str
 fn key_before(packets: &[Packet], place: usize) -> usize
     requires { place ≤ length packets.now }
     ensures within { result ≤ place }
-    ensures key { (result ≡ 0) ⊎ (result < place) × IfSome (slice_get packets.now result) (λ packet. IsTrue (has_key_tag packet.bytes)) }
+    ensures key { (result ≡ 0) ⊎ (result < place) × IfSome (slice_get packets.now result) (λ packet. has_key_tag packet.bytes ≡ true) }
 {
     let mut start = place;
     while start > 0 {

@@ -2,7 +2,7 @@
 
 ghost use Rattle.std.specs.Prelude.{◌≡◌, OnOk};
 ghost use Rattle.std.specs.Io.KnownBytes.{Appends};
-ghost use Rattle.macroblock_lists.specs.Objects.{block_member, chroma_member, force_members, limit_members, mode_members, object_of, parts_member, place_members, record_members, text_member, token_members, vector_member, vectors_member};
+ghost use Rattle.macroblock_lists.specs.Objects.{bits_member, block_member, chroma_member, force_members, limit_members, mode_members, object_of, parts_member, place_members, record_members, text_member, token_members, vector_member, vectors_member};
 
 use crate::coefficients::{count_of, greatest_of};
 use crate::layouts::Form;
@@ -164,15 +164,20 @@ fn write_block_member<W: Write>(
     write_text(w, "\",")
 }
 
+fn write_bits<W: Write>(w: &mut W, bits: u128) -> Result<(), WriteFault>
+    ensures { OnOk result (Appends (W.contents w.old) (W.contents w.new) (bits_member bits)) }
+{
+    write!(w, "\"token_bits\":{bits}").map_err(|_| WriteFault::Write)
+}
+
 fn write_tokens<W: Write>(w: &mut W, macroblock: &Macroblock) -> Result<(), WriteFault>
     ensures { OnOk result (Appends (W.contents w.old) (W.contents w.new) (token_members macroblock.now)) }
 {
     let blocks = &macroblock.coefficients;
-    let bits = macroblock.token_bits;
     write_block_member(w, blocks)?;
     write_number(w, "coefficients", count_of(blocks) as u64)?;
     write_number(w, "greatest", u64::from(greatest_of(blocks)))?;
-    write!(w, "\"token_bits\":{bits}").map_err(|_| WriteFault::Write)
+    write_bits(w, macroblock.token_bits)
 }
 
 /// Writes the object of a macroblock of the packet at this index.

@@ -7,7 +7,7 @@ ghost use Rattle.std.specs.Option.{option_copied};
 ghost use Rattle.std.specs.Io.KnownBytes.{Appends};
 ghost use Rattle.macroblock_lists.specs.Known.{header_after, known_before};
 ghost use Rattle.macroblock_lists.specs.Parts.{after_comma, joined};
-ghost use Rattle.macroblock_lists.specs.Texts.{broken_text, comment_of, comment_start, frame_by, header_text, known_text, packet_text, repeat_by, repeat_text, text_by};
+ghost use Rattle.macroblock_lists.specs.Texts.{broken_text, comment_of, comment_start, frame_by, header_text, known_text, packet_line, packet_text, repeat_by, repeat_text, text_by};
 
 use crate::broken::Broken;
 use crate::fields::write_header_fields;
@@ -144,6 +144,12 @@ fn write_lengths<W: Write>(w: &mut W, partitions: &[Place]) -> Result<(), WriteF
     }
 }
 
+fn write_packet_line<W: Write>(w: &mut W, place: usize) -> Result<(), WriteFault>
+    ensures { OnOk result (Appends (W.contents w.old) (W.contents w.new) (packet_line place)) }
+{
+    write!(w, "packet\t{place}\n").map_err(|_| WriteFault::Write)
+}
+
 fn write_header_lines<W: Write>(
     w: &mut W,
     place: usize,
@@ -151,7 +157,7 @@ fn write_header_lines<W: Write>(
 ) -> Result<(), WriteFault>
     ensures { OnOk result (Appends (W.contents w.old) (W.contents w.new) (header_text Form.Lines place header.now)) }
 {
-    write!(w, "packet\t{place}\n").map_err(|_| WriteFault::Write)?;
+    write_packet_line(w, place)?;
     write_header_fields(w, Layout::Lines, header)?;
     write_text(w, "token_partition_sizes\t")?;
     write_lengths(w, header.partitions.as_slice())?;

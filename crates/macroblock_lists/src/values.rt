@@ -87,20 +87,27 @@ pub(crate) fn write_signed_field<W: Write>(
     w: &mut W,
     layout: Layout,
     name: &str,
-    n: i8,
+    n: &i8,
 ) -> Result<(), WriteFault>
-    ensures { OnOk result (Appends (W.contents w.old) (W.contents w.new) (signed_field layout name.now n)) }
+    ensures { OnOk result (Appends (W.contents w.old) (W.contents w.new) (signed_field layout name.now n.now)) }
 {
     write_start(w, layout, name)?;
-    write!(w, "{n}").map_err(|_| WriteFault::Write)?;
+    write_signed_number(w, n)?;
     write_text(w, field_end(layout))
+}
+
+fn write_number<W: Write>(w: &mut W, n: u8) -> Result<(), WriteFault>
+    ensures { OnOk result (Appends (W.contents w.old) (W.contents w.new) (decimal n)) }
+{
+    write!(w, "{n}").map_err(|_| WriteFault::Write)
 }
 
 fn write_more_numbers<W: Write>(w: &mut W, numbers: &[u8]) -> Result<(), WriteFault>
     ensures { OnOk result (Appends (W.contents w.old) (W.contents w.new) (flat_map (after_comma decimal) numbers.now)) }
 {
     for n in numbers {
-        write!(w, ",{n}").map_err(|_| WriteFault::Write)?;
+        write_text(w, ",")?;
+        write_number(w, *n)?;
     }
     Ok(())
 }
@@ -112,7 +119,7 @@ fn write_numbers<W: Write>(w: &mut W, numbers: &[u8]) -> Result<(), WriteFault>
     match numbers.split_first() {
         None => Ok(()),
         Some((first, rest)) => {
-            write!(w, "{first}").map_err(|_| WriteFault::Write)?;
+            write_number(w, *first)?;
             write_more_numbers(w, rest)
         }
     }
@@ -134,11 +141,19 @@ pub(crate) fn write_numbers_field<W: Write>(
     write_text(w, field_end(layout))
 }
 
+fn write_signed_number<W: Write>(w: &mut W, n: &i8) -> Result<(), WriteFault>
+    ensures { OnOk result (Appends (W.contents w.old) (W.contents w.new) (signed_decimal n.now)) }
+{
+    let n = *n;
+    write!(w, "{n}").map_err(|_| WriteFault::Write)
+}
+
 fn write_more_signed<W: Write>(w: &mut W, numbers: &[i8]) -> Result<(), WriteFault>
     ensures { OnOk result (Appends (W.contents w.old) (W.contents w.new) (flat_map (after_comma signed_decimal) numbers.now)) }
 {
     for n in numbers {
-        write!(w, ",{n}").map_err(|_| WriteFault::Write)?;
+        write_text(w, ",")?;
+        write_signed_number(w, n)?;
     }
     Ok(())
 }
@@ -150,7 +165,7 @@ fn write_signed<W: Write>(w: &mut W, numbers: &[i8]) -> Result<(), WriteFault>
     match numbers.split_first() {
         None => Ok(()),
         Some((first, rest)) => {
-            write!(w, "{first}").map_err(|_| WriteFault::Write)?;
+            write_signed_number(w, first)?;
             write_more_signed(w, rest)
         }
     }
