@@ -33,12 +33,16 @@ pub(crate) fn count_of(blocks: &[[i16; 16]; 25]) -> usize
 fn greatest_in(block: &[i16; 16]) -> u16
     ensures { result ≡ greatest_in block.now }
 {
-    block.iter().fold(0, |most, value| most.max(value.unsigned_abs()))
+    block
+        .iter()
+        .fold(0, |most, value| most.max(value.unsigned_abs()))
 }
 
 /// The greatest absolute value in a macroblock.
 pub(crate) fn greatest_of(blocks: &[[i16; 16]; 25]) -> u16
     ensures { result ≡ greatest_of blocks.now }
 {
-    blocks.iter().fold(0, |most, block| most.max(greatest_in(block)))
+    blocks
+        .iter()
+        .fold(0, |most, block| most.max(greatest_in(block)))
 }

@@ -187,7 +187,12 @@ fn write_refresh_fields<W: Write>(
     ensures { OnOk result (Appends (W.contents w.old) (W.contents w.new) (refresh_fields layout updates biases)) }
 {
     write_flag_field(w, layout, "refresh_golden_frame", updates.refreshes_golden)?;
-    write_flag_field(w, layout, "refresh_alternate_frame", updates.refreshes_altref)?;
+    write_flag_field(
+        w,
+        layout,
+        "refresh_alternate_frame",
+        updates.refreshes_altref,
+    )?;
     write_copy_fields(w, layout, updates)?;
     write_flag_field(w, layout, "sign_bias_golden", biases.golden)?;
     write_flag_field(w, layout, "sign_bias_alternate", biases.altref)
@@ -272,11 +277,7 @@ fn write_inter_fields_unless<W: Write>(
     }
 }
 
-fn write_last_fields<W: Write>(
-    w: &mut W,
-    layout: Layout,
-    header: &Header,
-) -> Result<(), WriteFault>
+fn write_last_fields<W: Write>(w: &mut W, layout: Layout, header: &Header) -> Result<(), WriteFault>
     ensures { OnOk result (Appends (W.contents w.old) (W.contents w.new) (last_fields layout header.now)) }
 {
     write_skip_fields(w, layout, header.skip_probability)?;

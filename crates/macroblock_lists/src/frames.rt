@@ -10,9 +10,7 @@ ghost use Rattle.macroblock_lists.specs.Macroblocks.{macroblock_of};
 use crate::layouts::Form;
 use crate::lines::write_line;
 use crate::listing::ListFault;
-use crate::macroblocks::{
-    Macroblock, filters_inside, index_of, level_in_force, limits_in_force,
-};
+use crate::macroblocks::{Macroblock, filters_inside, index_of, level_in_force, limits_in_force};
 use crate::objects::write_object;
 use crate::tokens::{FrameTokens, flag_with, marked_texts};
 use frame_header::Header;

@@ -57,11 +57,7 @@ fn write_chroma<W: Write>(w: &mut W, mode: YMode, chroma: WholeMode) -> Result<(
     }
 }
 
-fn write_split<W: Write>(
-    w: &mut W,
-    mode: VectorMode,
-    vectors: &[Vector],
-) -> Result<(), WriteFault>
+fn write_split<W: Write>(w: &mut W, mode: VectorMode, vectors: &[Vector]) -> Result<(), WriteFault>
     ensures { OnOk result (Appends (W.contents w.old) (W.contents w.new) (vectors_column mode vectors.now)) }
 {
     match mode {
@@ -135,7 +131,8 @@ fn write_limits<W: Write>(w: &mut W, limits: Option<Limits>) -> Result<(), Write
             write!(
                 w,
                 "{interior}\t{variance}\t{macroblock_edge}\t{inner_edge}\t"
-            ).map_err(|_| WriteFault::Write)
+            )
+            .map_err(|_| WriteFault::Write)
         }
     }
 }

@@ -61,11 +61,7 @@ const NO_PARTS: &str = "\"parts\":null,";
 
 const NO_VECTOR: &str = "\"vector\":null,";
 
-fn write_split<W: Write>(
-    w: &mut W,
-    mode: VectorMode,
-    vectors: &[Vector],
-) -> Result<(), WriteFault>
+fn write_split<W: Write>(w: &mut W, mode: VectorMode, vectors: &[Vector]) -> Result<(), WriteFault>
     ensures { OnOk result (Appends (W.contents w.old) (W.contents w.new) (vectors_member mode vectors.now)) }
 {
     match mode {
@@ -153,10 +149,7 @@ fn write_force<W: Write>(w: &mut W, macroblock: &Macroblock) -> Result<(), Write
     write_member(w, "inner", bit_text(macroblock.filters_inside))
 }
 
-fn write_block_member<W: Write>(
-    w: &mut W,
-    blocks: &[[i16; 16]; 25],
-) -> Result<(), WriteFault>
+fn write_block_member<W: Write>(w: &mut W, blocks: &[[i16; 16]; 25]) -> Result<(), WriteFault>
     ensures { OnOk result (Appends (W.contents w.old) (W.contents w.new) (block_member blocks.now)) }
 {
     write_text(w, "\"blocks\":\"")?;

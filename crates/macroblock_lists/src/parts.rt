@@ -69,11 +69,7 @@ pub(crate) fn write_vector<W: Write>(
     }
 }
 
-fn write_more_vectors<W: Write>(
-    w: &mut W,
-    form: Form,
-    vectors: &[Vector],
-) -> Result<(), WriteFault>
+fn write_more_vectors<W: Write>(w: &mut W, form: Form, vectors: &[Vector]) -> Result<(), WriteFault>
     ensures { OnOk result (Appends (W.contents w.old) (W.contents w.new) (flat_map (after_comma (vector_text form)) vectors.now)) }
 {
     for vector in vectors {
@@ -108,10 +104,7 @@ pub(crate) fn bit_text(bit: bool) -> &'static str
 }
 
 /// Writes a digit for each block: 1 if it has a coefficient that is not 0.
-pub(crate) fn write_blocks<W: Write>(
-    w: &mut W,
-    blocks: &[[i16; 16]; 25],
-) -> Result<(), WriteFault>
+pub(crate) fn write_blocks<W: Write>(w: &mut W, blocks: &[[i16; 16]; 25]) -> Result<(), WriteFault>
     ensures { OnOk result (Appends (W.contents w.old) (W.contents w.new) (blocks_text blocks.now)) }
 {
     for block in blocks {

@@ -67,7 +67,12 @@ fn write_update_fields<W: Write>(
     ensures { OnOk result (Appends (W.contents w.old) (W.contents w.new) (update_fields layout segmentation.now segments.now)) }
 {
     let data = segmentation.updates_data;
-    write_flag_field(w, layout, "update_mb_segmentation_map", segmentation.updates_map)?;
+    write_flag_field(
+        w,
+        layout,
+        "update_mb_segmentation_map",
+        segmentation.updates_map,
+    )?;
     write_flag_field(w, layout, "update_segment_feature_data", data)?;
     write_data_fields_if(w, layout, data, segments)?;
     write_map_field_if(w, layout, segmentation)

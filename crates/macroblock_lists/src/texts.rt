@@ -150,11 +150,7 @@ fn write_packet_line<W: Write>(w: &mut W, place: usize) -> Result<(), WriteFault
     write!(w, "packet\t{place}\n").map_err(|_| WriteFault::Write)
 }
 
-fn write_header_lines<W: Write>(
-    w: &mut W,
-    place: usize,
-    header: &Header,
-) -> Result<(), WriteFault>
+fn write_header_lines<W: Write>(w: &mut W, place: usize, header: &Header) -> Result<(), WriteFault>
     ensures { OnOk result (Appends (W.contents w.old) (W.contents w.new) (header_text Form.Lines place header.now)) }
 {
     write_packet_line(w, place)?;
@@ -164,11 +160,7 @@ fn write_header_lines<W: Write>(
     write_text(w, "\n")
 }
 
-fn write_header_object<W: Write>(
-    w: &mut W,
-    place: usize,
-    header: &Header,
-) -> Result<(), WriteFault>
+fn write_header_object<W: Write>(w: &mut W, place: usize, header: &Header) -> Result<(), WriteFault>
     ensures { OnOk result (Appends (W.contents w.old) (W.contents w.new) (header_text Form.Objects place header.now)) }
 {
     write_text(w, "{")?;

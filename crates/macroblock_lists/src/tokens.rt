@@ -182,7 +182,12 @@ impl<'a> FrameTokens<'a> {
             skip_macroblock(has_y2, &mut tokens);
         } else {
             let probabilities = &header.context.probabilities.coefficients;
-            read_macroblock(&mut self.readers[partition], probabilities, has_y2, &mut tokens);
+            read_macroblock(
+                &mut self.readers[partition],
+                probabilities,
+                has_y2,
+                &mut tokens,
+            );
         }
         self.above[mx] = tokens.above;
         self.left = tokens.left;

@@ -31,10 +31,12 @@ answer_kept (Findings checking) tables bytes status w w' w'' answer kept = recor
   };
   counted = answer.counted;
 }
-answer_kept (Details asked) tables bytes status w w' w'' (answer, zero) kept = (record {
-  file = answer.file;
-  read = answer.read;
-  inside = answer.inside;
-  first = answer.first;
-  written = Appends-kept _ _ _ _ answer.written kept;
-}, zero)
+answer_kept (Details asked) tables bytes status w w' w'' (answer, zero) kept = (
+  record {
+    file = answer.file;
+    read = answer.read;
+    inside = answer.inside;
+      written = Appends-kept _ _ _ _ answer.written kept;
+  },
+  zero,
+)

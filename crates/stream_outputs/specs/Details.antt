@@ -1,5 +1,5 @@
 -- What the program writes of single packets: their macroblocks, or their headers.
-use Rattle.std.specs.Prelude.{◌≡◌, ◌⊎◌, ℕ, ◌+◌, ◌-◌, ◌≤◌, List, length, Option, Some, None}
+use Rattle.std.specs.Prelude.{◌≡◌, ◌⊎◌, ℕ, ◌+◌, ◌-◌, ◌≤◌, min, List, length, Option, Some, None}
 use Rattle.std.specs.Io.KnownBytes.{Appends}
 use Rattle.vp8_tables.specs.Tables.{TableEntries}
 use Rattle.stream_files.specs.declared.ivf.Ivf.{Ivf}
@@ -15,14 +15,20 @@ abbrev pub end_of : Option ℕ → ℕ → ℕ
 end_of None count = count
 end_of (Some last) count = last + 1
 
+-- and the index of the first; there is none if it comes after the last
+abbrev pub start_of : Asked → ℕ → ℕ
+start_of asked count = min asked.first (end_of asked.last count)
+
+abbrev pub count_of : Asked → ℕ → ℕ
+count_of asked count = end_of asked.last count - start_of asked count
+
 -- the packets that are asked for, in a stream of so many
 pub record IsWanted (asked : Asked) (count : ℕ) (wanted : Wanted) : Type 0 where
   pub inside : end_of asked.last count ≤ count
-  pub order : asked.first ≤ end_of asked.last count
   pub what : wanted.what ≡ asked.what
   pub form : wanted.form ≡ asked.form
-  pub first : wanted.first ≡ asked.first
-  pub number : wanted.count ≡ end_of asked.last count - asked.first
+  pub first : wanted.first ≡ start_of asked count
+  pub number : wanted.count ≡ count_of asked count
 
 -- or the first or the last of them that is not there
 abbrev pub IsAbsent : Asked → ℕ → Fault → Type 0
@@ -34,8 +40,7 @@ pub record IsDetailed (asked : Asked) (tables : TableEntries) (bytes : List ℕ)
   pub file : Ivf
   pub read : IsIvf bytes file
   pub inside : end_of asked.last (length file.packets) ≤ length file.packets
-  pub first : asked.first ≤ end_of asked.last (length file.packets)
-  pub written : Appends output output' (list_text asked.what asked.form tables file.packets asked.first (end_of asked.last (length file.packets) - asked.first))
+  pub written : Appends output output' (list_text asked.what asked.form tables file.packets (start_of asked (length file.packets)) (count_of asked (length file.packets)))
 
 -- the bytes are an IVF file of so many packets that does not have this one, the first or the last that is asked for
 pub record HasNoPacket (asked : Asked) (bytes : List ℕ) (packet count : ℕ) : Type 0 where

@@ -35,6 +35,12 @@ fn wanted_of(asked: Asked, count: usize) -> Result<Wanted, Fault<'static>>
         last,
     } = asked;
     let end = match last {
+        None if first > count => {
+            return Err(Fault::NoPacket {
+                packet: first,
+                count,
+            });
+        }
         None => count,
         Some(last) if last >= count => {
             return Err(Fault::NoPacket {
@@ -44,17 +50,12 @@ fn wanted_of(asked: Asked, count: usize) -> Result<Wanted, Fault<'static>>
         }
         Some(last) => last + 1,
     };
-    if first > end {
-        return Err(Fault::NoPacket {
-            packet: first,
-            count,
-        });
-    }
+    let start = first.min(end);
     Ok(Wanted {
         what,
         form,
-        first,
-        count: end - first,
+        first: start,
+        count: end - start,
     })
 }
 

@@ -73,7 +73,7 @@ fn numbers_of(text: &[u8]) -> Option<Range>
 pub fn range_of(text: &str) -> Option<Range>
     ensures { result ≡ range_of text.now }
 {
-    if text.as_bytes() == b"all" {
+    if text.as_bytes() == b"all".as_slice() {
         Some(Range {
             first: 0,
             last: None,

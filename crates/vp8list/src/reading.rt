@@ -16,11 +16,7 @@ use vp8_tables::Tables;
 const LIMIT: usize = 1_073_741_824;
 
 /// All bytes of a reader, which the arguments name by this path.
-fn read_from<'a, I: Read>(
-    alloc: Global,
-    path: &'a str,
-    input: &mut I,
-) -> Result<Vec<u8>, Fault<'a>>
+fn read_from<'a, I: Read>(alloc: Global, path: &'a str, input: &mut I) -> Result<Vec<u8>, Fault<'a>>
     ensures within { IfOk result (λ all. vec_len all ≤ limit) }
     ensures whole { IfOk result (λ all. IfSome (I.remaining input.old) (λ left. all.items ≡ left)) }
     ensures fault { IfErr result (IsReadFault path.now (I.remaining input.old)) }
