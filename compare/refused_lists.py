@@ -18,7 +18,7 @@ from listed import PROGRAM
 from refused_memory import HEIGHT, INTER, KEY, WIDTH, clip_packets, refusals_of
 from traced import Program, traced
 
-OPTIONS = ([], ["--json"], ["--hash"], ["--check"], ["--check", "--json"], ["--check", "--strict"], ["--check", "--tables", "tables.bin"], ["--hash", "--tables", "tables.bin"])
+OPTIONS = ([], ["--json"], ["--hash"], ["--check"], ["--check", "--json"], ["--check", "--strict"], ["--check", "--tables", "tables.bin"], ["--hash", "--tables", "tables.bin"], ["--macroblocks", "all"], ["--header", "all", "--json"])
 NO_MEMORY = {"vp8list: no memory\n", "vp8list: input NoMemory\n"}
 
 
