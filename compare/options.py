@@ -3,7 +3,7 @@
 
 The gate runs it after `rt ci`; it prints nothing if all is as it should be. The streams are those of gate_checks, the damaged one of
 vp8list and one of 640x360 with a packet of 7,303 bytes, so each call is made with ample memory for a stream of that size. Lists and findings are compared with those that listed.py and checked.py find from headers, objects with the lines, and hashes
-with the samples that vp8serve serves. VP8LIST and VP8SERVE name other programs than those that `rt ci` built.
+with the samples that vp8serve serves, and macroblocks and headers with those that macroblocks.py parses. VP8LIST and VP8SERVE name other programs than those that `rt ci` built.
 """
 
 import hashlib
@@ -16,6 +16,7 @@ import tempfile
 
 from checked import PARTITION, lines as findings
 from listed import lines as listed
+from macroblocks import cell, wanted
 
 TOP = pathlib.Path(__file__).resolve().parent.parent
 LIST = os.environ.get("VP8LIST", str(TOP / "crates/vp8list/out/vp8list"))
@@ -68,6 +69,50 @@ def check_findings(path):
         expect(f"{path.name} packet of {line}", line.startswith(f"{found['severity']}: packet {found['packet']}: "), found["packet"] is not None)
 
 
+def check_details(path):
+    macroblocks, headers = wanted(path.read_bytes())
+    status, text, errors = ran(path, "--macroblocks", "all", "--json")
+    shown = [json.loads(line) for line in text.splitlines()]
+    expect(f"{path.name} --macroblocks all --json", (status, [one for one in shown if "column" in one], errors), (0, macroblocks, ""))
+    status, text, errors = ran(path, "--header", "all", "--json")
+    shown = [json.loads(line) for line in text.splitlines()]
+    expect(f"{path.name} --header all --json", (status, [one for one in shown if "version" in one], errors), (0, headers, ""))
+    others = [one["packet"] for one in shown if "version" not in one]
+    count = len(list(listed(path.read_bytes()))) - 1
+    expect(f"{path.name} packets without a header", sorted(others + [one["packet"] for one in headers]), list(range(count)))
+    lines = [line for line in ran(path, "--macroblocks", "all")[1].splitlines()]
+    names, rows = lines[0].split("\t"), [line.split("\t") for line in lines[1:] if not line.startswith("#")]
+    spell = [[cell(":".join(map(str, one[name])) if name == "vector" and one[name] else one[name]) for name in names] for one in macroblocks]
+    expect(f"{path.name} --macroblocks all", rows, spell)
+    for packet in sorted({0, count // 2, count - 1} & set(range(count))):
+        own = [line for line in lines if line.startswith((f"{packet}\t", f"# packet {packet}:"))]
+        expect(f"{path.name} --macroblocks {packet}", ran(path, "--macroblocks", packet), (0, "".join(line + "\n" for line in [lines[0], *own]), ""))
+        fields = dict(line.split("\t") for line in ran(path, "--header", packet)[1].splitlines() if "\t" in line)
+        one = next((header for header in headers if header["packet"] == packet), {})
+        expect(f"{path.name} --header {packet}", fields, {name: cell(value) for name, value in one.items()})
+    status, text, errors = ran(path, "--macroblocks", count)
+    expect(f"{path.name} packet {count}", (status, text, errors), (2, "", f"vp8list: no packet {count}, the stream has {count} packets\n"))
+
+
+def check_formats():
+    texts = {
+        "a.webm": (b"\x1a\x45\xdf\xa3" + bytes(40), "a WebM or Matroska file: ffmpeg -i {0} -an -c copy -copyts out.ivf\n"),
+        "b.mp4": (b"\0\0\0\x20ftypisom" + bytes(40), "an MP4 file; if its video is VP8: ffmpeg -i {0} -an -c copy out.ivf\n"),
+        "c.avi": (b"RIFF\x24\xa3\0\0AVI LIST" + bytes(40), "an AVI file; if its video is VP8: ffmpeg -i {0} -an -c copy out.ivf\n"),
+        "d.y4m": (b"YUV4MPEG2 W2 H2\nFRAME\n" + bytes(6), "a YUV4MPEG2 file, whose frames are not coded: ffmpeg -i {0} -c:v libvpx out.ivf\n"),
+    }
+    with tempfile.TemporaryDirectory() as folder:
+        for name, (text, said) in texts.items():
+            path = pathlib.Path(folder) / name
+            path.write_bytes(text)
+            for words in (path,), ("-",):
+                status, output, errors = ran(*words, "--check", stdin=text)
+                first, second, *_ = errors.splitlines(keepends=True)
+                where = words[0]
+                cause = "Header" if len(text) < 32 else "Magic"
+                expect(f"{name} {where}", (status, output, first, second), (2, "", f"vp8list: input {cause}\n", f"{where} is {said.format(where)}"))
+
+
 def served(path, *words):
     """The MD5 of each frame that vp8serve serves, in order."""
     count = int(subprocess.run([SERVE, path], input=b"count\n", capture_output=True, timeout=60, check=True).stdout.split()[3])
@@ -114,16 +159,28 @@ def check_errors():
             expect(f"a text {words}", ran(text, *words), (2, "", "vp8list: input Magic\n"))
         gone = pathlib.Path(folder) / "gone.ivf"
         expect("no file", ran(gone), (2, "", f"vp8list: cannot read {gone}\n"))
-    for words in ("--hash", "--check"), ("--hash", "--json"), ("--strict",), ("--json", "--strict"), ("--nonsense",):
+    for words in (
+        ("--hash", "--check"), ("--hash", "--json"), ("--strict",), ("--json", "--strict"), ("--nonsense",), ("--macroblocks", "1", "--header", "1"),
+        ("--macroblocks", "1", "--hash"), ("--header", "1", "--check"), ("--macroblocks", "1", "--strict"), ("--macroblocks", "2-1"), ("--header", "-"), ("--header", "one"),
+    ):
         status, text, errors = ran(DATA / "clean.ivf", *words)
         expect(f"{words}", (status, text, errors.splitlines()[:1]), (2, "", ["vp8list: command line"]))
+
+
+def check_help():
+    status, text, errors = ran("--help")
+    expect("--help", (status, errors, "--macroblocks" in text, "Exit status" in text), (0, "", True, True))
+    expect("--version", ran("--version"), (0, "vp8list 0.1.0\n", ""))
 
 
 def main():
     for path in STREAMS:
         check_lists(path)
         check_findings(path)
+        check_details(path)
     check_hashes()
+    check_formats()
+    check_help()
     check_errors()
     print(*wrong, sep="\n", end="\n" if wrong else "")
     return 1 if wrong else 0

@@ -18,7 +18,7 @@ from library.programs import VP8LIST
 from library.traced import Program, traced
 from refused_memory import HEIGHT, INTER, KEY, WIDTH, clip_packets, refusals_of
 
-OPTIONS = ([], ["--json"], ["--hash"], ["--check"], ["--check", "--json"], ["--check", "--strict"], ["--check", "--tables", "tables.bin"], ["--hash", "--tables", "tables.bin"])
+OPTIONS = ([], ["--json"], ["--hash"], ["--check"], ["--check", "--json"], ["--check", "--strict"], ["--check", "--tables", "tables.bin"], ["--hash", "--tables", "tables.bin"], ["--macroblocks", "all"], ["--header", "all", "--json"])
 NO_MEMORY = {"vp8list: no memory\n", "vp8list: input NoMemory\n"}
 
 

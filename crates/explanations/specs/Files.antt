@@ -1,24 +1,17 @@
 -- Why a file is not read as a stream, and the record that the end of a file cuts off.
-use Rattle.std.specs.Prelude.{◌≡◌, ◌+◌, ◌==◌, ◌&&◌, ◌||◌, not, ℕ, Bool, nat_eq, nat_le, if◌then◌else◌, List, ◌∷◌, [], length, drop, take, Option, Some, None, codes, unwrap_or}
+use Rattle.std.specs.Prelude.{◌≡◌, ◌+◌, ◌==◌, ◌||◌, not, ℕ, Bool, nat_eq, nat_le, if◌then◌else◌, List, ◌∷◌, [], length, Option, Some, None, unwrap_or}
 use Rattle.std.specs.List.{list_all, starts_with}
-use Rattle.std.specs.Str.{bytes_eq}
 use Rattle.byteorder.specs.Endian.{little_number}
 use Rattle.stream_files.specs.Ivf.{HasRecord, Records, body, header_length}
 use Rattle.stream_files.specs.declared.ivf.IvfFault.{IvfFault}
 use Rattle.stream_files.specs.declared.ivf.IvfFault.TheVariants as faults
 use Rattle.stream_files.specs.declared.packets.Packet.{Packet}
+use Rattle.file_formats.specs.Formats.{format_of}
+use Rattle.file_formats.specs.declared.formats.Format.{Format}
 use Rattle.explanations.specs.Lines.{is_binary}
 use Rattle.explanations.specs.declared.files.CutRecord.{CutRecord}
 use Rattle.explanations.specs.declared.files.StreamReason.{StreamReason}
-use Rattle.explanations.specs.declared.files.StreamReason.TheVariants.{Short, WebM, Avi, Gzip, Zeros, Text, NoIvf, Codec, HeaderLength, TooMany, NoMemory}
-
--- EBML's magic number, with which WebM and Matroska files begin
-abbrev pub is_webm : List ℕ → Bool
-is_webm bytes = bytes_eq (take 4 bytes) (0x1A ∷ 0x45 ∷ 0xDF ∷ 0xA3 ∷ [])
-
--- a RIFF file of the form AVI
-abbrev pub is_avi : List ℕ → Bool
-is_avi bytes = starts_with nat_eq bytes (codes "RIFF") && starts_with nat_eq (drop 8 bytes) (codes "AVI ")
+use Rattle.explanations.specs.declared.files.StreamReason.TheVariants.{Short, Other, Gzip, Zeros, Text, NoIvf, Codec, HeaderLength, TooMany, NoMemory}
 
 -- gzip's magic number
 abbrev pub is_gzip : List ℕ → Bool
@@ -31,16 +24,22 @@ is_zeros bytes = list_all (λ byte. byte == 0) bytes
 abbrev pub is_text : List ℕ → Bool
 is_text bytes = list_all (λ byte. byte == 10 || not (is_binary byte)) bytes
 
--- the kind of a file that begins with these bytes and not as an IVF file, if it is known
-abbrev pub kind_of : List ℕ → Option StreamReason
-kind_of bytes =
+-- the kind of a file that begins with these bytes and has no other format, if it is known
+abbrev pub plain_kind : List ℕ → Option StreamReason
+plain_kind bytes =
     if length bytes == 0 then None
-    else if is_webm bytes then Some WebM
-    else if is_avi bytes then Some Avi
     else if is_gzip bytes then Some Gzip
     else if is_zeros bytes then Some Zeros
     else if is_text bytes then Some Text
     else None
+
+-- the kind of a file that begins with these bytes and not as an IVF file, if it is known
+abbrev pub kind_by : Option Format → List ℕ → Option StreamReason
+kind_by (Some format) bytes = Some (Other format)
+kind_by None bytes = plain_kind bytes
+
+abbrev pub kind_of : List ℕ → Option StreamReason
+kind_of bytes = kind_by (format_of bytes) bytes
 
 -- the length that a header gives itself; 0 if the bytes have no room for it
 abbrev pub given_length : List ℕ → ℕ
@@ -64,3 +63,7 @@ pub record IsCutRecord (bytes : List ℕ) (cut : CutRecord) : Type 0 where
   pub number : length packets ≡ cut.number
   pub begins : cut.begins + length rest ≡ length bytes
   pub size : cut.size ≡ (if nat_le 4 (length rest) then Some (little_number 4 rest) else None)
+
+-- a file's whole records are all that follows its header
+abbrev pub EndsWhole : List ℕ → Type 0
+EndsWhole bytes = (packets : List Packet) × Records (body bytes) packets []

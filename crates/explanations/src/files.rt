@@ -3,10 +3,11 @@ ghost use Rattle.std.specs.Prelude.{◌≡◌, ◌≤◌, ◌==◌, ◌||◌, no
 ghost use Rattle.byteorder.specs.Endian.{little_number};
 ghost use Rattle.stream_files.specs.Ivf.{HasRecord, Records, after_first, header_length};
 ghost use Rattle.stream_files.specs.declared.packets.Packet.{Packet};
-ghost use Rattle.explanations.specs.Files.{IsCutRecord, given_length, is_avi, is_gzip, is_text, is_webm, is_zeros, kind_of, stream_reason};
+ghost use Rattle.explanations.specs.Files.{EndsWhole, IsCutRecord, given_length, is_gzip, is_text, is_zeros, kind_of, plain_kind, stream_reason};
 
 use crate::lines::is_binary;
 use byteorder::{ByteOrder, LittleEndian};
+use file_formats::{Format, format_of};
 use stream_files::IvfFault;
 
 /// Why the bytes of a file are not read as a stream.
@@ -14,10 +15,8 @@ use stream_files::IvfFault;
 pub enum StreamReason {
     /// Fewer bytes than the header of an IVF file.
     Short,
-    /// A WebM or Matroska file.
-    WebM,
-    /// An AVI file.
-    Avi,
+    /// A file of another format.
+    Other(Format),
     /// A file that gzip compressed.
     Gzip,
     /// It begins with zeros.
@@ -47,21 +46,6 @@ pub struct CutRecord {
     pub size: Option<u32>,
 }
 
-fn is_webm(bytes: &[u8]) -> bool
-    ensures { result ≡ is_webm bytes.now }
-{
-    bytes.starts_with(&[0x1A, 0x45, 0xDF, 0xA3])
-}
-
-fn is_avi(bytes: &[u8]) -> bool
-    ensures { result ≡ is_avi bytes.now }
-{
-    match bytes.get(8..) {
-        Some(form) => bytes.starts_with(b"RIFF") && form.starts_with(b"AVI "),
-        None => false,
-    }
-}
-
 fn is_gzip(bytes: &[u8]) -> bool
     ensures { result ≡ is_gzip bytes.now }
 {
@@ -80,16 +64,12 @@ fn is_text(bytes: &[u8]) -> bool
     bytes.iter().all(|byte| *byte == b'\n' || !is_binary(*byte))
 }
 
-/// The kind of a file that begins with these bytes and not as an IVF file, if it is known.
-fn kind_of(bytes: &[u8]) -> Option<StreamReason>
-    ensures { result ≡ kind_of bytes.now }
+/// The kind of a file that begins with these bytes and has no other format, if it is known.
+fn plain_kind(bytes: &[u8]) -> Option<StreamReason>
+    ensures { result ≡ plain_kind bytes.now }
 {
     if bytes.is_empty() {
         None
-    } else if is_webm(bytes) {
-        Some(StreamReason::WebM)
-    } else if is_avi(bytes) {
-        Some(StreamReason::Avi)
     } else if is_gzip(bytes) {
         Some(StreamReason::Gzip)
     } else if is_zeros(bytes) {
@@ -98,6 +78,16 @@ fn kind_of(bytes: &[u8]) -> Option<StreamReason>
         Some(StreamReason::Text)
     } else {
         None
+    }
+}
+
+/// The kind of a file that begins with these bytes and not as an IVF file, if it is known.
+fn kind_of(bytes: &[u8]) -> Option<StreamReason>
+    ensures { result ≡ kind_of bytes.now }
+{
+    match format_of(bytes) {
+        Some(format) => Some(StreamReason::Other(format)),
+        None => plain_kind(bytes),
     }
 }
 
@@ -154,9 +144,11 @@ fn header_length(bytes: &[u8]) -> u16
     LittleEndian::read_u16(&bytes[6..])
 }
 
-/// The record that the end of a file of the codec VP8 cuts off, if one is cut off.
+/// The record that the end of a file of the codec VP8 cuts off. `None` if its last record is whole, and for
+/// bytes that are shorter than the header.
 pub fn cut_record(bytes: &[u8]) -> Option<CutRecord>
-    ensures { IfSome result (IsCutRecord bytes.now) }
+    ensures cut { IfSome result (IsCutRecord bytes.now) }
+    ensures whole { IfNone result (32 ≤ length bytes.now → header_length bytes.now ≤ length bytes.now → EndsWhole bytes.now) }
 {
     if bytes.len() < 32 {
         return None;

@@ -4,7 +4,7 @@ use Rattle.std.proofs.KnownBytes.{Appends-kept}
 use Rattle.std.specs.Io.KnownBytes.{Keeps}
 use Rattle.vp8_tables.specs.Tables.{TableEntries}
 use Rattle.list_program.specs.declared.answering.Output.{Output}
-use Rattle.list_program.specs.declared.answering.Output.TheVariants.{List as Lines, Objects, Hashes, Findings}
+use Rattle.list_program.specs.declared.answering.Output.TheVariants.{List as Lines, Objects, Hashes, Findings, Details}
 use Rattle.list_program.specs.Answers.{IsAnswered}
 
 pub answer_kept : (output : Output) (tables : TableEntries) (bytes : List ℕ) (status : ℕ) (w w' w'' : Option (List ℕ))
@@ -31,3 +31,12 @@ answer_kept (Findings checking) tables bytes status w w' w'' answer kept = recor
   };
   counted = answer.counted;
 }
+answer_kept (Details asked) tables bytes status w w' w'' (answer, zero) kept = (
+  record {
+    file = answer.file;
+    read = answer.read;
+    inside = answer.inside;
+    written = Appends-kept _ _ _ _ answer.written kept;
+  },
+  zero,
+)

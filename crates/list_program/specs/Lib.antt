@@ -3,3 +3,7 @@ pub mod HashedFiles
 pub mod CheckedFiles
 pub mod Objects
 pub mod Answers
+pub mod Details
+pub mod Options
+pub mod Ranges
+pub mod Readings

@@ -4,6 +4,7 @@ ghost use Rattle.std.specs.Io.Buffered.{writer_buffer, writer_contents};
 ghost use Rattle.list_program.specs.Answers.{IsAnswered, IsAnswerFault};
 
 use crate::checking::{Checking, check_to};
+use crate::details::{Asked, details_to};
 use crate::fault::Fault;
 use crate::hashing::hash_to;
 use crate::listing::list_to;
@@ -24,6 +25,8 @@ pub enum Output {
     Hashes,
     /// What is wrong with the stream.
     Findings(Checking),
+    /// The macroblocks of packets, or their headers.
+    Details(Asked),
 }
 
 /// Writes an output of a file and returns the exit status.
@@ -51,6 +54,10 @@ fn write_output<O: Write, E: Write, G: Progress>(
         }
         Output::Hashes => hash_to(alloc, tables, bytes, w, errors, progress),
         Output::Findings(checking) => check_to(alloc, checking, tables, bytes, w, progress),
+        Output::Details(asked) => {
+            details_to(alloc, asked, tables, bytes, w)?;
+            Ok(0)
+        }
     }
 }
 
@@ -58,7 +65,7 @@ fn write_output<O: Write, E: Write, G: Progress>(
 /// for damage that a check finds, for a note if it is strict, and for a packet without a frame in the
 /// list of hashes; else 0. Lines that name such packets go to `errors`.
 ///
-/// `Fault::Input` if the bytes are not an IVF file: nothing is written then. `Fault::NoMemory` if memory
+/// `Fault::Input` if the bytes are not an IVF file, `Fault::NoPacket` if a packet that is asked for is not there: nothing is written then. `Fault::NoMemory` if memory
 /// runs out: the begin of the output was written, and is not flushed. `Fault::CannotWrite` if the writer
 /// returns an error.
 pub fn answer_to<W: Write + Drop, E: Write, G: Progress>(

@@ -1,8 +1,14 @@
 // The arguments of the command line.
+ghost use Rattle.std.specs.Prelude.{◌≡◌};
+ghost use Rattle.list_program.specs.Options.{details_by, form_of, output_by};
+
 use crate::answering::Output;
 use crate::checking::Checking;
+use crate::details::Asked;
 use crate::fault::Fault;
+use crate::ranges::{Range, range_of};
 use clap::{Arg, ArgAction, ArgMatches, Command};
+use macroblock_lists::{Form as DetailForm, What};
 use std::alloc::{AllocError, Global};
 use std::convert::AsStr;
 use std::env::{self, Env};
@@ -16,7 +22,8 @@ const VERSION: &str = "0.1.0";
 const ABOUT: &str = "\
 Lists the packets of a VP8 stream (IVF): a line with the names of the columns,
 and a line a packet, with tabs between columns. Only headers are read.
-Each of --json, --hash and --check replaces the list; give one of them, or --check --json.
+Each of --json, --hash, --check, --macroblocks and --header replaces the list; give one of them,
+or --json with --check, --macroblocks or --header.
 
   vp8list in.ivf | column -t
   vp8list in.ivf | awk '$5 == \"key\" { print $1, $8 }'
@@ -99,8 +106,39 @@ Anything else is a note:
 
   vp8list in.ivf --check --json | jq 'select(.severity == \"damage\") | .packet'
 
+--macroblocks lists what each macroblock of a packet is made of, --header the fields of its
+header, by their names in RFC 6386. They take the index of a packet, as 12, several packets, as
+12-15, or all:
+
+  vp8list in.ivf --macroblocks 12 | column -t
+  vp8list in.ivf --macroblocks all | awk '$6 == \"golden\" { print $1, $2, $3 }'
+  vp8list in.ivf --header 0 --json | jq .y_ac_qi
+
+  packet, column, row
+              index of the packet, position of the macroblock
+  segment     0 to 3
+  skip        1 if it has no tokens
+  reference   intra, last, golden or altref
+  luma        DC_PRED, V_PRED, H_PRED, TM_PRED or B_PRED; with a reference mv_zero,
+              mv_nearest, mv_near, mv_new or mv_split
+  chroma      DC_PRED, V_PRED, H_PRED or TM_PRED
+  parts       the 16 modes of B_PRED, or the 16 vectors of mv_split
+  vector      x:y in quarters of a sample, to the right and down
+  quantizer   quantizer index in force, 0 to 127
+  level       filter level in force, 0 to 63
+  interior_limit, hev_threshold, mbedge_limit, sub_bedge_limit
+              filter limits in force
+  inner       1 if its inner edges are filtered
+  blocks      a digit for each block: 1 if it has a coefficient that is not 0
+  coefficients, greatest
+              how many are not 0, and the greatest absolute value
+  token_bits  bits that its tokens take
+
+A line that begins with # has the header of a packet, or why it is refused.
+
 Exit status: 0; 1 if --check finds damage, with --strict also a note, or if --hash meets a refused
-packet; 2 for a mistake on the command line, a file that is not IVF and any other error.";
+packet; 2 for a mistake on the command line, a file that is not IVF, a packet that is
+not there and any other error.";
 
 /// The values of the arguments.
 #[derive(Clone, Copy)]
@@ -148,6 +186,25 @@ fn flag<'a>(alloc: Global, id: &'a str, help: &'a str) -> Arg<'a> {
         .help(help)
 }
 
+/// An option for the packets of which something is listed.
+fn packets<'a>(alloc: Global, id: &'a str, help: &'a str) -> Arg<'a> {
+    Arg::new(alloc, id)
+        .long(id)
+        .value_name("N, A-B or all")
+        .help(help)
+}
+
+/// Adds the options that ask for parts of packets.
+fn with_details<'a>(alloc: Global, command: Command<'a>) -> Result<Command<'a>, AllocError> {
+    command
+        .arg(packets(
+            alloc,
+            "macroblocks",
+            "What each macroblock of these packets is made of",
+        ))?
+        .arg(packets(alloc, "header", "The header fields of these packets"))
+}
+
 /// Adds the options that ask for something else than the list.
 fn with_outputs<'a>(alloc: Global, command: Command<'a>) -> Result<Command<'a>, AllocError> {
     command
@@ -168,16 +225,27 @@ fn command<'a>(alloc: Global) -> Result<Command<'a>, AllocError> {
         .about(ABOUT)
         .arg(stream(alloc))?
         .arg(tables_option(alloc))?;
-    with_outputs(alloc, command)
+    with_details(alloc, with_outputs(alloc, command)?)
+}
+
+/// The form of a check's findings.
+fn form_of(is_json: bool) -> Form
+    ensures { result ≡ form_of is_json }
+{
+    if is_json { Form::Objects } else { Form::Lines }
 }
 
 /// The output that `--json`, `--hash`, `--check` and `--strict` ask for; `None` if they do not go
 /// together.
-fn output_by(is_json: bool, is_hash: bool, is_check: bool, is_strict: bool) -> Option<Output> {
-    let form = if is_json { Form::Objects } else { Form::Lines };
+fn output_by(is_json: bool, is_hash: bool, is_check: bool, is_strict: bool) -> Option<Output>
+    ensures { result ≡ output_by is_json is_hash is_check is_strict }
+{
     match (is_hash, is_check) {
         (true, true) => None,
-        (false, true) => Some(Output::Findings(Checking { form, is_strict })),
+        (false, true) => Some(Output::Findings(Checking {
+            form: form_of(is_json),
+            is_strict,
+        })),
         (true, false) if !is_json && !is_strict => Some(Output::Hashes),
         (false, false) if !is_strict => Some(if is_json {
             Output::Objects
@@ -188,14 +256,63 @@ fn output_by(is_json: bool, is_hash: bool, is_check: bool, is_strict: bool) -> O
     }
 }
 
+/// The flags of a command line.
+#[derive(Clone, Copy)]
+struct Flags {
+    is_json: bool,
+    is_hash: bool,
+    is_check: bool,
+    is_strict: bool,
+}
+
+/// The output that asks for parts of these packets; `None` if the flags do not go with it, or for no range.
+fn details_by(what: What, range: Option<Range>, flags: Flags) -> Option<Output>
+    ensures { result ≡ details_by what range flags }
+{
+    let Flags {
+        is_json,
+        is_hash,
+        is_check,
+        is_strict,
+    } = flags;
+    if is_hash || is_check || is_strict {
+        return None;
+    }
+    let form = if is_json {
+        DetailForm::Objects
+    } else {
+        DetailForm::Lines
+    };
+    match range {
+        None => None,
+        Some(Range { first, last }) => Some(Output::Details(Asked {
+            what,
+            form,
+            first,
+            last,
+        })),
+    }
+}
+
 /// The output that the options ask for.
 fn output_of(matches: &ArgMatches<'_>) -> Option<Output> {
-    output_by(
-        matches.get_flag("json"),
-        matches.get_flag("hash"),
-        matches.get_flag("check"),
-        matches.get_flag("strict"),
-    )
+    let flags = Flags {
+        is_json: matches.get_flag("json"),
+        is_hash: matches.get_flag("hash"),
+        is_check: matches.get_flag("check"),
+        is_strict: matches.get_flag("strict"),
+    };
+    match (matches.get_str("macroblocks"), matches.get_str("header")) {
+        (None, None) => output_by(
+            flags.is_json,
+            flags.is_hash,
+            flags.is_check,
+            flags.is_strict,
+        ),
+        (Some(range), None) => details_by(What::Macroblocks, range_of(range), flags),
+        (None, Some(range)) => details_by(What::Header, range_of(range), flags),
+        (Some(_), Some(_)) => None,
+    }
 }
 
 /// The values in a command line that was parsed.

@@ -22,6 +22,9 @@ pub enum Fault<'a> {
     /// The bytes are not an IVF file, or out of memory for its packets.
     #[error("input {word}", word = .0.word())]
     Input(IvfFault),
+    /// The stream has no packet at this index.
+    #[error("no packet {packet}, the stream has {count} packets")]
+    NoPacket { packet: usize, count: usize },
     /// The writer returned an error.
     #[error("cannot write")]
     CannotWrite,

@@ -1,21 +1,24 @@
 //! The program vp8list over its arguments, a reader and two writers: the bytes of an IVF file in, and out the list of its
-//! packets, as lines or as JSON, the MD5 of its frames, or what is wrong with it.
+//! packets, as lines or as JSON, the MD5 of its frames, what is wrong with it, or the macroblocks and headers of its packets.
 #![tactic(auto)]
 
 mod answering;
 mod arguments;
 mod checking;
+mod details;
 mod fault;
 mod hashing;
 mod listing;
 mod objects;
 mod program;
 mod progress_line;
+mod ranges;
 mod reading;
 
 pub use answering::{Output, answer_to};
 pub use arguments::given;
 pub use checking::{Checking, check_to};
+pub use details::{Asked, details_to};
 pub use fault::Fault;
 pub use hashing::hash_to;
 pub use listing::list_to;

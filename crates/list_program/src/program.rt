@@ -1,5 +1,6 @@
 // The program over two writers.
-ghost use Rattle.std.specs.Prelude.{◌≡◌, ◌≢◌, ◌≤◌, IfOk, Err};
+ghost use Rattle.std.specs.Prelude.{◌≡◌, ◌≢◌, ◌≤◌, [], IfOk, IsOkUnless, OnOk, Err};
+ghost use Rattle.std.specs.Io.Buffered.{writer_buffer};
 ghost use Rattle.clap.specs.Values.{kind_of};
 
 use crate::answering::answer_to;
@@ -7,10 +8,12 @@ use crate::arguments;
 use crate::fault::Fault;
 use crate::reading::{read_stream, read_tables};
 use clap::error::ErrorKind;
+use file_formats::{format_of, write_format};
 use std::convert::AsStr;
 use std::io::{BufWriter, Read, Write};
 use std::rt::Files;
 use stream_checks::Progress;
+use stream_files::IvfFault;
 
 /// The number of bytes of the list that are buffered.
 pub const BYTES_AT_ONCE: usize = 65_536;
@@ -27,8 +30,14 @@ pub fn tell<E: Write>(fault: Fault<'_>, errors: &mut E) -> u8
     TROUBLE
 }
 
-/// Answers arguments that could not be parsed: help or the version, if that was asked for.
-fn help_or_fault<O: Write>(error: clap::Error, output: &mut O) -> Result<(), Fault<'static>>
+/// Answers arguments that could not be parsed: help or the version, if that was asked for, which is flushed.
+fn help_or_fault<O: Write + Drop>(
+    error: clap::Error,
+    output: &mut BufWriter<O>,
+) -> Result<(), Fault<'static>>
+    ensures help { kind_of error ≡ ErrorKind.DisplayHelp → IsOkUnless result Fault.CannotWrite }
+    ensures version { kind_of error ≡ ErrorKind.DisplayVersion → IsOkUnless result Fault.CannotWrite }
+    ensures flushed { OnOk result (writer_buffer output.new ≡ []) }
     ensures memory { kind_of error ≡ ErrorKind.OutOfMemory → result ≡ Err Fault.NoMemory }
     ensures mistake { kind_of error ≢ ErrorKind.DisplayHelp → kind_of error ≢ ErrorKind.DisplayVersion → kind_of error ≢ ErrorKind.OutOfMemory → result ≡ Err Fault.CommandLine }
 {
@@ -40,6 +49,18 @@ fn help_or_fault<O: Write>(error: clap::Error, output: &mut O) -> Result<(), Fau
         ErrorKind::OutOfMemory => Err(Fault::NoMemory),
         _ => Err(Fault::CommandLine),
     }
+}
+
+/// Shows why the bytes of a file are not a stream, and for a file of another format the command that converts it.
+/// Returns the exit status.
+fn tell_input<E: Write>(path: &str, bytes: &[u8], fault: IvfFault, errors: &mut E) -> u8
+    ensures { result ≡ 2 }
+{
+    let status = tell(Fault::Input(fault), errors);
+    if let Some(format) = format_of(bytes) {
+        let _ = write_format(errors, path, format);
+    }
+    status
 }
 
 /// Does what a command line asks for, and returns the exit status.
@@ -59,7 +80,7 @@ fn answer_line<
     errors: &mut E,
     progress: &mut G,
 ) -> Result<u8, Fault<'a>>
-    ensures { IfOk result (λ status. status ≤ 1) }
+    ensures { IfOk result (λ status. status ≤ 2) }
 {
     let given = match arguments::parse(rt.alloc(), words) {
         Ok(given) => given,
@@ -73,15 +94,11 @@ fn answer_line<
     };
     let tables = read_tables(rt, given.tables)?;
     let bytes = read_stream(rt, given.stream, input)?;
-    answer_to(
-        rt.alloc(),
-        kind,
-        &tables,
-        bytes.as_slice(),
-        output,
-        errors,
-        progress,
-    )
+    let bytes = bytes.as_slice();
+    match answer_to(rt.alloc(), kind, &tables, bytes, output, errors, progress) {
+        Err(Fault::Input(fault)) => Ok(tell_input(given.stream, bytes, fault, errors)),
+        answer => answer,
+    }
 }
 
 /// Runs the program on a command line, whose first argument is the program's name, and returns its

@@ -6,6 +6,7 @@ ghost use Rattle.std.specs.List.{list_any};
 
 use crate::messages::Messages;
 use explanations::{CutRecord, StreamReason, cut_record, stream_reason};
+use file_formats::{Format, write_format};
 use serve_arguments::{Argument, Fault, NO_FILE, Words, parse};
 use std::convert::AsStr;
 use std::fs::{self, File};
@@ -208,8 +209,7 @@ fn explain_head<E: Write>(
     messages: &mut Messages<'_, E>,
 ) -> io::Result<()> {
     match stream_reason(head, fault) {
-        StreamReason::WebM => explain_webm(path, messages.errors),
-        StreamReason::Avi => explain_container(path, "is an AVI file", messages.errors),
+        StreamReason::Other(format) => explain_format(path, format, messages.errors),
         StreamReason::Gzip => writeln!(
             messages.errors,
             "{path} is compressed by gzip: gzip -dc {path} > out.ivf"
@@ -228,11 +228,7 @@ fn explain_head<E: Write>(
             "{path} has {} bytes, an IVF header 32",
             head.len()
         ),
-        StreamReason::NoIvf => explain_container(
-            path,
-            "is not an IVF file, it does not begin with DKIF",
-            messages.errors,
-        ),
+        StreamReason::NoIvf => explain_unknown(path, messages.errors),
         StreamReason::HeaderLength(length) => writeln!(
             messages.errors,
             "{path} claims a header of {length} bytes, not 32 to the length of the file"
@@ -245,23 +241,23 @@ fn explain_head<E: Write>(
     }
 }
 
-/// Explains how the packets of a WebM file become an IVF file, with their time stamps.
-fn explain_webm<E: Write>(path: &str, errors: &mut E) -> io::Result<()> {
-    writeln!(
-        errors,
-        "{path} is a WebM or Matroska file: ffmpeg -i {path} -an -c copy -copyts out.ivf"
-    )?;
-    writeln!(
-        errors,
-        "its time stamps count milliseconds, so OUT has 1000 frames a second: ffmpeg -r 30 -i OUT reads 30"
-    )
+/// Explains how a file of another format becomes an IVF file; that of a WebM file has its time stamps.
+fn explain_format<E: Write>(path: &str, format: Format, errors: &mut E) -> io::Result<()> {
+    write_format(errors, path, format)?;
+    match format {
+        Format::WebM => writeln!(
+            errors,
+            "its time stamps count milliseconds, so OUT has 1000 frames a second: ffmpeg -r 30 -i OUT reads 30"
+        ),
+        Format::Mp4 | Format::Avi | Format::Y4m => Ok(()),
+    }
 }
 
-/// Explains how the packets of another file become an IVF file.
-fn explain_container<E: Write>(path: &str, seen: &str, errors: &mut E) -> io::Result<()> {
+/// Explains how the packets of a file of an unknown format become an IVF file.
+fn explain_unknown<E: Write>(path: &str, errors: &mut E) -> io::Result<()> {
     writeln!(
         errors,
-        "{path} {seen}; if its video is VP8: ffmpeg -i {path} -an -c copy out.ivf"
+        "{path} is not an IVF file, it does not begin with DKIF; if its video is VP8: ffmpeg -i {path} -an -c copy out.ivf"
     )?;
     writeln!(
         errors,

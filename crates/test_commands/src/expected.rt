@@ -1,10 +1,10 @@
 // Runs the program, and compares what it leaves.
+use serve_program::serve;
 use std::alloc::AllocError;
 use std::fs;
 use std::io::{self, ErrorKind, Read, Write};
 use std::process::Abort;
 use std::rt::Files;
-use serve_program::serve;
 
 /// A file of one 16x16 key frame whose bits are 0.
 pub const ONE: &[u8] =

@@ -2,10 +2,10 @@
 use crate::expected::{ONE, clear, expect, expect_from, put, run_line};
 use crate::live::Pieces;
 use message_writer::MessageWriter;
+use serve_program::name_explain;
 use std::io::Write;
 use std::process::Abort;
 use std::rt::Files;
-use serve_program::name_explain;
 
 /// Requests that are refused, and their replies and explanations. Lines 7 and 8 have no reply.
 const REQUESTS: &str = "\
@@ -392,7 +392,21 @@ fn explains_kinds_of_files(rt: HostRuntime) {
         "vp8serve h.mp4 --explain",
         "h.mp4",
         b"\0\0\0\x20ftypisom\0\0\x02\0isomiso2avc1mp41 and more",
-        "vp8serve: input Magic\nh.mp4 is not an IVF file, it does not begin with DKIF; if its video is VP8: ffmpeg -i h.mp4 -an -c copy out.ivf\nany other video has to be coded again, which changes each frame: ffmpeg -i h.mp4 -an -c:v libvpx out.ivf\n",
+        "vp8serve: input Magic\nh.mp4 is an MP4 file; if its video is VP8: ffmpeg -i h.mp4 -an -c copy out.ivf\nany other video has to be coded again, which changes each frame: ffmpeg -i h.mp4 -an -c:v libvpx out.ivf\n",
+    );
+    expect_kind(
+        &rt,
+        "vp8serve k.y4m --explain",
+        "k.y4m",
+        b"YUV4MPEG2 W2 H2 F30:1 C420jpeg\nFRAME\n\0\0\0\0\0\0",
+        "vp8serve: input Magic\nk.y4m is a YUV4MPEG2 file, whose frames are not coded: ffmpeg -i k.y4m -c:v libvpx out.ivf\n",
+    );
+    expect_kind(
+        &rt,
+        "vp8serve l.ogg --explain",
+        "l.ogg",
+        b"OggS\0\x02\0\0 and so on, with 32 bytes and more",
+        "vp8serve: input Magic\nl.ogg is not an IVF file, it does not begin with DKIF; if its video is VP8: ffmpeg -i l.ogg -an -c copy out.ivf\nany other video has to be coded again, which changes each frame: ffmpeg -i l.ogg -an -c:v libvpx out.ivf\n",
     );
     expect_kind(
         &rt,

@@ -1,10 +1,10 @@
 // Errors that end the program: their texts, their statuses, and which of two is reported.
 use crate::expected::{Broken, clear, expect, expect_fault, put};
+use serve_program::{Argument, Fault, SameFile, tell};
 use std::process::Abort;
 use std::rt::Files;
 use std::test::Fail;
 use stream_files::{EMPTY, IvfFault};
-use serve_program::{Argument, Fault, SameFile, tell};
 
 /// Checks the message of an error, and its status also where the message cannot be written.
 fn expect_told<R: Abort + Files + AllocGlobal>(rt: &R, fault: Fault<'_>, status: u8, text: &str) {

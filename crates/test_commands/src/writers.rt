@@ -1,13 +1,13 @@
 // Readers and writers that fail.
 use crate::expected::{Broken, ONE, OPENING, run_line};
 use frame_session::{LiveFault, Settings, Unobserved, run_live};
+use serve_program::{Fault, run_to};
 use std::cell::Cell;
 use std::io::{self, BufWriter, Read, Write};
 use std::process::Abort;
 use std::rt::Files;
 use std::test::Fail;
 use stream_files::EMPTY;
-use serve_program::{Fault, run_to};
 use vp8_tables::Tables;
 
 /// Checks the message of a run whose replies go to this writer.

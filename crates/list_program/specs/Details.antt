@@ -1,0 +1,60 @@
+-- What the program writes of single packets: their macroblocks, or their headers.
+use Rattle.std.specs.Prelude.{◌≡◌, ◌⊎◌, ℕ, ◌+◌, ◌-◌, ◌≤◌, min, List, length, Option, Some, None}
+use Rattle.std.specs.Io.KnownBytes.{Appends}
+use Rattle.vp8_tables.specs.Tables.{TableEntries}
+use Rattle.stream_files.specs.declared.ivf.Ivf.{Ivf}
+use Rattle.stream_files.specs.Ivf.{IsIvf, IvfRefuses}
+use Rattle.macroblock_lists.specs.Texts.{list_text}
+use Rattle.macroblock_lists.specs.declared.listing.Wanted.{Wanted}
+use Rattle.list_program.specs.declared.details.Asked.{Asked}
+use Rattle.list_program.specs.declared.fault.Fault.{Fault}
+use Rattle.list_program.specs.declared.fault.Fault.TheVariants.{Input, NoPacket, CannotWrite, NoMemory}
+
+-- the index after the last packet that is asked for, in a stream of so many packets
+abbrev pub end_of : Option ℕ → ℕ → ℕ
+end_of None count = count
+end_of (Some last) count = last + 1
+
+-- and the index of the first; there is none if it comes after the last
+abbrev pub start_of : Asked → ℕ → ℕ
+start_of asked count = min asked.first (end_of asked.last count)
+
+abbrev pub count_of : Asked → ℕ → ℕ
+count_of asked count = end_of asked.last count - start_of asked count
+
+-- the packets that are asked for, in a stream of so many
+pub record IsWanted (asked : Asked) (count : ℕ) (wanted : Wanted) : Type 0 where
+  pub inside : end_of asked.last count ≤ count
+  pub what : wanted.what ≡ asked.what
+  pub form : wanted.form ≡ asked.form
+  pub first : wanted.first ≡ start_of asked count
+  pub number : wanted.count ≡ count_of asked count
+
+-- or the first or the last of them that is not there
+abbrev pub IsAbsent : Asked → ℕ → Fault → Type 0
+IsAbsent asked count (NoPacket packet number) = (number ≡ count) × (count ≤ packet) × ((asked.first ≡ packet) ⊎ (asked.last ≡ Some packet))
+IsAbsent asked count _ = ⊥
+
+-- the bytes are an IVF file that has these packets, and the output gained their text
+pub record IsDetailed (asked : Asked) (tables : TableEntries) (bytes : List ℕ) (output output' : Option (List ℕ)) : Type 0 where
+  pub file : Ivf
+  pub read : IsIvf bytes file
+  pub inside : end_of asked.last (length file.packets) ≤ length file.packets
+  pub written : Appends output output' (list_text asked.what asked.form tables file.packets (start_of asked (length file.packets)) (count_of asked (length file.packets)))
+
+-- the bytes are an IVF file of so many packets that does not have this one, the first or the last that is asked for
+pub record HasNoPacket (asked : Asked) (bytes : List ℕ) (packet count : ℕ) : Type 0 where
+  pub file : Ivf
+  pub read : IsIvf bytes file
+  pub counted : length file.packets ≡ count
+  pub over : count ≤ packet
+  pub asked_for : (asked.first ≡ packet) ⊎ (asked.last ≡ Some packet)
+
+-- why they were not written: the bytes are not an IVF file, or a packet is not there, and then nothing was written; memory ran out; or the
+-- writer returned an error
+abbrev pub IsDetailFault : Asked → List ℕ → Option (List ℕ) → Option (List ℕ) → Fault → Type 0
+IsDetailFault asked bytes output output' (Input fault) = IvfRefuses bytes fault × (output' ≡ output)
+IsDetailFault asked bytes output output' (NoPacket packet count) = HasNoPacket asked bytes packet count × (output' ≡ output)
+IsDetailFault asked bytes output output' NoMemory = (file : Ivf) × IsIvf bytes file
+IsDetailFault asked bytes output output' CannotWrite = Unit {0}
+IsDetailFault asked bytes output output' _ = ⊥

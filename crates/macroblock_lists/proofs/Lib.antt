@@ -1,0 +1,4 @@
+pub mod FrameLemmas
+pub mod Loops
+pub mod PacketLemmas
+pub mod Progress

@@ -1,0 +1,6 @@
+use Rattle.std.proofs.KnownBytes.{Appends-trans}
+use Rattle.std.proofs.lemmas.Result.{on_ok_weaker}
+use Rattle.macroblock_lists.proofs.fields.write_delta_quantizers.Goals as goal
+
+pub returns : goal.returns
+returns g c = on_ok_weaker c.write_signed_field-4.result (λ p. Appends-trans _ _ _ _ _ (Appends-trans _ _ _ _ _ (Appends-trans _ _ _ _ _ c.in_ok-write_signed_field.ensures c.in_ok-write_signed_field-2.ensures) c.in_ok-write_signed_field-3.ensures) p) (c.write_signed_field-4.ensures)

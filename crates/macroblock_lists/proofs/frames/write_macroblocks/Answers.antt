@@ -1,0 +1,60 @@
+use Rattle.std.proofs.Common.{◌≡◌, ◌+◌, ◌<◌, ◌++◌, ℕ, List, length, slice_get, Some, ap, sym, subst, ◌∙◌, refl, arith}
+use Rattle.std.proofs.KnownBytes.{Appends-nil, Appends-trans}
+use Rattle.std.proofs.lemmas.List.{length-set}
+use Rattle.std.proofs.lemmas.Option.{slice_get-get_or}
+use Rattle.std.specs.List.{flat_map, range_with_len}
+use Rattle.std.specs.Io.KnownBytes.{Appends}
+use Rattle.mode_parser.specs.declared.records.MbMode.{MbMode}
+use Rattle.reference_frames.specs.FrameTokens.{TokenState, token_state}
+use Rattle.reference_frames.proofs.MacroblockOrder.{next_column, next_row, state_more}
+use Rattle.macroblock_lists.specs.Frames.{macroblock_text, text_at}
+use Rattle.macroblock_lists.specs.declared.macroblocks.Macroblock.{Macroblock}
+use Rattle.macroblock_lists.proofs.FrameLemmas.{text_here}
+use Rattle.macroblock_lists.proofs.Loops.{texts_more}
+use Rattle.macroblock_lists.proofs.frames.write_macroblocks.Goals as goal
+use Rattle.macroblock_lists.proofs.frames.write_macroblocks.Goals.{then-mx-columns, else-mx-columns}
+
+pub loop-mode-init : goal.loop-mode-init
+unfolding token_state
+loop-mode-init g c = record {
+  said = Appends-nil _;
+  tokens = refl;
+  marked = refl;
+  readers = c.requires.some;
+  above = c.requires.above;
+  marked_readers = c.requires.marked;
+  marked_above = c.requires.marked_above;
+  place = omega arith;
+  column = c.requires.columns;
+}
+
+pub loop-mode-preserved : goal.loop-mode-preserved
+loop-mode-preserved g c =
+    let met = c.loop-mode.invariant in
+    let n = c.loop-mode.mode-index in
+    let mode : MbMode = c.mode-item.result in
+    let found : slice_get c.args.modes.now n ≡ Some mode = slice_get-get_or c.args.modes.now n mode c.loop-mode-test.true ∙ ap Some (sym c.mode-item.is) in
+    let tokens = c.next-macroblock.ensures.tokens in
+    let marked = c.next-macroblock.ensures.marked in
+    let text : ℕ → List ℕ = text_at c.args.form c.args.packet c.args.header.now c.args.columns c.args.walk.now.tokens c.args.walk.now.marked c.args.modes.now in
+    let here : macroblock_text c.args.form c.args.packet c.next-macroblock.result ≡ text n =
+    ap (λ (m : Macroblock). macroblock_text c.args.form c.args.packet m) c.next-macroblock.ensures.value
+    ∙ text_here c.args.form c.args.packet c.args.header.now c.args.columns c.loop-mode.mx c.loop-mode.my n c.args.walk.now.tokens c.args.walk.now.marked c.loop-mode.walk.tokens c.loop-mode.walk.marked c.args.modes.now mode found met.tokens met.marked met.place met.column in
+    let more : flat_map text (range_with_len 0 (n + 1)) ≡ flat_map text (range_with_len 0 n) ++ macroblock_text c.args.form c.args.packet c.next-macroblock.result =
+    texts_more text 0 n n (omega arith) ∙ ap (λ (t : List ℕ). flat_map text (range_with_len 0 n) ++ t) (sym here) in
+    let same_tokens : length c.next-macroblock.new.self.tokens.readers ≡ length c.loop-mode.walk.tokens.readers = ap (λ (t : TokenState). length t.readers) tokens ∙ length-set _ _ _ in
+    let same_marked : length c.next-macroblock.new.self.marked.readers ≡ length c.loop-mode.walk.marked.readers = ap (λ (t : TokenState). length t.readers) marked ∙ length-set _ _ _ in
+    record {
+      said = subst (λ (t : List ℕ). Appends (g.W.Write.contents c.args.w.now) (g.W.Write.contents c.write_macroblock.new.w) t) (sym more) (Appends-trans _ _ _ _ _ met.said c.in_ok-write_macroblock.ensures);
+      tokens = state_more c.args.header.now c.args.walk.now.tokens c.loop-mode.walk.tokens c.next-macroblock.new.self.tokens c.args.columns c.loop-mode.mx c.loop-mode.my n c.args.modes.now mode found met.tokens tokens met.place met.column;
+      marked = state_more c.args.header.now c.args.walk.now.marked c.loop-mode.walk.marked c.next-macroblock.new.self.marked c.args.columns c.loop-mode.mx c.loop-mode.my n c.args.modes.now mode found met.marked marked met.place met.column;
+      readers = omega (arith, same_tokens, met.readers);
+      above = ap (λ (t : TokenState). length t.above) tokens ∙ length-set _ _ _ ∙ met.above;
+      marked_readers = omega (arith, same_marked, met.marked_readers);
+      marked_above = ap (λ (t : TokenState). length t.above) marked ∙ length-set _ _ _ ∙ met.marked_above;
+      place = elim c.if-mx-columns.branch [
+        | then-mx-columns w ↦ next_row c.args.columns c.loop-mode.my c.loop-mode.mx _ _ n met.place w.if-mx-columns.true w.my-is w.mx-is
+        | else-mx-columns w ↦ next_column c.args.columns c.loop-mode.my c.loop-mode.mx _ _ n met.place w.my-is w.mx-is
+      ];
+      column = elim c.if-mx-columns.branch [ then-mx-columns w ↦ omega arith | else-mx-columns w ↦ omega arith ];
+    }

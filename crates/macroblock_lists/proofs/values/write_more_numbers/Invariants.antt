@@ -1,0 +1,13 @@
+use Rattle.std.proofs.Common.{◌≡◌, List, ℕ, ◌++◌, drop}
+use Rattle.std.specs.List.{flat_map}
+use Rattle.std.specs.Io.KnownBytes.{Appends}
+use Rattle.macroblock_lists.specs.Parts.{after_comma}
+use Rattle.std.specs.Fmt.{decimal}
+use Rattle.macroblock_lists.proofs.values.write_more_numbers.Given as goal
+
+abbrev pub invariant-loop-n : goal.invariant-loop-n
+invariant-loop-n g l = record {
+  done : List ℕ;
+  whole : done ++ flat_map (after_comma decimal) (drop l.n-index l.numbers) ≡ flat_map (after_comma decimal) l.numbers;
+  said : Appends (g.W.Write.contents l.fn.w) (g.W.Write.contents l.w) done;
+}

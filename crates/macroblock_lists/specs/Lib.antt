@@ -1,0 +1,10 @@
+pub mod Coefficients
+pub mod Macroblocks
+pub mod Names
+pub mod Parts
+pub mod Lines
+pub mod Objects
+pub mod Fields
+pub mod Known
+pub mod Frames
+pub mod Texts

@@ -1,0 +1,300 @@
+//! The fields of a header, by their names in RFC 6386, section 19.2.
+
+ghost use Rattle.std.specs.Prelude.{◌≡◌, [], if◌then◌else◌, OnOk};
+ghost use Rattle.std.specs.Io.KnownBytes.{Appends};
+ghost use Rattle.macroblock_lists.specs.Fields.{altref_number, copy_fields, delta_quantizers, entropy_field, first_fields, frame_fields, golden_number, header_fields, inter_fields, key_fields, last_fields, log_of, number_field_unless, partition_fields, quantizer_fields, reference_fields, refresh_fields, skip_fields, tag_fields};
+
+use crate::layouts::Layout;
+use crate::segment_fields::{write_filter_fields, write_segment_fields};
+use crate::values::{write_flag_field, write_number_field, write_signed_field};
+use frame_header::{
+    Header, Quantizers, Reference, ReferenceProbabilities, ReferenceUpdates, SignBiases,
+};
+use std::io::Write;
+use stream_files::WriteFault;
+
+fn write_tag_fields<W: Write>(w: &mut W, layout: Layout, header: &Header) -> Result<(), WriteFault>
+    ensures { OnOk result (Appends (W.contents w.old) (W.contents w.new) (tag_fields layout header.now)) }
+{
+    write_flag_field(w, layout, "key_frame", header.is_key)?;
+    write_number_field(w, layout, "version", u64::from(header.version))?;
+    write_flag_field(w, layout, "show_frame", header.is_shown)
+}
+
+fn write_key_fields<W: Write>(w: &mut W, layout: Layout, header: &Header) -> Result<(), WriteFault>
+    ensures { OnOk result (Appends (W.contents w.old) (W.contents w.new) (key_fields layout header.now)) }
+{
+    write_number_field(w, layout, "width", u64::from(header.width))?;
+    write_number_field(w, layout, "height", u64::from(header.height))?;
+    write_flag_field(w, layout, "color_space", header.colors.color_space)?;
+    write_flag_field(w, layout, "clamping_type", header.colors.clamping_type)
+}
+
+fn write_key_fields_if<W: Write>(
+    w: &mut W,
+    layout: Layout,
+    header: &Header,
+) -> Result<(), WriteFault>
+    ensures { OnOk result (Appends (W.contents w.old) (W.contents w.new) (if header.now.is_key then key_fields layout header.now else [])) }
+{
+    if header.is_key {
+        write_key_fields(w, layout, header)
+    } else {
+        Ok(())
+    }
+}
+
+fn write_frame_fields<W: Write>(
+    w: &mut W,
+    layout: Layout,
+    header: &Header,
+) -> Result<(), WriteFault>
+    ensures { OnOk result (Appends (W.contents w.old) (W.contents w.new) (frame_fields layout header.now)) }
+{
+    write_tag_fields(w, layout, header)?;
+    write_key_fields_if(w, layout, header)
+}
+
+/// The logarithm of a number of partitions.
+fn log_of(count: usize) -> u64
+    ensures { result ≡ log_of count }
+{
+    if count == 8 {
+        3
+    } else if count == 4 {
+        2
+    } else if count == 2 {
+        1
+    } else {
+        0
+    }
+}
+
+fn write_partition_fields<W: Write>(
+    w: &mut W,
+    layout: Layout,
+    header: &Header,
+) -> Result<(), WriteFault>
+    ensures { OnOk result (Appends (W.contents w.old) (W.contents w.new) (partition_fields layout header.now)) }
+{
+    write_number_field(
+        w,
+        layout,
+        "log2_nbr_of_dct_partitions",
+        log_of(header.partitions.len()),
+    )
+}
+
+fn write_first_fields<W: Write>(
+    w: &mut W,
+    layout: Layout,
+    header: &Header,
+) -> Result<(), WriteFault>
+    ensures { OnOk result (Appends (W.contents w.old) (W.contents w.new) (first_fields layout header.now)) }
+{
+    write_frame_fields(w, layout, header)?;
+    write_segment_fields(w, layout, &header.segmentation, &header.context.segments)?;
+    write_filter_fields(w, layout, header)?;
+    write_partition_fields(w, layout, header)
+}
+
+fn write_delta_quantizers<W: Write>(
+    w: &mut W,
+    layout: Layout,
+    quantizers: Quantizers,
+) -> Result<(), WriteFault>
+    ensures { OnOk result (Appends (W.contents w.old) (W.contents w.new) (delta_quantizers layout quantizers)) }
+{
+    write_signed_field(w, layout, "y2_dc_delta", &quantizers.y2_dc_delta)?;
+    write_signed_field(w, layout, "y2_ac_delta", &quantizers.y2_ac_delta)?;
+    write_signed_field(w, layout, "uv_dc_delta", &quantizers.uv_dc_delta)?;
+    write_signed_field(w, layout, "uv_ac_delta", &quantizers.uv_ac_delta)
+}
+
+fn write_quantizer_fields<W: Write>(
+    w: &mut W,
+    layout: Layout,
+    quantizers: Quantizers,
+) -> Result<(), WriteFault>
+    ensures { OnOk result (Appends (W.contents w.old) (W.contents w.new) (quantizer_fields layout quantizers)) }
+{
+    write_number_field(w, layout, "y_ac_qi", u64::from(quantizers.y_ac_index))?;
+    write_signed_field(w, layout, "y_dc_delta", &quantizers.y_dc_delta)?;
+    write_delta_quantizers(w, layout, quantizers)
+}
+
+/// The number of the reference that golden becomes a copy of.
+fn golden_number(copy: Option<Reference>) -> u64
+    ensures { result ≡ golden_number copy }
+{
+    match copy {
+        None => 0,
+        Some(Reference::Last) => 1,
+        Some(Reference::Golden) => 0,
+        Some(Reference::Altref) => 2,
+    }
+}
+
+/// The number of the reference that altref becomes a copy of.
+fn altref_number(copy: Option<Reference>) -> u64
+    ensures { result ≡ altref_number copy }
+{
+    match copy {
+        None => 0,
+        Some(Reference::Last) => 1,
+        Some(Reference::Golden) => 2,
+        Some(Reference::Altref) => 0,
+    }
+}
+
+/// Writes a number unless `is_absent`.
+fn write_number_unless<W: Write>(
+    w: &mut W,
+    layout: Layout,
+    is_absent: bool,
+    name: &str,
+    n: u64,
+) -> Result<(), WriteFault>
+    ensures { OnOk result (Appends (W.contents w.old) (W.contents w.new) (number_field_unless layout is_absent name.now n)) }
+{
+    if is_absent {
+        Ok(())
+    } else {
+        write_number_field(w, layout, name, n)
+    }
+}
+
+fn write_copy_fields<W: Write>(
+    w: &mut W,
+    layout: Layout,
+    updates: ReferenceUpdates,
+) -> Result<(), WriteFault>
+    ensures { OnOk result (Appends (W.contents w.old) (W.contents w.new) (copy_fields layout updates)) }
+{
+    let golden = golden_number(updates.golden_copy);
+    let altref = altref_number(updates.altref_copy);
+    let (has_golden, has_altref) = (updates.refreshes_golden, updates.refreshes_altref);
+    write_number_unless(w, layout, has_golden, "copy_buffer_to_golden", golden)?;
+    write_number_unless(w, layout, has_altref, "copy_buffer_to_arf", altref)
+}
+
+fn write_refresh_fields<W: Write>(
+    w: &mut W,
+    layout: Layout,
+    updates: ReferenceUpdates,
+    biases: SignBiases,
+) -> Result<(), WriteFault>
+    ensures { OnOk result (Appends (W.contents w.old) (W.contents w.new) (refresh_fields layout updates biases)) }
+{
+    write_flag_field(w, layout, "refresh_golden_frame", updates.refreshes_golden)?;
+    write_flag_field(
+        w,
+        layout,
+        "refresh_alternate_frame",
+        updates.refreshes_altref,
+    )?;
+    write_copy_fields(w, layout, updates)?;
+    write_flag_field(w, layout, "sign_bias_golden", biases.golden)?;
+    write_flag_field(w, layout, "sign_bias_alternate", biases.altref)
+}
+
+fn write_refresh_fields_unless<W: Write>(
+    w: &mut W,
+    layout: Layout,
+    header: &Header,
+) -> Result<(), WriteFault>
+    ensures { OnOk result (Appends (W.contents w.old) (W.contents w.new) (if header.now.is_key then [] else refresh_fields layout header.now.references header.now.context.sign_biases)) }
+{
+    if header.is_key {
+        Ok(())
+    } else {
+        write_refresh_fields(w, layout, header.references, header.context.sign_biases)
+    }
+}
+
+fn write_entropy_field<W: Write>(
+    w: &mut W,
+    layout: Layout,
+    header: &Header,
+) -> Result<(), WriteFault>
+    ensures { OnOk result (Appends (W.contents w.old) (W.contents w.new) (entropy_field layout header.now)) }
+{
+    write_flag_field(w, layout, "refresh_entropy_probs", header.refreshes_entropy)
+}
+
+fn write_reference_fields<W: Write>(
+    w: &mut W,
+    layout: Layout,
+    header: &Header,
+) -> Result<(), WriteFault>
+    ensures { OnOk result (Appends (W.contents w.old) (W.contents w.new) (reference_fields layout header.now)) }
+{
+    let last = u64::from(header.references.refreshes_last);
+    write_refresh_fields_unless(w, layout, header)?;
+    write_entropy_field(w, layout, header)?;
+    write_number_unless(w, layout, header.is_key, "refresh_last", last)
+}
+
+fn write_skip_fields<W: Write>(
+    w: &mut W,
+    layout: Layout,
+    probability: Option<u8>,
+) -> Result<(), WriteFault>
+    ensures { OnOk result (Appends (W.contents w.old) (W.contents w.new) (skip_fields layout probability)) }
+{
+    match probability {
+        None => write_number_field(w, layout, "mb_no_coeff_skip", 0),
+        Some(probability) => {
+            write_number_field(w, layout, "mb_no_coeff_skip", 1)?;
+            write_number_field(w, layout, "prob_skip_false", u64::from(probability))
+        }
+    }
+}
+
+fn write_inter_fields<W: Write>(
+    w: &mut W,
+    layout: Layout,
+    probabilities: ReferenceProbabilities,
+) -> Result<(), WriteFault>
+    ensures { OnOk result (Appends (W.contents w.old) (W.contents w.new) (inter_fields layout probabilities)) }
+{
+    write_number_field(w, layout, "prob_intra", u64::from(probabilities.intra))?;
+    write_number_field(w, layout, "prob_last", u64::from(probabilities.last))?;
+    write_number_field(w, layout, "prob_gf", u64::from(probabilities.golden))
+}
+
+fn write_inter_fields_unless<W: Write>(
+    w: &mut W,
+    layout: Layout,
+    header: &Header,
+) -> Result<(), WriteFault>
+    ensures { OnOk result (Appends (W.contents w.old) (W.contents w.new) (if header.now.is_key then [] else inter_fields layout header.now.reference_probabilities)) }
+{
+    if header.is_key {
+        Ok(())
+    } else {
+        write_inter_fields(w, layout, header.reference_probabilities)
+    }
+}
+
+fn write_last_fields<W: Write>(w: &mut W, layout: Layout, header: &Header) -> Result<(), WriteFault>
+    ensures { OnOk result (Appends (W.contents w.old) (W.contents w.new) (last_fields layout header.now)) }
+{
+    write_skip_fields(w, layout, header.skip_probability)?;
+    write_inter_fields_unless(w, layout, header)
+}
+
+/// Writes the fields of a header.
+#[tactic(auto, unfolding(crate::specs::Fields::header_fields))]
+pub(crate) fn write_header_fields<W: Write>(
+    w: &mut W,
+    layout: Layout,
+    header: &Header,
+) -> Result<(), WriteFault>
+    ensures { OnOk result (Appends (W.contents w.old) (W.contents w.new) (header_fields layout header.now)) }
+{
+    write_first_fields(w, layout, header)?;
+    write_quantizer_fields(w, layout, header.quantizers)?;
+    write_reference_fields(w, layout, header)?;
+    write_last_fields(w, layout, header)
+}

@@ -1,0 +1,140 @@
+//! The macroblocks of a frame, one after another.
+
+ghost use Rattle.std.specs.Prelude.{◌≡◌, ◌<◌, ◌≤◌, ◌+◌, ◌*◌, length, All, OnOk};
+ghost use Rattle.std.specs.Io.KnownBytes.{Appends};
+ghost use Rattle.reference_frames.specs.FrameTokens.{state_with, tokens_at, tokens_start};
+ghost use Rattle.reference_frames.specs.PartitionEnds.{marked_start, zeros_for};
+ghost use Rattle.macroblock_lists.specs.Frames.{macroblock_text, texts_of};
+ghost use Rattle.macroblock_lists.specs.Macroblocks.{macroblock_of};
+
+use crate::layouts::Form;
+use crate::lines::write_line;
+use crate::listing::ListFault;
+use crate::macroblocks::{Macroblock, filters_inside, index_of, level_in_force, limits_in_force};
+use crate::objects::write_object;
+use crate::tokens::{FrameTokens, flag_with, marked_texts};
+use frame_header::Header;
+use mode_parser::MbMode;
+use std::alloc::Global;
+use std::io::Write;
+use stream_files::WriteFault;
+
+/// A frame between two of its macroblocks: its tokens, and those of partitions with zeros and a mark after each.
+#[derive(Drop)]
+struct Walk<'a, 'b> {
+    tokens: FrameTokens<'a>,
+    marked: FrameTokens<'b>,
+}
+
+impl<'a, 'b> Walk<'a, 'b> {
+    /// Reads the macroblock in column `mx` of row `my`, which is next.
+    fn next(&mut self, header: &Header, mx: usize, my: usize, mode: &MbMode) -> Macroblock
+        requires some { 0 < length self.old.tokens.readers }
+        requires column { mx < length self.old.tokens.above }
+        requires marked { 0 < length self.old.marked.readers }
+        requires marked_column { mx < length self.old.marked.above }
+        ensures value { result ≡ macroblock_of header.now mx my self.old.tokens self.old.marked mode.now }
+        ensures tokens { self.new.tokens ≡ state_with self.old.tokens mx my (tokens_at header.now.context.probabilities.coefficients self.old.tokens mx my mode.now) }
+        ensures marked { self.new.marked ≡ state_with self.old.marked mx my (tokens_at header.now.context.probabilities.coefficients self.old.marked mx my mode.now) }
+    {
+        let left = self.marked.left_at(my);
+        let tokens = self.tokens.read(header, mx, my, mode);
+        let _marked = self.marked.read(header, mx, my, mode);
+        let token_bits = left.saturating_sub(self.marked.left_at(my));
+        let level = level_in_force(header, mode);
+        Macroblock {
+            column: mx,
+            row: my,
+            mode: *mode,
+            quantizer: index_of(header, mode.segment),
+            level,
+            limits: limits_in_force(header, level),
+            filters_inside: filters_inside(mode, level, flag_with(mode, &tokens)),
+            coefficients: tokens.coefficients,
+            token_bits,
+        }
+    }
+}
+
+/// Writes a macroblock of the packet at this index.
+fn write_macroblock<W: Write>(
+    w: &mut W,
+    form: Form,
+    packet: usize,
+    macroblock: &Macroblock,
+) -> Result<(), WriteFault>
+    ensures { OnOk result (Appends (W.contents w.old) (W.contents w.new) (macroblock_text form packet macroblock.now)) }
+{
+    match form {
+        Form::Lines => write_line(w, packet, macroblock),
+        Form::Objects => write_object(w, packet, macroblock),
+    }
+}
+
+/// Writes the macroblocks with these records, in raster order.
+fn write_macroblocks<W: Write>(
+    w: &mut W,
+    form: Form,
+    packet: usize,
+    header: &Header,
+    columns: usize,
+    modes: &[MbMode],
+    walk: &mut Walk,
+) -> Result<(), WriteFault>
+    requires columns { 0 < columns }
+    requires some { 0 < length walk.old.tokens.readers }
+    requires above { length walk.old.tokens.above ≡ columns }
+    requires marked { 0 < length walk.old.marked.readers }
+    requires marked_above { length walk.old.marked.above ≡ columns }
+    ensures { OnOk result (Appends (W.contents w.old) (W.contents w.new) (texts_of form packet header.now columns walk.old.tokens walk.old.marked modes.now)) }
+{
+    let mut mx = 0;
+    let mut my = 0;
+    for mode in modes {
+        let macroblock = walk.next(header, mx, my, mode);
+        write_macroblock(w, form, packet, &macroblock)?;
+        mx += 1;
+        if mx == columns {
+            mx = 0;
+            my += 1;
+        }
+    }
+    Ok(())
+}
+
+/// How many zero bytes are put after a partition, in a frame of so many macroblocks.
+fn zeros_for(columns: usize, rows: usize) -> usize
+    requires wide { columns ≤ 1024 }
+    requires high { rows ≤ 1024 }
+    ensures value { result ≡ zeros_for columns rows }
+    ensures few { result ≤ 4194368 }
+{
+    64 + 4 * (columns * rows)
+}
+
+/// Writes the macroblocks of a packet that decoding accepts, with this header and these records.
+pub(crate) fn write_frame<W: Write>(
+    w: &mut W,
+    alloc: Global,
+    form: Form,
+    place: usize,
+    packet: &[u8],
+    header: &Header,
+    size: (usize, usize),
+    modes: &[MbMode],
+) -> Result<(), ListFault>
+    requires wide { (0 < size.0) × (size.0 ≤ 1024) }
+    requires high { (0 < size.1) × (size.1 ≤ 1024) }
+    requires some { 0 < length header.now.partitions.items }
+    requires inside { All (λ place. place.start + place.length ≤ length packet.now) header.now.partitions.items }
+    ensures { OnOk result (Appends (W.contents w.old) (W.contents w.new) (texts_of form place header.now size.0 (tokens_start header.now.partitions.items packet.now size.0) (marked_start (zeros_for size.0 size.1) header.now.partitions.items packet.now size.0) modes.now)) }
+{
+    let (columns, rows) = size;
+    let partitions = header.partitions.as_slice();
+    let texts = marked_texts(alloc, zeros_for(columns, rows), packet, partitions)?;
+    let tokens = FrameTokens::new(alloc, packet, partitions, columns)?;
+    let marked = FrameTokens::over_texts(alloc, &texts, columns)?;
+    let mut walk = Walk { tokens, marked };
+    write_macroblocks(w, form, place, header, columns, modes, &mut walk)?;
+    Ok(())
+}

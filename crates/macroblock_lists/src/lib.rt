@@ -1,0 +1,25 @@
+//! The macroblocks of a packet and the fields of its header, as text: what each macroblock is made of, by the
+//! records, tokens, filter limits and quantizers that decoding has.
+#![tactic(auto)]
+
+mod broken;
+mod coefficients;
+mod fields;
+mod frames;
+mod known;
+mod layouts;
+mod lines;
+mod listing;
+mod macroblocks;
+mod names;
+mod objects;
+mod parts;
+mod segment_fields;
+mod texts;
+mod tokens;
+mod values;
+
+pub use broken::Broken;
+pub use layouts::{Form, What};
+pub use listing::{ListFault, Wanted, write_list};
+pub use macroblocks::Macroblock;

@@ -1,0 +1,196 @@
+//! The tokens of a frame, one macroblock after another, over readers of its token partitions.
+
+ghost use Rattle.std.specs.Prelude.{◌≡◌, ◌+◌, ◌%◌, ◌<◌, ◌≤◌, [], length, map, replicate, slice_index_or, All, IfOk};
+ghost use Rattle.bool_coder.specs.Reader.{started};
+ghost use Rattle.bool_coder.specs.Taken.{marked};
+ghost use Rattle.reference_frames.specs.FrameTokens.{flag_with, has_y2 as has_y2_of, outside, partition_of, reader_of, state_with, tokens_at, tokens_start};
+ghost use Rattle.reference_frames.specs.PartitionEnds.{marked_start, marked_text};
+ghost use Rattle.macroblock_lists.specs.Macroblocks.{left_at};
+
+use bool_coder::Decoder;
+use frame_header::{Header, Place};
+use mode_parser::{MbMode, VectorMode, YMode};
+use pixel_planes::NoMemory;
+use std::alloc::Global;
+use std::marker::Model;
+use token_parser::{Tokens, read_macroblock, skip_macroblock};
+
+/// The state between two macroblocks of a frame.
+#[derive(Drop)]
+pub(crate) struct FrameTokens<'a> {
+    readers: Vec<Decoder<'a>>,
+    /// The flags above each column of macroblocks.
+    above: Vec<[bool; 9]>,
+    /// The flags to the left.
+    left: [bool; 9],
+}
+
+impl<'a> Model for FrameTokens<'a> {
+    ghost use Rattle.reference_frames.specs.FrameTokens.{TokenState};
+
+    ghost Value = { TokenState };
+
+    ghost view = { λ t. record { readers = t.readers.items; above = t.above.items; left = t.left } };
+}
+
+/// Whether a macroblock has a block Y2 (RFC 6386, section 13).
+fn has_y2(mode: &MbMode) -> bool
+    ensures { result ≡ has_y2_of mode.now.y_mode }
+{
+    match mode.y_mode {
+        YMode::Whole(_) => true,
+        YMode::B => false,
+        YMode::Inter(_, VectorMode::Split) => false,
+        YMode::Inter(..) => true,
+    }
+}
+
+/// Whether a block of a macroblock has a token.
+pub(crate) fn flag_with(mode: &MbMode, tokens: &Tokens) -> bool
+    ensures { result ≡ flag_with mode.now tokens.now }
+{
+    if mode.is_skipped {
+        false
+    } else {
+        tokens.has_tokens(has_y2(mode))
+    }
+}
+
+/// A text, so many zero bytes after it, and a mark.
+fn marked(alloc: Global, zeros: usize, bytes: &[u8]) -> Result<Vec<u8>, NoMemory>
+    requires { zeros ≤ 4194368 }
+    ensures { IfOk result (λ text. text.items ≡ marked zeros bytes.now) }
+{
+    let mut text = Vec::from_slice(alloc, bytes)?;
+    text.resize(text.len() + zeros, 0)?;
+    text.push(1)?;
+    Ok(text)
+}
+
+/// The token partitions of a packet, each with its zeros and its mark.
+pub(crate) fn marked_texts(
+    alloc: Global,
+    zeros: usize,
+    packet: &[u8],
+    partitions: &[Place],
+) -> Result<Vec<Vec<u8>>, NoMemory>
+    requires few { zeros ≤ 4194368 }
+    requires inside { All (λ place. place.start + place.length ≤ length packet.now) partitions.now }
+    ensures { IfOk result (λ texts. map (λ text. text.items) texts.items ≡ map (marked_text zeros packet.now) partitions.now) }
+{
+    let mut texts = Vec::with_capacity(alloc, partitions.len())?;
+    for place in partitions {
+        let end = place.start + place.length;
+        texts.push(marked(alloc, zeros, &packet[place.start..end])?)?;
+    }
+    Ok(texts)
+}
+
+/// A reader at the start of each text.
+fn readers_of<'a>(alloc: Global, texts: &'a [Vec<u8>]) -> Result<Vec<Decoder<'a>>, NoMemory>
+    ensures { IfOk result (λ readers. readers.items ≡ map (λ text. started text.items) texts.now) }
+{
+    let mut readers = Vec::with_capacity(alloc, texts.len())?;
+    for text in texts {
+        readers.push(Decoder::new(text.as_slice()))?;
+    }
+    Ok(readers)
+}
+
+/// The readers of the token partitions of a packet.
+fn partition_readers<'a>(
+    alloc: Global,
+    packet: &'a [u8],
+    partitions: &[Place],
+) -> Result<Vec<Decoder<'a>>, NoMemory>
+    requires { All (λ place. place.start + place.length ≤ length packet.now) partitions.now }
+    ensures { IfOk result (λ readers. readers.items ≡ map (reader_of packet.now) partitions.now) }
+{
+    let mut readers = Vec::with_capacity(alloc, partitions.len())?;
+    for place in partitions {
+        let end = place.start + place.length;
+        readers.push(Decoder::new(&packet[place.start..end]))?;
+    }
+    Ok(readers)
+}
+
+impl<'a> FrameTokens<'a> {
+    /// Before the first macroblock of a frame of so many columns, over these readers.
+    fn over(
+        alloc: Global,
+        readers: Vec<Decoder<'a>>,
+        columns: usize,
+    ) -> Result<FrameTokens<'a>, NoMemory>
+        ensures { IfOk result (λ tokens. tokens ≡ record { readers = readers.entry.items; above = replicate columns outside; left = outside }) }
+    {
+        Ok(FrameTokens {
+            readers,
+            above: vec![in alloc; [false; 9]; columns]?,
+            left: [false; 9],
+        })
+    }
+
+    /// The same over the partitions of a packet.
+    pub(crate) fn new(
+        alloc: Global,
+        packet: &'a [u8],
+        partitions: &[Place],
+        columns: usize,
+    ) -> Result<FrameTokens<'a>, NoMemory>
+        requires { All (λ place. place.start + place.length ≤ length packet.now) partitions.now }
+        ensures { IfOk result (λ tokens. tokens ≡ tokens_start partitions.now packet.now columns) }
+    {
+        let readers = partition_readers(alloc, packet, partitions)?;
+        FrameTokens::over(alloc, readers, columns)
+    }
+
+    /// The same over texts.
+    pub(crate) fn over_texts(
+        alloc: Global,
+        texts: &'a [Vec<u8>],
+        columns: usize,
+    ) -> Result<FrameTokens<'a>, NoMemory>
+        ensures { IfOk result (λ tokens. tokens ≡ record { readers = map (λ text. started text.items) texts.now; above = replicate columns outside; left = outside }) }
+    {
+        let readers = readers_of(alloc, texts)?;
+        FrameTokens::over(alloc, readers, columns)
+    }
+
+    /// How many bits the reader of a row's partition has left.
+    pub(crate) fn left_at(&self, row: usize) -> u128
+        requires { 0 < length self.now.readers }
+        ensures { result ≡ left_at self.now row }
+    {
+        self.readers[row % self.readers.len()].left()
+    }
+
+    /// Reads the tokens of the macroblock in column `mx` of row `my`, which is next. Nothing is read of one that
+    /// is skipped.
+    #[tactic(auto, unfolding(reference_frames::specs::FrameTokens::tokens_at))]
+    pub(crate) fn read(&mut self, header: &Header, mx: usize, my: usize, mode: &MbMode) -> Tokens
+        requires some { 0 < length self.old.readers }
+        requires column { mx < length self.old.above }
+        ensures tokens { result ≡ (tokens_at header.now.context.probabilities.coefficients self.old mx my mode.now).0 }
+        ensures state { self.new ≡ state_with self.old mx my (tokens_at header.now.context.probabilities.coefficients self.old mx my mode.now) }
+    {
+        let partition = my % self.readers.len();
+        let mut tokens = Tokens::new();
+        tokens.above = self.above[mx];
+        tokens.left = if mx == 0 { [false; 9] } else { self.left };
+        let has_y2 = has_y2(mode);
+        if mode.is_skipped {
+            skip_macroblock(has_y2, &mut tokens);
+        } else {
+            let probabilities = &header.context.probabilities.coefficients;
+            read_macroblock(
+                &mut self.readers[partition],
+                probabilities,
+                has_y2,
+                &mut tokens,
+            );
+        }
+        self.above[mx] = tokens.above;
+        self.left = tokens.left;
+        tokens
+    }
+}
