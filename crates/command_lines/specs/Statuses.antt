@@ -2,6 +2,8 @@
 use Rattle.std.specs.Prelude.{ℕ, Result, Ok, Err}
 use Rattle.frame_session.specs.declared.serving.RunFault.{RunFault}
 use Rattle.frame_session.specs.declared.serving.RunFault.TheVariants as runs
+use Rattle.output_files.specs.declared.saving.Unsaved.{Unsaved}
+use Rattle.output_files.specs.declared.saving.Unsaved.TheVariants as unsaved
 use Rattle.command_lines.specs.declared.fault.Fault.{Fault}
 use Rattle.command_lines.specs.declared.fault.Fault.TheVariants.{CommandLine, NamedTwice, CannotRead, TooLong, Tables, Input, CannotWrite, NoMemory}
 
@@ -26,3 +28,11 @@ abbrev pub reported_as : RunFault → Fault
 reported_as (runs.Ivf source fault) = Input source fault
 reported_as runs.Write = CannotWrite
 reported_as runs.NoMemory = NoMemory
+
+-- the error of packets that were not saved as the program's
+abbrev pub fault_of : Unsaved → Fault
+fault_of unsaved.NoMemory = NoMemory
+fault_of (unsaved.Make error) = CannotWrite
+fault_of unsaved.Write = CannotWrite
+fault_of (unsaved.Sync error) = CannotWrite
+fault_of (unsaved.Rename error) = CannotWrite

@@ -1,9 +1,10 @@
 // The errors that end the program early.
 ghost use Rattle.std.specs.Prelude.{◌≡◌, ◌≤◌};
-ghost use Rattle.command_lines.specs.Statuses.{reported_as, status_of};
+ghost use Rattle.command_lines.specs.Statuses.{fault_of, reported_as, status_of};
 
 use crate::files::SameFile;
 use frame_session::RunFault;
+use output_files::Unsaved;
 use std::fmt;
 use std::io::Write;
 use stream_files::IvfFault;
@@ -73,6 +74,19 @@ impl From<RunFault> for Fault<'_> {
             RunFault::Ivf { source, fault } => Fault::Input { source, fault },
             RunFault::Write => Fault::CannotWrite,
             RunFault::NoMemory => Fault::NoMemory,
+        }
+    }
+}
+
+impl From<Unsaved> for Fault<'_> {
+    ghost from_gives = { λ why told. told ≡ fault_of why };
+
+    fn from(why: Unsaved) -> Self {
+        match why {
+            Unsaved::NoMemory => Fault::NoMemory,
+            Unsaved::Make(_) | Unsaved::Write | Unsaved::Sync(_) | Unsaved::Rename(_) => {
+                Fault::CannotWrite
+            }
         }
     }
 }

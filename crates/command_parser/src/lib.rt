@@ -7,6 +7,6 @@ mod help;
 mod messages;
 
 pub use arguments::{given, parse};
-pub use explain::{explain_end, explain_fault, is_asked, name_explain};
+pub use explain::{explain_end, explain_fault, is_asked, name_explain, name_help};
 pub use help::help_or_fault;
 pub use messages::Messages;

@@ -4,7 +4,8 @@
 
 mod live;
 mod program;
+mod saving;
 
 pub use command_lines::{Argument, Fault, SameFile, tell};
-pub use command_parser::{given, name_explain};
+pub use command_parser::{given, name_explain, name_help};
 pub use program::{run_to, serve};

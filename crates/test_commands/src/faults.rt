@@ -64,12 +64,10 @@ const TWICE: &str = "\
 vp8serve a b a => command line: OUT and IN are both a: name another file for OUT
 vp8serve a b b => command line: OUT and REQUESTS are both b: name another file for OUT
 vp8serve --tables t a b t => command line: OUT and --tables are both t: name another file for OUT
-vp8serve a --save a => command line: --save and IN are both a: name another file for --save
 vp8serve a b --save b => command line: --save and REQUESTS are both b: name another file for --save
 vp8serve a b c --save c => command line: --save and OUT are both c: name another file for --save
 vp8serve --tables - --save - => command line: --save and --tables are both -: name another file for --save
 vp8serve a b c --sources -:d:c => command line: OUT and --sources are both c: name another file for OUT
-vp8serve --save d --sources d => command line: --save and --sources are both d: name another file for --save
 vp8serve a b /dev --save /dev => command line: --save and OUT are both /dev: name another file for --save
 ";
 
@@ -123,7 +121,6 @@ vp8serve order.ivf --sources order.ivf => input Header
 vp8serve --sources order.ivf:order.ivf => source 1 Header
 vp8serve --sources -:-:-:-:-:-:order.ivf => source 7 Header
 vp8serve order.ivf - none/out => cannot write
-vp8serve order.ivf --save none/out => input Header
 ";
 
 /// Of two errors the first in order is reported: the command line, the tables, IN, the files of `--sources`,
