@@ -1,5 +1,5 @@
 -- When a file that is written is the file of another argument, by what is at the paths.
-use Rattle.std.specs.Prelude.{◌≡◌, ℕ, ◌<◌, Bool, true, false, not, ◌&&◌, List, length, slice_get, Option, Some}
+use Rattle.std.specs.Prelude.{◌≡◌, Bool, true, not, ◌&&◌, List, Contains}
 use Rattle.output_files.specs.Places.{is_null, is_one_file, is_same_place}
 use Rattle.command_lines.specs.declared.files.Argument.{Argument}
 use Rattle.command_lines.specs.declared.files.Argument.TheVariants.{In, Sources, Requests, Out, Tables, Save, Replies}
@@ -21,9 +21,8 @@ is_clash written other = is_clash_of other.argument written other
 
 -- two arguments, of which one is written and changes the other, which is among these
 pub record IsClash (written : Located) (others : List Located) (one : SameFile) : Type 0 where
-  pub index : ℕ
   pub other : Located
-  pub among : slice_get others index ≡ Some other
+  pub among : Contains others other
   pub clash : is_clash written other ≡ true
   pub names_written : one.written ≡ written.argument
   pub names_other : one.other ≡ other.argument

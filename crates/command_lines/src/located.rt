@@ -52,7 +52,10 @@ fn add<'a, R: Files + AllocGlobal>(
 }
 
 /// The files that are read and must not be saved: the requests and the tables.
-fn kept<'a, R: Files + AllocGlobal>(rt: &R, words: Words<'a>) -> Result<Vec<Located<'a>>, AllocError> {
+fn kept<'a, R: Files + AllocGlobal>(
+    rt: &R,
+    words: Words<'a>,
+) -> Result<Vec<Located<'a>>, AllocError> {
     let mut list = Vec::new(rt.alloc());
     let requests = if words.requests == NO_FILE {
         INPUT
@@ -95,10 +98,7 @@ fn is_clash(written: &Located<'_>, other: &Located<'_>) -> bool
 }
 
 /// Checks that writing a file changes none of these. If it changes one, the first of them is returned.
-pub fn check_clashes<'a>(
-    written: &Located<'a>,
-    others: &[Located<'a>],
-) -> Result<(), SameFile<'a>>
+pub fn check_clashes<'a>(written: &Located<'a>, others: &[Located<'a>]) -> Result<(), SameFile<'a>>
     ensures apart { OnOk result (All (λ other. is_clash written.now other ≡ false) others.now) }
     ensures clash { IfErr result (IsClash written.now others.now) }
 {

@@ -136,7 +136,7 @@ pub fn finish<R: Files + AllocGlobal, E: Write>(
     session: &Session,
     line: &Accepted<'_>,
     sources: &[&[u8]],
-    target: Option<Target<&R>>,
+    target: Option<Target<'_, R>>,
     messages: &mut Messages<'_, E>,
 ) -> Result<(), Fault<'static>>
     ensures { IfErr result IsSaveFault }

@@ -5,7 +5,7 @@ ghost use Rattle.std.specs.Io.KnownBytes.{Appends};
 ghost use Rattle.stream_server.specs.Endings.{IsSaveFault, saved_text};
 
 use crate::program::BYTES_AT_ONCE;
-use command_lines::{Argument, Fault, Words};
+use command_lines::{Fault, Words};
 use command_parser::Messages;
 use frame_session::Session;
 use output_files::{SavedText, Target, Unsaved, begin};
@@ -14,6 +14,7 @@ use std::io::{BufWriter, Write};
 use std::rt::Files;
 
 /// The packets of source 0 as they are saved.
+#[derive(Clone, Copy)]
 struct Packets<'a> {
     session: &'a Session,
     pads: bool,
@@ -38,7 +39,7 @@ pub fn begin_save<'a, R: Files + AllocGlobal, E: Write>(
     rt: &'a R,
     words: Words<'_>,
     messages: &mut Messages<'_, E>,
-) -> Result<Option<Target<&'a R>>, Fault<'static>>
+) -> Result<Option<Target<'a, R>>, Fault<'static>>
     ensures { IfErr result IsSaveFault }
 {
     let Some(path) = words.saved else {
@@ -55,7 +56,7 @@ pub fn finish_save<R: Files + AllocGlobal, E: Write>(
     rt: &R,
     session: &Session,
     words: Words<'_>,
-    target: Option<Target<&R>>,
+    target: Option<Target<'_, R>>,
     messages: &mut Messages<'_, E>,
 ) -> Result<(), Fault<'static>>
     ensures { IfErr result IsSaveFault }
@@ -89,7 +90,7 @@ fn save_as_it_is<R: Files + AllocGlobal>(
 }
 
 /// Gives up a save that was begun.
-pub fn abandon_save<R: Files>(target: Option<Target<R>>) {
+pub fn abandon_save<R: Files>(target: Option<Target<'_, R>>) {
     if let Some(target) = target {
         target.abandon();
     }
