@@ -1,5 +1,5 @@
 // Saves: the file is the old one or the whole new one, whatever fails.
-ghost use Rattle.std.specs.Prelude.{◌≡◌};
+ghost use Rattle.std.specs.Prelude.{◌≡◌, []};
 ghost use Rattle.std.specs.Io.Buffered.{writer_buffer, writer_contents};
 ghost use Rattle.std.specs.Io.KnownBytes.{Appends};
 ghost use Rattle.output_files.specs.Logs.{steps_of};
@@ -129,38 +129,66 @@ impl SavedText for Text {
     }
 }
 
-/// What a save leaves: the file, whether the new file is there, and whether it failed.
-type Left = (u8, bool, bool);
+/// A call that fails, and what the save leaves: the file, whether the new file is there, and whether it failed.
+struct Case {
+    failing: Failing,
+    file: u8,
+    has_fresh: bool,
+    has_failed: bool,
+}
 
-/// Saves over a file system of which a call fails.
-fn left<R: AllocGlobal>(rt: &R, failing: Failing) -> Left {
-    let mut files = FalseFiles {
+const fn failed(failing: Failing, has_fresh: bool) -> Case {
+    Case {
         failing,
+        file: 1,
+        has_fresh,
+        has_failed: true,
+    }
+}
+
+const CASES: &[Case] = &[
+    Case {
+        failing: Failing::Nothing,
+        file: 2,
+        has_fresh: false,
+        has_failed: false,
+    },
+    failed(Failing::Of(Call::Make), false),
+    failed(Failing::Write, false),
+    failed(Failing::Of(Call::Sync), false),
+    failed(Failing::Of(Call::Rename), false),
+    failed(Failing::AndRemove(Call::Sync), true),
+    failed(Failing::AndRemove(Call::Rename), true),
+];
+
+/// Saves over a file system, and returns whether that failed.
+fn fails<R: AllocGlobal>(rt: &R, files: &mut FalseFiles) -> bool
+    requires { steps_of files.old.log ≡ [] }
+{
+    match files.make() {
+        Ok(file) => finish(rt.alloc(), files, file, &Text {}).is_err(),
+        Err(_) => true,
+    }
+}
+
+/// Saves over a file system of which a call fails, and checks what is left.
+fn expect_left<R: Abort + AllocGlobal>(rt: &R, case: &Case) {
+    let mut files = FalseFiles {
+        failing: case.failing,
         file: 1,
         fresh: None,
         log: Log::new(),
     };
-    let Ok(file) = files.make() else {
-        return (files.file, files.fresh.is_some(), true);
-    };
-    let ended = finish(rt.alloc(), &mut files, file, &Text {});
-    (files.file, files.fresh.is_some(), ended.is_err())
+    let has_failed = fails(rt, &mut files);
+    assert!(rt; has_failed == case.has_failed && files.file == case.file);
+    assert!(rt; files.fresh.is_some() == case.has_fresh);
 }
 
 /// A file is replaced by a whole one, or stays, and the new file remains only if it cannot be removed.
 #[test]
 fn keeps_a_file_whole(rt: HostRuntime) {
-    let cases: [(Failing, Left); 7] = [
-        (Failing::Nothing, (2, false, false)),
-        (Failing::Of(Call::Make), (1, false, true)),
-        (Failing::Write, (1, false, true)),
-        (Failing::Of(Call::Sync), (1, false, true)),
-        (Failing::Of(Call::Rename), (1, false, true)),
-        (Failing::AndRemove(Call::Sync), (1, true, true)),
-        (Failing::AndRemove(Call::Rename), (1, true, true)),
-    ];
-    for (failing, want) in cases {
-        assert!(rt; left(&rt, failing) == want);
+    for case in CASES {
+        expect_left(&rt, case);
     }
 }
 
@@ -174,31 +202,31 @@ fn expect_saved<R: Abort + Files + AllocGlobal>(rt: &R, line: &str, saved: &str)
     assert!(rt; !fs::exists(rt, FRESH).unwrap_or(true), "{line}");
 }
 
+/// Makes a stream, and a link to it.
+fn put_linked<R: Abort + Files + AllocGlobal>(rt: &R) {
+    put(rt, "over.ivf", ONE);
+    let _ = fs::remove_file(rt, "over.link");
+    assert!(rt; symlink(rt, "over.ivf", "over.link").is_ok());
+}
+
+const OVER: &str = "\
+vp8serve over.ivf - - --save over.ivf
+vp8serve over.ivf - - --save over.ivf --live
+vp8serve over.ivf - - --save ./over.ivf
+vp8serve over.ivf - - --save over.link
+vp8serve over.ivf - - --save over.link --live
+vp8serve over.ivf - - --save over.ivf --sources over.link";
+
 /// A save may be over IN, over a source, and over a link to IN, whose target is replaced.
 #[test]
 fn saves_over_the_stream(rt: HostRuntime) {
-    for line in [
-        "vp8serve over.ivf - - --save over.ivf",
-        "vp8serve over.ivf - - --save over.ivf --live",
-        "vp8serve over.ivf - - --save ./over.ivf",
-        "vp8serve over.ivf - - --save over.link",
-        "vp8serve over.ivf - - --save over.link --live",
-    ] {
-        put(&rt, "over.ivf", ONE);
-        let _ = fs::remove_file(&rt, "over.link");
-        assert!(rt; symlink(&rt, "over.ivf", "over.link").is_ok());
+    for line in OVER.lines() {
+        put_linked(&rt);
         expect_saved(&rt, line, "over.ivf");
     }
     let known = fs::symlink_metadata(&rt, "over.link").expect(&rt, "a link");
     assert!(rt; known.is_symlink());
-    put(&rt, "over.ivf", ONE);
-    put(&rt, "over.2.ivf", b"DKIF\0\0\x20\0VP80\x10\0\x10\0\x1E\0\0\0\x01\0\0\0\0\0\0\0\0\0\0\0");
-    expect_saved(
-        &rt,
-        "vp8serve over.ivf - - --sources over.2.ivf --save over.2.ivf",
-        "over.2.ivf",
-    );
-    clear(&rt, "over.ivf over.2.ivf over.link");
+    clear(&rt, "over.ivf over.link");
 }
 
 /// The mode of a file stays, and a hard link of it keeps the old bytes.
@@ -220,11 +248,7 @@ fn keeps_the_mode(rt: HostRuntime) {
 fn makes_the_target_of_a_link(rt: HostRuntime) {
     put(&rt, "made.ivf", ONE);
     assert!(rt; symlink(&rt, "made.target", "made.link").is_ok());
-    expect_saved(
-        &rt,
-        "vp8serve made.ivf - - --save made.link",
-        "made.target",
-    );
+    expect_saved(&rt, "vp8serve made.ivf - - --save made.link", "made.target");
     clear(&rt, "made.ivf made.target made.link");
 }
 
