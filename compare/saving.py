@@ -155,7 +155,8 @@ def room():
         for limit, count in ((10, 0), (len(OPENING) + FRAME - 1, 0), (len(OPENING) + FRAME, 1), (len(OPENING) + 2 * FRAME + 5, 2)):
             status, _, errors = run("a.ivf", "-", "out.y4m", "--explain", *more, lines="frame 0\nframe 1\nframe 2\nframe 0\n", limit=limit)
             told = "vp8serve: cannot write\nstandard output or OUT out.y4m takes no more bytes: its reader has gone, or the disk is full\n"
-            differs(f"{limit} bytes", (status, errors), (1, told + f"OUT out.y4m took {count} whole frames\n"))
+            known = f"{limit} bytes, at most one frame" if more and not count else f"{count} whole frames"
+            differs(f"{limit} bytes", (status, errors), (1, told + f"OUT out.y4m took {known}\n"))
             differs(f"{limit} bytes written", len(content("out.y4m")), limit)
 
 
@@ -183,25 +184,27 @@ def closed():
     differs("help", subprocess.run(["sh", "-c", f"{program} --help >&-"], capture_output=True, timeout=60).returncode, 1)
 
 
+def saved_without(known, refused, more):
+    """A run in which one request for memory is refused: it ended, the saved file and the replies."""
+    pathlib.Path("saved.ivf").write_bytes(b"old")
+    with contextlib.ExitStack() as opened:
+        files = {at: opened.enter_context(open(name, "w+b")).fileno() for at, name in ((1, "replies"), (2, "errors"))}
+        ended = traced(known, ["a.ivf", "req", "--save", "saved.ivf", *more], files, lambda number: number == refused)
+    return ended, content("saved.ivf"), content("replies")
+
+
 def memory():
     """Each request for memory refused in turn: the saved file is the old one, or the whole new one with status 0."""
     put_stream()
     pathlib.Path("req").write_text("frame 0\ndelete 2\n")
     known = Program(str(PROGRAM))
     for more in ([], ["--live"]):
-        number, requests = 1, 1
-        while number <= requests:
-            pathlib.Path("saved.ivf").write_bytes(b"old")
-            with contextlib.ExitStack() as opened:
-                files = {at: opened.enter_context(open(name, "w+b")).fileno() for at, name in ((1, "replies"), (2, "errors"))}
-                ended = traced(known, ["a.ivf", "req", "--save", "saved.ivf", *more], files, lambda n: n == number)
-            requests = ended.requests
-            saved, replies = content("saved.ivf"), content("replies")
+        for number in range(1, saved_without(known, None, more)[0].requests + 1):
+            ended, saved, replies = saved_without(known, number, more)
             whole = SHORTER if b"ok 2" in replies else STREAM
             differs(f"request {number} {more}", saved == (whole if ended.status == 0 else b"old"), True)
             differs(f"request {number} {more} left", fresh(), [])
-            number += 1
-        TOLD["requests for memory"] += requests
+            TOLD["requests for memory"] += 1
 
 
 def main():

@@ -137,15 +137,6 @@ struct Case {
     has_failed: bool,
 }
 
-const fn failed(failing: Failing, has_fresh: bool) -> Case {
-    Case {
-        failing,
-        file: 1,
-        has_fresh,
-        has_failed: true,
-    }
-}
-
 const CASES: &[Case] = &[
     Case {
         failing: Failing::Nothing,
@@ -153,12 +144,42 @@ const CASES: &[Case] = &[
         has_fresh: false,
         has_failed: false,
     },
-    failed(Failing::Of(Call::Make), false),
-    failed(Failing::Write, false),
-    failed(Failing::Of(Call::Sync), false),
-    failed(Failing::Of(Call::Rename), false),
-    failed(Failing::AndRemove(Call::Sync), true),
-    failed(Failing::AndRemove(Call::Rename), true),
+    Case {
+        failing: Failing::Of(Call::Make),
+        file: 1,
+        has_fresh: false,
+        has_failed: true,
+    },
+    Case {
+        failing: Failing::Write,
+        file: 1,
+        has_fresh: false,
+        has_failed: true,
+    },
+    Case {
+        failing: Failing::Of(Call::Sync),
+        file: 1,
+        has_fresh: false,
+        has_failed: true,
+    },
+    Case {
+        failing: Failing::Of(Call::Rename),
+        file: 1,
+        has_fresh: false,
+        has_failed: true,
+    },
+    Case {
+        failing: Failing::AndRemove(Call::Sync),
+        file: 1,
+        has_fresh: true,
+        has_failed: true,
+    },
+    Case {
+        failing: Failing::AndRemove(Call::Rename),
+        file: 1,
+        has_fresh: true,
+        has_failed: true,
+    },
 ];
 
 /// Saves over a file system, and returns whether that failed.
