@@ -118,13 +118,15 @@ impl SavePlace for FalseFiles {
 /// What is saved.
 const TEXT: &[u8] = b"the new text";
 
-struct Text {}
+struct Text {
+    bytes: &'static [u8],
+}
 
 impl SavedText for Text {
-    ghost text = { λ _. TEXT.now };
+    ghost text = { λ text. text.bytes.now };
 
     fn write_to<W: Write + Drop>(&self, w: &mut BufWriter<W>) -> Result<(), Unsaved> {
-        w.write_all(TEXT).map_err(|_| Unsaved::Write)?;
+        w.write_all(self.bytes).map_err(|_| Unsaved::Write)?;
         w.flush().map_err(|_| Unsaved::Write)
     }
 }
@@ -187,7 +189,7 @@ fn fails<R: AllocGlobal>(rt: &R, files: &mut FalseFiles) -> bool
     requires { steps_of files.old.log ≡ [] }
 {
     match files.make() {
-        Ok(file) => finish(rt.alloc(), files, file, &Text {}).is_err(),
+        Ok(file) => finish(rt.alloc(), files, file, &Text { bytes: TEXT }).is_err(),
         Err(_) => true,
     }
 }
