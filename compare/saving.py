@@ -10,6 +10,7 @@ import collections
 import contextlib
 import os
 import pathlib
+import pty
 import resource
 import shutil
 import signal
@@ -98,6 +99,10 @@ def devices():
         differs(out, run("a.ivf", "-", out, lines="frame 0\n"), (2, "", AMONG.format(out)))
         with open("mixed", "wb") as file:
             differs(f"{out} a file", run("a.ivf", "-", out, lines="frame 0\n", stdout=file), (2, "", AMONG.format(out)))
+        ours, terminal = pty.openpty()
+        differs(f"{out} a terminal", run("a.ivf", "-", out, lines="frame 0\n", stdout=terminal), (2, "", AMONG.format(out)))
+        os.close(terminal)
+        os.close(ours)
         with open("/dev/null", "wb") as file:
             differs(f"{out} null", run("a.ivf", "-", out, lines="frame 0\n", stdout=file), (0, "", ""))
     with open("mixed", "wb") as file:
