@@ -1,5 +1,5 @@
 #!/usr/bin/env python3
-"""Runs the program with its reads and writes failing, one after the other, or moving only 7 bytes each.
+"""Runs the program with its reads and writes, and the calls of a save, failing, one after the other, or moving only 7 bytes each.
 
     compare/failing_io.py
 
@@ -10,6 +10,7 @@ import collections
 import contextlib
 import os
 import pathlib
+import signal
 import sys
 import tempfile
 from dataclasses import dataclass
@@ -22,6 +23,8 @@ KEY = bytes.fromhex("1000009D012A40003000")
 INTER = bytes.fromhex("110000")
 LIMIT = 2**30
 CANNOT_WRITE = "vp8serve: cannot write\n"
+OLD = b"what was there before the save"
+FRESH = "vp8serve-unfinished-save-"
 IN, REQUESTS, OUT, SAVED, TABLES = "in.ivf", "requests", "out.y4m", "saved.ivf", "tables.bin"
 OUTPUTS = {"OUT": OUT, "--save": SAVED, "standard output": "replies", "standard error": "errors"}
 
@@ -48,8 +51,10 @@ def content(name):
 
 def run(words, changes=None, standard_output=None, standard_error=None, inherited=None):
     """Runs the program in this folder; its input is the file `requests`."""
-    for name in (OUT, SAVED):
-        pathlib.Path(name).unlink(missing_ok=True)
+    pathlib.Path(OUT).unlink(missing_ok=True)
+    pathlib.Path(SAVED).write_bytes(OLD)
+    for path in pathlib.Path().glob(f"{FRESH}*"):
+        path.unlink()
     with contextlib.ExitStack() as opened:
         replies = opened.enter_context(open("replies", "w+b"))
         errors = opened.enter_context(open("errors", "w+b"))
@@ -68,12 +73,12 @@ def wanted_of(whole, call):
     name = os.path.basename(call.path)
     if call.kind == "read":
         shown = "-" if call.descriptor == 0 else name
-        return 1, f"vp8serve: cannot read {shown}\n", {"replies": b"", "frames": None, "saved": None}
+        return 1, f"vp8serve: cannot read {shown}\n", {"replies": b"", "frames": None, "saved": OLD}
     if name == "errors":
         return 0, None, {"replies": whole.replies, "frames": whole.frames, "saved": whole.saved}
-    if name == SAVED:
-        return 1, CANNOT_WRITE, {"replies": whole.replies, "frames": whole.frames}
-    return 1, CANNOT_WRITE, {"saved": None}
+    if name.startswith(FRESH):
+        return 1, CANNOT_WRITE, {"replies": whole.replies, "frames": whole.frames, "saved": OLD}
+    return 1, CANNOT_WRITE, {"saved": OLD}
 
 
 def difference(whole, got, call):
@@ -81,11 +86,13 @@ def difference(whole, got, call):
     status, errors, exact = wanted_of(whole, call)
     if got.status != status or not (whole.errors.startswith(got.errors) if errors is None else got.errors == errors):
         return f"status {got.status}, standard error {got.errors!r}"
+    if list(pathlib.Path().glob(f"{FRESH}*")):
+        return "the new file of the save remains"
     for name in ("replies", "frames", "saved"):
         part = getattr(got, name)
         if name in exact and part != exact[name]:
             return f"other {name}"
-        if not is_beginning(part, getattr(whole, name)):
+        if name != "saved" and not is_beginning(part, getattr(whole, name)):
             return f"{name} are not a beginning of the whole"
     return None
 
@@ -104,16 +111,18 @@ def fail_each(name, words, told):
 
         got = run(words, fail)
         told[f"{failed[0].kind}s that failed"] += 1
-        interrupted = run(words, lambda call: EINTR if call.number == number else None)
-        told[f"{failed[0].kind}s that were interrupted"] += 1
         why = difference(whole, got, failed[0])
         if why:
             faults += 1
             print(f"{name}: {failed[0]} fails: {why}")
+        number += 1
+        if failed[0].kind not in ("read", "write", "fsync"):
+            continue
+        interrupted = run(words, lambda call: EINTR if call.number == number - 1 else None)
+        told[f"{failed[0].kind}s that were interrupted"] += 1
         if interrupted.shown() != (got if failed[0].kind == "read" else whole).shown():
             faults += 1
             print(f"{name}: {failed[0]} interrupted: status {interrupted.status}, {interrupted.errors!r}")
-        number += 1
     return faults
 
 
@@ -121,7 +130,7 @@ def fail_writes(name, words, told):
     """Lets all writes fail, also that of the error's text: only the status reports it then."""
     got = run(words, lambda call: EIO if call.kind == "write" else None)
     told["runs whose writes all fail"] += 1
-    if (got.status, got.replies, got.errors, got.frames or b"", got.saved) == (1, b"", "", b"", None):
+    if (got.status, got.replies, got.errors, got.frames or b"", got.saved) == (1, b"", "", b"", OLD):
         return 0
     print(f"{name}: all writes fail: status {got.status}, standard error {got.errors!r}")
     return 1
@@ -129,7 +138,7 @@ def fail_writes(name, words, told):
 
 def shorten(name, words, told):
     """Lets each read and write move 7 bytes at most."""
-    whole, got = run(words), run(words, lambda call: 7)
+    whole, got = run(words), run(words, lambda call: 7 if call.kind in ("read", "write") else None)
     told["runs whose reads and writes move 7 bytes"] += 1
     told["reads and writes of 7 bytes"] += got.calls
     if got.shown() == whole.shown():
@@ -151,8 +160,24 @@ def is_as_documented(output, whole, got):
     if (got.status, got.errors) != (1, CANNOT_WRITE):
         return False
     if output == "--save":
-        return (got.replies, got.frames) == (whole.replies, whole.frames)
-    return got.saved is None and is_beginning(got.replies, whole.replies) and is_beginning(got.frames, whole.frames)
+        return (got.replies, got.frames, got.saved) == (whole.replies, whole.frames, OLD)
+    return got.saved == OLD and is_beginning(got.replies, whole.replies) and is_beginning(got.frames, whole.frames)
+
+
+def kill_each(name, words, told):
+    """Kills the program before one call of 97, and before each of the last 40: the saved file is the old one or the whole new one, and a file that is left has a name that says what it is."""
+    whole, faults = run(words), 0
+    before = set(os.listdir())
+    for number in range(1, whole.calls + 1):
+        if number % 97 and number < whole.calls - 40:
+            continue
+        got = run(words, lambda call: os.kill(call.pid, signal.SIGKILL) if call.number == number else None)
+        told["runs that were killed"] += 1
+        left = {path for path in set(os.listdir()) - before if not path.startswith(FRESH)}
+        if got.saved not in (OLD, whole.saved) or left:
+            faults += 1
+            print(f"{name}: killed before call {number}: {got.saved[:40]!r}, {left}")
+    return faults
 
 
 def full(whole, told):
@@ -207,7 +232,7 @@ def too_long(told):
     for words in (["long"], [IN, "long"], [IN, "--tables", "long"]):
         got = run([*words, "--save", SAVED])
         told["inputs of 1,073,741,825 bytes"] += 1
-        if got.shown() != (1, b"", "vp8serve: long is too long\n", None, None):
+        if got.shown() != (1, b"", "vp8serve: long is too long\n", None, OLD):
             faults += 1
             print(f"{words}: status {got.status}, standard error {got.errors!r}")
     os.unlink("long")
@@ -236,6 +261,8 @@ def main():
         }
         for name, words in runs.items():
             faults += fail_each(name, words, told) + fail_writes(name, words, told) + shorten(name, words, told)
+        for name in ("files", "standard input"):
+            faults += kill_each(name, runs[name], told) + kill_each(f"{name}, live", [*runs[name], "--live"], told)
         faults += full(whole, told) + closed(whole, told) + too_long(told)
         os.chdir("/")
     for kind, number in sorted(told.items()):

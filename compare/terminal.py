@@ -1,6 +1,7 @@
 #!/usr/bin/env python3
 """Looks at the messages of `vp8serve` on a terminal of its own and in a pipe: that `--explain` is named on the terminal only, after an error
-without it, and that no control character of a path or a file reaches it.
+without it, that two lines say how to begin if standard input is a terminal and there are no arguments, and that no control character of a
+path or a file reaches it.
 
     compare/terminal.py
 """
@@ -12,10 +13,13 @@ import subprocess
 import sys
 import tempfile
 
-NAMED = "with --explain the next line says why, and what to do\n"
-
 from library.programs import VP8SERVE
 
+NAMED = "with --explain the next line says why, and what to do\n"
+HINT = (
+    "vp8serve reads requests, a line each, for example: blank 0 64 48. Ctrl-D ends them\n"
+    "vp8serve --help shows all of them, and a line to copy\n"
+)
 OTHER = b"DKIF\0\0\x20\0\x1bcAB\x10\0\x10\0\x1e\0\0\0\1\0\0\0" + bytes(8)
 
 # Arguments, and the messages without the line that names `--explain`, and whether it follows on a terminal.
@@ -56,6 +60,17 @@ def in_pipe(arguments, folder):
     return ran.stderr.decode()
 
 
+def at_keyboard(arguments, folder):
+    """Standard output and error of a run in which one request is typed at a terminal."""
+    ours, terminal = pty.openpty()
+    with subprocess.Popen([VP8SERVE, *arguments], cwd=folder, stdin=terminal, stdout=subprocess.PIPE, stderr=subprocess.PIPE) as program:
+        os.write(ours, b"count\n\x04")
+        told = program.stdout.read().decode(), program.stderr.read().decode()
+    os.close(terminal)
+    os.close(ours)
+    return told
+
+
 def main():
     differences = 0
     with tempfile.TemporaryDirectory() as folder:
@@ -68,7 +83,12 @@ def main():
                 if got != want:
                     differences += 1
                     print(f"{arguments}: {got!r}, not {want!r}")
-    print(f"{2 * len(CASES)} runs, {differences} differences")
+        for arguments, hint in ([], HINT), (["-"], ""), (["--explain"], ""), (["--live"], ""):
+            got, want = at_keyboard(arguments, folder), ("packets 0 frames 0\n", hint)
+            if got != want:
+                differences += 1
+                print(f"{arguments}: {got!r}, not {want!r}")
+    print(f"{2 * len(CASES) + 4} runs, {differences} differences")
     return 1 if differences else 0
 
 

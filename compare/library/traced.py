@@ -16,7 +16,8 @@ from dataclasses import dataclass, field
 TRACE_ME, PEEK, PEEK_USER, POKE, POKE_USER, CONTINUE, UNTIL_CALL, SET_OPTIONS = 0, 1, 3, 4, 6, 7, 24, 0x4200
 MARKS_CALLS, ENDS_WITH_US = 1, 0x100000
 RAX, RDX, RDI, ORIG_RAX, RIP, RSP = 80, 96, 112, 120, 128, 152
-CALLS = {0: "read", 1: "write", 19: "readv", 20: "writev"}
+CALLS = {0: "read", 1: "write", 19: "readv", 20: "writev", 74: "fsync", 82: "rename", 87: "unlink", 91: "fchmod"}
+WITH_PATH = ("rename", "unlink")
 ALLOCATORS = {"malloc": 0x10, "realloc": 0x20, "calloc": 0x30, "aligned_alloc": 0x40, "posix_memalign": 0x50}
 MASK = 2**64 - 1
 SECONDS = 60
@@ -75,7 +76,7 @@ class Ended:
 
 @dataclass
 class Call:
-    """A read or a write, before it is made: its number from 1, and the file that its descriptor names."""
+    """A read, a write or another call on a file, before it is made: its number from 1, and the file that its descriptor or path names."""
 
     number: int
     kind: str
@@ -83,6 +84,7 @@ class Call:
     path: str
     length: int
     requests: int
+    pid: int
 
 
 class Run:
@@ -98,6 +100,13 @@ class Run:
 
     def peek(self, address):
         return ptrace(PEEK, self.pid, address, None)
+
+    def text_at(self, address):
+        """The text in the program's memory that begins here and ends with a byte 0."""
+        text = b""
+        while b"\0" not in text:
+            text += struct.pack("<Q", self.peek(address + len(text)))
+        return text.split(b"\0")[0].decode()
 
     def user(self, register):
         return ptrace(PEEK_USER, self.pid, register, None)
@@ -160,14 +169,14 @@ class Run:
             return
         self.ended.calls += 1
         descriptor, length = self.user(RDI), self.user(RDX)
-        path = os.readlink(f"/proc/{self.pid}/fd/{descriptor}")
-        change = self.changes(Call(self.ended.calls, kind, descriptor, path, length, self.ended.requests))
+        path = self.text_at(descriptor) if kind in WITH_PATH else os.readlink(f"/proc/{self.pid}/fd/{descriptor}")
+        change = self.changes(Call(self.ended.calls, kind, descriptor, path, length, self.ended.requests, self.pid))
         if change is None:
             return
         if change < 0:
             self.failing = change
             self.set_user(ORIG_RAX, -1)
-        elif kind in ("readv", "writev"):
+        elif kind not in ("read", "write"):
             raise RuntimeError(f"{kind} cannot be made shorter")
         else:
             self.set_user(RDX, min(length, change))
@@ -179,7 +188,8 @@ class Run:
         following = UNTIL_CALL if self.changes else CONTINUE
         signal_number = 0
         while True:
-            ptrace(following, self.pid, None, signal_number)
+            with contextlib.suppress(ProcessLookupError):
+                ptrace(following, self.pid, None, signal_number)
             stop = self.wait()
             if stop is None:
                 return self.ended

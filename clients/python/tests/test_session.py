@@ -3,6 +3,7 @@
 import gc
 import itertools
 import os
+import shutil
 import signal
 import subprocess
 import sys
@@ -233,8 +234,16 @@ class Broken(Case):
         with self.assertRaises(FileNotFoundError):
             Session(SMALL, program="/nowhere/vp8serve")
 
+    def test_a_save_that_cannot_begin(self):
+        with self.assertRaises(Ended) as ended:
+            self.session(save=self.folder() / "none" / "out.ivf")
+        self.assertEqual((ended.exception.status, ended.exception.text), (1, "vp8serve: cannot write"))
+
     def test_a_save_that_fails(self):
-        stream = self.session(save=self.folder() / "none" / "out.ivf")
+        folder = self.folder() / "gone"
+        folder.mkdir()
+        stream = self.session(save=folder / "out.ivf")
+        shutil.rmtree(folder)
         with self.assertRaises(Ended) as ended:
             stream.close()
         self.assertEqual((ended.exception.status, ended.exception.text), (1, "vp8serve: cannot write"))

@@ -5,7 +5,7 @@ use Rattle.std.specs.Borrow.{Bor}
 use Rattle.std.specs.List.{slice_split, starts_with}
 use Rattle.serve_arguments.specs.Capacities.{capacity_given}
 use Rattle.serve_arguments.specs.declared.files.Argument.{Argument}
-use Rattle.serve_arguments.specs.declared.files.Argument.TheVariants.{In, Sources, Requests, Out, Tables, Save}
+use Rattle.serve_arguments.specs.declared.files.Argument.TheVariants.{In, Sources, Requests, Out, Tables, Save, Replies}
 use Rattle.serve_arguments.specs.declared.files.Named.{Named}
 use Rattle.serve_arguments.specs.declared.files.SameFile.{SameFile}
 use Rattle.serve_arguments.specs.declared.fault.Fault.{Fault}
@@ -42,6 +42,7 @@ argument_name Requests = codes "REQUESTS"
 argument_name Out = codes "OUT"
 argument_name Tables = codes "--tables"
 argument_name Save = codes "--save"
+argument_name Replies = codes "standard output"
 
 -- an argument, and the path of the file that it names, if it names one
 abbrev pub NamedFile : Type 0
@@ -67,6 +68,10 @@ abbrev pub read_files : Words → List (List ℕ) → List NamedFile
 read_files words more =
     ((In, file_of words.stream.now) ∷ (Requests, file_of words.requests.now) ∷ (Tables, option_map (λ path. path.now) words.tables) ∷ []) ++ map source_file more
 
+-- the arguments whose files are read, and must not be saved: IN and the sources may be, since they are read before
+abbrev pub kept_files : Words → List NamedFile
+kept_files words = (Requests, file_of words.requests.now) ∷ (Tables, option_map (λ path. path.now) words.tables) ∷ []
+
 -- the arguments whose files are written
 abbrev pub out_file : Words → NamedFile
 out_file words = (Out, file_of words.frames.now)
@@ -85,16 +90,16 @@ pub record IsSameFile (written : NamedFile) (others : List NamedFile) (one : Sam
   pub other : Contains others (one.other, Some one.path.now)
   pub is_no_device : is_device one.path.now ≡ false
 
--- no file that is written is named twice, if these are only read
+-- the file for the frames is none of these, which are read, the saved file is not the requests' or the tables', and the two are not one
 pub record AreApart (words : Words) (read : List NamedFile) : Type 0 where
   pub out : IsApart (out_file words) read
-  pub saved : IsApart (saved_file words) read
+  pub saved : IsApart (saved_file words) (kept_files words)
   pub both : IsApart (saved_file words) (out_file words ∷ [])
 
--- a file that is written is named twice, if these are only read
+-- a file that is written is named twice, if these are read
 abbrev pub IsNamedTwice : Words → List NamedFile → SameFile → Type 0
 IsNamedTwice words read one =
-    IsSameFile (out_file words) read one ⊎ IsSameFile (saved_file words) read one ⊎ IsSameFile (saved_file words) (out_file words ∷ []) one
+    IsSameFile (out_file words) read one ⊎ IsSameFile (saved_file words) (kept_files words) one ⊎ IsSameFile (saved_file words) (out_file words ∷ []) one
 
 -- why the files are not apart
 abbrev pub IsFileFault : Words → List NamedFile → Fault → Type 0

@@ -1,4 +1,5 @@
 pub mod Capacities
 pub mod CommandLines
+pub mod Locations
 pub mod Readings
 pub mod Statuses

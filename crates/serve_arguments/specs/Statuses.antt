@@ -1,5 +1,7 @@
 -- The program's errors and exit statuses.
 use Rattle.std.specs.Prelude.{ℕ, Result, Ok, Err}
+use Rattle.output_files.specs.declared.saving.Unsaved.{Unsaved}
+use Rattle.output_files.specs.declared.saving.Unsaved.TheVariants as unsaved
 use Rattle.serve_arguments.specs.declared.fault.Fault.{Fault}
 use Rattle.serve_arguments.specs.declared.fault.Fault.TheVariants.{CommandLine, NamedTwice, CannotRead, TooLong, Tables, Input, CannotWrite, NoMemory}
 
@@ -18,3 +20,11 @@ status_of NoMemory = 1
 abbrev pub exit_status : {A : Type 0} → Result A Fault → ℕ
 exit_status (Ok a) = 0
 exit_status (Err fault) = status_of fault
+
+-- the error of packets that were not saved as the program's
+abbrev pub fault_of : Unsaved → Fault
+fault_of unsaved.NoMemory = NoMemory
+fault_of (unsaved.Make error) = CannotWrite
+fault_of unsaved.Write = CannotWrite
+fault_of (unsaved.Sync error) = CannotWrite
+fault_of (unsaved.Rename error) = CannotWrite

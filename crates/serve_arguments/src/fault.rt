@@ -1,8 +1,9 @@
 // The errors that end the program early.
 ghost use Rattle.std.specs.Prelude.{◌≡◌, ◌≤◌};
-ghost use Rattle.serve_arguments.specs.Statuses.{status_of};
+ghost use Rattle.serve_arguments.specs.Statuses.{fault_of, status_of};
 
 use crate::files::SameFile;
+use output_files::Unsaved;
 use std::fmt;
 use std::io::Write;
 use stream_files::IvfFault;
@@ -60,6 +61,19 @@ impl Fault<'_> {
         match self {
             Fault::CommandLine | Fault::NamedTwice(_) => 2,
             _ => 1,
+        }
+    }
+}
+
+impl From<Unsaved> for Fault<'_> {
+    ghost from_gives = { λ why told. told ≡ fault_of why };
+
+    fn from(why: Unsaved) -> Self {
+        match why {
+            Unsaved::NoMemory => Fault::NoMemory,
+            Unsaved::Make(_) | Unsaved::Write | Unsaved::Sync(_) | Unsaved::Rename(_) => {
+                Fault::CannotWrite
+            }
         }
     }
 }

@@ -1,6 +1,6 @@
 // The files that the command line names: a file that is written is not named twice.
 ghost use Rattle.std.specs.Prelude.{◌≡◌, ◌↔◌, IfErr, IfOk, IsTrue, OnOk, Some, map, option_map};
-ghost use Rattle.serve_arguments.specs.CommandLines.{AreApart, argument_name, IsApart, IsFileFault, IsNamedTwice, IsSameFile, file_of, is_device, named_file, names_of, out_file, read_files, saved_file};
+ghost use Rattle.serve_arguments.specs.CommandLines.{AreApart, argument_name, IsApart, IsFileFault, IsNamedTwice, IsSameFile, file_of, is_device, kept_files, named_file, names_of, out_file, read_files, saved_file};
 
 use crate::fault::Fault;
 use crate::words::{NO_FILE, Words};
@@ -16,6 +16,8 @@ pub enum Argument {
     Out,
     Tables,
     Save,
+    /// Standard output, which no argument names.
+    Replies,
 }
 
 impl Argument {
@@ -30,6 +32,7 @@ impl Argument {
             Argument::Out => "OUT",
             Argument::Tables => "--tables",
             Argument::Save => "--save",
+            Argument::Replies => "standard output",
         }
     }
 }
@@ -66,6 +69,12 @@ impl fmt::Display for SameFile<'_> {
         let written = self.written.name();
         let other = self.other.name();
         let path = self.path;
+        if self.other == Argument::Replies {
+            return write!(
+                f,
+                "{written} {path} is {other}, so replies would be among the frames: name /dev/fd/3 3>&1 >replies"
+            );
+        }
         write!(
             f,
             "{written} and {other} are both {path}: name another file for {written}"
@@ -142,6 +151,22 @@ fn read_files<'a>(
     Ok(files)
 }
 
+/// The arguments whose files are read, and must not be saved.
+fn kept_files(words: Words<'_>) -> [Named<'_>; 2]
+    ensures { map named_file result ≡ kept_files words.entry }
+{
+    [
+        Named {
+            argument: Argument::Requests,
+            path: file_of(words.requests),
+        },
+        Named {
+            argument: Argument::Tables,
+            path: words.tables,
+        },
+    ]
+}
+
 /// The file for the frames.
 fn out_file(words: Words<'_>) -> Named<'_>
     ensures { named_file result ≡ out_file words.entry }
@@ -162,7 +187,7 @@ fn saved_file(words: Words<'_>) -> Named<'_>
     }
 }
 
-/// Checks that no file that is written is the file of one of these arguments, or written twice.
+/// Checks that the file for the frames is none of these, that the file of `--save` is not the requests' or the tables', and that they are two.
 fn check_written<'a>(words: Words<'a>, read: &[Named<'a>]) -> Result<(), SameFile<'a>>
     ensures apart { OnOk result (AreApart words.entry (map named_file read.now)) }
     ensures found { IfErr result (IsNamedTwice words.entry (map named_file read.now)) }
@@ -170,12 +195,13 @@ fn check_written<'a>(words: Words<'a>, read: &[Named<'a>]) -> Result<(), SameFil
     let out = out_file(words);
     let saved = saved_file(words);
     check_apart(out, read)?;
-    check_apart(saved, read)?;
+    check_apart(saved, &kept_files(words))?;
     check_apart(saved, &[out])?;
     Ok(())
 }
 
-/// Checks that no file that is written is named twice, with these paths of `--sources`.
+/// Checks that no file that is written is named twice, with these paths of `--sources`, by what is written on the command line. The file of
+/// `--save` may be IN or a source, which are read before it is written.
 ///
 /// `NamedTwice` with two arguments that name one; `NoMemory`.
 pub fn check_files<'a>(alloc: Global, words: Words<'a>, more: &[&'a str]) -> Result<(), Fault<'a>>

@@ -5,6 +5,7 @@ mod arguments;
 mod fault;
 mod files;
 mod help;
+mod located;
 mod sources;
 mod words;
 
@@ -12,5 +13,6 @@ pub use arguments::{given, parse};
 pub use fault::{Fault, tell};
 pub use files::{Argument, SameFile};
 pub use help::help_or_fault;
+pub use located::{Located, check_clashes, check_places};
 pub use sources::{FilesRead, Inputs, read_files, read_inputs};
 pub use words::{Accepted, NO_FILE, Words};

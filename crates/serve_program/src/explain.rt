@@ -1,5 +1,5 @@
 // Explains the errors that end the program.
-ghost use Rattle.std.specs.Prelude.{◌≡◌, ◌≤◌, ◌==◌, ◌||◌, [], IfOk, OnOk, codes, if◌then◌else◌, nat_eq};
+ghost use Rattle.std.specs.Prelude.{◌≡◌, ◌≤◌, ◌==◌, ◌||◌, [], IfOk, OnOk, codes, if◌then◌else◌, length, nat_eq, nat_lt};
 ghost use Rattle.std.specs.Io.KnownBytes.{Appends};
 ghost use Rattle.std.specs.Cmp.Lexicographic.{pointwise};
 ghost use Rattle.std.specs.List.{list_any};
@@ -7,7 +7,8 @@ ghost use Rattle.std.specs.List.{list_any};
 use crate::messages::Messages;
 use explanations::{CutRecord, StreamReason, cut_record, stream_reason};
 use file_formats::{Format, write_format};
-use serve_arguments::{Argument, Fault, NO_FILE, Words, parse};
+use output_files::{Taken, Unsaved};
+use serve_arguments::{Fault, NO_FILE, Words, parse};
 use std::convert::AsStr;
 use std::fs::{self, File};
 use std::io::{self, Read, Write};
@@ -30,6 +31,18 @@ pub fn name_explain<S: AsStr, E: Write>(words: &[S], status: u8, errors: &mut E)
         return Ok(());
     }
     errors.write_all(b"with --explain the next line says why, and what to do\n")
+}
+
+/// Says how to begin, to a user who called the program without arguments at a terminal.
+pub fn name_help<S: AsStr, E: Write>(words: &[S], errors: &mut E) -> io::Result<()>
+    ensures { OnOk result (Appends (E.contents errors.old) (E.contents errors.new) (if nat_lt 1 (length words.now) then [] else codes "vp8serve reads requests, a line each, for example: blank 0 64 48. Ctrl-D ends them\nvp8serve --help shows all of them, and a line to copy\n")) }
+{
+    if words.len() > 1 {
+        return Ok(());
+    }
+    errors.write_all(
+        b"vp8serve reads requests, a line each, for example: blank 0 64 48. Ctrl-D ends them\nvp8serve --help shows all of them, and a line to copy\n",
+    )
 }
 
 /// Explains the error that ends the program over these arguments. An error of `messages` is ignored.
@@ -281,22 +294,50 @@ fn explain_codec<E: Write>(
 
 /// Explains which file was not written.
 fn explain_unwritten<E: Write>(words: Words<'_>, messages: &mut Messages<'_, E>) -> io::Result<()> {
-    let name = messages.writes.name();
-    let path = match messages.writes {
-        Argument::Save => words.saved.unwrap_or(NO_FILE),
-        _ => words.frames,
-    };
-    match &messages.refused {
-        Some(error) => writeln!(messages.errors, "{name} {path} cannot be created: {error}"),
-        None if messages.writes == Argument::Save => {
-            writeln!(
-                messages.errors,
-                "{name} {path} was not written whole: the disk may be full"
-            )
-        }
+    if let Some(why) = messages.unsaved {
+        return explain_unsaved_file(words.saved.unwrap_or(NO_FILE), why, messages.errors);
+    }
+    let path = words.frames;
+    if let Some(error) = messages.refused {
+        return writeln!(messages.errors, "OUT {path} cannot be created: {error}");
+    }
+    writeln!(
+        messages.errors,
+        "standard output or OUT {path} takes no more bytes: its reader has gone, or the disk is full"
+    )?;
+    match messages.taken {
+        Some(taken) => explain_taken(path, taken, messages),
+        None => Ok(()),
+    }
+}
+
+/// Says how many whole frames are in the file for the frames.
+fn explain_taken<E: Write>(
+    path: &str,
+    taken: Taken,
+    messages: &mut Messages<'_, E>,
+) -> io::Result<()> {
+    match messages.whole_frames(taken) {
+        Some(count) => writeln!(messages.errors, "OUT {path} took {count} whole frames"),
         None => writeln!(
             messages.errors,
-            "standard output or {name} {path} takes no more bytes: its reader has gone, or the disk is full"
+            "OUT {path} took {} bytes, at most one frame",
+            taken.bytes
+        ),
+    }
+}
+
+/// Explains why the packets were not saved.
+fn explain_unsaved_file<E: Write>(path: &str, why: Unsaved, errors: &mut E) -> io::Result<()> {
+    match why {
+        Unsaved::Make(error) => writeln!(errors, "--save {path} cannot be created: {error}"),
+        Unsaved::Write | Unsaved::NoMemory => writeln!(
+            errors,
+            "--save {path} was not written: the disk may be full. A file that was there is as it was"
+        ),
+        Unsaved::Sync(error) | Unsaved::Rename(error) => writeln!(
+            errors,
+            "--save {path} was not written: {error}. A file that was there is as it was"
         ),
     }
 }

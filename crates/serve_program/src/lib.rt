@@ -7,7 +7,8 @@ mod live;
 mod messages;
 mod program;
 mod runs;
+mod saving;
 
-pub use explain::name_explain;
+pub use explain::{name_explain, name_help};
 pub use program::{run_to, serve};
 pub use serve_arguments::{Argument, Fault, SameFile, given, tell};

@@ -5,9 +5,11 @@ ghost use Rattle.serve_arguments.specs.CommandLines.{source_names};
 ghost use Rattle.serve_program.specs.Endings.{AreLiveReplied, IsLiveEnded, IsLiveFault, IsLiveRefused, IsLiveReplied, IsSaveFault, IsServed};
 
 use crate::messages::Messages;
-use crate::program::{BYTES_AT_ONCE, finish};
+use crate::program::{BYTES_AT_ONCE, finish, taken_by};
 use crate::runs::{live_fault, slices_of};
+use crate::saving::{abandon_save, begin_save};
 use frame_session::{LiveFault, Session, Settings, run_live_observed};
+use output_files::Counted;
 use serve_arguments::{Accepted, Fault, FilesRead, NO_FILE, read_files};
 use std::fs::File;
 use std::io::{self, BufRead, BufReader, BufWriter, Read, Write};
@@ -49,10 +51,10 @@ fn run_to_path<R: Files + AllocGlobal, I: BufRead, P: Write, E: Write>(
             return Err(LiveFault::Write);
         }
     };
-    let mut frames = BufWriter::with_capacity(alloc, BYTES_AT_ONCE, file).map_err(
+    let mut frames = BufWriter::with_capacity(alloc, BYTES_AT_ONCE, Counted::new(file)).map_err(
         |_| LiveFault::NoMemory,
     )?;
-    run_live_observed(
+    let answered = run_live_observed(
         alloc,
         settings,
         sources,
@@ -60,7 +62,11 @@ fn run_to_path<R: Files + AllocGlobal, I: BufRead, P: Write, E: Write>(
         &mut frames,
         replies,
         messages,
-    )
+    );
+    if answered.is_err() {
+        messages.taken = Some(taken_by(&mut frames));
+    }
+    answered
 }
 
 /// The same for the lines of a reader that is not buffered.
@@ -123,7 +129,8 @@ fn run_requests<'a, R: Files + AllocGlobal, I: Read, P: Write, E: Write>(
     }
 }
 
-/// Answers the request lines over the files that were read, as they come, and saves the packets of source 0 if that is asked for.
+/// Answers the request lines over the files that were read, as they come, and saves the packets of source 0 if that is asked for: the
+/// new file is made before the first line is read.
 /// Returns the session after the last line.
 fn answer_files<'a, R: Files + AllocGlobal, I: Read, O: Write, E: Write>(
     rt: &R,
@@ -145,7 +152,8 @@ fn answer_files<'a, R: Files + AllocGlobal, I: Read, O: Write, E: Write>(
         tables,
         capacity: line.capacity,
     };
-    let session = run_requests(
+    let target = begin_save(rt, line.words, messages)?;
+    let answered = run_requests(
         rt,
         line,
         settings,
@@ -153,9 +161,17 @@ fn answer_files<'a, R: Files + AllocGlobal, I: Read, O: Write, E: Write>(
         input,
         output,
         messages,
-    )?;
-    finish(rt, &session, line, slices.as_slice(), messages)?;
-    Ok(session)
+    );
+    match answered {
+        Ok(session) => {
+            finish(rt, &session, line, slices.as_slice(), target, messages)?;
+            Ok(session)
+        }
+        Err(fault) => {
+            abandon_save(target);
+            Err(fault)
+        }
+    }
 }
 
 /// Does what an accepted command line with `--live` asks for. Returns the session after the last line.

@@ -1,10 +1,14 @@
 // What goes to standard error.
-ghost use Rattle.std.specs.Prelude.{◌≡◌, ◌+◌, ◌-◌, ◌^◌, min, None};
+ghost use Rattle.std.specs.Prelude.{◌≡◌, ◌+◌, ◌-◌, ◌*◌, ◌/◌, ◌^◌, min, None, Some, false, option_map, slice_index_or};
+ghost use Rattle.output_files.specs.Counts.{whole_pieces};
+ghost use Rattle.serve_program.specs.Frames.{frame_length};
+ghost use Rattle.serve_arguments.specs.Statuses.{fault_of};
 
 use explanations::{detail_of, is_no_text, write_refused};
-use frame_session::{Observer, Refusal, Session};
+use frame_session::{Observer, Refusal, Session, Size};
+use output_files::{Taken, Unsaved};
 use request_lines::{Line, read_line};
-use serve_arguments::{Argument, Fault};
+use serve_arguments::Fault;
 use std::io::{self, Write};
 
 /// The number of lines of requests that are no text that are explained.
@@ -22,10 +26,14 @@ pub struct Messages<'a, E> {
     no_text: u64,
     /// Whether an edit of this source was accepted.
     edited: [bool; 8],
-    /// The argument whose file is being written.
-    pub writes: Argument,
-    /// Why that file could not be created, if it could not be.
+    /// Why the file for the frames could not be created, if it could not be.
     pub refused: Option<io::Error>,
+    /// Why the packets were not saved, if they were not.
+    pub unsaved: Option<Unsaved>,
+    /// The size of the frames, once one was answered.
+    size: Option<Size>,
+    /// How much the file for the frames took, if the run failed.
+    pub taken: Option<Taken>,
 }
 
 impl<'a, E: Write> Messages<'a, E> {
@@ -34,8 +42,10 @@ impl<'a, E: Write> Messages<'a, E> {
         ensures explains { result.explains ≡ explains }
         ensures answered { result.answered ≡ 0 }
         ensures no_text { result.no_text ≡ 0 }
-        ensures writes { result.writes ≡ Argument.Out }
         ensures refused { result.refused ≡ None }
+        ensures unsaved { result.unsaved ≡ None }
+        ensures size { result.size ≡ None }
+        ensures taken { result.taken ≡ None }
     {
         Messages {
             errors,
@@ -43,8 +53,10 @@ impl<'a, E: Write> Messages<'a, E> {
             answered: 0,
             no_text: 0,
             edited: [false; 8],
-            writes: Argument::Out,
             refused: None,
+            unsaved: None,
+            size: None,
+            taken: None,
         }
     }
 
@@ -55,19 +67,53 @@ impl<'a, E: Write> Messages<'a, E> {
         self.answered.saturating_add(1)
     }
 
-    /// The error of a file that could not be created.
+    /// The error of a file for the frames that could not be created.
     pub fn cannot_create(&mut self, error: io::Error) -> Fault<'static>
-        ensures { result ≡ Fault.CannotWrite }
+        ensures fault { result ≡ Fault.CannotWrite }
+        ensures refused { self.new.refused ≡ Some error }
     {
         self.refused = Some(error);
         Fault::CannotWrite
     }
+
+    /// The error of packets that were not saved.
+    pub fn not_saved(&mut self, why: Unsaved) -> Fault<'static>
+        ensures fault { result ≡ fault_of why }
+        ensures unsaved { self.new.unsaved ≡ Some why }
+    {
+        self.unsaved = Some(why);
+        Fault::from(why)
+    }
+}
+
+/// The number of bytes of a frame of this size in a YUV4MPEG2 text.
+fn frame_length(size: Size) -> u64
+    ensures { result ≡ frame_length size }
+{
+    let width = u64::from(size.width);
+    let height = u64::from(size.height);
+    6 + width * height + 2 * ((width + 1) / 2 * ((height + 1) / 2))
 }
 
 impl<E: Write> Messages<'_, E> {
     /// Whether an edit of this source was accepted.
-    pub fn is_edited(&self, source: usize) -> bool {
-        self.edited.get(source) == Some(&true)
+    pub fn is_edited(&self, source: usize) -> bool
+        ensures { result ≡ slice_index_or self.now.edited source false }
+    {
+        match self.edited.get(source) {
+            Some(edited) => *edited,
+            None => false,
+        }
+    }
+
+    /// The number of whole frames that the file for the frames took, once the size of a frame is known.
+    pub fn whole_frames(&self, taken: Taken) -> Option<u64>
+        ensures { result ≡ option_map (λ size. whole_pieces taken (frame_length size)) self.now.size }
+    {
+        match self.size {
+            Some(size) => Some(taken.whole_pieces(frame_length(size))),
+            None => None,
+        }
     }
 
     /// Takes note of an edit that was accepted.
@@ -103,6 +149,7 @@ impl<E: Write> Observer for Messages<'_, E> {
         if !self.explains {
             return;
         }
+        self.size = session.first_size();
         let Some(refusal) = refusal else {
             self.note_edit(session, line);
             return;

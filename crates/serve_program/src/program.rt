@@ -1,21 +1,22 @@
 // The program over a reader and two writers.
-ghost use Rattle.std.specs.Prelude.{◌≡◌, ◌≤◌, [], ℕ, IfOk, IfErr, List, None, OnOk, Option, is_some, length, map, option_map};
-ghost use Rattle.std.specs.Io.Buffered.{writer_buffer, writer_contents};
+ghost use Rattle.std.specs.Prelude.{◌≡◌, ◌≤◌, ℕ, IfOk, IfErr, List, None, OnOk, Option, is_some, length, map, option_map};
 ghost use Rattle.std.specs.Io.KnownBytes.{Appends};
 ghost use Rattle.frame_session.specs.Answers.{Means, texts_of};
 ghost use Rattle.serve_arguments.specs.CommandLines.{source_names};
 ghost use Rattle.serve_arguments.specs.Readings.{AreNamed};
 ghost use Rattle.serve_arguments.specs.Statuses.{exit_status};
-ghost use Rattle.serve_program.specs.Endings.{AreReplied, IsEnded, IsRefused, IsReplied, IsSaveFault, IsServed, saved_text, spare_text};
+ghost use Rattle.serve_program.specs.Endings.{AreReplied, IsEnded, IsRefused, IsReplied, IsSaveFault, IsServed, spare_text};
 
 use crate::explain::{explain_end, explain_fault, is_asked};
 use crate::live::answer_live;
 use crate::messages::Messages;
 use crate::runs::{run_fault, slices_of};
+use crate::saving::{begin_save, finish_save};
 use frame_session::{Observer, Session, Settings, run_observed};
+use output_files::{Counted, Taken, Target};
 use serve_arguments::{
-    Accepted, Argument, Fault, FilesRead, Inputs, NO_FILE, Words, help_or_fault, parse,
-    read_inputs, tell,
+    Accepted, Fault, FilesRead, Inputs, NO_FILE, check_places, help_or_fault, parse, read_inputs,
+    tell,
 };
 use std::alloc::Global;
 use std::convert::AsStr;
@@ -85,10 +86,10 @@ fn run_to_path<R: Files + AllocGlobal, P: Write, E: Write>(
         Ok(file) => file,
         Err(error) => return Err(messages.cannot_create(error)),
     };
-    let mut frames = BufWriter::with_capacity(alloc, BYTES_AT_ONCE, file).map_err(
+    let mut frames = BufWriter::with_capacity(alloc, BYTES_AT_ONCE, Counted::new(file)).map_err(
         |_| Fault::NoMemory,
     )?;
-    run_to(
+    let answered = run_to(
         alloc,
         settings,
         sources,
@@ -96,50 +97,17 @@ fn run_to_path<R: Files + AllocGlobal, P: Write, E: Write>(
         &mut frames,
         replies,
         messages,
-    )
+    );
+    if answered.is_err() {
+        messages.taken = Some(taken_by(&mut frames));
+    }
+    answered
 }
 
-/// Writes the current packets of source 0, padded if that is asked for, through a buffer, and flushes
-/// it.
-pub fn save_to<W: Write + Drop>(
-    session: &Session,
-    pads: bool,
-    w: &mut BufWriter<W>,
-) -> Result<(), Fault<'static>>
-    ensures saved { OnOk result (Appends (writer_contents W.contents w.old) (writer_contents W.contents w.new) (saved_text pads session.now.now)) }
-    ensures flushed { OnOk result (writer_buffer w.new ≡ []) }
-    ensures fault { IfErr result (λ fault. fault ≡ Fault.CannotWrite) }
-{
-    let saved = if pads {
-        session.save_padded(w)
-    } else {
-        session.save(w)
-    };
-    saved.map_err(|_| Fault::CannotWrite)?;
-    w.flush().map_err(|_| Fault::CannotWrite)
-}
-
-/// The same to the file of `--save`, which is created now, if the arguments name one.
-fn save_to_path<R: Files + AllocGlobal, E: Write>(
-    rt: &R,
-    session: &Session,
-    words: Words<'_>,
-    messages: &mut Messages<'_, E>,
-) -> Result<(), Fault<'static>>
-    ensures { IfErr result IsSaveFault }
-{
-    let Some(path) = words.saved else {
-        return Ok(());
-    };
-    messages.writes = Argument::Save;
-    let file = match File::create(rt, path) {
-        Ok(file) => file,
-        Err(error) => return Err(messages.cannot_create(error)),
-    };
-    let mut saved = BufWriter::with_capacity(rt.alloc(), BYTES_AT_ONCE, file).map_err(
-        |_| Fault::NoMemory,
-    )?;
-    save_to(session, words.pads, &mut saved)
+/// How many bytes a file took of a run that failed: what is left in the buffer is written now.
+pub fn taken_by<W: Write + Drop>(frames: &mut BufWriter<Counted<W>>) -> Taken {
+    let _ = frames.flush();
+    frames.get_ref().taken()
 }
 
 /// Reports the number of trailing bytes of all sources, if there are any.
@@ -166,17 +134,18 @@ fn end<E: Write>(
     }
 }
 
-/// Saves the packets of source 0 if that is asked for, and reports trailing bytes.
+/// Saves the packets of source 0 as it was begun, and reports trailing bytes.
 pub fn finish<R: Files + AllocGlobal, E: Write>(
     rt: &R,
     session: &Session,
     line: &Accepted<'_>,
     sources: &[&[u8]],
+    target: Option<Target<'_, R>>,
     messages: &mut Messages<'_, E>,
 ) -> Result<(), Fault<'static>>
     ensures { IfErr result IsSaveFault }
 {
-    save_to_path(rt, session, line.words, messages)?;
+    finish_save(rt, session, line.words, target, messages)?;
     end(session, line, sources, messages);
     Ok(())
 }
@@ -214,7 +183,8 @@ fn answer_inputs<R: Files + AllocGlobal, O: Write, E: Write>(
         output,
         messages,
     )?;
-    finish(rt, &session, line, slices.as_slice(), messages)?;
+    let target = begin_save(rt, line.words, messages)?;
+    finish(rt, &session, line, slices.as_slice(), target, messages)?;
     Ok(session)
 }
 
@@ -248,6 +218,7 @@ fn answer_line<'a, R: Files + AllocGlobal, S: AsStr, I: Read, O: Write, E: Write
     match parse(rt.alloc(), words) {
         Ok(words) => {
             let line = words.accept(rt.alloc())?;
+            check_places(rt, &line)?;
             if line.words.is_live {
                 answer_live(rt, &line, input, output, messages)?;
             } else {
@@ -274,8 +245,9 @@ fn exit_status<E: Write>(answer: Result<(), Fault<'_>>, errors: &mut E) -> u8
 /// mistake on the command line; 1 for every other error.
 ///
 /// All files are read whole, up to 1,073,741,824 bytes each, before the file for the frames is created: the
-/// tables, IN, the files of `--sources` in their order, the requests. The file for the packets of source 0
-/// is created after the last request. With `--live` the requests are not read before: each line is answered when its
+/// tables, IN, the files of `--sources` in their order, the requests. The packets of source 0 are saved after the last
+/// request: a new file is made in the folder of the file, and replaces it when it is whole and on the disk. With `--live`
+/// the new file is made after the files were read, and the requests are not read before: each line is answered when its
 /// newline is read, and a line has at most 1,073,741,824 bytes. Replies, help and the version go to `output`; the text of an error, and after a
 /// run without one the number of trailing bytes of all sources together, if there are any, go to `errors`. With `--explain`
 /// each of them is followed by a line that explains it, and each refused request has a line.

@@ -1,6 +1,7 @@
 // Errors that end the program: their texts, their statuses, and which of two is reported.
-use crate::expected::{Broken, clear, expect, expect_fault, put};
-use serve_program::{Argument, Fault, SameFile, tell};
+use crate::expected::{Broken, ONE, check, clear, expect, expect_fault, put};
+use std::fs::hard_link;
+use std::os::unix::fs::symlink;
 use std::process::Abort;
 use std::rt::Files;
 use std::test::Fail;
@@ -23,6 +24,17 @@ fn tells_each_fault(rt: HostRuntime) {
     };
     let twice =
         "vp8serve: command line: --save and IN are both a b: name another file for --save\n";
+    let among = SameFile {
+        written: Argument::Out,
+        other: Argument::Replies,
+        path: "/dev/stdout",
+    };
+    expect_told(
+        &rt,
+        Fault::NamedTwice(among),
+        2,
+        "vp8serve: command line: OUT /dev/stdout is standard output, so replies would be among the frames: name /dev/fd/3 3>&1 >replies\n",
+    );
     expect_told(&rt, Fault::CommandLine, 2, "vp8serve: command line\n");
     expect_told(&rt, Fault::NamedTwice(same), 2, twice);
     expect_told(
@@ -64,12 +76,10 @@ const TWICE: &str = "\
 vp8serve a b a => command line: OUT and IN are both a: name another file for OUT
 vp8serve a b b => command line: OUT and REQUESTS are both b: name another file for OUT
 vp8serve --tables t a b t => command line: OUT and --tables are both t: name another file for OUT
-vp8serve a --save a => command line: --save and IN are both a: name another file for --save
 vp8serve a b --save b => command line: --save and REQUESTS are both b: name another file for --save
 vp8serve a b c --save c => command line: --save and OUT are both c: name another file for --save
 vp8serve --tables - --save - => command line: --save and --tables are both -: name another file for --save
 vp8serve a b c --sources -:d:c => command line: OUT and --sources are both c: name another file for OUT
-vp8serve --save d --sources d => command line: --save and --sources are both d: name another file for --save
 vp8serve a b /dev --save /dev => command line: --save and OUT are both /dev: name another file for --save
 ";
 
@@ -78,6 +88,34 @@ vp8serve a b /dev --save /dev => command line: --save and OUT are both /dev: nam
 #[test]
 fn refuses_files_named_twice(rt: HostRuntime) {
     expect_table(&rt, TWICE);
+}
+
+const SAME: &str = "\
+vp8serve same.ivf - ./same.ivf => command line: OUT and IN are both ./same.ivf: name another file for OUT
+vp8serve same.ivf - same.link => command line: OUT and IN are both same.link: name another file for OUT
+vp8serve same.ivf - same.links => command line: OUT and IN are both same.links: name another file for OUT
+vp8serve same.ivf - same.hard => command line: OUT and IN are both same.hard: name another file for OUT
+vp8serve same.links - same.hard => command line: OUT and IN are both same.hard: name another file for OUT
+vp8serve - - ./same.ivf --sources -:same.ivf => command line: OUT and --sources are both ./same.ivf: name another file for OUT
+vp8serve - same.ivf ./same.ivf => command line: OUT and REQUESTS are both ./same.ivf: name another file for OUT
+vp8serve - - same.link --tables same.ivf => command line: OUT and --tables are both same.link: name another file for OUT
+vp8serve - same.ivf - --save same.hard => command line: --save and REQUESTS are both same.hard: name another file for --save
+vp8serve - - - --save same.link --tables ./same.ivf => command line: --save and --tables are both same.link: name another file for --save
+vp8serve - - same.new --save ./same.new => command line: --save and OUT are both ./same.new: name another file for --save
+vp8serve - - same.none --save same.new => command line: --save and OUT are both same.new: name another file for --save
+";
+
+/// Another spelling, a link, a link to a link and a second hard link of a file are that file, also if it is not there yet.
+#[test]
+fn refuses_other_names_of_a_file(rt: HostRuntime) {
+    put(&rt, "same.ivf", ONE);
+    assert!(rt; symlink(&rt, "same.ivf", "same.link").is_ok());
+    assert!(rt; symlink(&rt, "same.link", "same.links").is_ok());
+    assert!(rt; symlink(&rt, "same.new", "same.none").is_ok());
+    assert!(rt; hard_link(&rt, "same.ivf", "same.hard").is_ok());
+    expect_table(&rt, SAME);
+    check(&rt, "same.ivf", ONE);
+    clear(&rt, "same.ivf same.link same.links same.none same.hard");
 }
 
 #[test]
@@ -123,7 +161,6 @@ vp8serve order.ivf --sources order.ivf => input Header
 vp8serve --sources order.ivf:order.ivf => source 1 Header
 vp8serve --sources -:-:-:-:-:-:order.ivf => source 7 Header
 vp8serve order.ivf - none/out => cannot write
-vp8serve order.ivf --save none/out => input Header
 ";
 
 /// Of two errors the first in order is reported: the command line, the tables, IN, the files of `--sources`,

@@ -15,4 +15,6 @@ mod live;
 #[cfg(test)]
 mod runs;
 #[cfg(test)]
+mod saving;
+#[cfg(test)]
 mod writers;

@@ -3,17 +3,31 @@
 #![tactic(auto)]
 
 use message_writer::MessageWriter;
-use serve_program::{Fault, given, name_explain, serve, tell};
+use serve_program::{Fault, given, name_explain, name_help, serve, tell};
+use std::fs::File;
 use std::io::{BufWriter, IsTerminal, Write};
+use std::os::fd::AsRawFd;
 use std::process::ExitCode;
 
-/// Runs the program on its arguments. A user at a terminal is told of `--explain` after an error.
+/// Takes the number of a standard descriptor that the caller closed, if there is one: a file that is opened later would get it, and replies
+/// or messages would be among its bytes.
+fn standard_file(rt: &HostRuntime) -> Option<File> {
+    match File::open(rt, "/dev/null") {
+        Ok(file) if file.as_raw_fd() <= 2 => Some(file),
+        _ => None,
+    }
+}
+
+/// Runs the program on its arguments. A user at a terminal is told of `--explain` after an error, and how to begin if there are no arguments.
 fn start<E: Write>(
     rt: &HostRuntime,
     errors: &mut E,
     is_terminal: bool,
 ) -> Result<u8, Fault<'static>> {
     let words = given(rt)?;
+    if rt.stdin().is_terminal() {
+        let _ = name_help(words.as_slice(), errors);
+    }
     let mut output = BufWriter::new(rt.alloc(), rt.stdout()).map_err(|_| Fault::NoMemory)?;
     let mut input = rt.stdin();
     let status = serve(rt, words.as_slice(), &mut input, &mut output, errors);
@@ -24,6 +38,7 @@ fn start<E: Write>(
 }
 
 fn main(rt: HostRuntime) -> ExitCode {
+    let _standard = (standard_file(&rt), standard_file(&rt), standard_file(&rt));
     let is_terminal = rt.stderr().is_terminal();
     let mut errors = MessageWriter::new(rt.stderr());
     let status = match start(&rt, &mut errors, is_terminal) {

@@ -1,0 +1,191 @@
+#!/usr/bin/env python3
+"""Runs build.py over three small crates with a false `rt`: interrupted, twice at the same time, in a folder with spaces in its path, where
+`bin` cannot be made, without `rt`, with another kit, and with a crate that fails.
+
+    compare/first_command.py
+"""
+
+import contextlib
+import os
+import pathlib
+import shutil
+import signal
+import stat
+import subprocess
+import sys
+import tempfile
+import time
+
+TOP = pathlib.Path(__file__).resolve().parent.parent
+KIT = "rattle-kit-false logic 0123456789abcdef"
+NOBODY = 65534
+SECONDS = 60
+TOLD = {"runs": 0, "differences": 0}
+# It proves a crate of each folder of crates/, a second each, and keeps which ones are proved in out/; with a file `fails` it fails at `low`.
+FALSE_RT = """#!/bin/sh
+echo "$*" >> "$CALLS"
+case "$1" in
+version) cat "$KIT_FILE" ;;
+all)
+    for crate in low vp8serve vp8list; do
+        [ -e "$CALLS.fails" ] && { echo "low: a goal is open"; exit 1; }
+        mkdir -p crates/$crate/out
+        [ -e crates/$crate/out/proved ] || { sleep "$PAUSE"; echo "proved $crate" >> "$CALLS"; : > crates/$crate/out/proved; }
+        echo "== $crate"
+    done ;;
+run) mkdir -p out; printf '#!/bin/sh\\necho "$0"\\n' > "out/$(basename "$PWD")" ;;
+esac
+"""
+
+
+def differs(name, got, want):
+    TOLD["runs"] += 1
+    if got != want:
+        TOLD["differences"] += 1
+        print(f"{name}: {got!r}, not {want!r}")
+
+
+class Checkout:
+    """A checkout of three crates, a false `rt` and a cache folder of its own."""
+
+    def __init__(self, room, name):
+        self.top, self.room = room / name, room
+        self.calls = room / f"{name} calls"
+        (self.top / "docs").mkdir(parents=True)
+        shutil.copyfile(TOP / "build.py", self.top / "build.py")
+        (self.top / "crates.txt").write_text("# programs\nlow:\nvp8serve: low\nvp8list: low\nother: low\n")
+        (self.top / "HANDLES").write_text("Handles allowed: none.\n")
+        (self.top / "docs/proofs.md").write_text(f"The kit is {KIT}.\n")
+        for crate in ("low", "vp8serve", "vp8list", "other"):
+            (self.top / "crates" / crate / "src").mkdir(parents=True)
+            (self.top / "crates" / crate / "src/lib.rt").write_text("// nothing\n")
+        (room / "kit").write_text(f"{KIT}\n")
+        (room / "path").mkdir(exist_ok=True)
+        rt = room / "path/rt"
+        rt.write_text(FALSE_RT)
+        rt.chmod(0o755)
+
+    def start(self, pause=0, path=None, python=sys.executable, **options):
+        environment = {
+            "PATH": path or f"{self.room}/path:{os.environ['PATH']}",
+            "XDG_CACHE_HOME": str(self.room / "cache of programs"),
+            "HOME": str(self.room),
+            "CALLS": str(self.calls),
+            "KIT_FILE": str(self.room / "kit"),
+            "PAUSE": str(pause),
+        }
+        words = [python, self.top / "build.py"]
+        return subprocess.Popen(words, env=environment, stdout=subprocess.PIPE, stderr=subprocess.STDOUT, text=True, start_new_session=True, **options)
+
+    def run(self, **options):
+        started = self.start(**options)
+        text, _ = started.communicate(timeout=SECONDS)
+        return started.returncode, text
+
+    def proved(self):
+        """The crates that were proved, in order."""
+        lines = self.calls.read_text().splitlines() if self.calls.exists() else []
+        return [line.split()[1] for line in lines if line.startswith("proved")]
+
+    def built(self):
+        return sorted(path.name for path in (self.top / "bin").glob("[!.]*")) if (self.top / "bin").is_dir() else []
+
+
+def await_proved(checkout, count):
+    end = time.monotonic() + SECONDS
+    while len(checkout.proved()) < count:
+        if time.monotonic() > end:
+            raise TimeoutError("no crate was proved")
+        time.sleep(0.02)
+
+
+ALL = ["vp8list", "vp8serve", "wokureti"]
+
+
+def spaces(room):
+    """A path with spaces; a second run does nothing; a change builds again; the programs run."""
+    checkout = Checkout(room, "a checkout with spaces")
+    status, text = checkout.run()
+    differs("built", (status, checkout.built(), checkout.proved()), (0, ALL, ["low", "vp8serve", "vp8list"]))
+    differs("lines of crates", [f"({n} of 3" in text for n in (1, 2, 3)], [True] * 3)
+    shown = subprocess.run([checkout.top / "bin/vp8serve"], capture_output=True, text=True, timeout=SECONDS)
+    differs("the program", shown.stdout.strip(), str(checkout.top / "bin/vp8serve"))
+    differs("again", checkout.run(), (0, ""))
+    (checkout.top / "crates/other/src/lib.rt").write_text("// changed\n")
+    differs("a crate of no program", checkout.run(), (0, ""))
+    (checkout.top / "crates/low/src/lib.rt").write_text("// changed\n")
+    before = checkout.calls.read_text().count("all check")
+    differs("a change", (checkout.run()[0], checkout.calls.read_text().count("all check")), (0, before + 1))
+
+
+def interrupted(room):
+    """Interrupted after a crate: the next run begins with what was proved."""
+    checkout = Checkout(room, "interrupted")
+    started = checkout.start(pause=1)
+    await_proved(checkout, 1)
+    started.send_signal(signal.SIGINT)
+    text, _ = started.communicate(timeout=SECONDS)
+    differs("interrupted", (started.returncode, text.splitlines()[-1], checkout.built()), (130, "build.py: interrupted; the next run goes on from here", []))
+    first = checkout.proved()
+    differs("the next run", (checkout.run()[0], checkout.built()), (0, ALL))
+    differs("proved once each", sorted(checkout.proved()), sorted(set(checkout.proved())))
+    differs("went on", checkout.proved()[: len(first)], first)
+
+
+def twice(room):
+    """Two at the same time: the second waits, says so, and finds all built."""
+    checkout = Checkout(room, "twice")
+    first = checkout.start(pause=1)
+    await_proved(checkout, 1)
+    second = checkout.start()
+    texts = [started.communicate(timeout=SECONDS)[0] for started in (first, second)]
+    differs("both", (first.returncode, second.returncode, checkout.built()), (0, 0, ALL))
+    differs("the second", texts[1], "build.py: another build of this checkout runs; waiting for it\n")
+    differs("proved once", (checkout.proved(), checkout.calls.read_text().count("all check")), (["low", "vp8serve", "vp8list"], 1))
+
+
+def read_only(room):
+    """A tree that may not be written: one sentence."""
+    checkout = Checkout(room, "read-only")
+    for folder, _, _ in os.walk(checkout.top):
+        os.chmod(folder, stat.S_IRUSR | stat.S_IXUSR | stat.S_IRGRP | stat.S_IXGRP | stat.S_IROTH | stat.S_IXOTH)
+    options = {"user": NOBODY, "group": NOBODY, "extra_groups": [], "python": "/usr/bin/python3"} if os.geteuid() == 0 else {}
+    status, text = checkout.run(**options)
+    differs("read-only", (status, text.count("\n"), text.startswith("build.py: nothing was built: "), "bin" in text), (1, 1, True, True))
+    for folder, _, _ in os.walk(checkout.top):
+        os.chmod(folder, 0o755)
+
+
+def without_kit(room):
+    """No `rt`, and another kit: one sentence each."""
+    checkout = Checkout(room, "no rt")
+    differs("no rt", checkout.run(path="/nowhere"), (1, "build.py: building needs the command rt of the Rattle kit on the PATH\n"))
+    (room / "kit").write_text("rattle-kit-other logic fedcba9876543210\n")
+    told = f"build.py: this repository is proved with {KIT}, but rt is of rattle-kit-other logic fedcba9876543210\n"
+    differs("another kit", checkout.run(), (1, told))
+    differs("nothing built", (checkout.built(), checkout.proved()), ([], []))
+
+
+def failing(room):
+    """A crate that fails: its last lines, and nothing is built."""
+    checkout = Checkout(room, "failing")
+    fails = pathlib.Path(f"{checkout.calls}.fails")
+    fails.write_text("")
+    status, text = checkout.run()
+    differs("failing", (status, checkout.built()), (1, []))
+    differs("the last lines", text.splitlines()[-2:], ["build.py: low: a goal is open", "nothing was built: rt all ended with status 1"])
+    fails.unlink()
+    differs("repaired", (checkout.run()[0], checkout.built()), (0, ALL))
+
+
+def main():
+    with tempfile.TemporaryDirectory() as folder, contextlib.suppress(KeyboardInterrupt):
+        os.chmod(folder, 0o755)
+        for part in (spaces, interrupted, twice, read_only, without_kit, failing):
+            part(pathlib.Path(folder))
+    print(f"{TOLD['runs']} comparisons, {TOLD['differences']} differences")
+    return 1 if TOLD["differences"] else 0
+
+
+if __name__ == "__main__":
+    sys.exit(main())

@@ -1,0 +1,5 @@
+pub mod Counts
+pub mod Disks
+pub mod Logs
+pub mod Places
+pub mod Steps

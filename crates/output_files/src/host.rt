@@ -1,0 +1,250 @@
+// Saving on the system's files.
+ghost use Rattle.std.specs.Prelude.{◌≡◌, ◌∷◌, []};
+ghost use Rattle.output_files.specs.Logs.{steps_of};
+ghost use Rattle.output_files.specs.Steps.Step.{Made};
+
+use crate::links::{followed, parts_of};
+use crate::log::Log;
+use crate::saving::{Call, SavePlace, SavedText, Unsaved, abandon, finish};
+use std::alloc::Global;
+use std::fs::{self, Metadata, OpenFile, OpenOptions};
+use std::io::{self, ErrorKind, Write};
+use std::os::unix::fs::{MetadataExt, OpenOptionsExt};
+use std::rt::Files;
+
+/// The name of a new file, before its number.
+const NAME: &str = "vp8serve-unfinished-save-";
+
+/// The most new files in one folder.
+const MOST_FRESH: u32 = 10_000;
+
+/// The mode of a file that was not there, before the system's mask.
+const NEW_MODE: u32 = 0o666;
+
+/// A new file that is written.
+#[derive(Drop)]
+pub struct NewFile<F> {
+    inner: F,
+}
+
+impl<F: Write> Write for NewFile<F> {
+    fn write(&mut self, buf: &[u8]) -> io::Result<usize> {
+        self.inner.write(buf)
+    }
+
+    fn flush(&mut self) -> io::Result<()> {
+        self.inner.flush()
+    }
+}
+
+/// A file of the system that is saved, and the new file next to it.
+#[derive(Drop)]
+pub struct Replaced<'a, R> {
+    files: &'a R,
+    alloc: Global,
+    /// The path of the file, with links followed.
+    path: String,
+    /// The file that is there.
+    old: Option<Metadata>,
+    /// The path of the new file, once it is made.
+    fresh: String,
+    log: Log,
+}
+
+impl<'a, R: Files> Replaced<'a, R> {
+    /// A file that is saved at this path, which no link is at the end of, and what is known of the file that is there.
+    fn new(files: &'a R, alloc: Global, path: String, old: Option<Metadata>) -> Replaced<'a, R>
+        ensures { steps_of result.log ≡ [] }
+    {
+        Replaced {
+            files,
+            alloc,
+            path,
+            old,
+            fresh: String::new(alloc),
+            log: Log::new(),
+        }
+    }
+
+    /// Makes a file in the folder of the file, with a name that no file there has. Returns it and its path.
+    fn open_fresh(&self) -> io::Result<(R::File, String)> {
+        let (folder, _) = parts_of(self.path.as_str());
+        for number in 1..=MOST_FRESH {
+            let path = format!(in self.alloc; "{folder}{NAME}{number}")?;
+            match self.open_at(path.as_str()) {
+                Ok(file) => return Ok((file, path)),
+                Err(error) if error.kind() == ErrorKind::AlreadyExists => {}
+                Err(error) => return Err(error),
+            }
+        }
+        Err(ErrorKind::AlreadyExists.into())
+    }
+
+    /// Makes a file at this path, with the mode of the file that is there.
+    fn open_at(&self, path: &str) -> io::Result<R::File> {
+        let Some(old) = &self.old else {
+            return OpenOptions::new()
+                .write(true)
+                .create_new(true)
+                .mode(NEW_MODE)
+                .open(self.files, path);
+        };
+        let file = OpenOptions::new()
+            .write(true)
+            .create_new(true)
+            .mode(old.mode() & 0o777)
+            .open(self.files, path)?;
+        if let Err(error) = self.take_over(&file, path, old) {
+            let _ = self.files.remove_file(path);
+            return Err(error);
+        }
+        Ok(file)
+    }
+
+    /// Gives a new file the owner of the old one, if that is allowed, and its mode.
+    fn take_over(&self, file: &R::File, path: &str, old: &Metadata) -> io::Result<()> {
+        let known = file.metadata()?;
+        if known.uid() != old.uid() || known.gid() != old.gid() {
+            let _ = self.files.chown(path, Some(old.uid()), Some(old.gid()));
+        }
+        if file.metadata()?.mode() != old.mode() {
+            file.set_permissions(old.permissions())?;
+        }
+        Ok(())
+    }
+}
+
+impl<R: Files> SavePlace for Replaced<'_, R> {
+    type File = NewFile<R::File>;
+
+    ghost steps = { λ place. steps_of place.log };
+
+    fn make(&mut self) -> io::Result<NewFile<R::File>> {
+        match self.open_fresh() {
+            Ok((file, path)) => {
+                self.fresh = path;
+                self.log.done(Call::Make);
+                Ok(NewFile { inner: file })
+            }
+            Err(error) => {
+                self.log.failed(Call::Make, error);
+                Err(error)
+            }
+        }
+    }
+
+    fn sync(&mut self, file: &NewFile<R::File>) -> io::Result<()> {
+        let result = file.inner.sync_all();
+        self.log.ended(Call::Sync, result)
+    }
+
+    fn rename(&mut self) -> io::Result<()> {
+        let result = self.files.rename(self.fresh.as_str(), self.path.as_str());
+        self.log.ended(Call::Rename, result)
+    }
+
+    fn remove(&mut self) -> io::Result<()> {
+        let result = self.files.remove_file(self.fresh.as_str());
+        self.log.ended(Call::Remove, result)
+    }
+}
+
+/// A save whose new file is made.
+#[derive(Drop)]
+pub struct Begun<'a, R: Files> {
+    place: Replaced<'a, R>,
+    file: NewFile<R::File>,
+    ghost made: { steps_of place.log ≡ Made ∷ [] },
+}
+
+impl<'a, R: Files> Begun<'a, R> {
+    /// Makes the new file for a file at this path, which no link is at the end of.
+    fn make(
+        files: &'a R,
+        alloc: Global,
+        path: String,
+        old: Option<Metadata>,
+    ) -> io::Result<Begun<'a, R>> {
+        let mut place = Replaced::new(files, alloc, path, old);
+        let file = place.make()?;
+        Ok(Begun { place, file })
+    }
+
+    /// Writes a text, brings it to the disk, and replaces the file by it. If that fails, the file is as it was, and the new file is removed.
+    pub fn finish<T: SavedText>(self, text: &T) -> Result<(), Unsaved> {
+        let Begun { mut place, file } = self;
+        finish(place.alloc, &mut place, file, text)
+    }
+
+    /// Removes the new file.
+    pub fn abandon(self) {
+        let Begun { mut place, file: _ } = self;
+        abandon(&mut place);
+    }
+}
+
+/// What a save writes.
+#[derive(Drop)]
+pub enum Target<'a, R: Files> {
+    /// A device or a pipe, which is written as it is.
+    AsItIs,
+    /// A file, by a new file that replaces it.
+    File(Begun<'a, R>),
+}
+
+impl<R: Files> Target<'_, R> {
+    /// Removes the new file, if one was made.
+    pub fn abandon(self) {
+        match self {
+            Target::AsItIs => {}
+            Target::File(begun) => begun.abandon(),
+        }
+    }
+}
+
+/// Begins a save at a path, with links followed: the new file is made, unless a device or a pipe is there.
+///
+/// An error if something is there that cannot be written, for example a folder, if the path cannot be a file's, or if the new file cannot
+/// be made.
+pub fn begin<'a, R: Files>(files: &'a R, alloc: Global, path: &str) -> io::Result<Target<'a, R>> {
+    let known = match fs::metadata(files, path) {
+        Ok(known) => known,
+        Err(error) if error.kind() == ErrorKind::NotFound => {
+            let path = new_path(files, alloc, path)?;
+            return Ok(Target::File(Begun::make(files, alloc, path, None)?));
+        }
+        Err(error) => return Err(error),
+    };
+    if !known.is_file() && !known.is_dir() {
+        return Ok(Target::AsItIs);
+    }
+    OpenOptions::new().write(true).open(files, path)?;
+    let path = followed(files, alloc, path)?;
+    if !is_there(files, path.as_str(), &known) {
+        return Ok(Target::AsItIs);
+    }
+    Ok(Target::File(Begun::make(files, alloc, path, Some(known))?))
+}
+
+/// The path of a file that is not there yet.
+fn new_path<R: Files>(files: &R, alloc: Global, path: &str) -> io::Result<String> {
+    let path = followed(files, alloc, path)?;
+    let (folder, name) = parts_of(path.as_str());
+    if name.is_empty() {
+        let kind = if folder.is_empty() {
+            ErrorKind::NotFound
+        } else {
+            ErrorKind::IsADirectory
+        };
+        return Err(kind.into());
+    }
+    Ok(path)
+}
+
+/// Whether this file is at this path. The path that the system shows for an open file that was removed leads to none.
+fn is_there<R: Files>(files: &R, path: &str, known: &Metadata) -> bool {
+    match fs::metadata(files, path) {
+        Ok(there) => there.dev() == known.dev() && there.ino() == known.ino(),
+        Err(_) => false,
+    }
+}

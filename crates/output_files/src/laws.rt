@@ -1,0 +1,17 @@
+// Laws on saves.
+ghost use Rattle.std.specs.Prelude.{◌≡◌, [], ℕ, List, None, Some, take};
+ghost use Rattle.output_files.specs.Disks.{Disk, IsNeverLost, after_all};
+ghost use Rattle.output_files.specs.Steps.{IsGivenUp, IsSaved, Step};
+ghost use Rattle.output_files.specs.declared.saving.Unsaved.{Unsaved};
+
+#[tactic(auto, using(crate::proofs::Saves::saved_end))]
+/// A save that ended well: at each moment the file is the old one or the whole text, at the end it is the text, and no new file remains.
+pub fn saved_is_whole()
+    ensures never_lost { (disk : Disk) (text : List ℕ) (steps : List Step) → IsSaved (Some []) text steps → IsNeverLost disk text steps }
+    ensures end { (disk : Disk) (text : List ℕ) (steps : List Step) → IsSaved (Some []) text steps → after_all disk steps ≡ record { file = Some text; fresh = None } }
+{}
+
+/// A save that failed: at each moment, and at the end, the file is the old one.
+pub fn given_up_changes_nothing()
+    ensures { (disk : Disk) (text : List ℕ) (steps : List Step) (why : Unsaved) → IsGivenUp (Some []) text steps why → (n : ℕ) → (after_all disk (take n steps)).file ≡ disk.file }
+{}

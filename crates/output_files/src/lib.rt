@@ -1,0 +1,16 @@
+//! The files that a program writes: a file that is replaced by a whole new one, and what a path names.
+#![tactic(auto)]
+
+mod counted;
+mod host;
+mod laws;
+mod links;
+mod log;
+mod places;
+mod saving;
+
+pub use counted::{Counted, Taken};
+pub use host::{Begun, NewFile, Replaced, Target, begin};
+pub use log::Log;
+pub use places::{Kind, Place, place_of};
+pub use saving::{Call, SavePlace, SavedText, Unsaved, abandon, finish};

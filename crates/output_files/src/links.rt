@@ -1,0 +1,49 @@
+// The parts of a path, and where links at its end lead.
+ghost use Rattle.std.specs.Prelude.{◌≡◌};
+
+use std::alloc::{AllocError, Global};
+use std::fs;
+use std::io::{self, ErrorKind};
+use std::rt::Files;
+
+/// The most links that are followed, as in Linux.
+const MOST_LINKS: usize = 40;
+
+/// The folder of a path with its last `/`, which is empty for a bare name, and the name in it.
+pub fn parts_of(path: &str) -> (&str, &str) {
+    match path.rfind('/') {
+        Some(at) => path.split_at(at + 1),
+        None => ("", path),
+    }
+}
+
+/// The path of the folder of a path.
+pub fn folder_of(path: &str) -> &str {
+    match parts_of(path).0 {
+        "" => ".",
+        folder => folder,
+    }
+}
+
+/// The path that a link with this text at this path leads to.
+fn led_to(alloc: Global, path: &str, link: &str) -> Result<String, AllocError> {
+    if link.starts_with('/') {
+        return String::from_str(alloc, link);
+    }
+    let (folder, _) = parts_of(path);
+    format!(in alloc; "{folder}{link}")
+}
+
+/// The path that a path leads to once the links at its end are followed, whether or not something is there.
+///
+/// `FilesystemLoop` after 40 links; `OutOfMemory`.
+pub fn followed<R: Files>(files: &R, alloc: Global, path: &str) -> io::Result<String> {
+    let mut path = String::from_str(alloc, path)?;
+    for _ in 0..MOST_LINKS {
+        let Ok(link) = files.read_link(alloc, path.as_str()) else {
+            return Ok(path);
+        };
+        path = led_to(alloc, path.as_str(), link.as_str())?;
+    }
+    Err(ErrorKind::FilesystemLoop.into())
+}
