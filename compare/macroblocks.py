@@ -13,7 +13,7 @@ import re
 import subprocess
 import sys
 
-from listed import records
+from library.ivf import records
 
 TOP = pathlib.Path(__file__).resolve().parent.parent
 LIST = os.environ.get("VP8LIST", str(TOP / "crates/vp8list/out/vp8list"))

@@ -18,9 +18,9 @@ import subprocess
 import sys
 import tempfile
 
-from bits import ivf
-from run import PROGRAM
-from traced import Program, traced
+from library.ivf import ivf
+from library.programs import VP8SERVE
+from library.traced import Program, traced
 
 KEY = bytes.fromhex("1000009D012A40003000")
 INTER = bytes.fromhex("110000")
@@ -60,7 +60,7 @@ def run(*words, lines="", limit=None, **options):
             resource.setrlimit(resource.RLIMIT_FSIZE, (limit, limit))
 
     options = {"stdout": subprocess.PIPE, "stderr": subprocess.PIPE, **options}
-    ended = subprocess.run([PROGRAM, *words], input=lines.encode(), preexec_fn=before, timeout=60, **options)
+    ended = subprocess.run([VP8SERVE, *words], input=lines.encode(), preexec_fn=before, timeout=60, **options)
     return ended.returncode, (ended.stdout or b"").decode(), (ended.stderr or b"").decode()
 
 
@@ -87,7 +87,7 @@ def names():
         differs("save, requests", run("a.ivf", "req", "--save", "./req", *more), (2, "", REFUSED.format("--save", "REQUESTS", "./req", "--save")))
         differs("save, out", run("a.ivf", "-", "new", "--save", "./new", *more), (2, "", REFUSED.format("--save", "OUT", "./new", "--save")))
     with open("req", "rb") as requests:
-        ended = subprocess.run([PROGRAM, "a.ivf", "-", "req"], stdin=requests, capture_output=True, timeout=60)
+        ended = subprocess.run([VP8SERVE, "a.ivf", "-", "req"], stdin=requests, capture_output=True, timeout=60)
     differs("standard input", (ended.returncode, ended.stderr.decode()), (2, REFUSED.format("OUT", "REQUESTS", "req", "OUT")))
     differs("requests kept", content("req"), b"count\n")
 
@@ -108,7 +108,7 @@ def devices():
     with open("mixed", "wb") as file:
         differs("its name", run("a.ivf", "-", "mixed", lines="frame 0\n", stdout=file), (2, "", AMONG.format("mixed")))
     differs("null twice", run("a.ivf", "-", "/dev/null", "--save", "/dev/null", lines="frame 0\n"), (0, "served 0\n", ""))
-    line = f"{PROGRAM} a.ivf - /dev/fd/3 3>&1 >replies"
+    line = f"{VP8SERVE} a.ivf - /dev/fd/3 3>&1 >replies"
     shown = subprocess.run(["sh", "-c", line], input=b"frame 0\n", capture_output=True, timeout=60)
     differs("/dev/fd/3", (shown.returncode, len(shown.stdout), content("replies")), (0, len(OPENING) + FRAME, b"served 0\n"))
     os.mkfifo("fifo")
@@ -120,7 +120,7 @@ def devices():
         ended = run("a.ivf", "--save", "fifo")
         differs("a saved pipe", (ended, reader.stdout.read()), ((0, "", ""), STREAM))
     os.unlink("fifo")
-    with subprocess.Popen([PROGRAM, "a.ivf", "--save", "/dev/stdout"], stdin=subprocess.DEVNULL, stdout=subprocess.PIPE) as ended:
+    with subprocess.Popen([VP8SERVE, "a.ivf", "--save", "/dev/stdout"], stdin=subprocess.DEVNULL, stdout=subprocess.PIPE) as ended:
         differs("saved standard output", ended.stdout.read(), STREAM)
     with open("saved.ivf", "wb") as file:
         differs("saved standard output, a file", run("a.ivf", "--save", "/dev/stdout", stdout=file), (0, "", ""))
@@ -169,7 +169,7 @@ def closed():
     """Each standard descriptor closed by the caller: no file gets its number, and a reply is not lost with status 0."""
     put_stream()
     pathlib.Path("req").write_text("frame 0\ncount\n")
-    program = str(PROGRAM)
+    program = str(VP8SERVE)
     frames = len(OPENING) + FRAME
     for what, want in (
         (">&-", (1, frames, None)),
@@ -202,7 +202,7 @@ def memory():
     """Each request for memory refused in turn: the saved file is the old one, or the whole new one with status 0."""
     put_stream()
     pathlib.Path("req").write_text("frame 0\ndelete 2\n")
-    known = Program(str(PROGRAM))
+    known = Program(str(VP8SERVE))
     for more in ([], ["--live"]):
         for number in range(1, saved_without(known, None, more)[0].requests + 1):
             ended, saved, replies = saved_without(known, number, more)
