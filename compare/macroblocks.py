@@ -1,18 +1,28 @@
 #!/usr/bin/env python3
-"""Compares `vp8list --macroblocks` and `--header` with a plain parser of RFC 6386: macroblocks.py [FILE ..]
+"""Compares `vp8list --macroblocks` and `--header` with a plain parser of RFC 6386.
+
+    macroblocks.py [FILE ..]
+    macroblocks.py --random STREAMS [SEED]
+    macroblocks.py --damage STREAMS [SEED]
 
 The parser below reads headers, modes, vectors and tokens with Python's whole numbers, from the RFC's own text, for this comparison alone. Of
 the program it takes only the constant tables of crates/vp8_tables. By default the files are the example, the clips of gate_clips and the
-streams of gate_checks. Each object is compared, and the lines are compared with the objects. VP8LIST names another program.
+streams of gate_checks. With --random they are streams of random bits after sound tags, with 1 to 8 partitions, and with --damage the clips
+with packets that are cut, dropped, doubled, moved and changed. Each object is compared, and the lines are compared with the objects.
+VP8LIST names another program.
 """
 
 import json
 import os
 import pathlib
+import random
 import re
 import subprocess
 import sys
+import tempfile
 
+from library.bits import ivf
+from library.damage import damage
 from library.ivf import records
 
 TOP = pathlib.Path(__file__).resolve().parent.parent
@@ -362,6 +372,10 @@ def read_tokens(state, modes, parts, columns):
                 up[a] = left[b] = int(end > first)
                 mb["has"] = mb["has"] or end > first
         mb["token_bits"] = r.taken - start
+    # The program counts bits past the end of a partition as far as 64 bytes and four for each macroblock.
+    if any(r.taken >= 8 * (len(r.text) + 64 + 4 * len(modes)) for r in readers):
+        for mb in modes:
+            mb["token_bits"] = None
 
 
 def limits_of(f, level):
@@ -453,6 +467,7 @@ def check(path):
     shown = [one for one in shown if "column" in one]
     assert len(shown) == len(macroblocks), f"{path}: {len(shown)} macroblocks instead of {len(macroblocks)}"
     for ours, theirs in zip(shown, macroblocks):
+        ours = {**ours, "token_bits": None} if theirs["token_bits"] is None else ours
         assert ours == theirs, f"{path}: {ours} instead of {theirs}"
     names, *lines = [line.split("\t") for line in said(path, "--macroblocks", "all") if not line.startswith("#")]
     for line, one in zip(lines, shown, strict=True):
@@ -462,16 +477,58 @@ def check(path):
     shown = [one for one in shown if "version" in one]
     for ours, theirs in zip(shown, headers, strict=True):
         assert ours == theirs, f"{path}: {ours} instead of {theirs}"
-    return len(macroblocks), len(headers)
+    return len(macroblocks), len(headers), sum(one["token_bits"] is not None for one in macroblocks)
+
+
+SIDES = [(1, 1), (16, 16), (17, 33), (48, 20), (40, 48), (64, 16)]
+
+
+def random_packet(choose, size):
+    """A packet of random bits, a key packet if it has a size; most have a number of partitions that fits their bits."""
+    first = choose.randbytes(choose.choice([0, 1, 5, 30, 60, 120, 300]))
+    tag = (0 if size else 1) | choose.choice([0, 0, 0, 1, 2, 3]) << 1 | choose.choice([0, 1, 1]) << 4 | len(first) << 5
+    start = b"\x9d\x01\x2a" + b"".join((side | choose.randrange(4) << 14).to_bytes(2, "little") for side in size) if size else b""
+    head = tag.to_bytes(3, "little") + start + first
+    count = 1 << read_header(fresh(16, 16), head + bytes(21))[0]["log2_nbr_of_dct_partitions"]
+    parts = [choose.randbytes(choose.choice([0, 1, 3, 40, 200])) for _ in range(count)]
+    return head + b"".join(len(part).to_bytes(3, "little") for part in parts[:-1]) + b"".join(parts)
+
+
+def random_stream(choose, number):
+    """A stream of a few such packets; every fiftieth is 1,024 macroblocks wide."""
+    size = (16383, 1) if number % 50 == 49 else choose.choice(SIDES)
+    packets = [random_packet(choose, size)]
+    for _ in range(1 if number % 50 == 49 else 4):
+        kind = choose.randrange(12)
+        packets.append(b"" if kind == 0 else random_packet(choose, choose.choice(SIDES)) if kind == 1 else random_packet(choose, None))
+    return packets
+
+
+def made(kind, count, seed):
+    """Compares streams that are made, and returns the totals."""
+    choose, totals = random.Random(seed), [0, 0, 0]
+    with tempfile.TemporaryDirectory() as folder:
+        path = pathlib.Path(folder) / "made.ivf"
+        clips = [path for path in sorted((TOP / "crates/gate_clips/data").glob("*.ivf")) if path.stat().st_size < 30000]
+        for number in range(count):
+            whole = [packet for _, packet in records(choose.choice(clips).read_bytes())][:8]
+            path.write_bytes(ivf(16, 16, random_stream(choose, number) if kind == "--random" else damage(whole, choose)))
+            totals = [a + b for a, b in zip(totals, check(path))]
+    return totals
 
 
 def main():
+    if sys.argv[1:2] in (["--random"], ["--damage"]):
+        kind, count, seed = sys.argv[1], int(sys.argv[2]), int(sys.argv[3]) if sys.argv[3:] else 1
+        totals = made(kind, count, seed)
+        print(f"{count} streams, {totals[1]} headers, {totals[0]} macroblocks ({totals[2]} with their bits), no difference")
+        return
     folders = [TOP / "examples", TOP / "crates/gate_clips/data", TOP / "crates/gate_checks/data"]
     paths = [pathlib.Path(word) for word in sys.argv[1:]] or [path for folder in folders for path in sorted(folder.glob("*.ivf"))]
-    totals = [0, 0]
+    totals = [0, 0, 0]
     for path in paths:
         totals = [a + b for a, b in zip(totals, check(path))]
-    print(f"{len(paths)} streams, {totals[1]} headers, {totals[0]} macroblocks, no difference")
+    print(f"{len(paths)} streams, {totals[1]} headers, {totals[0]} macroblocks ({totals[2]} with their bits), no difference")
 
 
 if __name__ == "__main__":
