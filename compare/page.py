@@ -3,7 +3,7 @@
 
     compare/page.py [--shots FOLDER]
 
-Debian's chromium, chromium-driver and ffmpeg must be there. With --shots the pictures for the documents are written to a folder.
+Debian's chromium, chromium-driver and ffmpeg must be there. With --shots only the pictures for the documents are written, to a folder.
 README.md says more.
 """
 
@@ -638,32 +638,35 @@ def reachable(page):
     say(f"reachable: {named} elements with names, all by the Tab key, contrast 4.5 and more, dark and light")
 
 
-def shots(browser, room, folder, clip, broken):
-    """The pictures of the documents."""
+def shots(browser, folder, clip, broken):
+    """The pictures of the documents: the preview of a repair, in both themes, and the split."""
     folder = pathlib.Path(folder)
+    browser.set_size(1240, 780)
     page = Page(browser, broken, "--source", clip)
     page.open()
-    browser.wait("wokureti.findings.check && wokureti.findings.check.over && document.querySelector('#findings-list li')", seconds=30)
-    browser.run("document.querySelector('#findings-list li .row').click()")
-    browser.wait("document.querySelectorAll('.repairs button').length > 3")
-    browser.run("await wokureti.editing.make(['hold 20', 'delete 21', 'delete 150', 'delete 150'], '')")
-    browser.wait("wokureti.findings.check.over && document.querySelector('#findings-list li')", seconds=30)
+    # Edits right before key packets: nothing after them is damaged.
+    browser.run("await wokureti.editing.make(['hold 50', 'delete 49', 'replace 149 -', 'delete 199'], '')")
+    browser.wait("wokureti.findings.check && wokureti.findings.check.over && wokureti.model.packets === 249 && wokureti.findings.check.packets === 249", seconds=60)
     browser.run("document.querySelector('#findings-list li .row').click()")
     browser.wait("document.querySelectorAll('.repairs button').length > 3")
     browser.run("document.querySelectorAll('.repairs button')[0].click()")
-    browser.wait("document.getElementById('preview-result').textContent !== ''")
+    browser.wait("document.getElementById('preview-result').textContent.startsWith('no damage')", seconds=60)
     time.sleep(0.5)
     for is_dark, name in ((True, "page.png"), (False, "page-light.png")):
         browser.set_theme(is_dark)
-        time.sleep(0.3)
+        time.sleep(0.5)
         (folder / name).write_bytes(browser.screenshot())
     browser.set_theme(True)
     browser.click("#preview-leave")
-    browser.run("await wokureti.model.goPacket(20); await wokureti.editing.step(['replace 24 -'], ''); await wokureti.model.go(30); wokureti.viewer.choose_view('split')")
-    browser.wait("document.getElementById('picture-text').textContent.includes('PSNR')")
+    browser.run("await wokureti.model.goPacket(24); await wokureti.editing.drop(); await wokureti.model.go(30); wokureti.viewer.choose_view('split')")
+    browser.wait("document.getElementById('picture-text').textContent.includes('PSNR') && wokureti.findings.check.over && wokureti.findings.check.damage > 1", seconds=60)
     time.sleep(0.5)
     (folder / "page-split.png").write_bytes(browser.screenshot())
     page.end()
+    for name in ("page.png", "page-light.png", "page-split.png"):
+        size = (folder / name).stat().st_size
+        expect(size <= 300_000, f"{name} has {size} bytes")
+        say(f"{name}: {size} bytes")
 
 
 def main():
@@ -672,11 +675,11 @@ def main():
         room = pathlib.Path(name)
         say(f"chromium {browser.version}, vp8serve {subprocess.run([programs.find('vp8serve'), '--version'], capture_output=True, text=True, check=True).stdout.split()[1]}")
         clip, broken, place = room / "clip.ivf", room / "broken.ivf", 93
-        make_clip(clip, "640x360", 250)
+        make_clip(clip, "480x270" if folder else "640x360", 250)
         break_packet(clip, broken, place)
         if folder:
-            shots(browser, room, folder, clip, broken)
-            return 0
+            shots(browser, folder, clip, broken)
+            return 1 if faults else 0
         colours(browser, room)
         page = Page(browser, broken, "--source", clip, "--save", room / "saved.ivf")
         page.open()

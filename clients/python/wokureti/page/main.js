@@ -79,10 +79,10 @@ document.querySelector("#viewer .tools").addEventListener("click", () => fragmen
 // The head, and what is current
 
 function time(frame) {
-  const seconds = frame / model.rate;
-  const whole = Math.floor(seconds);
-  const parts = [Math.floor(whole / 3600), Math.floor(whole / 60) % 60, whole % 60].map((part) => String(part).padStart(2, "0"));
-  return `${parts.join(":")}.${String(Math.floor((seconds - whole) * 1000)).padStart(3, "0")}`;
+  const milliseconds = Math.round((frame / model.rate) * 1000);
+  const seconds = Math.floor(milliseconds / 1000);
+  const parts = [Math.floor(seconds / 3600), Math.floor(seconds / 60) % 60, seconds % 60].map((part) => String(part).padStart(2, "0"));
+  return `${parts.join(":")}.${String(milliseconds % 1000).padStart(3, "0")}`;
 }
 
 function writeFrame() {
