@@ -21,9 +21,8 @@ import subprocess
 import sys
 import tempfile
 
-from library.bits import ivf
 from library.damage import damage
-from library.ivf import records
+from library.ivf import ivf, records
 
 TOP = pathlib.Path(__file__).resolve().parent.parent
 LIST = os.environ.get("VP8LIST", str(TOP / "crates/vp8list/out/vp8list"))
