@@ -1,7 +1,6 @@
 // Saves the packets of a session.
-ghost use Rattle.std.specs.Prelude.{◌≡◌, [], IfErr, OnOk};
-ghost use Rattle.std.specs.Io.Buffered.{writer_buffer, writer_contents};
-ghost use Rattle.std.specs.Io.KnownBytes.{Appends};
+ghost use Rattle.std.specs.Prelude.{◌≡◌, ◌≢◌, IfErr};
+ghost use Rattle.std.specs.IoError.{error_kind};
 ghost use Rattle.serve_program.specs.Endings.{IsSaveFault, saved_text};
 
 use crate::messages::Messages;
@@ -10,7 +9,7 @@ use frame_session::Session;
 use output_files::{SavedText, Target, Unsaved, begin};
 use serve_arguments::{Fault, Words};
 use std::fs::File;
-use std::io::{BufWriter, Write};
+use std::io::{self, BufWriter, ErrorKind, Write};
 use std::rt::Files;
 
 /// The packets of source 0 as they are saved.
@@ -47,8 +46,18 @@ pub fn begin_save<'a, R: Files + AllocGlobal, E: Write>(
     };
     match begin(rt, rt.alloc(), path) {
         Ok(target) => Ok(Some(target)),
-        Err(error) => Err(messages.not_saved(Unsaved::Make(error))),
+        Err(error) => Err(messages.not_saved(unmade(error))),
     }
+}
+
+/// Why a new file could not be made.
+fn unmade(error: io::Error) -> Unsaved
+    ensures { error_kind error ≢ ErrorKind.OutOfMemory → result ≡ Unsaved.Make error }
+{
+    if error.kind() == ErrorKind::OutOfMemory {
+        return Unsaved::NoMemory;
+    }
+    Unsaved::Make(error)
 }
 
 /// Saves the packets of source 0 of a session as it was begun.
