@@ -785,6 +785,19 @@ class TheCommand(Case):
         self.assertEqual((status, out, "another session" in errors), (2, b"", True))
         self.end(process)
 
+    def test_it_ends_in_the_middle_of_a_frame(self):
+        room = self.folder()
+        # A frame that takes a while: the last of many.
+        key, other = packets_of(DATA / "version-0.ivf")[:2]
+        clip = write_packets(room / "long.ivf", [key] + 20000 * [other])
+        process, host, token = self.open(clip)
+        one = http.client.HTTPConnection(host, timeout=60 * SLOW)
+        one.request("GET", f"/{token}/frames/20000.y4m")
+        time.sleep(0.5)
+        with self.within(6):
+            self.end(process)
+        one.close()
+
     def test_names_beside(self):
         from wokureti.opening import free_name, names_beside
 

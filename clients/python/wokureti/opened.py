@@ -60,6 +60,8 @@ class Opened(live.Live):
         if self.pool is None or self.pool.contents is not contents:
             self.pool, before = Pool(contents), None
             if contents.listed.is_learnt:
+                # Those that edits made may not be listed yet.
+                contents.listed.learn()
                 self.pool.refuse(contents.listed)
         else:
             self.pool.grow(contents)
@@ -91,10 +93,13 @@ class Opened(live.Live):
     def close(self):
         if not self.save_at_end:
             self.saved = self.revision
+        if self.saved == self.revision or self.save_path is None:
+            interrupt(self)
         with self.check_lock:
             if self.check is not None:
                 self.check.stop()
         for original in self.originals.values():
+            interrupt(original)
             original.close()
         self.preview.close()
         super().close()
@@ -170,10 +175,18 @@ class Preview:
         return found
 
     def close(self):
+        if self.live is not None:
+            interrupt(self.live)
         with self.lock:
             if self.live is not None:
                 self.live.close()
                 self.live = None
+
+
+def interrupt(stream):
+    """Ends the program of a stream that is closed, also in the middle of a frame."""
+    stream.closed = True
+    stream.session.kill()
 
 
 def group_of(contents, stream, packet):

@@ -200,12 +200,15 @@ server.listen((name) => {
 });
 
 // Until all headers are listed, no packet is known to be refused.
-async function awaitList() {
-  while (!model.session.listed) {
-    await new Promise((done) => setTimeout(done, 400));
-    await model.load();
-  }
-}
+let isWaiting = false;
+model.addEventListener("session", () => {
+  if (model.session.listed || isWaiting) return;
+  isWaiting = true;
+  setTimeout(() => {
+    isWaiting = false;
+    model.load().catch((error) => status.say(error.message));
+  }, 400);
+});
 
 addEventListener("beforeunload", (event) => {
   if (model.session && !model.session.saved) event.preventDefault();
@@ -233,7 +236,6 @@ async function begin() {
   find("timeline").focus({ focusVisible: false });
   status.say(restarts ? `vp8serve was started again ${restarts} times` : "ready");
   document.body.dataset.ready = "yes";
-  awaitList().catch((error) => status.say(error.message));
 }
 
 // For tests.
