@@ -131,7 +131,7 @@ def read_header(state, packet):
         state, place = fresh(width, height), 10
     elif state is None:
         raise Refused
-    state = copied(state)
+    state, before = copied(state), copied(state)
     if len(packet) - place < size:
         raise Refused
     r = Reader(packet[place : place + size])
@@ -200,7 +200,19 @@ def read_header(state, packet):
                 if r.bit(prob):
                     row[n] = r.number(7) * 2 or 1
     f["token_partition_sizes"] = [len(part) for part in parts]
+    h["changes"] = list(changes_of(before, state))
     return f, h, state, saved, r, parts
+
+
+def changes_of(before, after):
+    """The probabilities that differ: the name of the list, the index, and the values before and after."""
+    lists = [("coeff_prob", "coefficients"), ("y_mode_prob", "y"), ("uv_mode_prob", "uv")]
+    pairs = [(name, before[key], after[key]) for name, key in lists]
+    pairs += [(name, before["vectors"][n], after["vectors"][n]) for n, name in enumerate(("mv_row_prob", "mv_column_prob"))]
+    for name, old, new in pairs:
+        for index, (was, now) in enumerate(zip(old, new, strict=True)):
+            if was != now:
+                yield {"probability": name, "index": index, "old": was, "new": now}
 
 
 def read_component(r, probs):
@@ -420,7 +432,7 @@ def objects_of(f, state, modes, columns, packet):
 
 
 def wanted(text):
-    """The macroblocks and the headers that the program should print of a stream."""
+    """The macroblocks, and the headers with their changes of probabilities, that the program should print of a stream."""
     state, broken, macroblocks, headers = None, False, [], []
     for packet, (_, data) in enumerate(records(text)):
         if len(data) >= 3 and not data[0] & 1:
@@ -439,6 +451,7 @@ def wanted(text):
         modes = read_modes(f, h, state, r, columns, rows)
         read_tokens(state, modes, parts, columns)
         headers.append({"packet": packet, **f})
+        headers += [{"packet": packet, **change} for change in h["changes"]]
         macroblocks += objects_of(f, state, modes, columns, packet)
         if h["map"]:
             state["map"] = [mb["segment"] for mb in modes]
@@ -473,10 +486,10 @@ def check(path):
         row = [cell(":".join(map(str, one[name])) if name == "vector" and one[name] else one[name]) for name in names]
         assert line == row, f"{path}: {line} instead of {row}"
     shown = [json.loads(line) for line in said(path, "--header", "all", "--json")]
-    shown = [one for one in shown if "version" in one]
+    shown = [one for one in shown if "version" in one or "probability" in one]
     for ours, theirs in zip(shown, headers, strict=True):
         assert ours == theirs, f"{path}: {ours} instead of {theirs}"
-    return len(macroblocks), len(headers), sum(one["token_bits"] is not None for one in macroblocks)
+    return len(macroblocks), sum("version" in one for one in headers), sum(one["token_bits"] is not None for one in macroblocks)
 
 
 SIDES = [(1, 1), (16, 16), (17, 33), (48, 20), (40, 48), (64, 16)]

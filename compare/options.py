@@ -76,10 +76,10 @@ def check_details(path):
     expect(f"{path.name} --macroblocks all --json", (status, [one for one in shown if "column" in one], errors), (0, macroblocks, ""))
     status, text, errors = ran(path, "--header", "all", "--json")
     shown = [json.loads(line) for line in text.splitlines()]
-    expect(f"{path.name} --header all --json", (status, [one for one in shown if "version" in one], errors), (0, headers, ""))
-    others = [one["packet"] for one in shown if "version" not in one]
+    expect(f"{path.name} --header all --json", (status, [one for one in shown if "version" in one or "probability" in one], errors), (0, headers, ""))
+    others = [one["packet"] for one in shown if "version" not in one and "probability" not in one]
     count = len(list(listed(path.read_bytes()))) - 1
-    expect(f"{path.name} packets without a header", sorted(others + [one["packet"] for one in headers]), list(range(count)))
+    expect(f"{path.name} packets without a header", sorted(others + [one["packet"] for one in headers if "version" in one]), list(range(count)))
     lines = [line for line in ran(path, "--macroblocks", "all")[1].splitlines()]
     names, rows = lines[0].split("\t"), [line.split("\t") for line in lines[1:] if not line.startswith("#")]
     spell = [[cell(":".join(map(str, one[name])) if name == "vector" and one[name] else one[name]) for name in names] for one in macroblocks]
@@ -87,9 +87,11 @@ def check_details(path):
     for packet in sorted({0, count // 2, count - 1} & set(range(count))):
         own = [line for line in lines if line.startswith((f"{packet}\t", f"# packet {packet}:"))]
         expect(f"{path.name} --macroblocks {packet}", ran(path, "--macroblocks", packet), (0, "".join(line + "\n" for line in [lines[0], *own]), ""))
-        fields = dict(line.split("\t") for line in ran(path, "--header", packet)[1].splitlines() if "\t" in line)
-        one = next((header for header in headers if header["packet"] == packet), {})
-        expect(f"{path.name} --header {packet}", fields, {name: cell(value) for name, value in one.items()})
+        fields = dict(line.split("\t", 1) for line in ran(path, "--header", packet)[1].splitlines() if "\t" in line)
+        own = [header for header in headers if header["packet"] == packet]
+        rows = {name: cell(value) for one in own[:1] for name, value in one.items()}
+        rows.update({f"{one['probability']}[{one['index']}]": str(one["new"]) for one in own[1:]})
+        expect(f"{path.name} --header {packet}", {name: value.split("\t")[-1] for name, value in fields.items()}, rows)
     status, text, errors = ran(path, "--macroblocks", count)
     expect(f"{path.name} packet {count}", (status, text, errors), (2, "", f"vp8list: no packet {count}, the stream has {count} packets\n"))
 

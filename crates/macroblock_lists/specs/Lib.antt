@@ -6,5 +6,6 @@ pub mod Lines
 pub mod Objects
 pub mod Fields
 pub mod Known
+pub mod Changes
 pub mod Frames
 pub mod Texts

@@ -16,6 +16,7 @@ use Rattle.macroblock_lists.specs.declared.layouts.Form.TheVariants as forms
 use Rattle.macroblock_lists.specs.declared.layouts.Layout.TheVariants as layouts
 use Rattle.macroblock_lists.specs.declared.layouts.What.{What}
 use Rattle.macroblock_lists.specs.declared.layouts.What.TheVariants as what
+use Rattle.macroblock_lists.specs.Changes.{all_changes, probabilities_before}
 use Rattle.macroblock_lists.specs.Fields.{header_fields}
 use Rattle.macroblock_lists.specs.Frames.{frame_text}
 use Rattle.macroblock_lists.specs.Known.{Known, Progress, header_after, known_before, progress_over}
@@ -60,7 +61,8 @@ header_text forms.Objects place header =
 -- a packet that is decoded
 abbrev pub frame_by : What → Form → ℕ → TableEntries → List ℕ → Header → Option Known → List ℕ
 frame_by what.Macroblocks form place tables packet header before = comment_of form place header ++ frame_text form place tables packet header before
-frame_by what.Header form place tables packet header before = header_text form place header
+frame_by what.Header form place tables packet header before =
+    header_text form place header ++ all_changes form place (probabilities_before tables header.is_key before) header.context.probabilities
 
 abbrev pub text_by : What → Form → ℕ → TableEntries → List ℕ → Option Known → Result Header Cause → List ℕ
 text_by what form place tables packet before (Ok header) = frame_by what form place tables packet header before

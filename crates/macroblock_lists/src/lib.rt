@@ -3,6 +3,7 @@
 #![tactic(auto)]
 
 mod broken;
+mod changes;
 mod coefficients;
 mod fields;
 mod frames;

@@ -5,11 +5,13 @@ ghost use Rattle.std.specs.Fmt.{decimal};
 ghost use Rattle.std.specs.List.{flat_map};
 ghost use Rattle.std.specs.Option.{option_copied};
 ghost use Rattle.std.specs.Io.KnownBytes.{Appends};
+ghost use Rattle.macroblock_lists.specs.Changes.{all_changes, probabilities_before};
 ghost use Rattle.macroblock_lists.specs.Known.{header_after, known_before};
 ghost use Rattle.macroblock_lists.specs.Parts.{after_comma, joined};
 ghost use Rattle.macroblock_lists.specs.Texts.{broken_text, comment_of, comment_start, frame_by, header_text, known_text, packet_line, packet_text, repeat_by, repeat_text, text_by};
 
 use crate::broken::Broken;
+use crate::changes::{probabilities_before, write_changes};
 use crate::fields::write_header_fields;
 use crate::frames::write_frame;
 use crate::known::{Known, Progress, context_of, frame_modes, macroblocks, size_of};
@@ -218,6 +220,23 @@ fn write_macroblocks<W: Write>(
     write_frame(w, alloc, form, place, packet, header, size, modes.records())
 }
 
+/// Writes the header of a packet that decoding accepts, and the probabilities that it changes.
+fn write_whole_header<W: Write>(
+    w: &mut W,
+    tables: &Tables,
+    target: Target,
+    header: &Header,
+    before: Option<&Known>,
+) -> Result<(), WriteFault>
+    requires following { header.now.is_key ≡ false → IsSome before }
+    ensures { OnOk result (Appends (W.contents w.old) (W.contents w.new) (header_text target.form target.place header.now ++ all_changes target.form target.place (probabilities_before tables.now header.now.is_key (option_copied before.entry)) header.now.context.probabilities)) }
+{
+    let Target { form, place, .. } = target;
+    let old = probabilities_before(tables, header.is_key, before);
+    write_header(w, form, place, header)?;
+    write_changes(w, form, place, &old, &header.context.probabilities)
+}
+
 /// Writes a packet that decoding accepts.
 fn write_accepted<W: Write>(
     w: &mut W,
@@ -238,7 +257,7 @@ fn write_accepted<W: Write>(
     match target.what {
         What::Macroblocks => write_macroblocks(w, alloc, tables, target, packet, header, before),
         What::Header => {
-            write_header(w, target.form, target.place, header)?;
+            write_whole_header(w, tables, target, header, before)?;
             Ok(())
         }
     }
