@@ -2,7 +2,8 @@
 """Counts the definitions that the headline stands on, and compares them with docs/definitions.md: definitions.py
 
 The contract of `run` speaks of `Means` (frame_session, Answers). The files that it stands on are those whose definitions it uses, by
-the `use` lines, down to the lowest crate. Each of them should be in docs/definitions.md, and each file that is named there must exist.
+the `use` lines, down to the lowest crate. The first part of docs/definitions.md must name each of them and no other, and each file that
+it names anywhere must exist.
 """
 
 import pathlib
@@ -38,18 +39,22 @@ def named(text):
 
 
 def main():
-    listed = set(named((TOP / "docs/definitions.md").read_text()))
+    headline, rest = (TOP / "docs/definitions.md").read_text().split("\n## The rest\n")
+    listed = set(named(headline))
     wanted = below(path_of("frame_session", "Answers"))
-    gone = sorted(file for file in listed if not file.is_file())
+    gone = sorted(file for file in listed | set(named(rest)) if not file.is_file())
     missing = sorted(wanted - listed)
+    more = sorted(listed - wanted - set(gone))
     for file in gone:
         print(f"{file.relative_to(TOP)} is named, but does not exist")
     for file in missing:
-        print(f"{file.relative_to(TOP)} is not named")
+        print(f"{file.relative_to(TOP)} is not named in the first part")
+    for file in more:
+        print(f"{file.relative_to(TOP)} is named in the first part, but the headline does not stand on it")
     lines = [line for file in wanted for line in file.read_text().splitlines()]
     code = [line for line in lines if line.strip() and not line.startswith(("use ", "--"))]
     print(f"{len(wanted)} files, {len(lines)} lines, {len(code)} of them without comments, imports and empty ones")
-    return 1 if gone else 0
+    return 1 if gone or missing or more else 0
 
 
 if __name__ == "__main__":
