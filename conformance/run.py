@@ -1,20 +1,23 @@
 #!/usr/bin/env python3
 """Runs another decoder over the streams, and says where it leaves RFC 6386.
 
-    run.py vpxdec | ffmpeg | gstreamer                one of these, if it is installed
+    run.py vpxdec | ffmpeg | gstreamer                one of these, if it is installed; gstreamer is its vp8dec
+    run.py dwebp | go                                 libwebp, golang.org/x/image/vp8: key frames only
     run.py NAME COMMAND                               any other: {in} is the stream, {out} a file for I420 frames
     run.py NAME COMMAND --md5                         it prints an MD5 of all frames, or of each, on standard output
     run.py ... [--junit FILE] [--beyond] [STREAM ..]
 
-A stream is `same`, or the first frame that differs is shown, with the macroblock and the sample, what the macroblock is made of, and the points that the
-stream alone reaches. A stream in which the decoder shows fewer frames than the standard is compared as far as it goes. --beyond takes the
-streams in which libvpx leaves the standard, too. The last lines count streams, frames and points. The exit status is 1 if a stream differs.
+A stream is `same`, or the first frame that differs is shown, with the macroblock and the sample, and what the macroblock is made of. A stream in
+which the decoder shows fewer frames than the standard is compared as far as it goes. --beyond takes the streams in which libvpx leaves the
+standard, too. The last lines name the points that only streams that differ reach, and count streams, frames and points. The exit status is 1
+if a stream differs.
 """
 
 import argparse
 import concurrent.futures
 import hashlib
 import json
+import os
 import pathlib
 import re
 import subprocess
@@ -32,8 +35,14 @@ STREAMS, EXPECTED = HERE / "streams", HERE / "expected"
 KNOWN = {
     "vpxdec": ["vpxdec", "--codec=vp8", "--i420", "-o", "{out}", "{in}"],
     "ffmpeg": ["ffmpeg", "-nostdin", "-v", "error", "-y", "-i", "{in}", "-fps_mode", "passthrough", "-autoscale", "0", "-f", "rawvideo", "{out}"],
-    "gstreamer": ["gst-launch-1.0", "-q", "filesrc", "location={in}", "!", "ivfparse", "!", "avdec_vp8", "!", "filesink", "location={out}"],
+    "gstreamer": ["gst-launch-1.0", "-q", "filesrc", "location={in}", "!", "ivfparse", "!", "vp8dec", "!", "filesink", "location={out}"],
+    "dwebp": [sys.executable, str(HERE / "adapters/dwebp.py"), "{in}", "{out}"],
+    "go": ["{room}/key_packets", "{in}", "{out}"],
 }
+# Decoders of key frames alone: other packets are left out.
+KEY_ONLY = ("dwebp", "go")
+# GStreamer's rows begin at multiples of four, and it has an even number of rows of luma.
+PADDED = ("gstreamer",)
 
 
 def is_shown(packet):
@@ -43,7 +52,7 @@ def is_shown(packet):
 class Truth:
     """What the standard gives for a stream: each shown frame with its packet, its samples and its records."""
 
-    def __init__(self, path):
+    def __init__(self, path, keys_only=False):
         self.frames = []
         decoder = Decoder()
         for number, packet in enumerate(ivf.read(path)):
@@ -51,7 +60,7 @@ class Truth:
                 picture = decoder.decode(packet)
             except Refused:
                 continue
-            if is_shown(packet):
+            if is_shown(packet) and (not keys_only or decoder.frame and decoder.frame.header.is_key):
                 self.frames.append((number, picture, decoder.frame))
 
 
@@ -93,14 +102,39 @@ def first_sample(ours, theirs, picture):
     raise ValueError("no sample")
 
 
-def difference(path, command, prints):
+def where_it_differs(truth, number, part):
+    """The first sample of a frame that differs, with what its macroblock is made of."""
+    packet, picture, frame = truth.frames[number]
+    plane, x, y = first_sample(picture.shown(), part, picture)
+    side = 8 if plane else 16
+    columns = (picture.width + 15) // 16
+    place = f"frame {number}, packet {packet}, macroblock {x // side},{y // side}, {('Y', 'U', 'V')[plane]} sample {x},{y}"
+    return f"{place}: {record_of(frame, y // side * columns + x // side)}"
+
+
+def without_padding(text, truth):
+    """Frames of padded rows as I420."""
+    frames, place = [], 0
+    for _, picture, _ in truth.frames:
+        width, height = (picture.width + 1) // 2, (picture.height + 1) // 2
+        for shown, rows, all_rows in ((picture.width, picture.height, 2 * height), (width, height, height), (width, height, height)):
+            stride = (shown + 3) // 4 * 4
+            plane = text[place : place + stride * all_rows]
+            frames += [plane[row * stride :][:shown] for row in range(rows)]
+            place += stride * all_rows
+    return b"".join(frames) + text[place:]
+
+
+def difference(path, command, asked):
     """None if a decoder gives the standard's frames, or a sentence, and how many frames are right before it."""
-    truth = Truth(path)
+    truth, prints = Truth(path, asked.name in KEY_ONLY), asked.md5
     with tempfile.TemporaryDirectory() as room:
         try:
             theirs, errors = ran(command, path, room, prints)
         except subprocess.TimeoutExpired:
             return "it does not end", 0, len(truth.frames)
+    if asked.name in PADDED:
+        theirs = without_padding(theirs, truth)
     said = f" ({errors[-1][:120]})" if errors else ""
     if prints:
         samples = [picture.shown() for _, picture, _ in truth.frames]
@@ -110,32 +144,28 @@ def difference(path, command, prints):
         same = next((number for number, pair in enumerate(zip(wanted, theirs)) if pair[0] != pair[1]), min(len(wanted), len(theirs)))
         return f"frame {same} differs{said}", same if len(theirs) > 1 else 0, len(samples)
     place = 0
-    for number, (packet, picture, frame) in enumerate(truth.frames):
+    for number, (_, picture, _) in enumerate(truth.frames):
         ours = picture.shown()
         part = theirs[place : place + len(ours)]
         if len(part) < len(ours):
             return f"it shows {number} of {len(truth.frames)} frames{said}", number, len(truth.frames)
         if part != ours:
-            plane, x, y = first_sample(ours, part, picture)
-            side = 8 if plane else 16
-            columns = (picture.width + 15) // 16
-            at = y // side * columns + x // side
-            where = f"frame {number}, packet {packet}, macroblock {x // side},{y // side}, {('Y', 'U', 'V')[plane]} sample {x},{y}"
-            return f"{where}: {record_of(frame, at)}{said}", number, len(truth.frames)
+            return f"{where_it_differs(truth, number, part)}{said}", number, len(truth.frames)
         place += len(ours)
     if place != len(theirs):
         return f"it shows more than the {len(truth.frames)} frames{said}", len(truth.frames), len(truth.frames)
     return None, len(truth.frames), len(truth.frames)
 
 
-def own_points(names):
-    """For each stream the points that it alone reaches."""
-    own = {}
+def points_of(differing, run):
+    """The points that only streams that differ reach, of those that were run: first those that most of them reach."""
+    found = []
     for group, record in json.loads((HERE / "points.json").read_text()).items():
         for point, streams in record["points"].items():
-            if len(streams) == 1:
-                own.setdefault(streams[0], []).append(f"{group}: {point}")
-    return {name: own.get(name, []) for name in names}
+            reaching = set(streams) & run
+            if reaching and reaching <= differing:
+                found.append((len(reaching), f"{group}: {point}"))
+    return [name for _, name in sorted(found, key=lambda pair: -pair[0])]
 
 
 def reached(names):
@@ -153,6 +183,41 @@ def write_junit(path, name, results):
     xml.ElementTree(suite).write(path, encoding="utf-8", xml_declaration=True)
 
 
+def command_of(asked, room):
+    """The words that run the decoder; the adapter in Go is built first."""
+    if asked.name not in KNOWN:
+        return asked.command.split() if asked.command else None
+    if asked.name == "go":
+        # Debian's golang-golang-x-image-dev puts its sources there.
+        settings = {"GO111MODULE": "off", "GOPATH": os.environ.get("GOPATH", "/usr/share/gocode"), "GOCACHE": f"{room}/cache", "GOFLAGS": ""}
+        built = ["go", "build", "-o", f"{room}/key_packets", str(HERE / "adapters/key_packets.go")]
+        subprocess.run(built, env={**os.environ, **settings}, check=True)
+    return [word.replace("{room}", room) for word in KNOWN[asked.name]]
+
+
+def asked_streams(asked):
+    wanted = set(asked.streams) | ({asked.command} if asked.name in KNOWN and asked.command else set())
+    paths = [path for path in sorted(STREAMS.rglob("*.ivf")) if (asked.beyond or path.parent == STREAMS) and (not wanted or path.stem in wanted)]
+    missing = wanted - {path.stem for path in paths}
+    if missing or not paths:
+        sys.exit(f"run.py: no stream {', '.join(sorted(missing))}; streams/ has their names")
+    return paths
+
+
+def summary(name, results):
+    """The points that only streams that differ reach, and how much is the same."""
+    good = {stream for stream, text, _, _ in results if text is None}
+    bad = {row[0] for row in results} - good
+    frames = f"{sum(row[2] for row in results)} of {sum(row[3] for row in results)} {'key ' if name in KEY_ONLY else ''}frames"
+    total = f"{name}: {len(good)} of {len(results)} streams, {frames}"
+    if name in KEY_ONLY:
+        return total
+    suspects, points = points_of(bad, good | bad), reached(good)
+    more = f"; and {len(suspects) - 12} more points" if len(suspects) > 12 else ""
+    first = f"only streams that differ reach: {'; '.join(suspects[:12])}{more}\n" if suspects else ""
+    return f"{first}{total}; streams that are the same reach {points[0]} of {points[1]} points"
+
+
 def main():
     parser = argparse.ArgumentParser(description=__doc__, formatter_class=argparse.RawDescriptionHelpFormatter)
     parser.add_argument("name")
@@ -162,25 +227,19 @@ def main():
     parser.add_argument("--beyond", action="store_true")
     parser.add_argument("--junit")
     asked = parser.parse_args()
-    command = KNOWN.get(asked.name) if asked.name in KNOWN else asked.command.split() if asked.command else None
-    if command is None:
-        parser.error(f"{asked.name} is not known: give its command")
-    wanted = set(asked.streams) | ({asked.command} if asked.name in KNOWN and asked.command else set())
-    paths = [path for path in sorted(STREAMS.rglob("*.ivf")) if (asked.beyond or path.parent == STREAMS) and (not wanted or path.stem in wanted)]
-    own = own_points([path.stem for path in paths])
-    results = []
-    with concurrent.futures.ThreadPoolExecutor(4) as pool:
-        for path, (text, same, frames) in zip(paths, pool.map(lambda path: difference(path, command, asked.md5), paths)):
+    paths, results = asked_streams(asked), []
+    with tempfile.TemporaryDirectory() as room, concurrent.futures.ThreadPoolExecutor(4) as pool:
+        command = command_of(asked, room)
+        if command is None:
+            parser.error(f"{asked.name} is not known: give its command")
+        found = pool.map(lambda path: difference(path, command, asked), paths)
+        for path, (text, same, frames) in zip(paths, found):
             results.append((path.stem, text, same, frames))
             print(f"{path.stem}: {'same' if text is None else text}", flush=True)
-            if text and own[path.stem]:
-                print(f"    reached by this stream alone: {'; '.join(own[path.stem][:4])}{' ..' if len(own[path.stem]) > 4 else ''}")
-    good = {name for name, text, _, _ in results if text is None}
-    points = reached(good)
-    print(f"{asked.name}: {len(good)} of {len(results)} streams, {sum(row[2] for row in results)} of {sum(row[3] for row in results)} frames; streams that are the same reach {points[0]} of {points[1]} points")
+    print(summary(asked.name, results))
     if asked.junit:
         write_junit(asked.junit, asked.name, results)
-    return 0 if len(good) == len(results) else 1
+    return 1 if any(text for _, text, _, _ in results) else 0
 
 
 if __name__ == "__main__":
