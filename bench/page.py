@@ -17,7 +17,7 @@ sys.path.insert(0, str(pathlib.Path(__file__).resolve().parent.parent / "compare
 from browser import Browser  # noqa: E402
 from page import Page, make_million  # noqa: E402
 
-TURNS = 20
+TURNS = 15
 
 
 def opening(browser, path, count):

@@ -10,7 +10,7 @@ import urllib.error
 import urllib.request
 
 # Seconds that a request of the driver may take.
-MOST_TIME = 120
+MOST_TIME = 300
 ELEMENT = "element-6066-11e4-a52e-4f735466cecf"
 KEYS = {
     "Control": "\ue009", "Shift": "\ue008", "Left": "\ue012", "Right": "\ue014", "Up": "\ue013", "Down": "\ue015", "Home": "\ue011", "End": "\ue010",
@@ -35,7 +35,7 @@ class Browser:
         self.root = f"http://127.0.0.1:{port}"
         arguments = ["--headless=new", "--no-sandbox", "--disable-gpu", f"--window-size={width},{height}", "--hide-scrollbars", "--no-first-run"]
         options = {"binary": shutil.which("chromium"), "args": arguments}
-        wanted = {"browserName": "chrome", "goog:chromeOptions": options, "goog:loggingPrefs": {"browser": "ALL"}, "unhandledPromptBehavior": "ignore"}
+        wanted = {"browserName": "chrome", "goog:chromeOptions": options, "goog:loggingPrefs": {"browser": "ALL"}, "unhandledPromptBehavior": "ignore", "timeouts": {"script": 1000 * MOST_TIME}}
         try:
             limit = time.monotonic() + 30
             while True:

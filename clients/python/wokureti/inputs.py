@@ -4,6 +4,7 @@ import os
 import shutil
 import stat
 import tempfile
+import threading
 
 from . import checks, ivf
 
@@ -17,6 +18,7 @@ class Input:
         self.signature = None
         self.head = ivf.EMPTY
         self.index = None
+        self.lock = threading.Lock()
         self.is_shared = False
         if path == "-":
             return
@@ -60,14 +62,19 @@ class Input:
             raise OSError(f"{self.path} was changed while the session was opened")
 
     def records(self):
-        """The index of the packets, made when it is needed first."""
+        """The index of the packets, made when it is needed first. Other threads that need it wait."""
         if self.index is None:
-            if self.descriptor is None:
-                self.index = ivf.Index()
-            else:
-                self.head, self.index = ivf.read_index(self.descriptor)
-                self.check()
+            with self.lock:
+                if self.index is None:
+                    self.index = self.read_index()
         return self.index
+
+    def read_index(self):
+        if self.descriptor is None:
+            return ivf.Index()
+        self.head, index = ivf.read_index(self.descriptor)
+        self.check()
+        return index
 
     def opened(self):
         """The descriptor. `OSError` if the session is over."""

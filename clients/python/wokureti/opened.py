@@ -35,6 +35,7 @@ class Opened(live.Live):
     def list_files(self):
         """Lists the headers of all packets; until that is done, no packet is known to be refused."""
         with contextlib.suppress(OSError, Ended, live.Lost, Refused):
+            self.session.read_indexes()
             with self.lock:
                 contents = self.contents()
             contents.listed.learn()
@@ -49,6 +50,9 @@ class Opened(live.Live):
         found = self.current
         if found is not None and found.revision == self.revision:
             return found
+        with contextlib.suppress(OSError, ValueError):
+            # Frames are answered meanwhile.
+            self.session.read_indexes()
         with self.lock:
             found = self.current
             if found is None or found.revision != self.revision:

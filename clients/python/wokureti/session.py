@@ -319,6 +319,11 @@ class Session:
         with self._locked(timeout):
             return self._edits.redo(timeout)
 
+    def read_indexes(self):
+        """Reads where the packets of the files are. No request waits for it meanwhile, and what needs it later is answered sooner."""
+        for item in self._inputs.all:
+            item.records()
+
     def packet(self, index, source=None):
         """The bytes of a packet of the current source, or of another one."""
         with self._locked(None):
