@@ -1,5 +1,6 @@
 // Errors that end the program: their texts, their statuses, and which of two is reported.
 use crate::expected::{Broken, ONE, check, clear, expect, expect_fault, put};
+use serve_arguments::{Argument, Fault, SameFile, tell};
 use std::fs::hard_link;
 use std::os::unix::fs::symlink;
 use std::process::Abort;
