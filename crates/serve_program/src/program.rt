@@ -45,10 +45,12 @@ pub fn run_to<F: Write, P: Write, V: Observer>(
     ensures capacity { IfOk result (λ session. session.cache.capacity ≡ settings.capacity) }
     ensures refused { IfErr result (IsRefused (texts_of sources.now) (F.contents frames.old) (F.contents frames.new) (P.contents replies.old) (P.contents replies.new)) }
 {
-    let session = run_observed(
+    let session = match run_observed(
         alloc, settings, sources, requests, frames, replies, observer,
-    )
-    .map_err(run_fault)?;
+    ) {
+        Ok(session) => session,
+        Err(fault) => return Err(run_fault(fault)),
+    };
     frames.flush().map_err(|_| Fault::CannotWrite)?;
     replies.flush().map_err(|_| Fault::CannotWrite)?;
     Ok(session)

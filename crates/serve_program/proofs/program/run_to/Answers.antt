@@ -6,4 +6,4 @@ pub returns-clause-answered : goal.returns-clause-answered
 returns-clause-answered g c =
     let f = g.F.Write.contents in
     let r = g.P.Write.contents in
-    flushed c.args.settings.tables (texts_of c.args.sources.now) c.args.requests.now (f c.args.frames.now) (f c.run_observed.new.frames) (f c.flush.new.self) (r c.args.replies.now) (r c.run_observed.new.replies) (r c.flush-2.new.self) c.in_ok-session.session.now c.in_ok-session.ensures.means c.flush.ensures.bytes c.flush-2.ensures.bytes
+    flushed c.args.settings.tables (texts_of c.args.sources.now) c.args.requests.now (f c.args.frames.now) (f c.run_observed.new.frames) (f c.flush.new.self) (r c.args.replies.now) (r c.run_observed.new.replies) (r c.flush-2.new.self) c.in-Ok.session.now c.in-Ok.ensures.means c.flush.ensures.bytes c.flush-2.ensures.bytes
