@@ -65,7 +65,7 @@ BUGS = [
      "filters_inside = macroblock.has_tokens or macroblock.reference == INTRA and not macroblock.has_y2"),
     ("far-edge", "samples far outside a plane are those of the opposite edge", "decoder.py",
      "return self.rows[min(max(y, 0), self.height - 1)][min(max(x, 0), self.width - 1)]",
-     "return self.rows[min(max(y, 0), self.height - 1)][min(max(x, 0), self.width - 1) if x > -300 else self.width - 1]"),
+     "return self.rows[min(max(y, 0), self.height - 1)][min(max(x, 0), self.width - 1) if x > -200 else self.width - 1]"),
 ]
 
 
