@@ -107,8 +107,8 @@ Anything else is a note:
   vp8list in.ivf --check --json | jq 'select(.severity == \"damage\") | .packet'
 
 --macroblocks lists what each macroblock of a packet is made of, --header the fields of its
-header, by their names in RFC 6386. They take the index of a packet, as 12, several packets, as
-12-15, or all:
+header with their bits, by their names in RFC 6386. They take the index of a packet, as 12,
+several packets, as 12-15, or all:
 
   vp8list in.ivf --macroblocks 12 | column -t
   vp8list in.ivf --macroblocks all | awk '$6 == \"golden\" { print $1, $2, $3 }'
@@ -123,6 +123,7 @@ header, by their names in RFC 6386. They take the index of a packet, as 12, seve
               mv_nearest, mv_near, mv_new or mv_split
   chroma      DC_PRED, V_PRED, H_PRED or TM_PRED
   parts       the 16 modes of B_PRED, or the 16 vectors of mv_split
+  split       the parts of mv_split: mv_top_bottom, mv_left_right, mv_quarters or MV_16
   vector      x:y in quarters of a sample, to the right and down
   quantizer   quantizer index in force, 0 to 127
   level       filter level in force, 0 to 63
@@ -132,7 +133,8 @@ header, by their names in RFC 6386. They take the index of a packet, as 12, seve
   blocks      a digit for each block: 1 if it has a coefficient that is not 0
   coefficients, greatest
               how many are not 0, and the greatest absolute value
-  token_bits  bits that its tokens take
+  mode_bits, token_bits
+              bits that its record and its tokens take
 
 A line that begins with # has the header of a packet, or why it is refused.
 

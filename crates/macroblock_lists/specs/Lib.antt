@@ -6,6 +6,10 @@ pub mod Lines
 pub mod Objects
 pub mod Fields
 pub mod Known
+pub mod KnownLaws
+pub mod PartitionEnds
+pub mod PartitionEndLaws
 pub mod Changes
+pub mod Records
 pub mod Frames
 pub mod Texts

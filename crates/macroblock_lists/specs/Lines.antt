@@ -1,10 +1,10 @@
 -- The line of a macroblock: columns between tabs, and `-` for a fact that it does not have.
-use Rattle.std.specs.Prelude.{ℕ, Bool, List, [], ◌∷◌, ◌++◌, codes, slice_index_or, Option, Some, None}
+use Rattle.std.specs.Prelude.{ℕ, List, ◌++◌, codes, slice_index_or, Option, Some, None, ℤ}
 use Rattle.std.specs.Fmt.{decimal}
 use Rattle.intra_predict.specs.declared.modes.WholeMode.{WholeMode}
 use Rattle.intra_predict.specs.declared.modes.SubMode.{SubMode}
-use Rattle.frame_header.specs.declared.references.Reference.{Reference}
 use Rattle.mode_parser.specs.declared.records.MbMode.{MbMode}
+use Rattle.mode_parser.specs.declared.records.Split.{Split as Parts}
 use Rattle.mode_parser.specs.declared.records.YMode.{YMode}
 use Rattle.mode_parser.specs.declared.records.YMode.TheVariants.{Whole, B, Inter}
 use Rattle.mode_parser.specs.declared.records.VectorMode.{VectorMode}
@@ -15,12 +15,12 @@ use Rattle.stream_facts.specs.Lines.{column, number}
 use Rattle.macroblock_lists.specs.declared.macroblocks.Macroblock.{Macroblock}
 use Rattle.macroblock_lists.specs.declared.layouts.Form.TheVariants as forms
 use Rattle.macroblock_lists.specs.Coefficients.{count_of, greatest_of}
-use Rattle.macroblock_lists.specs.Names.{luma_name, reference_name, whole_name}
+use Rattle.macroblock_lists.specs.Names.{luma_name, reference_name, split_name, whole_name}
 use Rattle.macroblock_lists.specs.Parts.{bit_text, blocks_text, modes_text, vector_text, vectors_text}
 
 -- the names of the columns
 abbrev pub head_line : List ℕ
-head_line = codes "packet\tcolumn\trow\tsegment\tskip\treference\tluma\tchroma\tparts\tvector\tquantizer\tlevel\tinterior_limit\thev_threshold\tmbedge_limit\tsub_bedge_limit\tinner\tblocks\tcoefficients\tgreatest\ttoken_bits\n"
+head_line = codes "packet\tcolumn\trow\tsegment\tskip\treference\tluma\tchroma\tparts\tsplit\tvector\tquantizer\tlevel\tinterior_limit\thev_threshold\tmbedge_limit\tsub_bedge_limit\tinner\tblocks\tcoefficients\tgreatest\tmode_bits\ttoken_bits\n"
 
 abbrev pub none : List ℕ
 none = codes "-\t"
@@ -52,14 +52,20 @@ parts_column (Whole mode) modes vectors = none
 parts_column B modes vectors = column (modes_text forms.Lines modes)
 parts_column (Inter reference mode) modes vectors = vectors_column mode vectors
 
+-- how it is split
+abbrev pub split_column : Option Parts → List ℕ
+split_column None = none
+split_column (Some split) = column (split_name split)
+
 -- the macroblock's vector, which is that of its last block
 abbrev pub vector_column : YMode → List MotionVector → List ℕ
 vector_column (Whole mode) vectors = none
 vector_column B vectors = none
 vector_column (Inter reference mode) vectors = column (vector_text forms.Lines (slice_index_or vectors 15 zero_vector))
 
-abbrev pub record_columns : MbMode → List ℕ
-record_columns mode = mode_columns mode ++ chroma_column mode.y_mode mode.uv_mode ++ parts_column mode.y_mode mode.sub_modes mode.vectors ++ vector_column mode.y_mode mode.vectors
+abbrev pub record_columns : MbMode → Option Parts → List ℕ
+record_columns mode split =
+    mode_columns mode ++ chroma_column mode.y_mode mode.uv_mode ++ parts_column mode.y_mode mode.sub_modes mode.vectors ++ split_column split ++ vector_column mode.y_mode mode.vectors
 
 -- the limits of the filter
 abbrev pub limit_columns : Option Limits → List ℕ
@@ -70,9 +76,15 @@ limit_columns (Some limits) = number limits.interior ++ number limits.variance +
 abbrev pub force_columns : Macroblock → List ℕ
 force_columns macroblock = number macroblock.quantizer ++ number macroblock.level ++ limit_columns macroblock.limits ++ column (bit_text macroblock.filters_inside)
 
--- the tokens
+-- the tokens, and the bits of the record and of the tokens
+abbrev pub count_columns : List (List ℤ) → List ℕ
+count_columns blocks = number (count_of blocks) ++ number (greatest_of blocks)
+
+abbrev pub bits_columns : ℕ → ℕ → List ℕ
+bits_columns mode_bits token_bits = number mode_bits ++ decimal token_bits ++ codes "\n"
+
 abbrev pub token_columns : Macroblock → List ℕ
-token_columns macroblock = column (blocks_text macroblock.coefficients) ++ number (count_of macroblock.coefficients) ++ number (greatest_of macroblock.coefficients) ++ decimal macroblock.token_bits ++ codes "\n"
+token_columns macroblock = column (blocks_text macroblock.coefficients) ++ count_columns macroblock.coefficients ++ bits_columns macroblock.mode_bits macroblock.token_bits
 
 abbrev pub line_of : ℕ → Macroblock → List ℕ
-line_of packet macroblock = place_columns packet macroblock ++ record_columns macroblock.mode ++ force_columns macroblock ++ token_columns macroblock
+line_of packet macroblock = place_columns packet macroblock ++ record_columns macroblock.mode macroblock.split ++ force_columns macroblock ++ token_columns macroblock

@@ -3,6 +3,7 @@ use Rattle.std.specs.Prelude.{ℕ, ◌-◌, ◌==◌, ◌||◌, Bool, false, if�
 use Rattle.bool_coder.specs.Reader.{Reader, started}
 use Rattle.frame_header.specs.declared.header.Header.{Header}
 use Rattle.mode_parser.specs.declared.records.MbMode.{MbMode}
+use Rattle.mode_parser.specs.declared.record_facts.RecordFacts.{RecordFacts}
 use Rattle.transforms.specs.Factors.{index_of}
 use Rattle.loop_filter.specs.Frames.{has_subblock_modes}
 use Rattle.loop_filter.specs.Levels.{level_of}
@@ -35,10 +36,10 @@ left_at state row = length (reader_at state row).rest
 abbrev pub bits_at : List ℕ → TokenState → ℕ → ℕ → MbMode → ℕ
 bits_at probs state column row mode = left_at state row - length (tokens_at probs state column row mode).1.rest
 
--- the macroblock in this column and row, with this record: `state` is before it, and so is `marked`, with zeros and a mark after each
--- partition
-abbrev pub macroblock_of : Header → ℕ → ℕ → TokenState → TokenState → MbMode → Macroblock
-macroblock_of header column row state marked mode =
+-- the macroblock in this column and row, with this record and its facts: `state` is before it, and so is `marked`, with zeros and a mark
+-- after each partition
+abbrev pub macroblock_of : Header → ℕ → ℕ → TokenState → TokenState → MbMode → RecordFacts → Macroblock
+macroblock_of header column row state marked mode facts =
     let probs = header.context.probabilities.coefficients in
     let tokens = (tokens_at probs state column row mode).0 in
     let level = level_in_force header mode in
@@ -46,10 +47,12 @@ macroblock_of header column row state marked mode =
       column = column;
       row = row;
       mode = mode;
+      split = facts.split;
       quantizer = index_of header mode.segment;
       level = level;
       limits = limits_in_force header level;
       filters_inside = filters_inside mode level (flag_with mode tokens);
       coefficients = tokens.coefficients;
+      mode_bits = facts.bits;
       token_bits = bits_at probs marked column row mode;
     }

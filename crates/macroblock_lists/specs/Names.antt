@@ -6,6 +6,8 @@ use Rattle.intra_predict.specs.declared.modes.SubMode.{SubMode}
 use Rattle.intra_predict.specs.declared.modes.SubMode.TheVariants as sub
 use Rattle.frame_header.specs.declared.references.Reference.{Reference}
 use Rattle.frame_header.specs.declared.references.Reference.TheVariants.{Last, Golden, Altref}
+use Rattle.mode_parser.specs.declared.records.Split.{Split}
+use Rattle.mode_parser.specs.declared.records.Split.TheVariants as splits
 use Rattle.mode_parser.specs.declared.records.VectorMode.{VectorMode}
 use Rattle.mode_parser.specs.declared.records.VectorMode.TheVariants as vectors
 use Rattle.mode_parser.specs.declared.records.YMode.{YMode}
@@ -38,6 +40,13 @@ vector_mode_name vectors.Nearest = codes "mv_nearest"
 vector_mode_name vectors.Near = codes "mv_near"
 vector_mode_name vectors.New = codes "mv_new"
 vector_mode_name vectors.Split = codes "mv_split"
+
+-- the parts of a split macroblock (section 16.4)
+abbrev pub split_name : Split → List ℕ
+split_name splits.TopBottom = codes "mv_top_bottom"
+split_name splits.LeftRight = codes "mv_left_right"
+split_name splits.Quarters = codes "mv_quarters"
+split_name splits.Sixteenths = codes "MV_16"
 
 -- the luma mode
 abbrev pub luma_name : YMode → List ℕ

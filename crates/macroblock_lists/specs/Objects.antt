@@ -1,9 +1,10 @@
 -- A macroblock as a JSON object (RFC 8259): a member for each column of its line, and null for a fact that it does not have.
-use Rattle.std.specs.Prelude.{ℕ, Bool, List, [], ◌++◌, codes, slice_index_or, Option, Some, None, ℤ}
+use Rattle.std.specs.Prelude.{ℕ, List, ◌++◌, codes, slice_index_or, Option, Some, None, ℤ}
 use Rattle.std.specs.Fmt.{decimal}
 use Rattle.intra_predict.specs.declared.modes.WholeMode.{WholeMode}
 use Rattle.intra_predict.specs.declared.modes.SubMode.{SubMode}
 use Rattle.mode_parser.specs.declared.records.MbMode.{MbMode}
+use Rattle.mode_parser.specs.declared.records.Split.{Split as Parts}
 use Rattle.mode_parser.specs.declared.records.YMode.{YMode}
 use Rattle.mode_parser.specs.declared.records.YMode.TheVariants.{Whole, B, Inter}
 use Rattle.mode_parser.specs.declared.records.VectorMode.{VectorMode}
@@ -14,7 +15,7 @@ use Rattle.stream_facts.specs.Json.{member, number_member}
 use Rattle.macroblock_lists.specs.declared.macroblocks.Macroblock.{Macroblock}
 use Rattle.macroblock_lists.specs.declared.layouts.Form.TheVariants as forms
 use Rattle.macroblock_lists.specs.Coefficients.{count_of, greatest_of}
-use Rattle.macroblock_lists.specs.Names.{luma_name, reference_name, whole_name}
+use Rattle.macroblock_lists.specs.Names.{luma_name, reference_name, split_name, whole_name}
 use Rattle.macroblock_lists.specs.Parts.{bit_text, blocks_text, modes_text, vector_text, vectors_text}
 
 -- a text in quotes as a member
@@ -47,6 +48,10 @@ parts_member (Whole mode) modes vectors = no_parts
 parts_member B modes vectors = codes "\"parts\":[" ++ modes_text forms.Objects modes ++ codes "],"
 parts_member (Inter reference mode) modes vectors = vectors_member mode vectors
 
+abbrev pub split_member : Option Parts → List ℕ
+split_member None = codes "\"split\":null,"
+split_member (Some split) = text_member (codes "split") (split_name split)
+
 abbrev pub no_vector : List ℕ
 no_vector = codes "\"vector\":null,"
 
@@ -55,8 +60,9 @@ vector_member (Whole mode) vectors = no_vector
 vector_member B vectors = no_vector
 vector_member (Inter reference mode) vectors = codes "\"vector\":" ++ vector_text forms.Objects (slice_index_or vectors 15 zero_vector) ++ codes ","
 
-abbrev pub record_members : MbMode → List ℕ
-record_members mode = mode_members mode ++ chroma_member mode.y_mode mode.uv_mode ++ parts_member mode.y_mode mode.sub_modes mode.vectors ++ vector_member mode.y_mode mode.vectors
+abbrev pub record_members : MbMode → Option Parts → List ℕ
+record_members mode split =
+    mode_members mode ++ chroma_member mode.y_mode mode.uv_mode ++ parts_member mode.y_mode mode.sub_modes mode.vectors ++ split_member split ++ vector_member mode.y_mode mode.vectors
 
 abbrev pub limit_members : Option Limits → List ℕ
 limit_members None = codes "\"interior_limit\":null,\"hev_threshold\":null,\"mbedge_limit\":null,\"sub_bedge_limit\":null,"
@@ -72,14 +78,14 @@ force_members macroblock =
 abbrev pub block_member : List (List ℤ) → List ℕ
 block_member blocks = codes "\"blocks\":\"" ++ blocks_text blocks ++ codes "\","
 
-abbrev pub bits_member : ℕ → List ℕ
-bits_member bits = codes "\"token_bits\":" ++ decimal bits
+abbrev pub bits_members : ℕ → ℕ → List ℕ
+bits_members mode_bits token_bits = codes "\"mode_bits\":" ++ decimal mode_bits ++ codes ",\"token_bits\":" ++ decimal token_bits
 
 abbrev pub token_members : Macroblock → List ℕ
 token_members macroblock =
     block_member macroblock.coefficients ++ number_member (codes "coefficients") (count_of macroblock.coefficients)
-    ++ number_member (codes "greatest") (greatest_of macroblock.coefficients) ++ bits_member macroblock.token_bits
+    ++ number_member (codes "greatest") (greatest_of macroblock.coefficients) ++ bits_members macroblock.mode_bits macroblock.token_bits
 
 abbrev pub object_of : ℕ → Macroblock → List ℕ
 object_of packet macroblock =
-    codes "{" ++ place_members packet macroblock ++ record_members macroblock.mode ++ force_members macroblock ++ token_members macroblock ++ codes "}\n"
+    codes "{" ++ place_members packet macroblock ++ record_members macroblock.mode macroblock.split ++ force_members macroblock ++ token_members macroblock ++ codes "}\n"

@@ -1,5 +1,5 @@
 -- The text of packets: the macroblocks of each, or its header.
-use Rattle.std.specs.Prelude.{ℕ, ◌==◌, if◌then◌else◌, List, [], ◌∷◌, ◌++◌, codes, length, map, slice_get, take, Option, Some, None, Result, Ok, Err}
+use Rattle.std.specs.Prelude.{ℕ, ◌-◌, ◌*◌, ◌==◌, if◌then◌else◌, List, [], ◌++◌, codes, length, map, slice_get, take, Option, Some, None, Result, Ok, Err}
 use Rattle.std.specs.Fmt.{decimal}
 use Rattle.std.specs.List.{flat_map, range_with_len}
 use Rattle.vp8_tables.specs.Tables.{TableEntries}
@@ -8,6 +8,8 @@ use Rattle.frame_header.specs.declared.cause.Cause.{Cause}
 use Rattle.frame_header.specs.declared.cause.Cause.TheVariants.{NoKeyFrame}
 use Rattle.frame_header.specs.declared.header.Header.{Header}
 use Rattle.frame_header.specs.Tags.{has_key_tag}
+use Rattle.header_bits.specs.Bits.{header_bits}
+use Rattle.header_bits.specs.declared.bits.HeaderBits.{HeaderBits}
 use Rattle.stream_facts.specs.Json.{number_member}
 use Rattle.stream_facts.specs.Lines.{cause_text}
 use Rattle.macroblock_lists.specs.declared.broken.Broken.{Broken}
@@ -40,29 +42,34 @@ repeat_text forms.Lines place = comment_start place ++ codes " no bytes, the las
 repeat_text forms.Objects place = codes "{" ++ number_member (codes "packet") place ++ codes "\"repeats\":true}\n"
 
 -- the header before the macroblocks: a comment
-abbrev pub comment_of : Form → ℕ → Header → List ℕ
-comment_of forms.Lines place header = comment_start place ++ header_fields layouts.Words header ++ codes "\n"
-comment_of forms.Objects place header = []
+abbrev pub comment_of : Form → ℕ → Header → HeaderBits → List ℕ
+comment_of forms.Lines place header bits = comment_start place ++ header_fields layouts.Words header bits ++ codes "\n"
+comment_of forms.Objects place header bits = []
 
 -- the sizes of the token partitions
 abbrev pub sizes_text : Header → List ℕ
 sizes_text header = joined (λ partition. decimal partition.length) header.partitions.items
 
--- the header alone
+-- their bits: three bytes for each but the last, whose size is not coded (section 9.5)
+abbrev pub sizes_bits : Header → List ℕ
+sizes_bits header = decimal (24 * (length header.partitions.items - 1))
+
+-- the header alone: with its bits, which in an object are a member at its end
 abbrev pub packet_line : ℕ → List ℕ
 packet_line place = codes "packet\t" ++ decimal place ++ codes "\n"
 
-abbrev pub header_text : Form → ℕ → Header → List ℕ
-header_text forms.Lines place header =
-    packet_line place ++ header_fields layouts.Lines header ++ codes "token_partition_sizes\t" ++ sizes_text header ++ codes "\n"
-header_text forms.Objects place header =
-    codes "{" ++ number_member (codes "packet") place ++ header_fields layouts.Members header ++ codes "\"token_partition_sizes\":[" ++ sizes_text header ++ codes "]}\n"
+abbrev pub header_text : Form → ℕ → Header → HeaderBits → List ℕ
+header_text forms.Lines place header bits =
+    packet_line place ++ header_fields layouts.Lines header bits ++ codes "token_partition_sizes\t" ++ sizes_text header ++ codes "\t" ++ sizes_bits header ++ codes "\n"
+header_text forms.Objects place header bits =
+    codes "{" ++ number_member (codes "packet") place ++ header_fields layouts.Members header bits ++ codes "\"token_partition_sizes\":[" ++ sizes_text header
+    ++ codes "],\"bits\":{" ++ header_fields layouts.Bits header bits ++ codes "\"token_partition_sizes\":" ++ sizes_bits header ++ codes "}}\n"
 
 -- a packet that is decoded
 abbrev pub frame_by : What → Form → ℕ → TableEntries → List ℕ → Header → Option Known → List ℕ
-frame_by what.Macroblocks form place tables packet header before = comment_of form place header ++ frame_text form place tables packet header before
+frame_by what.Macroblocks form place tables packet header before = comment_of form place header (header_bits tables packet) ++ frame_text form place tables packet header before
 frame_by what.Header form place tables packet header before =
-    header_text form place header ++ all_changes form place (probabilities_before tables header.is_key before) header.context.probabilities
+    header_text form place header (header_bits tables packet) ++ all_changes form place (probabilities_before tables header.is_key before) header.context.probabilities
 
 abbrev pub text_by : What → Form → ℕ → TableEntries → List ℕ → Option Known → Result Header Cause → List ℕ
 text_by what form place tables packet before (Ok header) = frame_by what form place tables packet header before

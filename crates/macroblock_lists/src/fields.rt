@@ -1,15 +1,16 @@
-//! The fields of a header, by their names in RFC 6386, section 19.2.
+//! The fields of a header, by their names in RFC 6386, section 19.2, with their bits.
 
-ghost use Rattle.std.specs.Prelude.{◌≡◌, [], if◌then◌else◌, OnOk};
+ghost use Rattle.std.specs.Prelude.{◌≡◌, ◌<◌, [], if◌then◌else◌, OnOk};
 ghost use Rattle.std.specs.Io.KnownBytes.{Appends};
-ghost use Rattle.macroblock_lists.specs.Fields.{altref_number, copy_fields, delta_quantizers, entropy_field, first_fields, frame_fields, golden_number, header_fields, inter_fields, key_fields, last_fields, log_of, number_field_unless, partition_fields, quantizer_fields, reference_fields, refresh_fields, skip_fields, tag_fields};
+ghost use Rattle.macroblock_lists.specs.Fields.{altref_number, coded_count, copy_fields, delta_quantizers, entropy_field, first_fields, frame_fields, golden_number, header_fields, inter_fields, inter_updates, key_fields, last_fields, log_of, number_field_unless, partition_fields, probability_fields, quantizer_fields, reference_fields, refresh_fields, skip_fields, tag_fields, token_field};
 
 use crate::layouts::Layout;
 use crate::segment_fields::{write_filter_fields, write_segment_fields};
-use crate::values::{write_flag_field, write_number_field, write_signed_field};
+use crate::values::{write_flag_field, write_number_field, write_signed_field, write_update_field};
 use frame_header::{
     Header, Quantizers, Reference, ReferenceProbabilities, ReferenceUpdates, SignBiases,
 };
+use header_bits::{HeaderBits, InterBits};
 use std::io::Write;
 use stream_files::WriteFault;
 
@@ -17,15 +18,15 @@ fn write_tag_fields<W: Write>(w: &mut W, layout: Layout, header: &Header) -> Res
     ensures { OnOk result (Appends (W.contents w.old) (W.contents w.new) (tag_fields layout header.now)) }
 {
     write_flag_field(w, layout, "key_frame", header.is_key)?;
-    write_number_field(w, layout, "version", u64::from(header.version))?;
+    write_number_field(w, layout, "version", u64::from(header.version), 3)?;
     write_flag_field(w, layout, "show_frame", header.is_shown)
 }
 
 fn write_key_fields<W: Write>(w: &mut W, layout: Layout, header: &Header) -> Result<(), WriteFault>
     ensures { OnOk result (Appends (W.contents w.old) (W.contents w.new) (key_fields layout header.now)) }
 {
-    write_number_field(w, layout, "width", u64::from(header.width))?;
-    write_number_field(w, layout, "height", u64::from(header.height))?;
+    write_number_field(w, layout, "width", u64::from(header.width), 14)?;
+    write_number_field(w, layout, "height", u64::from(header.height), 14)?;
     write_flag_field(w, layout, "color_space", header.colors.color_space)?;
     write_flag_field(w, layout, "clamping_type", header.colors.clamping_type)
 }
@@ -77,24 +78,22 @@ fn write_partition_fields<W: Write>(
 ) -> Result<(), WriteFault>
     ensures { OnOk result (Appends (W.contents w.old) (W.contents w.new) (partition_fields layout header.now)) }
 {
-    write_number_field(
-        w,
-        layout,
-        "log2_nbr_of_dct_partitions",
-        log_of(header.partitions.len()),
-    )
+    let log = log_of(header.partitions.len());
+    write_number_field(w, layout, "log2_nbr_of_dct_partitions", log, 2)
 }
 
 fn write_first_fields<W: Write>(
     w: &mut W,
     layout: Layout,
     header: &Header,
+    bits: &HeaderBits,
 ) -> Result<(), WriteFault>
-    ensures { OnOk result (Appends (W.contents w.old) (W.contents w.new) (first_fields layout header.now)) }
+    ensures { OnOk result (Appends (W.contents w.old) (W.contents w.new) (first_fields layout header.now bits.now)) }
 {
     write_frame_fields(w, layout, header)?;
-    write_segment_fields(w, layout, &header.segmentation, &header.context.segments)?;
-    write_filter_fields(w, layout, header)?;
+    let (segmentation, segments) = (&header.segmentation, &header.context.segments);
+    write_segment_fields(w, layout, segmentation, segments, &bits.segments)?;
+    write_filter_fields(w, layout, header, &bits.deltas)?;
     write_partition_fields(w, layout, header)
 }
 
@@ -102,25 +101,27 @@ fn write_delta_quantizers<W: Write>(
     w: &mut W,
     layout: Layout,
     quantizers: Quantizers,
+    bits: &[u8; 5],
 ) -> Result<(), WriteFault>
-    ensures { OnOk result (Appends (W.contents w.old) (W.contents w.new) (delta_quantizers layout quantizers)) }
+    ensures { OnOk result (Appends (W.contents w.old) (W.contents w.new) (delta_quantizers layout quantizers bits.now)) }
 {
-    write_signed_field(w, layout, "y2_dc_delta", &quantizers.y2_dc_delta)?;
-    write_signed_field(w, layout, "y2_ac_delta", &quantizers.y2_ac_delta)?;
-    write_signed_field(w, layout, "uv_dc_delta", &quantizers.uv_dc_delta)?;
-    write_signed_field(w, layout, "uv_ac_delta", &quantizers.uv_ac_delta)
+    write_signed_field(w, layout, "y2_dc_delta", &quantizers.y2_dc_delta, bits[1])?;
+    write_signed_field(w, layout, "y2_ac_delta", &quantizers.y2_ac_delta, bits[2])?;
+    write_signed_field(w, layout, "uv_dc_delta", &quantizers.uv_dc_delta, bits[3])?;
+    write_signed_field(w, layout, "uv_ac_delta", &quantizers.uv_ac_delta, bits[4])
 }
 
 fn write_quantizer_fields<W: Write>(
     w: &mut W,
     layout: Layout,
     quantizers: Quantizers,
+    bits: &[u8; 5],
 ) -> Result<(), WriteFault>
-    ensures { OnOk result (Appends (W.contents w.old) (W.contents w.new) (quantizer_fields layout quantizers)) }
+    ensures { OnOk result (Appends (W.contents w.old) (W.contents w.new) (quantizer_fields layout quantizers bits.now)) }
 {
-    write_number_field(w, layout, "y_ac_qi", u64::from(quantizers.y_ac_index))?;
-    write_signed_field(w, layout, "y_dc_delta", &quantizers.y_dc_delta)?;
-    write_delta_quantizers(w, layout, quantizers)
+    write_number_field(w, layout, "y_ac_qi", u64::from(quantizers.y_ac_index), 7)?;
+    write_signed_field(w, layout, "y_dc_delta", &quantizers.y_dc_delta, bits[0])?;
+    write_delta_quantizers(w, layout, quantizers, bits)
 }
 
 /// The number of the reference that golden becomes a copy of.
@@ -154,13 +155,14 @@ fn write_number_unless<W: Write>(
     is_absent: bool,
     name: &str,
     n: u64,
+    bits: u32,
 ) -> Result<(), WriteFault>
-    ensures { OnOk result (Appends (W.contents w.old) (W.contents w.new) (number_field_unless layout is_absent name.now n)) }
+    ensures { OnOk result (Appends (W.contents w.old) (W.contents w.new) (number_field_unless layout is_absent name.now n bits)) }
 {
     if is_absent {
         Ok(())
     } else {
-        write_number_field(w, layout, name, n)
+        write_number_field(w, layout, name, n, bits)
     }
 }
 
@@ -174,8 +176,8 @@ fn write_copy_fields<W: Write>(
     let golden = golden_number(updates.golden_copy);
     let altref = altref_number(updates.altref_copy);
     let (has_golden, has_altref) = (updates.refreshes_golden, updates.refreshes_altref);
-    write_number_unless(w, layout, has_golden, "copy_buffer_to_golden", golden)?;
-    write_number_unless(w, layout, has_altref, "copy_buffer_to_arf", altref)
+    write_number_unless(w, layout, has_golden, "copy_buffer_to_golden", golden, 2)?;
+    write_number_unless(w, layout, has_altref, "copy_buffer_to_arf", altref, 2)
 }
 
 fn write_refresh_fields<W: Write>(
@@ -232,7 +234,7 @@ fn write_reference_fields<W: Write>(
     let last = u64::from(header.references.refreshes_last);
     write_refresh_fields_unless(w, layout, header)?;
     write_entropy_field(w, layout, header)?;
-    write_number_unless(w, layout, header.is_key, "refresh_last", last)
+    write_number_unless(w, layout, header.is_key, "refresh_last", last, 1)
 }
 
 fn write_skip_fields<W: Write>(
@@ -243,58 +245,116 @@ fn write_skip_fields<W: Write>(
     ensures { OnOk result (Appends (W.contents w.old) (W.contents w.new) (skip_fields layout probability)) }
 {
     match probability {
-        None => write_number_field(w, layout, "mb_no_coeff_skip", 0),
+        None => write_number_field(w, layout, "mb_no_coeff_skip", 0, 1),
         Some(probability) => {
-            write_number_field(w, layout, "mb_no_coeff_skip", 1)?;
-            write_number_field(w, layout, "prob_skip_false", u64::from(probability))
+            write_number_field(w, layout, "mb_no_coeff_skip", 1, 1)?;
+            write_number_field(w, layout, "prob_skip_false", u64::from(probability), 8)
         }
     }
+}
+
+fn write_probability_fields<W: Write>(
+    w: &mut W,
+    layout: Layout,
+    probabilities: ReferenceProbabilities,
+) -> Result<(), WriteFault>
+    ensures { OnOk result (Appends (W.contents w.old) (W.contents w.new) (probability_fields layout probabilities)) }
+{
+    write_number_field(w, layout, "prob_intra", u64::from(probabilities.intra), 8)?;
+    write_number_field(w, layout, "prob_last", u64::from(probabilities.last), 8)?;
+    write_number_field(w, layout, "prob_gf", u64::from(probabilities.golden), 8)
+}
+
+/// How many probabilities are coded in updates of so many bits: `flags` for the flags, and `size` for each that is coded.
+fn coded_count(flags: u32, size: u32, bits: u32) -> u64
+    requires { 0 < size }
+    ensures { result ≡ coded_count flags size bits }
+{
+    u64::from(bits.saturating_sub(flags) / size)
+}
+
+fn write_token_field<W: Write>(w: &mut W, layout: Layout, bits: u32) -> Result<(), WriteFault>
+    ensures { OnOk result (Appends (W.contents w.old) (W.contents w.new) (token_field layout bits)) }
+{
+    let coded = coded_count(1056, 8, bits);
+    write_update_field(w, layout, "token_prob_update", coded, bits)
+}
+
+fn write_inter_updates<W: Write>(
+    w: &mut W,
+    layout: Layout,
+    bits: &InterBits,
+) -> Result<(), WriteFault>
+    ensures { OnOk result (Appends (W.contents w.old) (W.contents w.new) (inter_updates layout bits.now)) }
+{
+    let (y, uv, vectors) = (
+        u32::from(bits.y_modes),
+        u32::from(bits.uv_modes),
+        bits.vectors,
+    );
+    write_update_field(w, layout, "intra_16x16_prob", coded_count(1, 8, y), y)?;
+    write_update_field(w, layout, "intra_chroma_prob", coded_count(1, 8, uv), uv)?;
+    write_update_field(
+        w,
+        layout,
+        "mv_prob_update",
+        coded_count(38, 7, vectors),
+        vectors,
+    )
 }
 
 fn write_inter_fields<W: Write>(
     w: &mut W,
     layout: Layout,
     probabilities: ReferenceProbabilities,
+    bits: &InterBits,
 ) -> Result<(), WriteFault>
-    ensures { OnOk result (Appends (W.contents w.old) (W.contents w.new) (inter_fields layout probabilities)) }
+    ensures { OnOk result (Appends (W.contents w.old) (W.contents w.new) (inter_fields layout probabilities bits.now)) }
 {
-    write_number_field(w, layout, "prob_intra", u64::from(probabilities.intra))?;
-    write_number_field(w, layout, "prob_last", u64::from(probabilities.last))?;
-    write_number_field(w, layout, "prob_gf", u64::from(probabilities.golden))
+    write_probability_fields(w, layout, probabilities)?;
+    write_inter_updates(w, layout, bits)
 }
 
 fn write_inter_fields_unless<W: Write>(
     w: &mut W,
     layout: Layout,
     header: &Header,
+    bits: &InterBits,
 ) -> Result<(), WriteFault>
-    ensures { OnOk result (Appends (W.contents w.old) (W.contents w.new) (if header.now.is_key then [] else inter_fields layout header.now.reference_probabilities)) }
+    ensures { OnOk result (Appends (W.contents w.old) (W.contents w.new) (if header.now.is_key then [] else inter_fields layout header.now.reference_probabilities bits.now)) }
 {
     if header.is_key {
         Ok(())
     } else {
-        write_inter_fields(w, layout, header.reference_probabilities)
+        write_inter_fields(w, layout, header.reference_probabilities, bits)
     }
 }
 
-fn write_last_fields<W: Write>(w: &mut W, layout: Layout, header: &Header) -> Result<(), WriteFault>
-    ensures { OnOk result (Appends (W.contents w.old) (W.contents w.new) (last_fields layout header.now)) }
+fn write_last_fields<W: Write>(
+    w: &mut W,
+    layout: Layout,
+    header: &Header,
+    bits: &HeaderBits,
+) -> Result<(), WriteFault>
+    ensures { OnOk result (Appends (W.contents w.old) (W.contents w.new) (last_fields layout header.now bits.now)) }
 {
+    write_token_field(w, layout, bits.coefficients)?;
     write_skip_fields(w, layout, header.skip_probability)?;
-    write_inter_fields_unless(w, layout, header)
+    write_inter_fields_unless(w, layout, header, &bits.inter)
 }
 
-/// Writes the fields of a header.
+/// Writes the fields of a header, whose optional fields take these bits.
 #[tactic(auto, unfolding(crate::specs::Fields::header_fields))]
 pub(crate) fn write_header_fields<W: Write>(
     w: &mut W,
     layout: Layout,
     header: &Header,
+    bits: &HeaderBits,
 ) -> Result<(), WriteFault>
-    ensures { OnOk result (Appends (W.contents w.old) (W.contents w.new) (header_fields layout header.now)) }
+    ensures { OnOk result (Appends (W.contents w.old) (W.contents w.new) (header_fields layout header.now bits.now)) }
 {
-    write_first_fields(w, layout, header)?;
-    write_quantizer_fields(w, layout, header.quantizers)?;
+    write_first_fields(w, layout, header, bits)?;
+    write_quantizer_fields(w, layout, header.quantizers, &bits.quantizers)?;
     write_reference_fields(w, layout, header)?;
-    write_last_fields(w, layout, header)
+    write_last_fields(w, layout, header, bits)
 }

@@ -3,7 +3,7 @@
 ghost use Rattle.std.specs.Prelude.{◌≡◌, ◌<◌, ◌≤◌, ◌+◌, ◌*◌, length, All, OnOk};
 ghost use Rattle.std.specs.Io.KnownBytes.{Appends};
 ghost use Rattle.reference_frames.specs.FrameTokens.{state_with, tokens_at, tokens_start};
-ghost use Rattle.reference_frames.specs.PartitionEnds.{marked_start, zeros_for};
+ghost use Rattle.macroblock_lists.specs.PartitionEnds.{marked_start, zeros_for};
 ghost use Rattle.macroblock_lists.specs.Frames.{macroblock_text, texts_of};
 ghost use Rattle.macroblock_lists.specs.Macroblocks.{macroblock_of};
 
@@ -12,9 +12,11 @@ use crate::lines::write_line;
 use crate::listing::ListFault;
 use crate::macroblocks::{Macroblock, filters_inside, index_of, level_in_force, limits_in_force};
 use crate::objects::write_object;
+use crate::partition_ends::zeros_for;
+use crate::records::{Records, facts_in};
 use crate::tokens::{FrameTokens, flag_with, marked_texts};
 use frame_header::Header;
-use mode_parser::MbMode;
+use mode_parser::{MbMode, RecordFacts};
 use std::alloc::Global;
 use std::io::Write;
 use stream_files::WriteFault;
@@ -27,13 +29,20 @@ struct Walk<'a, 'b> {
 }
 
 impl<'a, 'b> Walk<'a, 'b> {
-    /// Reads the macroblock in column `mx` of row `my`, which is next.
-    fn next(&mut self, header: &Header, mx: usize, my: usize, mode: &MbMode) -> Macroblock
+    /// Reads the macroblock in column `mx` of row `my`, which is next, with this record and its facts.
+    fn next(
+        &mut self,
+        header: &Header,
+        mx: usize,
+        my: usize,
+        mode: &MbMode,
+        facts: RecordFacts,
+    ) -> Macroblock
         requires some { 0 < length self.old.tokens.readers }
         requires column { mx < length self.old.tokens.above }
         requires marked { 0 < length self.old.marked.readers }
         requires marked_column { mx < length self.old.marked.above }
-        ensures value { result ≡ macroblock_of header.now mx my self.old.tokens self.old.marked mode.now }
+        ensures value { result ≡ macroblock_of header.now mx my self.old.tokens self.old.marked mode.now facts }
         ensures tokens { self.new.tokens ≡ state_with self.old.tokens mx my (tokens_at header.now.context.probabilities.coefficients self.old.tokens mx my mode.now) }
         ensures marked { self.new.marked ≡ state_with self.old.marked mx my (tokens_at header.now.context.probabilities.coefficients self.old.marked mx my mode.now) }
     {
@@ -46,11 +55,13 @@ impl<'a, 'b> Walk<'a, 'b> {
             column: mx,
             row: my,
             mode: *mode,
+            split: facts.split,
             quantizer: index_of(header, mode.segment),
             level,
             limits: limits_in_force(header, level),
             filters_inside: filters_inside(mode, level, flag_with(mode, &tokens)),
             coefficients: tokens.coefficients,
+            mode_bits: facts.bits,
             token_bits,
         }
     }
@@ -71,7 +82,7 @@ fn write_macroblock<W: Write>(
     }
 }
 
-/// Writes the macroblocks with these records, in raster order.
+/// Writes the macroblocks with these records and their facts, in raster order.
 fn write_macroblocks<W: Write>(
     w: &mut W,
     form: Form,
@@ -79,6 +90,7 @@ fn write_macroblocks<W: Write>(
     header: &Header,
     columns: usize,
     modes: &[MbMode],
+    facts: &[RecordFacts],
     walk: &mut Walk,
 ) -> Result<(), WriteFault>
     requires columns { 0 < columns }
@@ -86,12 +98,13 @@ fn write_macroblocks<W: Write>(
     requires above { length walk.old.tokens.above ≡ columns }
     requires marked { 0 < length walk.old.marked.readers }
     requires marked_above { length walk.old.marked.above ≡ columns }
-    ensures { OnOk result (Appends (W.contents w.old) (W.contents w.new) (texts_of form packet header.now columns walk.old.tokens walk.old.marked modes.now)) }
+    ensures { OnOk result (Appends (W.contents w.old) (W.contents w.new) (texts_of form packet header.now columns walk.old.tokens walk.old.marked modes.now facts.now)) }
 {
     let mut mx = 0;
     let mut my = 0;
     for mode in modes {
-        let macroblock = walk.next(header, mx, my, mode);
+        let facts = facts_in(facts, my * columns + mx);
+        let macroblock = walk.next(header, mx, my, mode, facts);
         write_macroblock(w, form, packet, &macroblock)?;
         mx += 1;
         if mx == columns {
@@ -100,16 +113,6 @@ fn write_macroblocks<W: Write>(
         }
     }
     Ok(())
-}
-
-/// How many zero bytes are put after a partition, in a frame of so many macroblocks.
-fn zeros_for(columns: usize, rows: usize) -> usize
-    requires wide { columns ≤ 1024 }
-    requires high { rows ≤ 1024 }
-    ensures value { result ≡ zeros_for columns rows }
-    ensures few { result ≤ 4194368 }
-{
-    64 + 4 * (columns * rows)
 }
 
 /// Writes the macroblocks of a packet that decoding accepts, with this header and these records.
@@ -121,13 +124,13 @@ pub(crate) fn write_frame<W: Write>(
     packet: &[u8],
     header: &Header,
     size: (usize, usize),
-    modes: &[MbMode],
+    records: &Records,
 ) -> Result<(), ListFault>
     requires wide { (0 < size.0) × (size.0 ≤ 1024) }
     requires high { (0 < size.1) × (size.1 ≤ 1024) }
     requires some { 0 < length header.now.partitions.items }
     requires inside { All (λ place. place.start + place.length ≤ length packet.now) header.now.partitions.items }
-    ensures { OnOk result (Appends (W.contents w.old) (W.contents w.new) (texts_of form place header.now size.0 (tokens_start header.now.partitions.items packet.now size.0) (marked_start (zeros_for size.0 size.1) header.now.partitions.items packet.now size.0) modes.now)) }
+    ensures { OnOk result (Appends (W.contents w.old) (W.contents w.new) (texts_of form place header.now size.0 (tokens_start header.now.partitions.items packet.now size.0) (marked_start (zeros_for size.0 size.1) header.now.partitions.items packet.now size.0) records.now.modes.records records.now.facts.items)) }
 {
     let (columns, rows) = size;
     let partitions = header.partitions.as_slice();
@@ -135,6 +138,8 @@ pub(crate) fn write_frame<W: Write>(
     let tokens = FrameTokens::new(alloc, packet, partitions, columns)?;
     let marked = FrameTokens::over_texts(alloc, &texts, columns)?;
     let mut walk = Walk { tokens, marked };
-    write_macroblocks(w, form, place, header, columns, modes, &mut walk)?;
+    let modes = records.modes.records();
+    let facts = records.facts.as_slice();
+    write_macroblocks(w, form, place, header, columns, modes, facts, &mut walk)?;
     Ok(())
 }

@@ -13,9 +13,10 @@ use std::alloc::Global;
 use std::marker::Model;
 use vp8_tables::Tables;
 
-/// The context of the last header, the segment of each macroblock, and the size of the frames.
+/// What decoding knows before a packet, without samples: the context of the last header, the segment of each
+/// macroblock, and the size of the frames.
 #[derive(Drop)]
-pub(crate) struct Known {
+pub struct Known {
     context: Context,
     segment_map: Vec<u8>,
     width: u16,
@@ -32,8 +33,17 @@ impl Model for Known {
     ghost invariant = { λ k. IsKnown (record { context = k.context; segment_map = k.segment_map.items; width = k.width; height = k.height }) };
 }
 
+impl Known {
+    /// The context of the last header.
+    pub fn context(&self) -> &Context
+        ensures { result.now ≡ self.now.context }
+    {
+        &self.context
+    }
+}
+
 /// What is known before a packet, or where the stream is broken.
-pub(crate) type Progress = Result<Option<Known>, Broken>;
+pub type Progress = Result<Option<Known>, Broken>;
 
 /// How many macroblocks cover a shown side of at most 16,383 samples.
 pub(crate) fn macroblocks(side: u16) -> usize
@@ -72,7 +82,7 @@ pub(crate) fn size_of(header: &Header, before: Option<&Known>) -> (u16, u16)
 }
 
 /// The segment map before a frame.
-fn map_of(before: Option<&Known>) -> Option<&[u8]>
+pub(crate) fn map_of(before: Option<&Known>) -> Option<&[u8]>
     ensures value { option_copied result ≡ option_map (λ k. k.segment_map) (option_copied before.entry) }
     ensures whole { ForSome before.entry (λ k. length k.now.segment_map ≡ macroblocks_of k.now.width * macroblocks_of k.now.height) }
 {
@@ -103,7 +113,7 @@ pub(crate) fn frame_modes(
 }
 
 /// What is known after a frame with these modes.
-fn known_after(header: &Header, modes: Modes, before: Option<&Known>) -> Known
+pub(crate) fn known_after(header: &Header, modes: Modes, before: Option<&Known>) -> Known
     requires following { header.now.is_key ≡ false → IsSome before }
     requires wide { IsTrue header.now.is_key → (1 ≤ header.now.width) × (header.now.width ≤ 16383) }
     requires high { IsTrue header.now.is_key → (1 ≤ header.now.height) × (header.now.height ≤ 16383) }
@@ -139,7 +149,7 @@ fn step_coded(
 }
 
 /// What is known after a packet before which this is known.
-fn step(
+pub(crate) fn step(
     alloc: Global,
     tables: &Tables,
     place: usize,

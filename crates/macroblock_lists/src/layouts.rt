@@ -23,8 +23,10 @@ pub enum What {
 pub enum Layout {
     /// In one line, after spaces: ` version=0`.
     Words,
-    /// A line for each: the name, a tab and the value.
+    /// A line for each: the name, the value and its bits, with tabs between them.
     Lines,
     /// As the members of a JSON object, each with a comma after it.
     Members,
+    /// The same of their bits.
+    Bits,
 }

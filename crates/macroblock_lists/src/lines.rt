@@ -3,16 +3,16 @@
 ghost use Rattle.std.specs.Prelude.{◌≡◌, OnOk};
 ghost use Rattle.std.specs.Io.KnownBytes.{Appends};
 ghost use Rattle.stream_facts.specs.Lines.{column};
-ghost use Rattle.macroblock_lists.specs.Lines.{chroma_column, force_columns, limit_columns, line_of, mode_columns, parts_column, place_columns, record_columns, token_columns, vector_column, vectors_column};
+ghost use Rattle.macroblock_lists.specs.Lines.{bits_columns, chroma_column, count_columns, force_columns, limit_columns, line_of, mode_columns, parts_column, place_columns, record_columns, split_column, token_columns, vector_column, vectors_column};
 
 use crate::coefficients::{count_of, greatest_of};
 use crate::layouts::Form;
 use crate::macroblocks::Macroblock;
-use crate::names::{luma_name, reference_name, whole_name};
+use crate::names::{luma_name, reference_name, split_name, whole_name};
 use crate::parts::{bit_text, write_blocks, write_modes, write_vector, write_vectors};
 use intra_predict::{SubMode, WholeMode};
 use loop_filter::Limits;
-use mode_parser::{MbMode, Vector, VectorMode, YMode};
+use mode_parser::{MbMode, Split, Vector, VectorMode, YMode};
 use std::io::Write;
 use stream_facts::write_text;
 use stream_files::WriteFault;
@@ -90,6 +90,15 @@ fn write_parts<W: Write>(
     }
 }
 
+fn write_which_split<W: Write>(w: &mut W, split: Option<Split>) -> Result<(), WriteFault>
+    ensures { OnOk result (Appends (W.contents w.old) (W.contents w.new) (split_column split)) }
+{
+    match split {
+        None => write_text(w, NONE),
+        Some(split) => write_column(w, split_name(split)),
+    }
+}
+
 fn write_own_vector<W: Write>(
     w: &mut W,
     mode: YMode,
@@ -107,12 +116,13 @@ fn write_own_vector<W: Write>(
     }
 }
 
-fn write_record<W: Write>(w: &mut W, mode: &MbMode) -> Result<(), WriteFault>
-    ensures { OnOk result (Appends (W.contents w.old) (W.contents w.new) (record_columns mode.now)) }
+fn write_record<W: Write>(w: &mut W, mode: &MbMode, split: Option<Split>) -> Result<(), WriteFault>
+    ensures { OnOk result (Appends (W.contents w.old) (W.contents w.new) (record_columns mode.now split)) }
 {
     write_mode(w, mode)?;
     write_chroma(w, mode.y_mode, mode.uv_mode)?;
     write_parts(w, mode.y_mode, &mode.sub_modes, &mode.vectors)?;
+    write_which_split(w, split)?;
     write_own_vector(w, mode.y_mode, &mode.vectors)
 }
 
@@ -146,14 +156,26 @@ fn write_force<W: Write>(w: &mut W, macroblock: &Macroblock) -> Result<(), Write
     write_column(w, bit_text(macroblock.filters_inside))
 }
 
+fn write_counts<W: Write>(w: &mut W, blocks: &[[i16; 16]; 25]) -> Result<(), WriteFault>
+    ensures { OnOk result (Appends (W.contents w.old) (W.contents w.new) (count_columns blocks.now)) }
+{
+    let (count, greatest) = (count_of(blocks), greatest_of(blocks));
+    write!(w, "{count}\t{greatest}\t").map_err(|_| WriteFault::Write)
+}
+
+fn write_bits<W: Write>(w: &mut W, mode_bits: u128, token_bits: u128) -> Result<(), WriteFault>
+    ensures { OnOk result (Appends (W.contents w.old) (W.contents w.new) (bits_columns mode_bits token_bits)) }
+{
+    write!(w, "{mode_bits}\t{token_bits}\n").map_err(|_| WriteFault::Write)
+}
+
 fn write_tokens<W: Write>(w: &mut W, macroblock: &Macroblock) -> Result<(), WriteFault>
     ensures { OnOk result (Appends (W.contents w.old) (W.contents w.new) (token_columns macroblock.now)) }
 {
-    let count = count_of(&macroblock.coefficients);
-    let greatest = greatest_of(&macroblock.coefficients);
-    let bits = macroblock.token_bits;
     write_blocks(w, &macroblock.coefficients)?;
-    write!(w, "\t{count}\t{greatest}\t{bits}\n").map_err(|_| WriteFault::Write)
+    write_text(w, "\t")?;
+    write_counts(w, &macroblock.coefficients)?;
+    write_bits(w, macroblock.mode_bits, macroblock.token_bits)
 }
 
 /// Writes the line of a macroblock of the packet at this index.
@@ -165,7 +187,7 @@ pub(crate) fn write_line<W: Write>(
     ensures { OnOk result (Appends (W.contents w.old) (W.contents w.new) (line_of packet macroblock.now)) }
 {
     write_place(w, packet, macroblock)?;
-    write_record(w, &macroblock.mode)?;
+    write_record(w, &macroblock.mode, macroblock.split)?;
     write_force(w, macroblock)?;
     write_tokens(w, macroblock)
 }

@@ -57,7 +57,7 @@ pub struct Wanted {
 
 /// The names of the columns.
 const HEAD: &str =
-    "packet\tcolumn\trow\tsegment\tskip\treference\tluma\tchroma\tparts\tvector\tquantizer\tlevel\tinterior_limit\thev_threshold\tmbedge_limit\tsub_bedge_limit\tinner\tblocks\tcoefficients\tgreatest\ttoken_bits\n";
+    "packet\tcolumn\trow\tsegment\tskip\treference\tluma\tchroma\tparts\tsplit\tvector\tquantizer\tlevel\tinterior_limit\thev_threshold\tmbedge_limit\tsub_bedge_limit\tinner\tblocks\tcoefficients\tgreatest\tmode_bits\ttoken_bits\n";
 
 /// What is before the first packet.
 fn head_of(what: What, form: Form) -> &'static str

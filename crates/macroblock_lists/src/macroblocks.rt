@@ -7,7 +7,7 @@ ghost use Rattle.macroblock_lists.specs.Macroblocks.{filters_inside, level_in_fo
 
 use frame_header::Header;
 use loop_filter::{Limits, level, limits};
-use mode_parser::{MbMode, VectorMode, YMode};
+use mode_parser::{MbMode, Split, VectorMode, YMode};
 
 /// What a macroblock is made of.
 #[derive(Clone, Copy)]
@@ -18,6 +18,8 @@ pub struct Macroblock {
     pub row: usize,
     /// Its record.
     pub mode: MbMode,
+    /// Its parts; `None` if its mode is not `mv_split`.
+    pub split: Option<Split>,
     /// The quantizer index in force, 0 to 127 (RFC 6386, section 9.6).
     pub quantizer: u8,
     /// The filter level in force, 0 to 63; 0 if it is not filtered.
@@ -28,6 +30,8 @@ pub struct Macroblock {
     pub filters_inside: bool,
     /// Its coefficients before dequantisation: 16 of each of its 25 blocks, in raster order.
     pub coefficients: [[i16; 16]; 25],
+    /// The number of bits of the first partition that its record takes.
+    pub mode_bits: u128,
     /// The number of bits of its token partition that its tokens take.
     pub token_bits: u128,
 }

@@ -1,11 +1,11 @@
 //! The names of modes and references.
 
 ghost use Rattle.std.specs.Prelude.{◌≡◌};
-ghost use Rattle.macroblock_lists.specs.Names.{luma_name, reference_name, sub_name, vector_mode_name, which_name, whole_name};
+ghost use Rattle.macroblock_lists.specs.Names.{luma_name, reference_name, split_name, sub_name, vector_mode_name, which_name, whole_name};
 
 use frame_header::Reference;
 use intra_predict::{SubMode, WholeMode};
-use mode_parser::{VectorMode, YMode};
+use mode_parser::{Split, VectorMode, YMode};
 
 pub(crate) fn whole_name(mode: WholeMode) -> &'static str
     ensures { result.now ≡ whole_name mode }
@@ -44,6 +44,17 @@ fn vector_mode_name(mode: VectorMode) -> &'static str
         VectorMode::Near => "mv_near",
         VectorMode::New => "mv_new",
         VectorMode::Split => "mv_split",
+    }
+}
+
+pub(crate) fn split_name(split: Split) -> &'static str
+    ensures { result.now ≡ split_name split }
+{
+    match split {
+        Split::TopBottom => "mv_top_bottom",
+        Split::LeftRight => "mv_left_right",
+        Split::Quarters => "mv_quarters",
+        Split::Sixteenths => "MV_16",
     }
 }
 

@@ -2,16 +2,16 @@
 
 ghost use Rattle.std.specs.Prelude.{◌≡◌, OnOk};
 ghost use Rattle.std.specs.Io.KnownBytes.{Appends};
-ghost use Rattle.macroblock_lists.specs.Objects.{bits_member, block_member, chroma_member, force_members, limit_members, mode_members, object_of, parts_member, place_members, record_members, text_member, token_members, vector_member, vectors_member};
+ghost use Rattle.macroblock_lists.specs.Objects.{bits_members, block_member, chroma_member, force_members, limit_members, mode_members, object_of, parts_member, place_members, record_members, split_member, text_member, token_members, vector_member, vectors_member};
 
 use crate::coefficients::{count_of, greatest_of};
 use crate::layouts::Form;
 use crate::macroblocks::Macroblock;
-use crate::names::{luma_name, reference_name, whole_name};
+use crate::names::{luma_name, reference_name, split_name, whole_name};
 use crate::parts::{bit_text, write_blocks, write_modes, write_vector, write_vectors};
 use intra_predict::{SubMode, WholeMode};
 use loop_filter::Limits;
-use mode_parser::{MbMode, Vector, VectorMode, YMode};
+use mode_parser::{MbMode, Split, Vector, VectorMode, YMode};
 use std::io::Write;
 use stream_facts::{write_member, write_number, write_text};
 use stream_files::WriteFault;
@@ -96,6 +96,15 @@ fn write_parts<W: Write>(
     }
 }
 
+fn write_which_split<W: Write>(w: &mut W, split: Option<Split>) -> Result<(), WriteFault>
+    ensures { OnOk result (Appends (W.contents w.old) (W.contents w.new) (split_member split)) }
+{
+    match split {
+        None => write_text(w, "\"split\":null,"),
+        Some(split) => write_text_member(w, "split", split_name(split)),
+    }
+}
+
 fn write_own_vector<W: Write>(
     w: &mut W,
     mode: YMode,
@@ -114,12 +123,13 @@ fn write_own_vector<W: Write>(
     }
 }
 
-fn write_record<W: Write>(w: &mut W, mode: &MbMode) -> Result<(), WriteFault>
-    ensures { OnOk result (Appends (W.contents w.old) (W.contents w.new) (record_members mode.now)) }
+fn write_record<W: Write>(w: &mut W, mode: &MbMode, split: Option<Split>) -> Result<(), WriteFault>
+    ensures { OnOk result (Appends (W.contents w.old) (W.contents w.new) (record_members mode.now split)) }
 {
     write_mode(w, mode)?;
     write_chroma(w, mode.y_mode, mode.uv_mode)?;
     write_parts(w, mode.y_mode, &mode.sub_modes, &mode.vectors)?;
+    write_which_split(w, split)?;
     write_own_vector(w, mode.y_mode, &mode.vectors)
 }
 
@@ -157,10 +167,12 @@ fn write_block_member<W: Write>(w: &mut W, blocks: &[[i16; 16]; 25]) -> Result<(
     write_text(w, "\",")
 }
 
-fn write_bits<W: Write>(w: &mut W, bits: u128) -> Result<(), WriteFault>
-    ensures { OnOk result (Appends (W.contents w.old) (W.contents w.new) (bits_member bits)) }
+fn write_bits<W: Write>(w: &mut W, mode_bits: u128, token_bits: u128) -> Result<(), WriteFault>
+    ensures { OnOk result (Appends (W.contents w.old) (W.contents w.new) (bits_members mode_bits token_bits)) }
 {
-    write!(w, "\"token_bits\":{bits}").map_err(|_| WriteFault::Write)
+    write!(w, "\"mode_bits\":{mode_bits},\"token_bits\":{token_bits}").map_err(
+        |_| WriteFault::Write,
+    )
 }
 
 fn write_tokens<W: Write>(w: &mut W, macroblock: &Macroblock) -> Result<(), WriteFault>
@@ -170,7 +182,7 @@ fn write_tokens<W: Write>(w: &mut W, macroblock: &Macroblock) -> Result<(), Writ
     write_block_member(w, blocks)?;
     write_number(w, "coefficients", count_of(blocks) as u64)?;
     write_number(w, "greatest", u64::from(greatest_of(blocks)))?;
-    write_bits(w, macroblock.token_bits)
+    write_bits(w, macroblock.mode_bits, macroblock.token_bits)
 }
 
 /// Writes the object of a macroblock of the packet at this index.
@@ -183,7 +195,7 @@ pub(crate) fn write_object<W: Write>(
 {
     write_text(w, "{")?;
     write_place(w, packet, macroblock)?;
-    write_record(w, &macroblock.mode)?;
+    write_record(w, &macroblock.mode, macroblock.split)?;
     write_force(w, macroblock)?;
     write_tokens(w, macroblock)?;
     write_text(w, "}\n")

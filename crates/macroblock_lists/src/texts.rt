@@ -5,19 +5,23 @@ ghost use Rattle.std.specs.Fmt.{decimal};
 ghost use Rattle.std.specs.List.{flat_map};
 ghost use Rattle.std.specs.Option.{option_copied};
 ghost use Rattle.std.specs.Io.KnownBytes.{Appends};
+ghost use Rattle.frame_header.specs.Tags.{has_key_tag};
 ghost use Rattle.macroblock_lists.specs.Changes.{all_changes, probabilities_before};
 ghost use Rattle.macroblock_lists.specs.Known.{header_after, known_before};
 ghost use Rattle.macroblock_lists.specs.Parts.{after_comma, joined};
-ghost use Rattle.macroblock_lists.specs.Texts.{broken_text, comment_of, comment_start, frame_by, header_text, known_text, packet_line, packet_text, repeat_by, repeat_text, text_by};
+ghost use Rattle.header_bits.specs.Bits.{header_bits};
+ghost use Rattle.macroblock_lists.specs.Texts.{broken_text, comment_of, comment_start, frame_by, header_text, known_text, packet_line, packet_text, repeat_by, repeat_text, sizes_bits, text_by};
 
 use crate::broken::Broken;
 use crate::changes::{probabilities_before, write_changes};
 use crate::fields::write_header_fields;
 use crate::frames::write_frame;
-use crate::known::{Known, Progress, context_of, frame_modes, macroblocks, size_of};
+use crate::known::{Known, Progress, context_of, macroblocks, size_of};
 use crate::layouts::{Form, Layout, What};
 use crate::listing::ListFault;
+use crate::records::read_records;
 use frame_header::{Cause, Header, Place, has_key_tag, read_header};
+use header_bits::{HeaderBits, read_header_bits};
 use std::alloc::Global;
 use std::io::Write;
 use stream_facts::{write_cause, write_number, write_text};
@@ -104,13 +108,14 @@ fn write_comment<W: Write>(
     form: Form,
     place: usize,
     header: &Header,
+    bits: &HeaderBits,
 ) -> Result<(), WriteFault>
-    ensures { OnOk result (Appends (W.contents w.old) (W.contents w.new) (comment_of form place header.now)) }
+    ensures { OnOk result (Appends (W.contents w.old) (W.contents w.new) (comment_of form place header.now bits.now)) }
 {
     match form {
         Form::Lines => {
             write_start(w, place)?;
-            write_header_fields(w, Layout::Words, header)?;
+            write_header_fields(w, Layout::Words, header, bits)?;
             write_text(w, "\n")
         }
         Form::Objects => Ok(()),
@@ -152,25 +157,52 @@ fn write_packet_line<W: Write>(w: &mut W, place: usize) -> Result<(), WriteFault
     write!(w, "packet\t{place}\n").map_err(|_| WriteFault::Write)
 }
 
-fn write_header_lines<W: Write>(w: &mut W, place: usize, header: &Header) -> Result<(), WriteFault>
-    ensures { OnOk result (Appends (W.contents w.old) (W.contents w.new) (header_text Form.Lines place header.now)) }
+/// Writes the bits of the sizes of these token partitions.
+fn write_sizes_bits<W: Write>(w: &mut W, header: &Header) -> Result<(), WriteFault>
+    requires { 0 < length header.now.partitions.items }
+    ensures { OnOk result (Appends (W.contents w.old) (W.contents w.new) (sizes_bits header.now)) }
+{
+    let bits = 24 * (header.partitions.len() - 1);
+    write!(w, "{bits}").map_err(|_| WriteFault::Write)
+}
+
+fn write_header_lines<W: Write>(
+    w: &mut W,
+    place: usize,
+    header: &Header,
+    bits: &HeaderBits,
+) -> Result<(), WriteFault>
+    requires { 0 < length header.now.partitions.items }
+    ensures { OnOk result (Appends (W.contents w.old) (W.contents w.new) (header_text Form.Lines place header.now bits.now)) }
 {
     write_packet_line(w, place)?;
-    write_header_fields(w, Layout::Lines, header)?;
+    write_header_fields(w, Layout::Lines, header, bits)?;
     write_text(w, "token_partition_sizes\t")?;
     write_lengths(w, header.partitions.as_slice())?;
+    write_text(w, "\t")?;
+    write_sizes_bits(w, header)?;
     write_text(w, "\n")
 }
 
-fn write_header_object<W: Write>(w: &mut W, place: usize, header: &Header) -> Result<(), WriteFault>
-    ensures { OnOk result (Appends (W.contents w.old) (W.contents w.new) (header_text Form.Objects place header.now)) }
+fn write_header_object<W: Write>(
+    w: &mut W,
+    place: usize,
+    header: &Header,
+    bits: &HeaderBits,
+) -> Result<(), WriteFault>
+    requires { 0 < length header.now.partitions.items }
+    ensures { OnOk result (Appends (W.contents w.old) (W.contents w.new) (header_text Form.Objects place header.now bits.now)) }
 {
     write_text(w, "{")?;
     write_number(w, "packet", place as u64)?;
-    write_header_fields(w, Layout::Members, header)?;
+    write_header_fields(w, Layout::Members, header, bits)?;
     write_text(w, "\"token_partition_sizes\":[")?;
     write_lengths(w, header.partitions.as_slice())?;
-    write_text(w, "]}\n")
+    write_text(w, "],\"bits\":{")?;
+    write_header_fields(w, Layout::Bits, header, bits)?;
+    write_text(w, "\"token_partition_sizes\":")?;
+    write_sizes_bits(w, header)?;
+    write_text(w, "}}\n")
 }
 
 fn write_header<W: Write>(
@@ -178,12 +210,14 @@ fn write_header<W: Write>(
     form: Form,
     place: usize,
     header: &Header,
+    bits: &HeaderBits,
 ) -> Result<(), WriteFault>
-    ensures { OnOk result (Appends (W.contents w.old) (W.contents w.new) (header_text form place header.now)) }
+    requires { 0 < length header.now.partitions.items }
+    ensures { OnOk result (Appends (W.contents w.old) (W.contents w.new) (header_text form place header.now bits.now)) }
 {
     match form {
-        Form::Lines => write_header_lines(w, place, header),
-        Form::Objects => write_header_object(w, place, header),
+        Form::Lines => write_header_lines(w, place, header, bits),
+        Form::Objects => write_header_object(w, place, header, bits),
     }
 }
 
@@ -205,6 +239,7 @@ fn write_macroblocks<W: Write>(
     header: &Header,
     before: Option<&Known>,
 ) -> Result<(), ListFault>
+    requires key { header.now.is_key ≡ has_key_tag packet.now }
     requires following { header.now.is_key ≡ false → IsSome before }
     requires wide { IsTrue header.now.is_key → (1 ≤ header.now.width) × (header.now.width ≤ 16383) }
     requires high { IsTrue header.now.is_key → (1 ≤ header.now.height) × (header.now.height ≤ 16383) }
@@ -215,9 +250,9 @@ fn write_macroblocks<W: Write>(
     let Target { form, place, .. } = target;
     let (width, height) = size_of(header, before);
     let size = (macroblocks(width), macroblocks(height));
-    let modes = frame_modes(alloc, tables, header, before)?;
-    write_comment(w, form, place, header)?;
-    write_frame(w, alloc, form, place, packet, header, size, modes.records())
+    let records = read_records(alloc, tables, packet, header, before)?;
+    write_comment(w, form, place, header, &read_header_bits(tables, packet))?;
+    write_frame(w, alloc, form, place, packet, header, size, &records)
 }
 
 /// Writes the header of a packet that decoding accepts, and the probabilities that it changes.
@@ -225,15 +260,17 @@ fn write_whole_header<W: Write>(
     w: &mut W,
     tables: &Tables,
     target: Target,
+    packet: &[u8],
     header: &Header,
     before: Option<&Known>,
 ) -> Result<(), WriteFault>
     requires following { header.now.is_key ≡ false → IsSome before }
-    ensures { OnOk result (Appends (W.contents w.old) (W.contents w.new) (header_text target.form target.place header.now ++ all_changes target.form target.place (probabilities_before tables.now header.now.is_key (option_copied before.entry)) header.now.context.probabilities)) }
+    requires some { 0 < length header.now.partitions.items }
+    ensures { OnOk result (Appends (W.contents w.old) (W.contents w.new) (header_text target.form target.place header.now (header_bits tables.now packet.now) ++ all_changes target.form target.place (probabilities_before tables.now header.now.is_key (option_copied before.entry)) header.now.context.probabilities)) }
 {
     let Target { form, place, .. } = target;
     let old = probabilities_before(tables, header.is_key, before);
-    write_header(w, form, place, header)?;
+    write_header(w, form, place, header, &read_header_bits(tables, packet))?;
     write_changes(w, form, place, &old, &header.context.probabilities)
 }
 
@@ -247,6 +284,7 @@ fn write_accepted<W: Write>(
     header: &Header,
     before: Option<&Known>,
 ) -> Result<(), ListFault>
+    requires key { header.now.is_key ≡ has_key_tag packet.now }
     requires following { header.now.is_key ≡ false → IsSome before }
     requires wide { IsTrue header.now.is_key → (1 ≤ header.now.width) × (header.now.width ≤ 16383) }
     requires high { IsTrue header.now.is_key → (1 ≤ header.now.height) × (header.now.height ≤ 16383) }
@@ -257,7 +295,7 @@ fn write_accepted<W: Write>(
     match target.what {
         What::Macroblocks => write_macroblocks(w, alloc, tables, target, packet, header, before),
         What::Header => {
-            write_whole_header(w, tables, target, header, before)?;
+            write_whole_header(w, tables, target, packet, header, before)?;
             Ok(())
         }
     }

@@ -4,7 +4,7 @@ ghost use Rattle.std.specs.Prelude.{◌≡◌, ◌+◌, ◌%◌, ◌<◌, ◌≤
 ghost use Rattle.bool_coder.specs.Reader.{started};
 ghost use Rattle.bool_coder.specs.Taken.{marked};
 ghost use Rattle.reference_frames.specs.FrameTokens.{flag_with, has_y2 as has_y2_of, outside, partition_of, reader_of, state_with, tokens_at, tokens_start};
-ghost use Rattle.reference_frames.specs.PartitionEnds.{marked_start, marked_text};
+ghost use Rattle.macroblock_lists.specs.PartitionEnds.{marked_start, marked_text};
 ghost use Rattle.macroblock_lists.specs.Macroblocks.{left_at};
 
 use bool_coder::Decoder;
@@ -57,7 +57,7 @@ pub(crate) fn flag_with(mode: &MbMode, tokens: &Tokens) -> bool
 }
 
 /// A text, so many zero bytes after it, and a mark.
-fn marked(alloc: Global, zeros: usize, bytes: &[u8]) -> Result<Vec<u8>, NoMemory>
+pub(crate) fn marked(alloc: Global, zeros: usize, bytes: &[u8]) -> Result<Vec<u8>, NoMemory>
     requires { zeros ≤ 4194368 }
     ensures { IfOk result (λ text. text.items ≡ marked zeros bytes.now) }
 {
@@ -154,6 +154,14 @@ impl<'a> FrameTokens<'a> {
     {
         let readers = readers_of(alloc, texts)?;
         FrameTokens::over(alloc, readers, columns)
+    }
+
+    /// The number of bits that the reader of a token partition has left.
+    pub(crate) fn left(&self, partition: usize) -> u128
+        requires { partition < length self.now.readers }
+        ensures { result ≡ length (slice_index_or self.now.readers partition (started [])).rest }
+    {
+        self.readers[partition].left()
     }
 
     /// How many bits the reader of a row's partition has left.

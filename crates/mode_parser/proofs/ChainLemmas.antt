@@ -29,6 +29,7 @@ use Rattle.mode_parser.specs.Segments.{segment_number, segment_at, kept_segment}
 use Rattle.mode_parser.specs.VectorReading.{bits_at, long_size, short_size, vector_size, vector_component, new_vector}
 use Rattle.mode_parser.specs.InterRecords.{inter_y_mode, first_inter_sub_modes, inter_sub_modes, which_reference, vector_mode, counted_probabilities, vector_left, vector_above, part_row, part_vector, block_vector, first_vectors, split_starts, split_vectors, vectors_by, intra_mode, referenced_mode, inter_mode}
 use Rattle.mode_parser.specs.FrameModes.{record_above, record_left, record_above_left, place_of, prediction_at, mode_at, first_modes}
+use Rattle.mode_parser.specs.RecordFacts.{which_split, split_by, referenced_split, inter_split, split_at}
 use Rattle.mode_parser.specs.Chains.{IsProbability, AreRows, HaveProbabilities}
 
 -- modes of sub blocks
@@ -256,3 +257,36 @@ unfolding first_modes
 first_modes-chain tables header columns rows map zero have = give-chain []
 first_modes-chain tables header columns rows map (suc n) have =
     bind-chain (first_modes-chain tables header columns rows map n have) (λ before. bind-chain (mode_at-chain tables header columns rows map n before have) (λ mode. give-chain (before ++ mode ∷ [])))
+
+-- how a macroblock is split
+which_split-chain : IsChain which_split
+unfolding which_split
+which_split-chain =
+    let way : IsChain (leaf SPLIT_TREE SPLIT_PROBABILITIES) = leaf-chain SPLIT_TREE SPLIT_PROBABILITIES split-small in
+    search (chains, way)
+
+split_by-chain : (mode : VectorMode) → IsChain (split_by mode)
+unfolding split_by
+split_by-chain Zero = give-chain None
+split_by-chain Nearest = give-chain None
+split_by-chain NearMode = give-chain None
+split_by-chain New = give-chain None
+split_by-chain Split = bind-chain which_split-chain (λ split. give-chain (Some split))
+
+referenced_split-chain : (header : Header) (place : MbPosition) (above left above_left : Option MbMode) → header.reference_probabilities.last < 256 → header.reference_probabilities.golden < 256 → IsChain (referenced_split header place above left above_left)
+unfolding referenced_split
+referenced_split-chain header place above left above_left last golden =
+    let near : Reference → Near = λ (from : Reference). near_of above left above_left from header.context.sign_biases place in
+    bind-chain (which_reference-chain header.reference_probabilities last golden) (λ from. bind-chain (vector_mode-chain (near from).counts) (λ mode. split_by-chain mode))
+
+inter_split-chain : (tables : TableEntries) (header : Header) (place : MbPosition) (above left above_left : Option MbMode) → HaveProbabilities tables header → IsChain (inter_split header place above left above_left)
+unfolding inter_split
+inter_split-chain tables header place above left above_left have =
+    bind-chain (skip-chain header.skip_probability have.skip) (λ is_skipped. bind-chain (read-chain header.reference_probabilities.intra have.intra) (λ is_referenced. if-chain is_referenced
+    (referenced_split-chain header place above left above_left have.last have.golden) (give-chain None)))
+
+pub split_at-chain : (tables : TableEntries) (header : Header) (columns rows : ℕ) (segments : Option (List ℕ)) (place : ℕ) (before : List MbMode) → HaveProbabilities tables header → IsChain (split_at header columns rows segments place before)
+unfolding split_at
+split_at-chain tables header columns rows segments place before have =
+    bind-chain (segment_at-chain header segments place have.segments) (λ segment. if-chain header.is_key (give-chain None)
+    (inter_split-chain tables header (place_of columns rows place) (record_above before columns place) (record_left before columns place) (record_above_left before columns place) have))

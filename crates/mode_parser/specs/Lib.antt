@@ -10,7 +10,9 @@ pub mod InterRecords
 pub mod ChromaVectors
 pub mod Segments
 pub mod FrameModes
+pub mod RecordFacts
 pub mod Appending
 pub mod KeyShape
 pub mod Worked
 pub mod Chains
+pub mod RecordLaws

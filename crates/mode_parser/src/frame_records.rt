@@ -74,7 +74,7 @@ fn push_prediction(
 /// Reads the record at `place`, the index after these, and appends it to them.
 #[inline]
 #[tactic(auto, unfolding(crate::specs::FrameModes::mode_at))]
-fn push_mode(
+pub(crate) fn push_mode(
     reader: &mut Decoder,
     tables: &Tables,
     header: &Header,

@@ -61,7 +61,10 @@ fn read_sub_modes(reader: &mut Decoder) -> [SubMode; 16]
 /// The reference of a macroblock that has one.
 #[inline]
 #[tactic(auto, unfolding(crate::specs::InterRecords::which_reference))]
-fn read_reference(reader: &mut Decoder, probabilities: ReferenceProbabilities) -> Reference
+pub(crate) fn read_reference(
+    reader: &mut Decoder,
+    probabilities: ReferenceProbabilities,
+) -> Reference
     ensures { which_reference probabilities reader.old ≡ (result, reader.new) }
 {
     if !reader.bit(probabilities.last) {
@@ -77,7 +80,7 @@ fn read_reference(reader: &mut Decoder, probabilities: ReferenceProbabilities) -
 /// The vector mode of a macroblock with these candidates: the leaf of its tree, whose probabilities
 /// are each in the row of their count.
 #[inline]
-fn read_vector_mode(reader: &mut Decoder, found: &Candidates) -> VectorMode
+pub(crate) fn read_vector_mode(reader: &mut Decoder, found: &Candidates) -> VectorMode
     requires { AreLight found.now }
     ensures { vector_mode (counts_of found.now) reader.old ≡ (result, reader.new) }
 {

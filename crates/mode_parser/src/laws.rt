@@ -25,6 +25,7 @@ ghost use Rattle.mode_parser.specs.Worked.{right_by, moved, golden_biased, middl
 ghost use Rattle.mode_parser.specs.FrameModes.{record_above, record_left, record_above_left, place_of, modes_of};
 ghost use Rattle.mode_parser.specs.Segments.{segment_number, kept_segment, kept_map};
 ghost use Rattle.mode_parser.specs.Chains.{RecordsAreChains, FramesAreChains};
+ghost use Rattle.mode_parser.specs.RecordLaws.{BitsAddUp, BitsAreTakenIn, SplitsAreChains, SplitsAreOfRecords};
 ghost use Rattle.mode_parser.specs.KeyShape.{HasShape, HasKeyShape, ReadsZeros, dc_record};
 
 use frame_header::Header;
@@ -181,4 +182,19 @@ pub fn zeros_are_dc(tables: &Tables, header: &Header, columns: usize, rows: usiz
 pub fn records_are_chains()
     ensures each { RecordsAreChains }
     ensures all { FramesAreChains }
+{}
+
+/// The split that the start of a record says is that of the whole record: a macroblock has one if
+/// its mode is `mv_split`, and then each of its blocks has the vector of the block at which its part
+/// starts. RFC 6386's reader reads the same splits.
+pub fn splits_are_of_records()
+    ensures same { SplitsAreOfRecords }
+    ensures chains { SplitsAreChains }
+{}
+
+/// The bits of a record are those that its chain of reads takes in, and the bits of all records add
+/// up to those that they take of the first partition after its header.
+pub fn record_bits_add_up()
+    ensures each { BitsAreTakenIn }
+    ensures all { BitsAddUp }
 {}

@@ -18,6 +18,20 @@ pub enum VectorMode {
     Split,
 }
 
+/// The parts of a macroblock of `mv_split`, each of which has a vector of its own (RFC 6386, section
+/// 16.4).
+#[derive(Clone, Copy, Debug, PartialEq, Eq)]
+pub enum Split {
+    /// `mv_top_bottom`: an upper and a lower half.
+    TopBottom,
+    /// `mv_left_right`: a left and a right half.
+    LeftRight,
+    /// `mv_quarters`: four quarters.
+    Quarters,
+    /// `MV_16`: each of its 16 luma blocks.
+    Sixteenths,
+}
+
 /// How the luma of a macroblock is predicted (RFC 6386, sections 8.2 and 16).
 #[derive(Clone, Copy, Debug, PartialEq, Eq)]
 pub enum YMode {

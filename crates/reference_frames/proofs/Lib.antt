@@ -21,4 +21,3 @@ pub mod AgreeFrames
 pub mod FrontWritten
 pub mod FrontRows
 pub mod FilteredRows
-pub mod MarkedPartitions

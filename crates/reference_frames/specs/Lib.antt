@@ -15,8 +15,6 @@ pub mod TokenLaws
 pub mod Worked
 pub mod Faults
 pub mod Steps
-pub mod PartitionEnds
-pub mod PartitionEndLaws
 pub mod StepLaws
 pub mod WrittenBlocks
 pub mod Rows

@@ -79,8 +79,8 @@ impl<'a> FrameTokens<'a> {
         FrameTokens::over(alloc, readers, columns)
     }
 
-    /// The same over readers of the token partitions that are given.
-    pub fn over(
+    /// The same over readers of the token partitions.
+    fn over(
         alloc: Global,
         readers: Vec<Decoder<'a>>,
         columns: usize,
@@ -94,14 +94,6 @@ impl<'a> FrameTokens<'a> {
             blocks: Blocks::new(),
             has_tokens: false,
         })
-    }
-
-    /// The number of bits that the reader of a token partition has left.
-    pub fn left(&self, partition: usize) -> u128
-        requires { partition < length (state_of self.now).readers }
-        ensures { result ≡ length (slice_index_or (state_of self.now).readers partition (started [])).rest }
-    {
-        self.readers[partition].left()
     }
 
     /// Reads the tokens of the macroblock in column `mx` of row `my`, which is next, and keeps its

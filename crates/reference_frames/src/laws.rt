@@ -9,8 +9,6 @@ ghost use Rattle.reference_frames.specs.References.{references_after};
 ghost use Rattle.reference_frames.specs.declared.references.References.{References};
 ghost use Rattle.reference_frames.specs.AboveRightLaws.{ReadsRowAbove, ReadsNextBlock, RepeatsFirstRow, ReadsNextMacroblock, RepeatsLastColumn};
 ghost use Rattle.reference_frames.specs.InterPrediction.{block_vector};
-ghost use Rattle.reference_frames.specs.PartitionEnds.{bytes_past, bytes_unread};
-ghost use Rattle.reference_frames.specs.PartitionEndLaws.{CountsBits, CountsBitsOfNone, CountsUnread};
 ghost use Rattle.reference_frames.specs.StepLaws.{KeysStepFromNone, PaddingKeepsSteps, ZerosKeepSteps};
 ghost use Rattle.reference_frames.specs.TokenLaws.{FirstRowsReadOneEach, RowsReadInTurn, KeepsOtherReaders, Y2GoesFirst, Y2KeepsOthers, NoY2KeepsAll};
 ghost use Rattle.reference_frames.specs.Worked.{mixed_vectors};
@@ -85,47 +83,4 @@ pub fn worked_group_vectors()
     ensures split { map (group_vector 0 (block_vector Split mixed_vectors)) (0 ∷ 1 ∷ 2 ∷ 3 ∷ []) ≡ (neg_ℤ (pos 2), neg_ℤ (pos 2)) ∷ (neg_ℤ (pos 1), pos 2) ∷ (neg_ℤ (pos 1), neg_ℤ (pos 1)) ∷ (pos 0, pos 2) ∷ [] }
     ensures whole_samples { map (group_vector 3 (block_vector Split mixed_vectors)) (0 ∷ 1 ∷ 2 ∷ 3 ∷ []) ≡ (neg_ℤ (pos 8), neg_ℤ (pos 8)) ∷ (neg_ℤ (pos 8), pos 0) ∷ (neg_ℤ (pos 8), neg_ℤ (pos 8)) ∷ (pos 0, pos 0) ∷ [] }
     ensures not_split { map (group_vector 0 (block_vector New mixed_vectors)) (0 ∷ 3 ∷ []) ≡ (neg_ℤ (pos 21), pos 17) ∷ (neg_ℤ (pos 21), pos 17) ∷ [] }
-{}
-
-/// The bytes past the end of a text are the bits that any chain of reads takes in after it, in bytes
-/// and rounded up, as far as the zeros go.
-pub fn past_ends_count_bits<T>(bytes: &[u8])
-    requires { 0 < length bytes.now }
-    ensures { CountsBits T bytes.now }
-{
-    bool_coder::laws::marks_count_bits::<T>(bytes);
-}
-
-/// The same of an empty text, without the eight bits that are in its window before the first bit is
-/// read.
-pub fn past_ends_of_none_count_bits<T>()
-    ensures { CountsBitsOfNone T }
-{
-    bool_coder::laws::marks_count_bits::<T>(&[]);
-}
-
-/// The unread bytes of a text are the whole bytes that a chain of reads does not take in.
-pub fn unread_bytes_count_bits<T>(bytes: &[u8])
-    ensures { CountsUnread T bytes.now }
-{
-    bool_coder::laws::marks_count_bits::<T>(bytes);
-}
-
-/// Partitions with 64 zero bytes and a mark after them. Of two bytes, all of the mark and the zeros
-/// are left, 520 bits: none was read past its end. One bit less is a byte read past its end, and so
-/// are eight; with none left all 64 were read. An empty partition of which nothing is read has 512
-/// bits left, and the first bit that is taken in is one past its end. Of 20 bytes with 600 bits left, 80
-/// are of the partition: its last ten bytes are not read.
-pub fn worked_past_ends()
-    ensures inside { bytes_past 64 2 520 ≡ 0 }
-    ensures more { bytes_past 64 2 533 ≡ 0 }
-    ensures one_bit { bytes_past 64 2 519 ≡ 1 }
-    ensures eight_bits { bytes_past 64 2 512 ≡ 1 }
-    ensures nine_bits { bytes_past 64 2 511 ≡ 2 }
-    ensures all { bytes_past 64 2 0 ≡ 64 }
-    ensures empty { bytes_past 64 0 512 ≡ 0 }
-    ensures first_bit { bytes_past 64 0 511 ≡ 1 }
-    ensures unread { bytes_unread 64 20 600 ≡ 10 }
-    ensures part_of_a_byte { bytes_unread 64 20 599 ≡ 9 }
-    ensures all_read { bytes_unread 64 20 519 ≡ 0 }
 {}

@@ -9,7 +9,6 @@ mod frames;
 mod inter;
 mod kept_blocks;
 pub mod laws;
-mod partition_ends;
 mod prediction;
 mod references;
 mod residuals;
@@ -17,7 +16,6 @@ mod states;
 mod step_fault;
 mod steps;
 
-pub use partition_ends::{PartitionEnd, PartitionEnds, measure_partitions};
 pub use references::References;
 pub use states::{State, same_state};
 pub use step_fault::StepFault;

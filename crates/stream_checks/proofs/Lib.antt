@@ -1,3 +1,4 @@
+pub mod DecodedBreaks
 pub mod Steps
 pub mod Tallies
 pub mod Parts
@@ -7,3 +8,12 @@ mod HashAligned
 mod HashHeads
 mod HashLengths
 mod HashTexts
+pub mod Gives
+pub mod FirstChains
+pub mod CountedEnds
+pub mod FirstRead
+pub mod ContextBytes
+pub mod TokenChains
+pub mod PlacesInside
+pub mod TokenEnds
+pub mod KeyEnds

@@ -4,11 +4,13 @@ use Rattle.std.specs.Io.KnownBytes.{Appends}
 use Rattle.vp8_tables.specs.Tables.{TableEntries}
 use Rattle.stream_files.specs.declared.ivf.Ivf.{Ivf}
 use Rattle.stream_files.specs.declared.packets.Packet.{Packet}
-use Rattle.state_cache.specs.Decoding.{Outcome, outcome, outcomes_from}
+use Rattle.macroblock_lists.specs.Known.{Progress, progress_after}
+use Rattle.macroblock_lists.specs.PartitionEnds.{ends_before}
 use Rattle.stream_checks.specs.declared.checker.Checker.{Checker}
+use Rattle.stream_checks.specs.Breaks.{progresses_from}
 use Rattle.stream_checks.specs.Packets.{bytes_of, findings_at, findings_from, is_unshown}
-use Rattle.stream_checks.specs.Partitions.{ends_at, ends_from}
-use Rattle.reference_frames.specs.declared.partition_ends.PartitionEnds.{PartitionEnds}
+use Rattle.stream_checks.specs.Partitions.{ends_from}
+use Rattle.macroblock_lists.specs.declared.partition_ends.PartitionEnds.{PartitionEnds}
 use Rattle.stream_checks.specs.declared.finding.Finding.{Finding}
 use Rattle.stream_checks.specs.declared.finding.Tally.{Tally}
 use Rattle.stream_checks.specs.declared.fault.CheckFault.{CheckFault}
@@ -20,17 +22,17 @@ use Rattle.stream_checks.specs.Severity.{tally_of}
 use Rattle.stream_checks.specs.Stamps.{IsMedianStep, steps_of}
 use Rattle.stream_checks.specs.Texts.{end_of, texts_of}
 
--- the outcome of the packet after a checker's position
-abbrev pub outcome_next : TableEntries → Checker → Packet → Outcome
-outcome_next tables checker packet = outcome tables checker.position.packets checker.decoder packet.bytes
+-- what is known after the packet after a checker's position
+abbrev pub progress_next : TableEntries → Checker → Packet → Progress
+progress_next tables checker packet = progress_after tables checker.position.packets checker.reader packet.bytes
 
 abbrev pub ends_next : TableEntries → Checker → Packet → PartitionEnds
-ends_next tables checker packet = ends_at tables checker.decoder packet.bytes
+ends_next tables checker packet = ends_before tables checker.reader packet.bytes
 
 -- the findings at this packet
 abbrev pub findings_next : TableEntries → Checker → Packet → List Packet → List Finding
 findings_next tables checker packet rest =
-    findings_at checker.step checker.position packet rest (outcome_next tables checker packet) (ends_next tables checker packet)
+    findings_at checker.step checker.position packet rest (progress_next tables checker packet) (ends_next tables checker packet)
 
 -- what is known of a hidden packet before the position is the answer for the packets after it
 abbrev pub TellsUnshown : Option Bool → List Packet → Type 0
@@ -39,8 +41,8 @@ TellsUnshown unshown rest = IfSome unshown (λ answer. answer ≡ is_unshown res
 -- the findings at the packets after the position
 abbrev pub findings_after : TableEntries → Checker → List Packet → List Finding
 findings_after tables checker rest =
-    findings_from checker.step checker.position rest (outcomes_from tables checker.position.packets checker.decoder (bytes_of rest))
-    (ends_from tables checker.position.packets checker.decoder (bytes_of rest))
+    findings_from checker.step checker.position rest (progresses_from tables checker.position.packets checker.reader (bytes_of rest))
+    (ends_from tables checker.position.packets checker.reader (bytes_of rest))
 
 -- the text of findings, and what follows them
 abbrev pub text_of_check : Form → Ivf → List Finding → List ℕ

@@ -4,13 +4,17 @@ use Rattle.vp8_tables.specs.declared.tables.Tables.{Tables}
 use Rattle.frame_header.specs.declared.cause.Cause.TheVariants.{NoKeyFrame}
 use Rattle.stream_files.specs.declared.packets.Packet.{Packet}
 use Rattle.state_cache.specs.declared.outcomes.Broken.{Broken}
-use Rattle.state_cache.specs.Decoding.{Outcome, outcomes_from}
-use Rattle.reference_frames.specs.PartitionEnds.{no_ends}
-use Rattle.reference_frames.specs.declared.partition_ends.PartitionEnd.{PartitionEnd}
+use Rattle.state_cache.specs.Decoding.{Progress as Decoded, left_by, outcomes_from}
+use Rattle.macroblock_lists.specs.Known.{Progress}
+use Rattle.macroblock_lists.specs.KnownLaws.{known_in}
+use Rattle.macroblock_lists.specs.PartitionEnds.{no_ends}
+use Rattle.macroblock_lists.specs.declared.broken.Broken.{Broken as Break}
+use Rattle.macroblock_lists.specs.declared.partition_ends.PartitionEnd.{PartitionEnd}
 use Rattle.stream_checks.specs.declared.finding.Finding.{Finding}
 use Rattle.stream_checks.specs.declared.finding.Spot.{Spot}
 use Rattle.stream_checks.specs.declared.finding.Trouble.{Trouble}
 use Rattle.stream_checks.specs.declared.finding.Trouble.TheVariants.{NeverShown, PastFirst, PastToken, UnreadToken, EmptyToken, StampGoesBack, StampRepeats, StampSkips}
+use Rattle.stream_checks.specs.Breaks.{progresses_from}
 use Rattle.stream_checks.specs.Partitions.{partition_findings}
 use Rattle.stream_checks.specs.Packets.{bytes_of, findings_from, first_position, lost_after}
 
@@ -18,6 +22,12 @@ use Rattle.stream_checks.specs.Packets.{bytes_of, findings_from, first_position,
 abbrev pub LostAreBroken : Type 0
 LostAreBroken = (tables : Tables) (place : ℕ) (broken : Broken) (rest : List Packet) (j : ℕ) → j < lost_after rest
     → slice_get (outcomes_from tables place (Err broken) (bytes_of rest)) j ≡ Some (Err broken)
+
+-- what is known after each packet of a stream is what decoding leaves after it, except the samples: so the breaks and their causes
+-- are those of decoding
+abbrev pub BreaksAreDecoded : Type 0
+BreaksAreDecoded = (tables : Tables) (place : ℕ) (before : Decoded) (packets : List (List ℕ))
+    → progresses_from tables place (known_in before) packets ≡ map (λ outcome. known_in (left_by outcome)) (outcomes_from tables place before packets)
 
 -- a packet without a key tag, shown or hidden
 abbrev pub shown : ℕ → Packet
@@ -29,8 +39,8 @@ hidden stamp = record { stamp = stamp; bytes = 0x01 ∷ 0 ∷ 0 ∷ [] }
 -- the findings at packets that are all lost with a break before them
 abbrev pub found_in : ℕ → List Packet → List Finding
 found_in step packets =
-    let broken : Broken = record { place = 1000; cause = NoKeyFrame } in
-    let lost : Outcome = Err broken in
+    let broken : Break = record { place = 1000; cause = NoKeyFrame } in
+    let lost : Progress = Err broken in
     findings_from step first_position packets (map (λ packet. lost) packets) (map (λ packet. no_ends) packets)
 
 abbrev pub at_packet : ℕ → Option ℕ → Trouble → Finding

@@ -14,3 +14,6 @@ pub mod HashLines
 pub mod Frames
 pub mod TimeBases
 pub mod Hashes
+pub mod ChainEnds
+pub mod FirstChains
+pub mod TokenChains

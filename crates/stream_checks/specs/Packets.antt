@@ -1,4 +1,4 @@
--- The findings at a packet: by the packets around it, the outcome of decoding it, and where decoding ends in its partitions.
+-- The findings at a packet: by the packets around it, what is known after it, and where decoding ends in its partitions.
 use Rattle.std.specs.Prelude.{ℕ, ◌+◌, ◌==◌, Bool, true, false, not, if◌then◌else◌, List, [], ◌++◌, ◌∷◌, map, length, Option, Some, None, Ok}
 use Rattle.std.specs.Int.{from_bool}
 use Rattle.std.specs.List.{prefix_len}
@@ -7,9 +7,9 @@ use Rattle.stream_files.specs.declared.packets.Packet.{Packet}
 use Rattle.frame_header.specs.declared.cause.Cause.{Cause}
 use Rattle.frame_header.specs.Tags.{has_key_tag, is_shown, key_size_of}
 use Rattle.vp8_tables.specs.Tables.{TableEntries}
-use Rattle.state_cache.specs.Decoding.{Outcome, left_by, outcomes}
-use Rattle.reference_frames.specs.declared.partition_ends.PartitionEnds.{PartitionEnds}
-use Rattle.stream_checks.specs.Breaks.{break_in}
+use Rattle.macroblock_lists.specs.Known.{Progress}
+use Rattle.macroblock_lists.specs.declared.partition_ends.PartitionEnds.{PartitionEnds}
+use Rattle.stream_checks.specs.Breaks.{break_in, progresses_from}
 use Rattle.stream_checks.specs.Listed.{found, listed}
 use Rattle.stream_checks.specs.Partitions.{ends_from, partition_findings}
 use Rattle.stream_checks.specs.Stamps.{stamp_trouble_in, stamps_after}
@@ -89,16 +89,16 @@ listed_of spot all =
 
 -- the findings at a packet. A packet whose partitions are read is not refused, so its first findings are those of its partitions,
 -- as a refused packet's first is the refusal
-abbrev pub findings_at : ℕ → Position → Packet → List Packet → Outcome → PartitionEnds → List Finding
-findings_at step position packet rest outcome ends =
+abbrev pub findings_at : ℕ → Position → Packet → List Packet → Progress → PartitionEnds → List Finding
+findings_at step position packet rest after ends =
     partition_findings (spot_of position packet) ends
-    ++ listed_of (spot_of position packet) (found_at step position packet rest (break_in position.packets (left_by outcome)))
+    ++ listed_of (spot_of position packet) (found_at step position packet rest (break_in position.packets after))
 
--- the findings at packets, by their outcomes and their partitions: in the order of the packets
-abbrev pub findings_from : ℕ → Position → List Packet → List Outcome → List PartitionEnds → List Finding
-findings_from step position (packet ∷ packets) (outcome ∷ outcomes) (ends ∷ later) =
-    findings_at step position packet packets outcome ends ++ findings_from step (position_after step position packet) packets outcomes later
-findings_from step position packets outcomes ends = []
+-- the findings at packets, by what is known after each and by their partitions: in the order of the packets
+abbrev pub findings_from : ℕ → Position → List Packet → List Progress → List PartitionEnds → List Finding
+findings_from step position (packet ∷ packets) (after ∷ progresses) (ends ∷ later) =
+    findings_at step position packet packets after ends ++ findings_from step (position_after step position packet) packets progresses later
+findings_from step position packets progresses ends = []
 
 -- the bytes of packets
 abbrev pub bytes_of : List Packet → List (List ℕ)
@@ -107,4 +107,4 @@ bytes_of packets = map (λ packet. packet.bytes) packets
 -- the findings at the packets of a stream whose shown packets are so many units of time apart
 abbrev pub packet_findings : ℕ → TableEntries → List Packet → List Finding
 packet_findings step tables packets =
-    findings_from step first_position packets (outcomes tables (bytes_of packets)) (ends_from tables 0 (Ok None) (bytes_of packets))
+    findings_from step first_position packets (progresses_from tables 0 (Ok None) (bytes_of packets)) (ends_from tables 0 (Ok None) (bytes_of packets))

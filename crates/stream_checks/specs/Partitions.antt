@@ -1,26 +1,21 @@
 -- The findings in the partitions of a packet: where decoding ends in each.
 use Rattle.std.specs.Prelude.{ℕ, ◌+◌, ◌==◌, nat_lt, if◌then◌else◌, List, [], ◌∷◌, ◌++◌, Option, Some, None}
 use Rattle.vp8_tables.specs.declared.tables.Tables.{Tables}
-use Rattle.reference_frames.specs.PartitionEnds.{partition_ends_of}
-use Rattle.reference_frames.specs.declared.partition_ends.PartitionEnd.{PartitionEnd}
-use Rattle.reference_frames.specs.declared.partition_ends.PartitionEnds.{PartitionEnds}
-use Rattle.state_cache.specs.Decoding.{Progress, left_by, outcome}
-use Rattle.stream_checks.specs.Breaks.{state_from}
+use Rattle.macroblock_lists.specs.Known.{Progress, progress_after}
+use Rattle.macroblock_lists.specs.PartitionEnds.{ends_before}
+use Rattle.macroblock_lists.specs.declared.partition_ends.PartitionEnd.{PartitionEnd}
+use Rattle.macroblock_lists.specs.declared.partition_ends.PartitionEnds.{PartitionEnds}
 use Rattle.stream_checks.specs.declared.finding.Finding.{Finding}
 use Rattle.stream_checks.specs.declared.finding.Spot.{Spot}
 use Rattle.stream_checks.specs.declared.finding.Trouble.{Trouble}
 use Rattle.stream_checks.specs.declared.finding.Trouble.TheVariants.{PastFirst, PastToken, UnreadFirst, UnreadToken, EmptyToken}
 use Rattle.stream_checks.specs.Listed.{found, listed}
 
--- where decoding a packet ends in each partition; a packet that is refused or lost has none
-abbrev pub ends_at : Tables → Progress → List ℕ → PartitionEnds
-ends_at tables progress packet = partition_ends_of tables (state_from progress packet) packet
-
--- and of each packet of a stream; the first has the index `place`
+-- where decoding each packet of a stream ends in its partitions; the first has the index `place`
 abbrev pub ends_from : Tables → ℕ → Progress → List (List ℕ) → List PartitionEnds
-ends_from tables place progress [] = []
-ends_from tables place progress (packet ∷ packets) =
-    ends_at tables progress packet ∷ ends_from tables (place + 1) (left_by (outcome tables place progress packet)) packets
+ends_from tables place before [] = []
+ends_from tables place before (packet ∷ packets) =
+    ends_before tables before packet ∷ ends_from tables (place + 1) (progress_after tables place before packet) packets
 
 -- encoders leave bytes at the end of a partition that decoding does not need: 186 sound clips leave at most one
 abbrev pub most_unread : ℕ

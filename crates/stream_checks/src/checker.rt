@@ -2,33 +2,32 @@
 
 ghost use Rattle.std.specs.Prelude.{◌≡◌, ◌+◌, ◌<◌, ◌≤◌, ◌^◌, ◌∷◌, ◌++◌, Ok, None, IfErr, IfOk, OnOk, length};
 ghost use Rattle.std.specs.Io.KnownBytes.{Appends};
-ghost use Rattle.state_cache.specs.Decoding.{left_by};
 ghost use Rattle.stream_checks.specs.Packets.{first_position, listed_of, position_after};
 ghost use Rattle.stream_checks.specs.Partitions.{partition_findings};
 ghost use Rattle.stream_checks.specs.Severity.{tally_of};
 ghost use Rattle.stream_checks.specs.Texts.{texts_of};
-ghost use Rattle.stream_checks.specs.Checks.{TellsUnshown, findings_next, outcome_next};
+ghost use Rattle.stream_checks.specs.Checks.{TellsUnshown, findings_next, progress_next};
 
-use crate::decoder::Decoder;
 use crate::fault::CheckFault;
 use crate::finding::{Spot, Tally};
 use crate::packets::{Found, Position, unshown};
 use crate::partitions::{found, write_partitions};
+use crate::reader::Reader;
 use crate::texts::{Form, write_found};
-use reference_frames::PartitionEnds;
+use macroblock_lists::PartitionEnds;
 use std::alloc::Global;
 use std::io::Write;
 use stream_files::{Packet, WriteFault};
 use vp8_tables::Tables;
 
-/// A position between two packets of a stream, with the decoder there.
+/// A position between two packets of a stream, with the reader there.
 #[derive(Drop)]
 pub(crate) struct Checker {
     form: Form,
     // The median step between the time stamps of shown packets.
     step: u64,
     position: Position,
-    decoder: Decoder,
+    reader: Reader,
     // Of a hidden packet before the position: whether no shown packet comes before the next key tag.
     unshown: Option<bool>,
 }
@@ -73,18 +72,18 @@ fn write_all<W: Write>(
 impl Checker {
     /// Before the first packet of a stream whose shown packets are `step` units of time apart.
     pub fn new(alloc: Global, form: Form, step: u64) -> Checker
-        ensures { result ≡ record { form = form; step = step; position = first_position; decoder = Ok None; unshown = None } }
+        ensures { result ≡ record { form = form; step = step; position = first_position; reader = Ok None; unshown = None } }
     {
         Checker {
             form,
             step,
             position: Position::first(),
-            decoder: Decoder::new(alloc),
+            reader: Reader::new(alloc),
             unshown: None,
         }
     }
 
-    /// Decodes the next packet, writes its findings, and returns their tally. `rest` is the packets
+    /// Reads the next packet, writes its findings, and returns their tally. `rest` is the packets
     /// after it. `NoMemory` comes before the first finding.
     pub fn next<W: Write>(
         &mut self,
@@ -105,18 +104,15 @@ impl Checker {
         ensures step { self.new.step ≡ self.old.step }
         ensures position { OnOk result (self.new.position ≡ position_after self.old.step self.old.position packet.now) }
         ensures frames { OnOk result (self.new.position.frames ≤ self.new.position.packets) }
-        ensures decoder { OnOk result (self.new.decoder ≡ left_by (outcome_next tables.now self.old packet.now)) }
+        ensures reader { OnOk result (self.new.reader ≡ progress_next tables.now self.old packet.now) }
         ensures answers { OnOk result (TellsUnshown self.new.unshown rest.now) }
     {
         let bytes = packet.bytes.as_slice();
         let place = self.position.packets;
-        let Ok(ends) = self.decoder.measure_partitions(tables, bytes) else {
+        let Ok(ends) = self.reader.next(tables, place, bytes) else {
             return Err(CheckFault::NoMemory);
         };
-        let Ok(()) = self.decoder.next(tables, place, bytes) else {
-            return Err(CheckFault::NoMemory);
-        };
-        let cause = self.decoder.break_at(place);
+        let cause = self.reader.break_at(place);
         self.unshown = unshown(self.unshown, packet, rest);
         let spot = self.position.spot(packet);
         let all = self

@@ -21,7 +21,7 @@ use std::io::Write;
 use stream_files::{Ivf, Packet};
 use vp8_tables::Tables;
 
-/// Decodes the packets after a checker's position and writes their findings, and returns their tally.
+/// Reads the packets after a checker's position and writes their findings, and returns their tally.
 fn write_packets<W: Write, G: Progress>(
     w: &mut W,
     tables: &Tables,
@@ -52,10 +52,10 @@ fn write_packets<W: Write, G: Progress>(
     Ok(tally)
 }
 
-/// Checks an IVF file: decodes its packets once, writes what it finds, as lines or as objects, and
+/// Checks an IVF file: reads the headers, modes and tokens of its packets, writes what it finds, as lines or as objects, and
 /// after lines one with the numbers of packets, frames and findings. It returns the tally of the
 /// findings. They come in the order of the file: at its header, at each packet, and at its end. Memory
-/// is taken for decoding and for the time stamps. `progress` is called after each packet.
+/// is taken for the modes of a frame, its marked partitions, and the time stamps; no sample is made. `progress` is called after each packet.
 ///
 /// `NoMemory` if memory runs out: the findings before were written whole. `Write` if the writer
 /// returns an error; part of a line may have been written.

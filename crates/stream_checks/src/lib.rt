@@ -4,7 +4,6 @@
 
 mod checker;
 mod checking;
-mod decoder;
 mod decoding;
 mod fault;
 mod file;
@@ -17,6 +16,7 @@ mod objects;
 mod packets;
 mod partitions;
 mod progress;
+mod reader;
 mod samples;
 mod stamps;
 mod texts;

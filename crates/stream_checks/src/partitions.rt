@@ -9,7 +9,7 @@ ghost use Rattle.stream_checks.specs.Texts.{texts_of};
 
 use crate::finding::{Finding, Spot, Tally, Trouble};
 use crate::texts::{Form, write_found};
-use reference_frames::{PartitionEnd, PartitionEnds};
+use macroblock_lists::{PartitionEnd, PartitionEnds};
 use std::io::Write;
 use stream_files::WriteFault;
 

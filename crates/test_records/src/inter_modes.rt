@@ -1,7 +1,9 @@
 use bool_coder::Encoder;
 use frame_header::{Header, Reference, read_header};
 use intra_predict::{SubMode, WholeMode};
-use mode_parser::{MbMode, Vector, VectorMode, YMode, chroma_vector, read_modes};
+use mode_parser::{
+    MbMode, Split, Vector, VectorMode, YMode, chroma_vector, read_modes, read_record_facts,
+};
 use std::alloc::{AllocError, Global};
 use std::process::Abort;
 use std::test::Fail;
@@ -136,6 +138,34 @@ fn expect_modes<R: Abort>(
     let map = &map[..columns * rows];
     let modes = read_modes(alloc, &Tables::rfc(), header, columns, rows, Some(map))?;
     assert!(rt; modes.records() == records && modes.segment_map() == map);
+    Ok(())
+}
+
+/// The splits of a frame that `check_frame` checks.
+fn expect_splits<R: Abort>(
+    rt: &R,
+    alloc: Global,
+    columns: usize,
+    macroblocks: &[&[Pair]],
+    splits: &[Option<Split>],
+) -> Result<(), AllocError> {
+    let tables = Tables::rfc();
+    let key_tag = [0x9D, 1, 0x2A, 16, 0, 16, 0];
+    let key = packet_of(alloc, &tables, &key_tag, 29, &[], None)?;
+    let key = read_header(&tables, None, key.as_slice()).expect(rt, "a key packet");
+    let packet = packet_of(alloc, &tables, &[], 36, macroblocks, Some(PROBABILITIES))?;
+    let header = read_header(&tables, Some(&key.context_after), packet.as_slice());
+    let header = header.expect(rt, "an inter packet");
+    assert!(rt; 1 <= columns && columns <= 16 && splits.len() <= 16);
+    let rows = splits.len() / columns;
+    assert!(rt; 1 <= rows && columns * rows <= 16);
+    let map = [3; 16];
+    let map = &map[..columns * rows];
+    let facts = read_record_facts(alloc, &tables, &header, columns, rows, Some(map))?;
+    assert_eq!(rt; facts.len(), splits.len());
+    for (fact, split) in facts.iter().zip(splits) {
+        assert_eq!(rt; fact.split, *split);
+    }
     Ok(())
 }
 
@@ -357,6 +387,15 @@ fn counts_references_and_parts(rt: HostRuntime) -> Result<(), Fail> {
         inter(Reference::Golden, VectorMode::Near, all(-8, 0)),
     ];
     check_frame(&rt, rt.alloc(), 3, PROBABILITIES, &macroblocks, &records)?;
+    let splits = [
+        None,
+        None,
+        None,
+        Some(Split::LeftRight),
+        Some(Split::Quarters),
+        None,
+    ];
+    expect_splits(&rt, rt.alloc(), 3, &macroblocks, &splits)?;
     Ok(())
 }
 
@@ -439,6 +478,8 @@ fn splits_into_halves_and_sixteenths(rt: HostRuntime) -> Result<(), Fail> {
         inter(Reference::Last, VectorMode::Split, sixteenths),
     ];
     check_frame(&rt, rt.alloc(), 2, PROBABILITIES, &macroblocks, &records)?;
+    let splits = [None, Some(Split::TopBottom), None, Some(Split::Sixteenths)];
+    expect_splits(&rt, rt.alloc(), 2, &macroblocks, &splits)?;
     Ok(())
 }
 

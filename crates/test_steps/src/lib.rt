@@ -1,4 +1,4 @@
-//! Worked steps: the state and picture after a packet, states that differ in one field, what forged packets decode to, the MD5s of a clip's frames, and the list of packets.
+//! Worked steps: the state and picture after a packet, states that differ in one field, what forged packets decode to, the MD5s of a clip's frames, and the lists of packets and of macroblocks.
 #![tactic(auto)]
 
 #[cfg(test)]
@@ -9,5 +9,7 @@ mod forged;
 mod hashes;
 #[cfg(test)]
 mod listing;
+#[cfg(test)]
+mod macroblocks;
 #[cfg(test)]
 mod states;

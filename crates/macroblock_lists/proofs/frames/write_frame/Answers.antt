@@ -3,8 +3,8 @@ use Rattle.std.specs.Io.KnownBytes.{Appends}
 use Rattle.bool_coder.specs.Reader.{Reader, started}
 use Rattle.frame_header.specs.declared.places.Place.{Place}
 use Rattle.reference_frames.specs.FrameTokens.{TokenState, outside, tokens_start}
-use Rattle.reference_frames.specs.PartitionEnds.{marked_start, marked_text, zeros_for}
-use Rattle.reference_frames.proofs.MarkedPartitions.{marked_readers}
+use Rattle.macroblock_lists.specs.PartitionEnds.{marked_start, marked_text, zeros_for}
+use Rattle.macroblock_lists.proofs.MarkedPartitions.{marked_readers}
 use Rattle.macroblock_lists.specs.Frames.{texts_of}
 use Rattle.macroblock_lists.proofs.frames.write_frame.Goals as goal
 
@@ -23,6 +23,6 @@ returns g c =
     let marked_are : c.in_ok-marked.marked ≡ marked_start (zeros_for columns c.args.size.1) own c.args.packet.now columns =
     c.in_ok-marked.ensures ∙ ap state readers ∙ ap (λ (ps : List Place). marked_start zeros ps c.args.packet.now columns) are
     ∙ ap (λ n. marked_start n own c.args.packet.now columns) c.zeros_for.ensures.value in
-    let Written : TokenState → TokenState → Type 0 = λ a b. Appends (g.W.Write.contents c.args.w.now) (g.W.Write.contents c.write_macroblocks.new.w) (texts_of c.args.form c.args.place c.args.header.now columns a b c.args.modes.now) in
+    let Written : TokenState → TokenState → Type 0 = λ a b. Appends (g.W.Write.contents c.args.w.now) (g.W.Write.contents c.write_macroblocks.new.w) (texts_of c.args.form c.args.place c.args.header.now columns a b c.args.records.now.modes.records c.args.records.now.facts.items) in
     subst (λ (b : TokenState). Written (tokens_start own c.args.packet.now columns) b) marked_are
-    (subst (λ (a : TokenState). Written a c.in_ok-marked.marked) tokens_are c.in_ok-write_macroblocks.ensures)
+    (subst (λ (a : TokenState). Written a c.in_ok-marked.marked) tokens_are (rw (c.records-modes.ensures, c.as_slice-facts.ensures.value) at c.in_ok-write_macroblocks.ensures))

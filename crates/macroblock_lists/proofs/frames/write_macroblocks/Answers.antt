@@ -1,4 +1,4 @@
-use Rattle.std.proofs.Common.{◌≡◌, ◌+◌, ◌<◌, ◌++◌, ℕ, List, length, slice_get, Some, ap, sym, subst, ◌∙◌, refl, arith}
+use Rattle.std.proofs.Common.{◌≡◌, ◌+◌, ◌++◌, ℕ, List, length, slice_get, Some, ap, sym, subst, ◌∙◌, refl, arith}
 use Rattle.std.proofs.KnownBytes.{Appends-nil, Appends-trans}
 use Rattle.std.proofs.lemmas.List.{length-set}
 use Rattle.std.proofs.lemmas.Option.{slice_get-get_or}
@@ -9,6 +9,9 @@ use Rattle.reference_frames.specs.FrameTokens.{TokenState, token_state}
 use Rattle.reference_frames.proofs.MacroblockOrder.{next_column, next_row, state_more}
 use Rattle.macroblock_lists.specs.Frames.{macroblock_text, text_at}
 use Rattle.macroblock_lists.specs.declared.macroblocks.Macroblock.{Macroblock}
+use Rattle.macroblock_lists.specs.Macroblocks.{macroblock_of}
+use Rattle.macroblock_lists.specs.Records.{facts_in}
+use Rattle.mode_parser.specs.declared.record_facts.RecordFacts.{RecordFacts}
 use Rattle.macroblock_lists.proofs.FrameLemmas.{text_here}
 use Rattle.macroblock_lists.proofs.Loops.{texts_more}
 use Rattle.macroblock_lists.proofs.frames.write_macroblocks.Goals as goal
@@ -36,10 +39,11 @@ loop-mode-preserved g c =
     let found : slice_get c.args.modes.now n ≡ Some mode = slice_get-get_or c.args.modes.now n mode c.loop-mode-test.true ∙ ap Some (sym c.mode-item.is) in
     let tokens = c.next-macroblock.ensures.tokens in
     let marked = c.next-macroblock.ensures.marked in
-    let text : ℕ → List ℕ = text_at c.args.form c.args.packet c.args.header.now c.args.columns c.args.walk.now.tokens c.args.walk.now.marked c.args.modes.now in
+    let text : ℕ → List ℕ = text_at c.args.form c.args.packet c.args.header.now c.args.columns c.args.walk.now.tokens c.args.walk.now.marked c.args.modes.now c.args.facts.now in
+    let facts : c.facts_in-facts.result ≡ facts_in c.args.facts.now n = c.facts_in-facts.ensures ∙ ap (λ (k : ℕ). facts_in c.args.facts.now k) met.place in
     let here : macroblock_text c.args.form c.args.packet c.next-macroblock.result ≡ text n =
-    ap (λ (m : Macroblock). macroblock_text c.args.form c.args.packet m) c.next-macroblock.ensures.value
-    ∙ text_here c.args.form c.args.packet c.args.header.now c.args.columns c.loop-mode.mx c.loop-mode.my n c.args.walk.now.tokens c.args.walk.now.marked c.loop-mode.walk.tokens c.loop-mode.walk.marked c.args.modes.now mode found met.tokens met.marked met.place met.column in
+    ap (λ (m : Macroblock). macroblock_text c.args.form c.args.packet m) (c.next-macroblock.ensures.value ∙ ap (λ (f : RecordFacts). macroblock_of c.args.header.now c.loop-mode.mx c.loop-mode.my c.loop-mode.walk.tokens c.loop-mode.walk.marked mode f) facts)
+    ∙ text_here c.args.form c.args.packet c.args.header.now c.args.columns c.loop-mode.mx c.loop-mode.my n c.args.walk.now.tokens c.args.walk.now.marked c.loop-mode.walk.tokens c.loop-mode.walk.marked c.args.modes.now c.args.facts.now mode found met.tokens met.marked met.place met.column in
     let more : flat_map text (range_with_len 0 (n + 1)) ≡ flat_map text (range_with_len 0 n) ++ macroblock_text c.args.form c.args.packet c.next-macroblock.result =
     texts_more text 0 n n (omega arith) ∙ ap (λ (t : List ℕ). flat_map text (range_with_len 0 n) ++ t) (sym here) in
     let same_tokens : length c.next-macroblock.new.self.tokens.readers ≡ length c.loop-mode.walk.tokens.readers = ap (λ (t : TokenState). length t.readers) tokens ∙ length-set _ _ _ in

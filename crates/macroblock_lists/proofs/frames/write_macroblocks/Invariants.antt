@@ -1,4 +1,4 @@
-use Rattle.std.proofs.Common.{◌≡◌, ◌+◌, ◌*◌, ◌<◌, List, ℕ, length}
+use Rattle.std.proofs.Common.{◌≡◌, ◌+◌, ◌*◌, ◌<◌, length}
 use Rattle.std.specs.List.{flat_map, range_with_len}
 use Rattle.std.specs.Io.KnownBytes.{Appends}
 use Rattle.reference_frames.specs.FrameTokens.{token_state}
@@ -7,7 +7,7 @@ use Rattle.macroblock_lists.proofs.frames.write_macroblocks.Given as goal
 
 abbrev pub invariant-loop-mode : goal.invariant-loop-mode
 invariant-loop-mode g l = record {
-  said : Appends (g.W.Write.contents l.fn.w) (g.W.Write.contents l.w) (flat_map (text_at l.form l.packet l.header l.columns l.initial.walk.tokens l.initial.walk.marked l.modes) (range_with_len 0 l.mode-index));
+  said : Appends (g.W.Write.contents l.fn.w) (g.W.Write.contents l.w) (flat_map (text_at l.form l.packet l.header l.columns l.initial.walk.tokens l.initial.walk.marked l.modes l.facts) (range_with_len 0 l.mode-index));
   tokens : l.walk.tokens ≡ token_state l.header l.columns l.initial.walk.tokens l.modes l.mode-index;
   marked : l.walk.marked ≡ token_state l.header l.columns l.initial.walk.marked l.modes l.mode-index;
   readers : 0 < length l.walk.tokens.readers;

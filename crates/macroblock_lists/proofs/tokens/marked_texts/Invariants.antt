@@ -1,5 +1,5 @@
 use Rattle.std.proofs.Common.{◌≡◌, map, take}
-use Rattle.reference_frames.specs.PartitionEnds.{marked_text}
+use Rattle.macroblock_lists.specs.PartitionEnds.{marked_text}
 use Rattle.macroblock_lists.proofs.tokens.marked_texts.Given as goal
 
 abbrev pub invariant-loop-place : goal.invariant-loop-place

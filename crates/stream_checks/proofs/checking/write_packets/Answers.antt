@@ -47,7 +47,7 @@ loop-packet-preserved g c =
     record {
       done = met.done ++ found;
       whole = append_assoc met.done found (findings_after tables after following)
-          ∙ ap (λ (more : List Finding). met.done ++ more) (sym (one_more tables before after packet following made.step made.position made.decoder))
+          ∙ ap (λ (more : List Finding). met.done ++ more) (sym (one_more tables before after packet following made.step made.position made.reader))
           ∙ ap (λ (packets : List Packet). met.done ++ findings_after tables before packets) (sym at)
           ∙ met.whole;
       said = rw (flat_map-append (text_of c.args.checker.form) met.done found) (Appends-trans _ _ _ _ _ met.said added);

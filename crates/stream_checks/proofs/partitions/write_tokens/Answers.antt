@@ -1,7 +1,7 @@
 use Rattle.std.proofs.Common.{◌≡◌, ◌+◌, ℕ, List, Option, ◌∷◌, ◌++◌, length, ap, sym, ◌∙◌, arith, append_assoc}
 use Rattle.std.proofs.KnownBytes.{Appends-trans}
 use Rattle.std.proofs.lemmas.Grind.{flat_map-append}
-use Rattle.reference_frames.specs.declared.partition_ends.PartitionEnd.{PartitionEnd}
+use Rattle.macroblock_lists.specs.declared.partition_ends.PartitionEnd.{PartitionEnd}
 use Rattle.stream_checks.specs.declared.finding.Finding.{Finding}
 use Rattle.stream_checks.specs.declared.finding.Tally.{Tally}
 use Rattle.stream_checks.specs.declared.finding.Trouble.{Trouble}

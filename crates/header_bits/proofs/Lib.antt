@@ -1,0 +1,5 @@
+pub mod BitLemmas
+pub mod TakesLemmas
+pub mod AddLemmas
+pub mod GroupLemmas
+mod PacketLemmas

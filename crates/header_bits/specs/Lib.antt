@@ -1,0 +1,4 @@
+pub mod Asked
+pub mod Bits
+pub mod Totals
+pub mod Worked

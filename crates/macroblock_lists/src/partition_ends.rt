@@ -1,0 +1,293 @@
+//! How far decoding reads each partition of a packet, without its samples.
+
+ghost use Rattle.std.specs.Prelude.{◌≡◌, ◌+◌, ◌*◌, ◌<◌, ◌≤◌, [], false, length, All, IfOk, IsSome, IsTrue};
+ghost use Rattle.std.specs.Option.{option_copied, option_map};
+ghost use Rattle.bool_coder.specs.Reader.{started};
+ghost use Rattle.frame_header.specs.Tags.{has_key_tag};
+ghost use Rattle.reference_frames.specs.FrameTokens.{token_state};
+ghost use Rattle.macroblock_lists.specs.Known.{frame_modes, header_after, known_before, known_by, left_at, progress_after, step_of};
+ghost use Rattle.macroblock_lists.specs.PartitionEnds.{bytes_past, bytes_unread, end_of, ends_before, first_partition_end as first_partition_end_of, frame_ends, frame_token_ends, no_ends, partition_ends_of, token_ends, zeros_for};
+
+use crate::broken::Broken;
+use crate::known::{
+    Known, Progress, context_of, frame_modes, known_after, macroblocks, size_of, step,
+};
+use crate::tokens::{FrameTokens, marked, marked_texts};
+use arrayvec::ArrayVec;
+use frame_header::{
+    Context, Header, Place, first_partition, has_key_tag, read_header, read_header_over,
+};
+use mode_parser::MbMode;
+use pixel_planes::NoMemory;
+use std::alloc::Global;
+use vp8_tables::Tables;
+
+/// Where decoding ends in a partition: past its end, or before it, or just at it.
+#[derive(Clone, Copy, Debug, Default, PartialEq, Eq)]
+pub struct PartitionEnd {
+    /// The number of bytes that the partition has.
+    pub size: usize,
+    /// How many bytes decoding reads past its end. It reads zeros there, and libvpx calls the frame
+    /// corrupt.
+    pub past: usize,
+    /// How many of its last bytes are never read.
+    pub unread: usize,
+}
+
+/// Where decoding ends in each partition of a packet.
+#[derive(Debug, Drop)]
+pub struct PartitionEnds {
+    /// In the first partition.
+    pub first: PartitionEnd,
+    /// In each token partition; of a packet that is not decoded there are none.
+    pub tokens: ArrayVec<PartitionEnd, 8>,
+}
+
+impl PartitionEnds {
+    /// Those of a packet that is not decoded.
+    fn none() -> PartitionEnds
+        ensures { result ≡ no_ends }
+    {
+        PartitionEnds {
+            first: NO_END,
+            tokens: ArrayVec::new(),
+        }
+    }
+}
+
+/// A partition of no bytes, of which none is read.
+const NO_END: PartitionEnd = PartitionEnd {
+    size: 0,
+    past: 0,
+    unread: 0,
+};
+
+/// How many zero bytes are put after a partition, in a frame of so many macroblocks.
+pub(crate) fn zeros_for(columns: usize, rows: usize) -> usize
+    requires wide { columns ≤ 1024 }
+    requires high { rows ≤ 1024 }
+    ensures value { result ≡ zeros_for columns rows }
+    ensures few { result ≤ 4194368 }
+{
+    64 + 4 * (columns * rows)
+}
+
+/// How many bytes were read past the end of a partition of `size` bytes, of whose zeros and mark
+/// so many bits are left.
+fn bytes_past(zeros: usize, size: usize, left: u128) -> usize
+    requires { zeros ≤ 4194368 }
+    ensures { result ≡ bytes_past zeros size left }
+{
+    let zeros_bits = 8 * zeros as u128;
+    let after = if size == 0 {
+        zeros_bits
+    } else {
+        zeros_bits + 8
+    };
+    let bytes = (after.saturating_sub(left) + 7) / 8;
+    bytes.min(zeros as u128) as usize
+}
+
+/// How many bytes of a partition of `size` bytes are not read, if so many bits are left of it, its
+/// zeros and its mark.
+fn bytes_unread(zeros: usize, size: usize, left: u128) -> usize
+    requires { zeros ≤ 4194368 }
+    ensures { result ≡ bytes_unread zeros size left }
+{
+    let after = 8 * zeros as u128 + 8;
+    let bytes = left.saturating_sub(after) / 8;
+    bytes.min(size as u128) as usize
+}
+
+/// Where reading ended in a partition of `size` bytes, if so many bits are left of it, its zeros and
+/// its mark.
+fn end_of(zeros: usize, size: usize, left: u128) -> PartitionEnd
+    requires { zeros ≤ 4194368 }
+    ensures { result ≡ end_of zeros size left }
+{
+    PartitionEnd {
+        size,
+        past: bytes_past(zeros, size, left),
+        unread: bytes_unread(zeros, size, left),
+    }
+}
+
+/// Reads the tokens of the macroblocks with these records, in raster order.
+fn read_tokens(tokens: &mut FrameTokens, header: &Header, columns: usize, modes: &[MbMode])
+    requires columns { 0 < columns }
+    requires some { 0 < length tokens.old.readers }
+    requires above { length tokens.old.above ≡ columns }
+    ensures value { tokens.new ≡ token_state header.now columns tokens.old modes.now (length modes.now) }
+    ensures count { length tokens.new.readers ≡ length tokens.old.readers }
+{
+    let mut mx = 0;
+    let mut my = 0;
+    for mode in modes {
+        tokens.read(header, mx, my, mode);
+        mx += 1;
+        if mx == columns {
+            mx = 0;
+            my += 1;
+        }
+    }
+}
+
+/// Where reading ended in each token partition.
+fn token_ends(zeros: usize, partitions: &[Place], tokens: &FrameTokens) -> ArrayVec<PartitionEnd, 8>
+    requires zeros { zeros ≤ 4194368 }
+    requires few { length partitions.now ≤ 8 }
+    requires each { length tokens.now.readers ≡ length partitions.now }
+    ensures { result.items ≡ token_ends zeros partitions.now tokens.now.readers }
+{
+    let mut ends = ArrayVec::new();
+    for k in 0..partitions.len() {
+        ends.push(end_of(zeros, partitions[k].length, tokens.left(k)));
+    }
+    ends
+}
+
+/// Where decoding the tokens of a frame of so many columns, with these records, ends in each token
+/// partition.
+fn frame_token_ends(
+    alloc: Global,
+    zeros: usize,
+    packet: &[u8],
+    header: &Header,
+    columns: usize,
+    modes: &[MbMode],
+) -> Result<ArrayVec<PartitionEnd, 8>, NoMemory>
+    requires zeros { zeros ≤ 4194368 }
+    requires columns { 0 < columns }
+    requires some { 0 < length header.now.partitions.items }
+    requires inside { All (λ place. place.start + place.length ≤ length packet.now) header.now.partitions.items }
+    ensures { IfOk result (λ ends. ends.items ≡ frame_token_ends zeros packet.now header.now columns modes.now) }
+{
+    let partitions = header.partitions.as_slice();
+    let texts = marked_texts(alloc, zeros, packet, partitions)?;
+    let mut tokens = FrameTokens::over_texts(alloc, &texts, columns)?;
+    read_tokens(&mut tokens, header, columns, modes);
+    Ok(token_ends(zeros, partitions, &tokens))
+}
+
+/// Where decoding a packet ends in its first partition: after its header, read after this context, and
+/// the modes of its frame, before which this is known.
+#[tactic(auto, unfolding(crate::specs::PartitionEnds::first_partition_end))]
+fn first_partition_end(
+    alloc: Global,
+    tables: &Tables,
+    zeros: usize,
+    packet: &[u8],
+    context: Option<&Context>,
+    before: Option<&Known>,
+) -> Result<PartitionEnd, NoMemory>
+    requires zeros { zeros ≤ 4194368 }
+    requires following { has_key_tag packet.now ≡ false → IsSome before }
+    ensures { IfOk result (λ end. end ≡ first_partition_end_of tables.now zeros packet.now (option_copied context.entry) (option_copied before.entry)) }
+{
+    let Ok(place) = first_partition(context, packet) else {
+        return Ok(NO_END);
+    };
+    let first = &packet[place.start..place.start + place.length];
+    let text = marked(alloc, zeros, first)?;
+    let Ok(header) = read_header_over(tables, context, packet, text.as_slice()) else {
+        return Ok(end_of(zeros, place.length, 0));
+    };
+    let left = frame_modes(alloc, tables, &header, before)?.left();
+    Ok(end_of(zeros, place.length, left))
+}
+
+/// Where decoding a frame with this header and these records ends in each partition, if this was known
+/// before its packet.
+fn frame_ends(
+    alloc: Global,
+    tables: &Tables,
+    packet: &[u8],
+    header: &Header,
+    records: &[MbMode],
+    known: Option<&Known>,
+) -> Result<PartitionEnds, NoMemory>
+    requires key { header.now.is_key ≡ has_key_tag packet.now }
+    requires following { header.now.is_key ≡ false → IsSome known }
+    requires wide { IsTrue header.now.is_key → (1 ≤ header.now.width) × (header.now.width ≤ 16383) }
+    requires high { IsTrue header.now.is_key → (1 ≤ header.now.height) × (header.now.height ≤ 16383) }
+    requires some { 0 < length header.now.partitions.items }
+    requires inside { All (λ place. place.start + place.length ≤ length packet.now) header.now.partitions.items }
+    requires records { records.now ≡ (frame_modes tables.now header.now (known_before packet.now (option_copied known))).records }
+    ensures { IfOk result (λ ends. ends ≡ frame_ends tables.now packet.now header.now (option_map (λ k. k.context) (option_copied known.entry)) (known_before packet.now (option_copied known.entry))) }
+{
+    let before = if header.is_key { None } else { known };
+    let (width, height) = size_of(header, before);
+    let columns = macroblocks(width);
+    let zeros = zeros_for(columns, macroblocks(height));
+    let context = context_of(known);
+    let first = first_partition_end(alloc, tables, zeros, packet, context, before)?;
+    let tokens = frame_token_ends(alloc, zeros, packet, header, columns, records)?;
+    Ok(PartitionEnds { first, tokens })
+}
+
+/// Reads a packet with bytes: where decoding ends in each of its partitions, and what is known after
+/// it.
+#[tactic(auto, unfolding(crate::specs::PartitionEnds::partition_ends_of))]
+fn read_coded(
+    alloc: Global,
+    tables: &Tables,
+    place: usize,
+    known: Option<&Known>,
+    packet: &[u8],
+) -> Result<(PartitionEnds, Progress), NoMemory>
+    ensures ends { IfOk result (λ read. read.0 ≡ partition_ends_of tables.now (option_copied known.entry) packet.now) }
+    ensures after { IfOk result (λ read. read.1 ≡ left_at place (known_by tables.now (known_before packet.now (option_copied known.entry)) (header_after tables.now (option_copied known.entry) packet.now))) }
+{
+    let header = match read_header(tables, context_of(known), packet) {
+        Ok(header) => header,
+        Err(cause) => return Ok((PartitionEnds::none(), Err(Broken { place, cause }))),
+    };
+    let before = if header.is_key { None } else { known };
+    let modes = frame_modes(alloc, tables, &header, before)?;
+    let ends = frame_ends(alloc, tables, packet, &header, modes.records(), known)?;
+    Ok((ends, Ok(Some(known_after(&header, modes, before)))))
+}
+
+/// Reads a packet before which this is known.
+fn read_known(
+    alloc: Global,
+    tables: &Tables,
+    place: usize,
+    known: Option<Known>,
+    packet: &[u8],
+) -> Result<(PartitionEnds, Progress), NoMemory>
+    ensures ends { IfOk result (λ read. read.0 ≡ partition_ends_of tables.now known packet.now) }
+    ensures after { IfOk result (λ read. read.1 ≡ left_at place (step_of tables.now known packet.now)) }
+{
+    if !packet.is_empty() {
+        return read_coded(alloc, tables, place, known.as_ref(), packet);
+    }
+    let after = step(alloc, tables, place, known, packet)?;
+    Ok((PartitionEnds::none(), after))
+}
+
+/// Reads the packet at index `place` after this progress: where decoding ends in each of its
+/// partitions, and the progress after it. A packet that is refused or lost has no partitions.
+///
+/// Its header and its modes are read twice, over the packet and over its first partition with zeros
+/// and a mark after it, and its tokens once. No sample is made. `NoMemory` if memory for the modes, a
+/// marked partition, the readers or the flags between macroblocks is refused.
+pub fn read_packet(
+    alloc: Global,
+    tables: &Tables,
+    place: usize,
+    progress: Progress,
+    packet: &[u8],
+) -> Result<(PartitionEnds, Progress), NoMemory>
+    ensures ends { IfOk result (λ read. read.0 ≡ ends_before tables.now progress packet.now) }
+    ensures few { IfOk result (λ read. length read.0.tokens.items ≤ 8) }
+    ensures after { IfOk result (λ read. read.1 ≡ progress_after tables.now place progress packet.now) }
+{
+    if has_key_tag(packet) {
+        return read_known(alloc, tables, place, None, packet);
+    }
+    match progress {
+        Ok(known) => read_known(alloc, tables, place, known, packet),
+        Err(broken) => Ok((PartitionEnds::none(), Err(broken))),
+    }
+}

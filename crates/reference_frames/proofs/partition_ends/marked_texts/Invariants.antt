@@ -1,6 +1,0 @@
-use Rattle.std.proofs.Common.{◌≡◌, map, take}
-use Rattle.reference_frames.specs.PartitionEnds.{marked_text}
-use Rattle.reference_frames.proofs.partition_ends.marked_texts.Given as goal
-
-abbrev pub invariant-loop-place : goal.invariant-loop-place
-invariant-loop-place l = map (λ text. text.items) l.texts.items ≡ map (marked_text l.zeros l.packet) (take l.place-index l.partitions)

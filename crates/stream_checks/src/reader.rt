@@ -1,0 +1,77 @@
+//! Reading of one packet after another, without samples, for the breaks of the stream and the ends of
+//! its partitions.
+
+ghost use Rattle.std.specs.Prelude.{◌≡◌, ◌≤◌, Ok, None, IfOk, OnOk, length};
+ghost use Rattle.macroblock_lists.specs.Known.{progress_after};
+ghost use Rattle.macroblock_lists.specs.PartitionEnds.{ends_before};
+ghost use Rattle.stream_checks.specs.Breaks.{break_in};
+
+use frame_header::Cause;
+use macroblock_lists::{PartitionEnds, Progress, read_packet};
+use pixel_planes::NoMemory;
+use std::alloc::Global;
+use std::marker::Model;
+use std::mem;
+use vp8_tables::Tables;
+
+/// A reader between two packets: what is known after the packets before it, nothing before the first,
+/// or the break of the stream.
+#[derive(Drop)]
+pub(crate) struct Reader {
+    alloc: Global,
+    progress: Progress,
+}
+
+impl Model for Reader {
+    ghost use Rattle.macroblock_lists.specs.Known.{Progress};
+
+    ghost Value = { Progress };
+
+    ghost view = { λ r. r.progress };
+}
+
+impl Reader {
+    /// Before the first packet.
+    pub fn new(alloc: Global) -> Reader
+        ensures { result ≡ Ok None }
+    {
+        Reader {
+            alloc,
+            progress: Ok(None),
+        }
+    }
+
+    /// Reads the packet at index `place`: where decoding ends in each of its partitions. A packet that
+    /// is refused or lost has none.
+    pub fn next(
+        &mut self,
+        tables: &Tables,
+        place: usize,
+        packet: &[u8],
+    ) -> Result<PartitionEnds, NoMemory>
+        ensures ends { IfOk result (λ ends. ends ≡ ends_before tables.now self.old packet.now) }
+        ensures few { IfOk result (λ ends. length ends.tokens.items ≤ 8) }
+        ensures after { OnOk result (self.new ≡ progress_after tables.now place self.old packet.now) }
+    {
+        let before = mem::replace(&mut self.progress, Ok(None));
+        let (ends, after) = read_packet(self.alloc, tables, place, before, packet)?;
+        self.progress = after;
+        Ok(ends)
+    }
+
+    /// The cause, if the stream breaks at this index.
+    pub fn break_at(&self, place: usize) -> Option<Cause>
+        ensures { result ≡ break_in place self.now }
+    {
+        match &self.progress {
+            Ok(_) => None,
+            Err(broken) => {
+                if broken.place == place {
+                    Some(broken.cause)
+                } else {
+                    None
+                }
+            }
+        }
+    }
+}
