@@ -4,6 +4,7 @@ use Rattle.std.specs.Cmp.Lexicographic.{pointwise}
 use Rattle.std.specs.Borrow.{Bor}
 use Rattle.std.specs.List.{slice_split, starts_with}
 use Rattle.serve_arguments.specs.Capacities.{capacity_given}
+use Rattle.serve_arguments.specs.declared.capacities.Capacity.{Capacity}
 use Rattle.serve_arguments.specs.declared.files.Argument.{Argument}
 use Rattle.serve_arguments.specs.declared.files.Argument.TheVariants.{In, Sources, Requests, Out, Tables, Save, Replies}
 use Rattle.serve_arguments.specs.declared.files.Named.{Named}
@@ -107,14 +108,18 @@ IsFileFault words read (faults.NamedTwice same) = IsNamedTwice words read same
 IsFileFault words read faults.NoMemory = Unit {0}
 IsFileFault words read _ = ⊥
 
+-- the capacity of the values of `--cache` and `--cache-bytes`
+abbrev pub capacity_asked : Words → Option Capacity
+capacity_asked words = capacity_given words.cache (option_map (λ size. size.now) words.cache_bytes)
+
 -- packets are to be padded, but not saved
 abbrev pub pads_nothing : Words → Bool
 pads_nothing words = words.pads && is_none words.saved
 
--- the command line is accepted, with this number of cached states and these paths of sources
+-- the command line is accepted, with this capacity and these paths of sources
 pub record IsAccepted (given : Words) (line : Accepted) : Type 0 where
   pub words : line.words ≡ given
-  pub capacity : capacity_given given.cache ≡ Some line.capacity
+  pub capacity : capacity_asked given ≡ Some line.capacity
   pub pads : pads_nothing given ≡ false
   pub more : names_of line.more.items ≡ more_paths given
   pub paths : ArePaths (more_paths given)
@@ -126,7 +131,7 @@ source_names line = line.words.stream.now ∷ names_of line.more.items
 
 -- why the command line is not accepted
 abbrev pub IsMistake : Words → Fault → Type 0
-IsMistake words faults.CommandLine = (capacity_given words.cache ≡ None) ⊎ (pads_nothing words ≡ true) ⊎ AreNoPaths (more_paths words)
+IsMistake words faults.CommandLine = (capacity_asked words ≡ None) ⊎ (pads_nothing words ≡ true) ⊎ AreNoPaths (more_paths words)
 IsMistake words (faults.NamedTwice same) = IsNamedTwice words (read_files words (more_paths words)) same
 IsMistake words faults.NoMemory = Unit {0}
 IsMistake words _ = ⊥

@@ -1,3 +1,4 @@
+pub mod CachedStates
 pub mod Capacities
 pub mod CommandLines
 pub mod Locations

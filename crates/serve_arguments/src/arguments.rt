@@ -74,6 +74,17 @@ fn cache_option<'a>(alloc: Global) -> Arg<'a> {
     .value_parser(clap::value_parser!(u16).range(1..=4096))
 }
 
+/// The option for the most bytes of cached pictures.
+fn cache_bytes_option<'a>(alloc: Global) -> Result<Arg<'a>, AllocError> {
+    option(
+        alloc,
+        "cache-bytes",
+        "SIZE",
+        "Most bytes of decoded frames to cache instead, for example 64M (K, M, G)",
+    )
+    .conflicts_with("cache")
+}
+
 /// An option that has no value.
 fn flag<'a>(alloc: Global, id: &'a str, help: &'a str) -> Arg<'a> {
     Arg::new(alloc, id)
@@ -143,7 +154,8 @@ fn arguments<'a>(alloc: Global) -> Result<Command<'a>, AllocError> {
         .after_help(GRAMMAR);
     let command = with_places(alloc, command)?
         .arg(sources_option(alloc))?
-        .arg(cache_option(alloc))?;
+        .arg(cache_option(alloc))?
+        .arg(cache_bytes_option(alloc)?)?;
     with_flags(alloc, with_files(alloc, command)?)
 }
 
@@ -155,6 +167,7 @@ fn words_of<'a>(matches: &ArgMatches<'a>) -> Words<'a> {
         requests: word_of(matches, "REQUESTS"),
         frames: word_of(matches, "OUT"),
         cache: matches.get_one::<u16>("cache"),
+        cache_bytes: matches.get_str("cache-bytes"),
         tables: matches.get_str("tables"),
         saved: matches.get_str("save"),
         pads: matches.get_flag("pad"),

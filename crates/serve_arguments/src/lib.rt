@@ -2,17 +2,22 @@
 #![tactic(auto)]
 
 mod arguments;
+mod capacities;
 mod fault;
 mod files;
 mod help;
+pub mod laws;
 mod located;
 mod sources;
+mod states;
 mod words;
 
 pub use arguments::{given, parse};
+pub use capacities::Capacity;
 pub use fault::{Fault, tell};
 pub use files::{Argument, SameFile};
 pub use help::help_or_fault;
 pub use located::{Located, check_clashes, check_places};
 pub use sources::{FilesRead, Inputs, read_files, read_inputs};
+pub use states::{report_cache, states_over};
 pub use words::{Accepted, NO_FILE, Words};

@@ -1,9 +1,10 @@
 // The values of the command line, and which of them are accepted.
 ghost use Rattle.std.specs.Prelude.{◌≡◌, ◌≤◌, ◌==◌, IfErr, IfOk, IfSome, OnOk, length, option_map};
 ghost use Rattle.std.specs.List.{slice_split};
-ghost use Rattle.serve_arguments.specs.Capacities.{capacity_given};
-ghost use Rattle.serve_arguments.specs.CommandLines.{AreNoPaths, ArePaths, IsAccepted, IsMistake, names_of, pads_nothing, paths_in};
+ghost use Rattle.serve_arguments.specs.Capacities.{IsGiven, bytes_given, states_given};
+ghost use Rattle.serve_arguments.specs.CommandLines.{AreNoPaths, ArePaths, IsAccepted, IsMistake, capacity_asked, names_of, pads_nothing, paths_in};
 
+use crate::capacities::{Capacity, size_of};
 use crate::fault::Fault;
 use crate::files::check_files;
 use std::alloc::{AllocError, Global};
@@ -33,6 +34,8 @@ pub struct Words<'a> {
     pub frames: &'a str,
     /// The most cached states, if given.
     pub cache: Option<u16>,
+    /// The most bytes of cached pictures as written, if given.
+    pub cache_bytes: Option<&'a str>,
     /// The file of the long tables, if given.
     pub tables: Option<&'a str>,
     /// The file for the packets after the run, if given.
@@ -46,16 +49,17 @@ pub struct Words<'a> {
 }
 
 impl Words<'_> {
-    /// The most cached states of a session: the number given, or 32. `None` if it is not 1
-    /// to 4,096.
-    fn capacity(self) -> Option<u16>
-        ensures given { result ≡ capacity_given self.entry.cache }
-        ensures range { IfSome result (λ count. (1 ≤ count) × (count ≤ 4096)) }
+    /// The most cached states of a session: the number or the size given, or 32 states. `None` if both are given, if the number is not
+    /// 1 to 4,096, or the size is not one.
+    pub fn capacity(self) -> Option<Capacity>
+        ensures given { result ≡ capacity_asked self.entry }
+        ensures range { IfSome result IsGiven }
     {
-        match self.cache {
-            None => Some(CAPACITY),
-            Some(count) if 1 <= count && count <= 4_096 => Some(count),
-            Some(_) => None,
+        match (self.cache, self.cache_bytes) {
+            (None, None) => Some(Capacity::States(CAPACITY)),
+            (Some(count), None) => states_given(count),
+            (None, Some(size)) => bytes_given(size_of(size)),
+            (Some(_), Some(_)) => None,
         }
     }
 
@@ -67,12 +71,33 @@ impl Words<'_> {
     }
 }
 
+/// The capacity of a number of states.
+fn states_given(count: u16) -> Option<Capacity>
+    ensures { result ≡ states_given count }
+{
+    if 1 <= count && count <= 4_096 {
+        Some(Capacity::States(count))
+    } else {
+        None
+    }
+}
+
+/// The capacity of a number of bytes, if there is one.
+fn bytes_given(bytes: Option<u64>) -> Option<Capacity>
+    ensures { result ≡ bytes_given bytes }
+{
+    match bytes {
+        Some(bytes) => Some(Capacity::Bytes(bytes)),
+        None => None,
+    }
+}
+
 /// An accepted command line.
 #[derive(Drop)]
 pub struct Accepted<'a> {
     pub words: Words<'a>,
     /// The most cached states of a session.
-    pub capacity: u16,
+    pub capacity: Capacity,
     /// The IVF files of the sources after source 0.
     pub more: Vec<&'a str>,
 }
@@ -114,13 +139,13 @@ fn check_paths(paths: &[&str]) -> Result<(), Fault<'static>>
 impl<'a> Words<'a> {
     /// Checks the command line before any file is read.
     ///
-    /// `CommandLine` if the number of cached states is not 1 to 4,096, if `--pad` is given without `--save`,
-    /// if `--sources` has more than seven paths, or an empty one; `NamedTwice` if OUT or the file of `--save` is the file of another argument;
+    /// `CommandLine` if the number of cached states is not 1 to 4,096, if the size of `--cache-bytes` is not one, or both are given, if
+    /// `--pad` is given without `--save`, if `--sources` has more than seven paths, or an empty one; `NamedTwice` if OUT or the file of `--save` is the file of another argument;
     /// `NoMemory`. Paths under `/dev/` may be named twice.
     pub fn accept(self, alloc: Global) -> Result<Accepted<'a>, Fault<'a>>
         ensures accepted { IfOk result (IsAccepted self.entry) }
         ensures mistake { IfErr result (IsMistake self.entry) }
-        ensures capacity { IfOk result (λ line. (1 ≤ line.capacity) × (line.capacity ≤ 4096)) }
+        ensures capacity { IfOk result (λ line. IsGiven line.capacity) }
         ensures paths { IfOk result (λ line. length line.more.items ≤ 7) }
     {
         let Some(capacity) = self.capacity() else {

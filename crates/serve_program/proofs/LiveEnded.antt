@@ -1,5 +1,5 @@
 -- Why the program exits with requests that are answered as they come.
-use Rattle.std.proofs.Common.{◌≡◌, ◌⊎◌, inl, inr, ℕ, List, Option, None, refl, sym}
+use Rattle.std.proofs.Common.{◌≡◌, ◌⊎◌, inl, inr, ℕ, List, Option, refl, sym}
 use Rattle.std.specs.Borrow.{Bor}
 use Rattle.vp8_tables.specs.Tables.{TableEntries}
 use Rattle.serve_arguments.specs.Readings.{AreNamed, IsInputFault}
@@ -7,7 +7,7 @@ use Rattle.serve_arguments.specs.declared.fault.Fault.{Fault}
 use Rattle.serve_arguments.specs.declared.fault.Fault.TheVariants.{CommandLine, NamedTwice, CannotRead, TooLong, Tables, Input, CannotWrite, NoMemory}
 use Rattle.frame_session.specs.declared.live.LiveFault.{LiveFault}
 use Rattle.frame_session.specs.declared.live.LiveFault.TheVariants as lives
-use Rattle.serve_program.specs.Endings.{IsCutShort, IsEnded, IsInput, IsInterrupted, IsLiveEnded, IsLiveFault, IsLiveRefused, IsSaveFault, IsUnopened, fault_by_live}
+use Rattle.serve_program.specs.Endings.{IsEnded, IsInput, IsInterrupted, IsLiveEnded, IsLiveFault, IsLiveRefused, IsSaveFault, IsUnopened, fault_by_live}
 use Rattle.serve_program.proofs.Ended.{run_ended, save_ended, unread_ended}
 
 module _ (tables : TableEntries) (sources : List (List ℕ)) (requests : List ℕ) (path : Bor (List ℕ)) (left given replies replies' : Option (List ℕ)) (theirs : path.now ≡ requests) (input : IsInput requests left given) where

@@ -1,5 +1,5 @@
 -- The results of the parts of a run.
-use Rattle.std.specs.Prelude.{◌≡◌, ◌⊎◌, Bool, false, ℕ, ◌==◌, List, [], ◌∷◌, ◌++◌, Option, None, IfSome, IsSome, codes, if◌then◌else◌}
+use Rattle.std.specs.Prelude.{◌≡◌, ◌⊎◌, Bool, false, ℕ, ◌==◌, List, [], ◌∷◌, ◌++◌, Option, None, IfSome, IsSome, codes, slice_index_or, if◌then◌else◌}
 use Rattle.std.specs.Fmt.{decimal}
 use Rattle.std.specs.Io.KnownBytes.{Keeps}
 use Rattle.vp8_tables.specs.Rfc.{rfc_entries}
@@ -16,7 +16,9 @@ use Rattle.frame_session.specs.declared.live.LiveFault.{LiveFault}
 use Rattle.frame_session.specs.declared.live.LiveFault.TheVariants as lives
 use Rattle.frame_session.specs.declared.serving.RunFault.{RunFault}
 use Rattle.frame_session.specs.declared.serving.RunFault.TheVariants as runs
+use Rattle.serve_arguments.specs.CachedStates.{AreStates}
 use Rattle.serve_arguments.specs.Readings.{AreNamed, IsUnread}
+use Rattle.serve_arguments.specs.declared.capacities.Capacity.{Capacity}
 use Rattle.serve_arguments.specs.declared.fault.Fault.{Fault}
 use Rattle.serve_arguments.specs.declared.fault.Fault.TheVariants.{CannotRead, TooLong, Tables, Input, CannotWrite, NoMemory}
 
@@ -50,14 +52,19 @@ abbrev pub AreReplied : (requests : List ℕ) → (left replies replies' : Optio
 AreReplied requests left replies replies' end tables sources =
     (lines : List ℕ) × (requests ≡ codes "-" → IfSome left (λ bytes. lines ≡ bytes)) × IsReplied tables sources lines replies replies' end
 
+-- the bytes of IN, which is source 0
+abbrev pub stream_in : List (List ℕ) → List ℕ
+stream_in sources = slice_index_or sources 0 []
+
 -- requests were answered over the sources with these names: a source that is not named has the bytes `unnamed`, and without a file of tables the tables
--- are those of RFC 6386
-pub record IsServed (unnamed : List ℕ) (names : List (List ℕ)) (has_tables : Bool) (Replied : TableEntries → List (List ℕ) → Type 0) : Type 0 where
+-- are those of RFC 6386. At most as many states were cached as the capacity says for IN
+pub record IsServed (unnamed : List ℕ) (names : List (List ℕ)) (has_tables : Bool) (capacity : Capacity) (states : ℕ) (Replied : TableEntries → List (List ℕ) → Type 0) : Type 0 where
   pub tables : TableEntries
   pub sources : List (List ℕ)
   pub replied : Replied tables sources
   pub named : AreNamed unnamed names sources
   pub rfc : has_tables ≡ false → tables ≡ rfc_entries
+  pub cached : AreStates capacity (stream_in sources) states
 
 -- why the requests were not answered over the files of these bytes: except for a writer's error, nothing was written
 abbrev pub IsRefused : List (List ℕ) → (frames frames' replies replies' : Option (List ℕ)) → Fault → Type 0

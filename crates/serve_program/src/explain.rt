@@ -66,6 +66,10 @@ fn explain_in<R: Files + AllocGlobal, E: Write>(
     messages: &mut Messages<'_, E>,
 ) -> io::Result<()> {
     match fault {
+        Fault::CommandLine if words.capacity().is_none() => writeln!(
+            messages.errors,
+            "--cache-bytes takes 1 byte or more, for example 64M, 512K or 5000000: try vp8serve --help"
+        ),
         Fault::CommandLine if words.pads_nothing() => writeln!(
             messages.errors,
             "--pad is for the packets of --save: name a file for them by --save FILE"
@@ -80,7 +84,10 @@ fn explain_in<R: Files + AllocGlobal, E: Write>(
         Fault::Tables => explain_tables(rt, words, messages),
         Fault::Input { source, fault } => explain_input(rt, words, source, fault, messages),
         Fault::CannotWrite => explain_unwritten(words, messages),
-        Fault::NoMemory => writeln!(messages.errors, "try a smaller --cache, or shorter files"),
+        Fault::NoMemory => writeln!(
+            messages.errors,
+            "try a smaller --cache or --cache-bytes, or shorter files"
+        ),
     }
 }
 

@@ -1,12 +1,14 @@
 // Requests that are answered as they come.
 ghost use Rattle.std.specs.Prelude.{◌≡◌, ◌≤◌, ◌⊎◌, IfErr, IfOk, is_some, length, map, option_map};
 ghost use Rattle.frame_session.specs.Answers.{texts_of};
+ghost use Rattle.serve_arguments.specs.CachedStates.{AreStates};
+ghost use Rattle.serve_arguments.specs.Capacities.{IsGiven};
 ghost use Rattle.serve_arguments.specs.CommandLines.{source_names};
-ghost use Rattle.serve_program.specs.Endings.{AreLiveReplied, IsLiveEnded, IsLiveFault, IsLiveRefused, IsLiveReplied, IsSaveFault, IsServed};
+ghost use Rattle.serve_program.specs.Endings.{AreLiveReplied, IsLiveEnded, IsLiveFault, IsLiveRefused, IsLiveReplied, IsSaveFault, IsServed, stream_in};
 
 use crate::messages::Messages;
 use crate::program::{BYTES_AT_ONCE, finish, taken_by};
-use crate::runs::{live_fault, slices_of};
+use crate::runs::{live_fault, settings_over, slices_of};
 use crate::saving::{abandon_save, begin_save};
 use frame_session::{LiveFault, Session, Settings, run_live_observed};
 use output_files::Counted;
@@ -140,18 +142,15 @@ fn answer_files<'a, R: Files + AllocGlobal, I: Read, O: Write, E: Write>(
     output: &mut O,
     messages: &mut Messages<'_, E>,
 ) -> Result<Session, Fault<'a>>
-    requires capacity { (1 ≤ line.now.capacity) × (line.now.capacity ≤ 4096) }
+    requires capacity { IsGiven line.now.capacity }
     requires sources { (1 ≤ length files.sources.items) × (length files.sources.items ≤ 8) }
     ensures replied { IfOk result (λ session. AreLiveReplied line.now.words.requests.now (I.remaining input.old) (O.contents output.old) (O.contents output.new) session.now files.tables (map (λ bytes. bytes.items) files.sources.items)) }
-    ensures capacity { IfOk result (λ session. session.cache.capacity ≡ line.now.capacity) }
+    ensures capacity { IfOk result (λ session. AreStates line.now.capacity (stream_in (map (λ bytes. bytes.items) files.sources.items)) session.cache.capacity) }
     ensures refused { IfErr result (λ fault. IsLiveRefused files.tables (map (λ bytes. bytes.items) files.sources.items) line.now.words.requests.now (I.remaining input.old) (O.contents output.old) (O.contents output.new) fault ⊎ IsSaveFault fault) }
 {
     let FilesRead { tables, sources } = files;
     let slices = slices_of(rt.alloc(), sources.as_slice())?;
-    let settings = Settings {
-        tables,
-        capacity: line.capacity,
-    };
+    let settings = settings_over(rt.alloc(), tables, line.capacity, slices.as_slice())?;
     let target = begin_save(rt, line.words, messages)?;
     let answered = run_requests(
         rt,
@@ -182,10 +181,9 @@ pub fn answer_live<'a, R: Files + AllocGlobal, I: Read, O: Write, E: Write>(
     output: &mut O,
     messages: &mut Messages<'_, E>,
 ) -> Result<Session, Fault<'a>>
-    requires capacity { (1 ≤ line.now.capacity) × (line.now.capacity ≤ 4096) }
+    requires capacity { IsGiven line.now.capacity }
     requires paths { length line.now.more.items ≤ 7 }
-    ensures served { IfOk result (λ session. IsServed EMPTY (source_names line.now) (is_some line.now.words.tables) (AreLiveReplied line.now.words.requests.now (I.remaining input.old) (O.contents output.old) (O.contents output.new) session.now)) }
-    ensures capacity { IfOk result (λ session. session.cache.capacity ≡ line.now.capacity) }
+    ensures served { IfOk result (λ session. IsServed EMPTY (source_names line.now) (is_some line.now.words.tables) line.now.capacity session.cache.capacity (AreLiveReplied line.now.words.requests.now (I.remaining input.old) (O.contents output.old) (O.contents output.new) session.now)) }
     ensures ended { IfErr result (IsLiveEnded EMPTY (option_map (λ path. path.now) line.now.words.tables) (source_names line.now) line.now.words.requests.now (I.remaining input.old) (I.remaining input.new) (O.contents output.old) (O.contents output.new)) }
 {
     let files = read_files(rt, line)?;

@@ -2,21 +2,23 @@
 ghost use Rattle.std.specs.Prelude.{◌≡◌, ◌≤◌, ℕ, IfOk, IfErr, List, None, OnOk, Option, is_some, length, map, option_map};
 ghost use Rattle.std.specs.Io.KnownBytes.{Appends};
 ghost use Rattle.frame_session.specs.Answers.{Means, texts_of};
+ghost use Rattle.serve_arguments.specs.CachedStates.{AreStates};
+ghost use Rattle.serve_arguments.specs.Capacities.{IsGiven};
 ghost use Rattle.serve_arguments.specs.CommandLines.{source_names};
 ghost use Rattle.serve_arguments.specs.Readings.{AreNamed};
 ghost use Rattle.serve_arguments.specs.Statuses.{exit_status};
-ghost use Rattle.serve_program.specs.Endings.{AreReplied, IsEnded, IsRefused, IsReplied, IsSaveFault, IsServed, spare_text};
+ghost use Rattle.serve_program.specs.Endings.{AreReplied, IsEnded, IsRefused, IsReplied, IsSaveFault, IsServed, spare_text, stream_in};
 
 use crate::explain::{explain_end, explain_fault, is_asked};
 use crate::live::answer_live;
 use crate::messages::Messages;
-use crate::runs::{run_fault, slices_of};
+use crate::runs::{run_fault, settings_over, slices_of, stream_in};
 use crate::saving::{begin_save, finish_save};
 use frame_session::{Observer, Session, Settings, run_observed};
 use output_files::{Counted, Taken, Target};
 use serve_arguments::{
     Accepted, Fault, FilesRead, Inputs, NO_FILE, check_places, help_or_fault, parse, read_inputs,
-    tell,
+    report_cache, tell,
 };
 use std::alloc::Global;
 use std::convert::AsStr;
@@ -124,15 +126,22 @@ pub fn report_spare<E: Write>(session: &Session, errors: &mut E) -> io::Result<(
 }
 
 /// Reports trailing bytes after a run without an error. If `errors` refuses the text, they are not reported.
+/// With `--explain` they are explained, and what a cached state takes is reported.
 fn end<E: Write>(
+    alloc: Global,
     session: &Session,
     line: &Accepted<'_>,
     sources: &[&[u8]],
     messages: &mut Messages<'_, E>,
-) {
+)
+    requires { IsGiven line.now.capacity }
+{
     let _ = report_spare(session, messages.errors);
     if messages.explains {
         let _ = explain_end(line.words, sources, messages);
+        let stream = stream_in(sources);
+        let decoded = session.decoded();
+        let _ = report_cache(alloc, line.capacity, stream, decoded, messages.errors);
     }
 }
 
@@ -145,10 +154,11 @@ pub fn finish<R: Files + AllocGlobal, E: Write>(
     target: Option<Target<'_, R>>,
     messages: &mut Messages<'_, E>,
 ) -> Result<(), Fault<'static>>
+    requires { IsGiven line.now.capacity }
     ensures { IfErr result IsSaveFault }
 {
     finish_save(rt, session, line.words, target, messages)?;
-    end(session, line, sources, messages);
+    end(rt.alloc(), session, line, sources, messages);
     Ok(())
 }
 
@@ -162,20 +172,17 @@ fn answer_inputs<R: Files + AllocGlobal, O: Write, E: Write>(
     output: &mut O,
     messages: &mut Messages<'_, E>,
 ) -> Result<Session, Fault<'static>>
-    requires capacity { (1 ≤ line.now.capacity) × (line.now.capacity ≤ 4096) }
+    requires capacity { IsGiven line.now.capacity }
     requires paths { length line.now.more.items ≤ 7 }
     requires named { AreNamed EMPTY (source_names line.now) (map (λ bytes. bytes.items) inputs.files.sources.items) }
     ensures replied { IfOk result (λ session. IsReplied inputs.files.tables (map (λ bytes. bytes.items) inputs.files.sources.items) inputs.requests.items (O.contents output.old) (O.contents output.new) session.now) }
-    ensures capacity { IfOk result (λ session. session.cache.capacity ≡ line.now.capacity) }
+    ensures capacity { IfOk result (λ session. AreStates line.now.capacity (stream_in (map (λ bytes. bytes.items) inputs.files.sources.items)) session.cache.capacity) }
     ensures ended { IfErr result (λ fault. (left : Option (List ℕ)) → (left' : Option (List ℕ)) → IsEnded EMPTY (option_map (λ path. path.now) line.now.words.tables) (source_names line.now) line.now.words.requests.now left left' (O.contents output.old) (O.contents output.new) fault) }
 {
     let Inputs { files, requests } = inputs;
     let FilesRead { tables, sources } = files;
     let slices = slices_of(rt.alloc(), sources.as_slice())?;
-    let settings = Settings {
-        tables,
-        capacity: line.capacity,
-    };
+    let settings = settings_over(rt.alloc(), tables, line.capacity, slices.as_slice())?;
     let session = run_to_path(
         rt,
         settings,
@@ -199,10 +206,9 @@ fn answer<'a, R: Files + AllocGlobal, I: Read, O: Write, E: Write>(
     output: &mut O,
     messages: &mut Messages<'_, E>,
 ) -> Result<Session, Fault<'a>>
-    requires capacity { (1 ≤ line.now.capacity) × (line.now.capacity ≤ 4096) }
+    requires capacity { IsGiven line.now.capacity }
     requires paths { length line.now.more.items ≤ 7 }
-    ensures served { IfOk result (λ session. IsServed EMPTY (source_names line.now) (is_some line.now.words.tables) (AreReplied line.now.words.requests.now (I.remaining input.old) (O.contents output.old) (O.contents output.new) session.now)) }
-    ensures capacity { IfOk result (λ session. session.cache.capacity ≡ line.now.capacity) }
+    ensures served { IfOk result (λ session. IsServed EMPTY (source_names line.now) (is_some line.now.words.tables) line.now.capacity session.cache.capacity (AreReplied line.now.words.requests.now (I.remaining input.old) (O.contents output.old) (O.contents output.new) session.now)) }
     ensures ended { IfErr result (IsEnded EMPTY (option_map (λ path. path.now) line.now.words.tables) (source_names line.now) line.now.words.requests.now (I.remaining input.old) (I.remaining input.new) (O.contents output.old) (O.contents output.new)) }
 {
     let inputs = read_inputs(rt, line, input)?;
@@ -252,7 +258,8 @@ fn exit_status<E: Write>(answer: Result<(), Fault<'_>>, errors: &mut E) -> u8
 /// the new file is made after the files were read, and the requests are not read before: each line is answered when its
 /// newline is read, and a line has at most 1,073,741,824 bytes. Replies, help and the version go to `output`; the text of an error, and after a
 /// run without one the number of trailing bytes of all sources together, if there are any, go to `errors`. With `--explain`
-/// each of them is followed by a line that explains it, and each refused request has a line.
+/// each of them is followed by a line that explains it, each refused request has a line, and after a run that made as many decoding steps as
+/// states are cached a line says what a state takes.
 pub fn serve<R: Files + AllocGlobal, S: AsStr, I: Read, O: Write, E: Write>(
     rt: &R,
     words: &[S],

@@ -1,11 +1,14 @@
 // What a run takes, and what its error is to the user.
-ghost use Rattle.std.specs.Prelude.{◌≡◌, IfErr, IfOk, map};
+ghost use Rattle.std.specs.Prelude.{◌≡◌, ◌≤◌, IfErr, IfOk, map};
 ghost use Rattle.frame_session.specs.Answers.{texts_of};
-ghost use Rattle.serve_program.specs.Endings.{fault_by_live, fault_by_run};
+ghost use Rattle.serve_arguments.specs.CachedStates.{AreStates};
+ghost use Rattle.serve_arguments.specs.Capacities.{IsGiven};
+ghost use Rattle.serve_program.specs.Endings.{fault_by_live, fault_by_run, stream_in};
 
-use frame_session::{LiveFault, RunFault};
-use serve_arguments::Fault;
+use frame_session::{LiveFault, RunFault, Settings};
+use serve_arguments::{Capacity, Fault, states_over};
 use std::alloc::Global;
+use vp8_tables::Tables;
 
 /// The bytes of each of these.
 pub fn slices_of(alloc: Global, all: &[Vec<u8>]) -> Result<Vec<&[u8]>, Fault<'static>>
@@ -17,6 +20,35 @@ pub fn slices_of(alloc: Global, all: &[Vec<u8>]) -> Result<Vec<&[u8]>, Fault<'st
         slices.push(bytes.as_slice()).map_err(|_| Fault::NoMemory)?;
     }
     Ok(slices)
+}
+
+/// The bytes of IN, which is source 0.
+pub fn stream_in<'a>(sources: &[&'a [u8]]) -> &'a [u8]
+    ensures { result.now ≡ stream_in (texts_of sources.now) }
+{
+    match sources.first() {
+        Some(stream) => stream,
+        None => &[],
+    }
+}
+
+/// The settings of a session over these sources.
+///
+/// `NoMemory` if out of memory for the packets of IN.
+pub fn settings_over(
+    alloc: Global,
+    tables: Tables,
+    capacity: Capacity,
+    sources: &[&[u8]],
+) -> Result<Settings, Fault<'static>>
+    requires { IsGiven capacity }
+    ensures tables { IfOk result (λ settings. settings.tables ≡ tables) }
+    ensures states { IfOk result (λ settings. AreStates capacity (stream_in (texts_of sources.now)) settings.capacity) }
+    ensures range { IfOk result (λ settings. (1 ≤ settings.capacity) × (settings.capacity ≤ 4096)) }
+    ensures fault { IfErr result (λ fault. fault ≡ Fault.NoMemory) }
+{
+    let capacity = states_over(alloc, capacity, stream_in(sources))?;
+    Ok(Settings { tables, capacity })
 }
 
 /// The error of a run for the user.

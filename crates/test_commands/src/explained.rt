@@ -462,6 +462,16 @@ fn explains_arguments(rt: HostRuntime) {
         "vp8serve: command line\nerror: unexpected argument 'd' found\n\nUsage: vp8serve [OPTIONS] [IN] [REQUESTS] [OUT]\n\nFor more information, try '--help'.\ntry vp8serve --help\n",
         2,
     );
+    let size =
+        "vp8serve: command line\n--cache-bytes takes 1 byte or more, for example 64M, 512K or 5000000: try vp8serve --help\n";
+    expect_end(&rt, "vp8serve --cache-bytes 12Q --explain", size, 2);
+    expect_end(&rt, "vp8serve --cache-bytes 0 --pad --explain", size, 2);
+    expect_end(
+        &rt,
+        "vp8serve --cache 1 --cache-bytes 1M --explain",
+        "vp8serve: command line\nerror: the argument '--cache <N>' cannot be used with '--cache-bytes <SIZE>'\n\nUsage: vp8serve --cache <N> --explain [IN] [REQUESTS] [OUT]\n\nFor more information, try '--help'.\ntry vp8serve --help\n",
+        2,
+    );
     expect_end(
         &rt,
         "vp8serve --sources a: --explain",

@@ -138,6 +138,14 @@ vp8serve --cache 0 => command line
 vp8serve --cache 4097 => command line
 vp8serve --cache x --tables none => command line
 vp8serve --cache 1 --cache 2 => command line
+vp8serve --cache-bytes => command line
+vp8serve --cache-bytes  => command line
+vp8serve --cache-bytes 0 => command line
+vp8serve --cache-bytes K => command line
+vp8serve --cache-bytes 12Q --tables none => command line
+vp8serve --cache-bytes 17179869184G => command line
+vp8serve --cache-bytes 1M --cache-bytes 1M => command line
+vp8serve --cache 1 --cache-bytes 1M => command line
 vp8serve --save => command line
 vp8serve none.ivf --pad => command line
 vp8serve --sources => command line
@@ -149,6 +157,7 @@ vp8serve --sources :none.ivf => command line
 vp8serve none.ivf --sources -::- => command line
 vp8serve --cache 0 none.ivf - none.ivf => command line
 vp8serve none.ivf none.txt a --save a --tables none => command line: --save and OUT are both a: name another file for --save
+vp8serve none.ivf --cache-bytes 1M => cannot read none.ivf
 vp8serve none.ivf --tables none.bin => cannot read none.bin
 vp8serve --tables - => cannot read -
 vp8serve none.ivf --tables order.ivf => tables are not 3012 bytes
@@ -161,7 +170,9 @@ vp8serve - none.txt --sources order.ivf => cannot read none.txt
 vp8serve order.ivf --sources order.ivf => input Header
 vp8serve --sources order.ivf:order.ivf => source 1 Header
 vp8serve --sources -:-:-:-:-:-:order.ivf => source 7 Header
+vp8serve order.ivf --cache-bytes 1M --sources order.ivf => input Header
 vp8serve order.ivf - none/out => cannot write
+vp8serve order.ivf - none/out --cache-bytes 1M => cannot write
 ";
 
 /// Of two errors the first in order is reported: the command line, the tables, IN, the files of `--sources`,

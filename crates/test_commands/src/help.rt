@@ -38,15 +38,16 @@ Arguments:
   [OUT]       YUV4MPEG2 file for the frames; `-` drops them [default: -]
 
 Options:
-      --sources <LIST>  IVF files of sources 1 to 7, separated by `:`
-      --cache <N>       Most decoded frames to cache, 1 to 4096 [default: 32]
-      --tables <FILE>   3012 bytes to use instead of RFC 6386's long tables
-      --save <FILE>     IVF file for the packets of IN after the last request, not of other sources
-      --pad             With --save: a byte 00 after packets that other players do not show
-      --live            Answer each request line as it comes, before the next is read
-      --explain         Explain refusals and errors on standard error
-  -h, --help            Print help
-  -V, --version         Print version
+      --sources <LIST>      IVF files of sources 1 to 7, separated by `:`
+      --cache <N>           Most decoded frames to cache, 1 to 4096 [default: 32]
+      --cache-bytes <SIZE>  Most bytes of decoded frames to cache instead, for example 64M (K, M, G)
+      --tables <FILE>       3012 bytes to use instead of RFC 6386's long tables
+      --save <FILE>         IVF file for the packets of IN after the last request, not of other sources
+      --pad                 With --save: a byte 00 after packets that other players do not show
+      --live                Answer each request line as it comes, before the next is read
+      --explain             Explain refusals and errors on standard error
+  -h, --help                Print help
+  -V, --version             Print version
 
 Requests, a line each; the reply goes to standard output:
   frame N               write frame N to OUT          served N

@@ -1,4 +1,4 @@
-use Rattle.std.proofs.Common.{◌≡◌, ◌∙◌, All, false, get_or, refl, rules, subst, sym}
+use Rattle.std.proofs.Common.{◌≡◌, All, false, get_or, refl, rules, subst, sym}
 use Rattle.std.proofs.lemmas.List.{take_all, take_more}
 use Rattle.std.proofs.lemmas.List.Elements.{All-push}
 use Rattle.serve_arguments.specs.Locations.{is_clash}

@@ -1,4 +1,4 @@
-use Rattle.std.proofs.Common.{◌≡◌, ℕ, List, codes, length, map, arith, rules, option_map}
+use Rattle.std.proofs.Common.{◌≡◌, ℕ, List, codes, map, arith, rules, option_map}
 use Rattle.std.proofs.lemmas.List.{length-map}
 use Rattle.std.proofs.lemmas.Slice.Zip.{AllZip-long}
 use Rattle.stream_files.specs.declared.ivf.TheConstants.{EMPTY}

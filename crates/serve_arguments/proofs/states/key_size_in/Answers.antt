@@ -1,0 +1,14 @@
+use Rattle.std.proofs.Common.{◌∙◌, ap}
+use Rattle.stream_files.specs.declared.ivf.Ivf.{Ivf}
+use Rattle.stream_files.proofs.OneAnswer.{file_refused, one_file}
+use Rattle.serve_arguments.specs.CachedStates.{first_key_size}
+use Rattle.serve_arguments.proofs.states.key_size_in.Goals as goal
+
+pub returns-in-Ok-clause-size : goal.returns-in-Ok-clause-size
+returns-in-Ok-clause-size c = λ file is.
+    let same = one_file c.args.stream.now c.in-Ok.file file c.in-Ok.ensures is in
+    c.first_key_size.ensures ∙ ap first_key_size c.as_slice.ensures ∙ ap (λ (f : Ivf). first_key_size f.packets) same
+
+-- bytes that are refused otherwise than out of memory are not a file
+pub returns-in_default-clause-size : goal.returns-in_default-clause-size
+returns-in_default-clause-size c = λ file is. absurd (c.in_default.not-NoMemory (file_refused c.args.stream.now file c.in-Err.fault is c.in-Err.ensures))

@@ -1,0 +1,164 @@
+// How many states a session caches, and what one takes.
+ghost use Rattle.std.specs.Prelude.{◌≡◌, ◌<◌, ◌≤◌, ◌^◌, IfErr, IfOk, OnOk};
+ghost use Rattle.std.specs.Io.KnownBytes.{Appends};
+ghost use Rattle.pixel_planes.specs.Pictures.{macroblocks};
+ghost use Rattle.stream_files.specs.Ivf.{IsIvf};
+ghost use Rattle.stream_files.specs.declared.ivf.Ivf.{Ivf};
+ghost use Rattle.serve_arguments.specs.Capacities.{IsGiven};
+ghost use Rattle.serve_arguments.specs.CachedStates.{AreStates, cache_text, first_key_size, picture_bytes, plane_bytes, planes_bytes, states_in, states_of};
+
+use crate::capacities::Capacity;
+use crate::fault::Fault;
+use frame_header::key_size;
+use std::alloc::Global;
+use std::io::{self, ErrorKind, Write};
+use stream_files::{IvfFault, Packet, ivf_read};
+
+/// The number of samples around a plane at each side.
+const BORDER: u64 = 32;
+
+/// The number of states of a number of bytes if no key packet has a size.
+const UNSIZED_STATES: u16 = 32;
+
+/// The most states of a session.
+const MOST_STATES: u64 = 4_096;
+
+/// The bytes of a plane of these sides with its border.
+fn plane_bytes(width: u64, height: u64) -> u64
+    requires { (width ≤ 65536) × (height ≤ 65536) }
+    ensures value { result ≡ plane_bytes width height }
+    ensures some { 0 < result }
+    ensures few { result < 2 ^ 33 }
+{
+    (width + 2 * BORDER) * (height + 2 * BORDER)
+}
+
+/// The bytes of the three planes of so many macroblocks.
+fn planes_bytes(columns: u64, rows: u64) -> u64
+    requires { (columns ≤ 4096) × (rows ≤ 4096) }
+    ensures value { result ≡ planes_bytes columns rows }
+    ensures some { 0 < result }
+{
+    plane_bytes(16 * columns, 16 * rows) + 2 * plane_bytes(8 * columns, 8 * rows)
+}
+
+/// The number of macroblocks that cover a shown side.
+fn macroblocks(side: u16) -> u64
+    ensures value { result ≡ macroblocks side }
+    ensures few { result ≤ 4096 }
+{
+    (u64::from(side) + 15) / 16
+}
+
+/// The bytes of a picture of this shown width and height: three planes of whole macroblocks, each with a border of 32 samples.
+fn picture_bytes(size: (u16, u16)) -> u64
+    ensures value { result ≡ picture_bytes size }
+    ensures some { 0 < result }
+{
+    planes_bytes(macroblocks(size.0), macroblocks(size.1))
+}
+
+/// The number of states whose pictures take at most so many bytes.
+fn states_in(bytes: u64, size: Option<(u16, u16)>) -> u16
+    ensures value { result ≡ states_in bytes size }
+    ensures range { (1 ≤ result) × (result ≤ 4096) }
+{
+    match size {
+        None => UNSIZED_STATES,
+        Some(size) => (bytes / picture_bytes(size)).min(MOST_STATES).max(1) as u16,
+    }
+}
+
+/// The number of states of a capacity, with pictures of this size.
+fn states_of(capacity: Capacity, size: Option<(u16, u16)>) -> u16
+    requires { IsGiven capacity }
+    ensures value { result ≡ states_of capacity size }
+    ensures range { (1 ≤ result) × (result ≤ 4096) }
+{
+    match capacity {
+        Capacity::States(states) => states,
+        Capacity::Bytes(bytes) => states_in(bytes, size),
+    }
+}
+
+/// The width and height of the first packet that has a key frame's start with a size (RFC 6386, section 9.1).
+fn first_key_size(packets: &[Packet]) -> Option<(u16, u16)>
+    ensures { result ≡ first_key_size packets.now }
+{
+    for packet in packets {
+        if let Some(size) = key_size(packet.bytes.as_slice()) {
+            return Some(size);
+        }
+    }
+    None
+}
+
+/// The size of the first key packet of a file that has one. `None` too if the bytes are not an IVF file; `NoMemory`.
+fn key_size_in(alloc: Global, stream: &[u8]) -> Result<Option<(u16, u16)>, Fault<'static>>
+    ensures size { IfOk result (λ size. (file : Ivf) → IsIvf stream.now file → size ≡ first_key_size file.packets) }
+    ensures fault { IfErr result (λ fault. fault ≡ Fault.NoMemory) }
+{
+    match ivf_read(alloc, stream) {
+        Ok(file) => Ok(first_key_size(file.packets.as_slice())),
+        Err(fault) => match fault {
+            IvfFault::NoMemory => Err(Fault::NoMemory),
+            _ => Ok(None),
+        },
+    }
+}
+
+/// The number of states of a capacity if IN has these bytes. IN is read for it if the capacity is a number of bytes.
+///
+/// `NoMemory` if out of memory for the packets of IN.
+pub fn states_over(alloc: Global, capacity: Capacity, stream: &[u8]) -> Result<u16, Fault<'static>>
+    requires { IsGiven capacity }
+    ensures states { IfOk result (AreStates capacity stream.now) }
+    ensures range { IfOk result (λ states. (1 ≤ states) × (states ≤ 4096)) }
+    ensures fault { IfErr result (λ fault. fault ≡ Fault.NoMemory) }
+{
+    match capacity {
+        Capacity::States(states) => Ok(states),
+        Capacity::Bytes(bytes) => {
+            let size = key_size_in(alloc, stream)?;
+            Ok(states_in(bytes, size))
+        }
+    }
+}
+
+/// Reports what a state takes, if as many steps were decoded as states are cached.
+fn write_cache<E: Write>(
+    states: u16,
+    size: Option<(u16, u16)>,
+    decoded: u64,
+    errors: &mut E,
+) -> io::Result<()>
+    ensures { OnOk result (Appends (E.contents errors.old) (E.contents errors.new) (cache_text states size decoded)) }
+{
+    match size {
+        Some(size) if u64::from(states) <= decoded => writeln!(
+            errors,
+            "cache: {states} states of {} bytes each",
+            picture_bytes(size)
+        ),
+        _ => Ok(()),
+    }
+}
+
+/// Reports what a cached state takes after a run that made as many decoding steps as states are cached, if IN has these bytes.
+///
+/// An error of `errors`, or out of memory for the packets of IN.
+pub fn report_cache<E: Write>(
+    alloc: Global,
+    capacity: Capacity,
+    stream: &[u8],
+    decoded: u64,
+    errors: &mut E,
+) -> io::Result<()>
+    requires { IsGiven capacity }
+    ensures { OnOk result ((file : Ivf) → IsIvf stream.now file → Appends (E.contents errors.old) (E.contents errors.new) (cache_text (states_of capacity (first_key_size file.packets)) (first_key_size file.packets) decoded)) }
+{
+    let Ok(size) = key_size_in(alloc, stream) else {
+        return Err(ErrorKind::OutOfMemory.into());
+    };
+    write_cache(states_of(capacity, size), size, decoded, errors)
+}
