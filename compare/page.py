@@ -27,7 +27,7 @@ TOP = pathlib.Path(__file__).resolve().parent.parent
 sys.path.insert(0, str(TOP / "clients/python"))
 
 from wokureti import Session, ivf, programs  # noqa: E402
-from wokureti.frames import sides  # noqa: E402
+from wokureti.frames import frame_of, sides  # noqa: E402
 
 # Milliseconds that a step of the wheel may take.
 MOST_STEP = 50
@@ -403,6 +403,179 @@ def compare_views(page, clip, place):
     say("comparing: pair, split, difference, PSNR, samples, next difference")
 
 
+# The colours of the overlay, in the middle of each macroblock, a little to the side of what vectors and numbers are drawn on.
+OVERLAY = """
+    const [columns, rows] = arguments;
+    const canvas = document.getElementById("overlay-canvas");
+    const context = canvas.getContext("2d");
+    const { width, height } = wokureti.viewer.picture.now;
+    const scale = canvas.width / width;
+    const found = [];
+    for (let row = 0; row < rows; row++) {
+      for (let column = 0; column < columns; column++) {
+        const [x, y] = [Math.min(width - 1, column * 16 + 3), Math.min(height - 1, row * 16 + 2)];
+        found.push([...context.getImageData(Math.floor((x + 0.5) * scale), Math.floor((y + 0.5) * scale), 1, 1).data]);
+      }
+    }
+    return [canvas.hidden, found];"""
+
+
+def listed(path, packet):
+    """The macroblocks of a packet as vp8list prints them: a dictionary of words for each."""
+    lines = subprocess.run([programs.find("vp8list"), path, "--macroblocks", str(packet)], stdout=subprocess.PIPE, check=True, timeout=60).stdout.decode().splitlines()
+    names = lines[0].split("\t")
+    return [dict(zip(names, line.split("\t"))) for line in lines[1:] if not line.startswith("#")]
+
+
+def rgb(colour):
+    return tuple(int(colour[place : place + 2], 16) for place in (1, 3, 5))
+
+
+def overlays(page, room):
+    """Each overlay has the colours of what vp8list says, and the panel has the record, the samples and the header."""
+    browser = page.browser
+    (room / "edited.ivf").write_bytes(urllib.request.urlopen(page.address.replace("/page/", "/stream.ivf"), timeout=60).read())
+    browser.run("document.getElementById('timeline').focus()")
+    wrong = checked = 0
+    colours = browser.run("const found = await import(new URL('overlay.js', document.baseURI)); return [found.LUMA, found.REFERENCE, found.heat(0), found.heat(1)]")
+    expect(colours[2:] == ["rgb(24,28,92)", "rgb(252,232,90)"], f"heat goes from {colours[2]} to {colours[3]}")
+    heat = lambda part: tuple(map(int, browser.run("const { heat } = await import(new URL('overlay.js', document.baseURI)); return heat(arguments[0])", part)[4:-1].split(",")))  # noqa: E731
+    frame = browser.run("wokureti.model.select(null); await wokureti.model.go(57); wokureti.viewer.choose_view('frame'); return wokureti.model.frame")
+    packet = browser.run("return (await wokureti.model.origin(wokureti.model.frame)).packet")
+    rows = listed(room / "edited.ivf", packet)
+    across, down = (1 + max(int(row[name]) for row in rows) for name in ("column", "row"))
+    known = {}
+    for kind, colour_of in (
+        ("luma", lambda row: rgb(colours[0][row["luma"]])),
+        ("reference", lambda row: rgb(colours[1][row["reference"]])),
+        ("quantizer", lambda row: known.setdefault(row["quantizer"], heat(int(row["quantizer"]) / 127))),
+        ("level", lambda row: known.setdefault("level " + row["level"], heat(int(row["level"]) / 63))),
+    ):
+        browser.run("wokureti.macroblocks.choose(arguments[0])", kind)
+        browser.wait(f"!document.getElementById('overlay-canvas').hidden && document.getElementById('overlay-canvas').dataset.shows === '{kind} of packet {packet}'")
+        is_hidden, found = browser.run(OVERLAY, across, down)
+        expect(not is_hidden and len(found) == len(rows), f"{kind}: {len(found)} of {len(rows)} macroblocks")
+        for place, (pixel, row) in enumerate(zip(found, rows)):
+            far = max(abs(left - right) for left, right in zip(pixel[:3], colour_of(row)))
+            is_wrong = far > 3 or abs(pixel[3] - 140) > 2
+            wrong += is_wrong
+            checked += 1
+            if is_wrong and wrong < 4:
+                expect(False, f"{kind}: macroblock {place % across}, {place // across} has {pixel}, not {colour_of(row)}")
+        counts = browser.run("return [...document.querySelectorAll('#overlay-legend span')].map((one) => one.textContent)")
+        if kind in ("luma", "reference"):
+            total = sum(int(text.rsplit(" ", 1)[1].replace(",", "")) for text in counts)
+            expect(total == len(rows), f"{kind}: the legend counts {total} of {len(rows)}")
+    expect(checked == 4 * len(rows), f"{checked} macroblocks were compared")
+    expect(wrong == 0, f"{wrong} of {checked} macroblocks have another colour")
+    # What has other drawings: vectors, edges and bits have something where vp8list has something, and nothing where not.
+    browser.run("wokureti.macroblocks.choose('vectors')")
+    browser.wait("document.getElementById('overlay-legend').textContent.includes('from last')")
+    drawn = browser.run("const { data } = document.getElementById('overlay-canvas').getContext('2d').getImageData(0, 0, 4000, 4000); let count = 0; for (let place = 3; place < data.length; place += 4) count += data[place] > 0; return count")
+    expect(drawn > 0, "no vector is drawn")
+    browser.run("wokureti.macroblocks.choose('bits')")
+    browser.wait("document.getElementById('overlay-legend').textContent.includes('greatest')")
+    bits = [int(row["token_bits"]) + int(row.get("mode_bits", 0)) for row in rows]
+    text = browser.run("return document.getElementById('overlay-legend').textContent")
+    expect(f"{max(bits)} (greatest)" in text and f"{min(bits)} (least)" in text, f"the legend of bits is {text}, not {min(bits)} to {max(bits)}")
+    browser.run("wokureti.macroblocks.choose('edges')")
+    browser.wait("document.getElementById('overlay-legend').textContent.includes('filtered')")
+    text = browser.run("return [...document.querySelectorAll('#overlay-legend span')].map((one) => one.textContent).join(';')")
+    for name, count in (("skipped", sum(row["skip"] == "1" for row in rows)), ("edges filtered", sum(row["level"] != "0" for row in rows)), ("inner edges too", sum(row["inner"] == "1" for row in rows))):
+        expect(f"{name} {count:,}" in text or count == 0, f"{name}: {count} are not in {text}")
+    say(f"overlays: {checked} macroblocks have the colours of what vp8list says")
+    panel_of_macroblocks(page, room, rows, across, packet, frame)
+
+
+def panel_of_macroblocks(page, room, rows, across, packet, frame):
+    """The record under the pointer, its samples, and the header."""
+    browser = page.browser
+    browser.click("#tab-macroblock")
+    browser.wait("document.getElementById('macroblock-name').textContent !== ''")
+    box = browser.run("const box = document.getElementById('now-canvas').getBoundingClientRect(); const { width, height } = wokureti.viewer.picture.now; return [box.left, box.top, box.width / width, box.height / height]")
+    with Session(room / "edited.ivf") as session:
+        picture = session.frame(frame)
+    for place in (0, across + 3, len(rows) // 2, len(rows) - 1):
+        row = rows[place]
+        column, line = int(row["column"]), int(row["row"])
+        browser.point(box[0] + (column * 16 + 6) * box[2], box[1] + (line * 16 + 6) * box[3])
+        browser.wait(f"document.getElementById('macroblock-name').textContent === 'Macroblock {column}, {line} of packet {packet}'")
+        facts = dict(browser.run("return [...document.querySelectorAll('#macroblock-facts tr')].map((row) => [...row.cells].map((cell) => cell.textContent))"))
+        for name, title in (("luma", "Luma mode"), ("reference", "Reference"), ("quantizer", "Quantizer index"), ("token_bits", "Bits of its tokens"), ("coefficients", "Coefficients")):
+            expect(facts.get(title, "").replace(",", "") == row[name], f"macroblock {column}, {line}: {title} is {facts.get(title)}, not {row[name]}")
+        if row["vector"] != "-":
+            x, y = (int(part) / 4 for part in row["vector"].split(":"))
+            expect(facts["Vector"] == f"{x:g}, {y:g} samples", f"macroblock {column}, {line}: the vector is {facts['Vector']}, not {row['vector']} quarters")
+        for name, side in (("y", 16), ("u", 8), ("v", 8)):
+            plane, (width, height) = getattr(picture, name).tobytes(), sides(picture.width, picture.height)["yuv".index(name)]
+            lines = [plane[down * width + column * side : down * width + min(width, column * side + side)] for down in range(line * side, min(height, line * side + side))]
+            text = browser.run(f"return document.getElementById('samples-{name}').textContent")
+            expect([list(map(int, found.split())) for found in text.split("\n")] == [list(wanted) for wanted in lines], f"macroblock {column}, {line}: other samples in {name}")
+    # The arrow keys go to the next macroblock.
+    browser.run("wokureti.macroblocks.go(2, 2); document.getElementById('stage').focus()")
+    browser.key("Shift", "Right")
+    browser.key("Shift", "Down")
+    browser.wait("document.getElementById('macroblock-name').textContent.startsWith('Macroblock 3, 3 ')")
+    # Samples before an edit.
+    browser.run("document.getElementById('timeline').focus()")
+    browser.run(f"await wokureti.model.goPacket({packet}); await wokureti.editing.drop(); await wokureti.model.go({frame + 2})")
+    browser.wait("document.getElementById('samples-title').textContent.startsWith('Samples')")
+    before = page.members(f"origins?from={frame + 2}&count=1")["before"][0]
+    # Other edits and a script may be there.
+    read = lambda path: urllib.request.urlopen(page.address.replace("/page/", path), timeout=60).read().partition(b"FRAME\n")[2]  # noqa: E731
+    samples = [read(f"/before/frames/{before}.y4m"), read(f"/frames/{frame + 2}.y4m")]
+    pictures = [frame_of(0, picture.width, picture.height, one) for one in samples]
+    most = max(range(across), key=lambda column: differing(pictures, column, 3))
+    count = differing(pictures, most, 3)
+    browser.run("wokureti.macroblocks.go(arguments[0], 3)", most)
+    browser.wait(f"document.getElementById('samples-title').textContent === {json.dumps(f'Samples now: {count} differ' if count else 'Samples: as before the edits')}")
+    marks = browser.run("return document.querySelectorAll('#samples-before mark').length")
+    expect(marks == count, f"{marks} samples are marked, {count} differ")
+    expect(count > 0, "no sample of the macroblock differs")
+    # A packet of no bytes has no macroblocks, and says so.
+    browser.run(f"await wokureti.model.go({frame})")
+    browser.wait("document.getElementById('macroblock-note').textContent.includes('has no bytes')")
+    browser.key("Control", "z")
+    browser.wait("document.getElementById('macroblock-note').textContent === ''")
+    # The header.
+    browser.click("#tab-packet")
+    browser.run(f"await wokureti.model.goPacket({packet})")
+    browser.wait(f"document.getElementById('packet-name').textContent.startsWith('Packet {packet} of') && document.querySelectorAll('#header-facts tbody tr').length > 5")
+    shown = browser.run("return [...document.querySelectorAll('#header-facts tbody tr')].map((row) => [...row.cells].map((cell) => cell.textContent))")
+    lines = subprocess.run([programs.find("vp8list"), room / "edited.ivf", "--header", str(packet)], stdout=subprocess.PIPE, check=True, timeout=60).stdout.decode().splitlines()
+    # A field has three cells, a probability that is changed has brackets.
+    fields = {name: cells for name, *cells in (line.split("\t") for line in lines[1:] if "[" not in line)}
+    changes = sum("[" in line for line in lines)
+    wrong = [row for row in shown if [cell.replace(", ", ",") for cell in row[1:]] != fields.get(row[0])]
+    expect(not wrong and len(shown) > len(fields) - 6, f"the header has {wrong} where vp8list has {fields}")
+    text = browser.run("return document.querySelector('#header-changes summary').textContent")
+    expect(changes == 0 or text.endswith(f": {changes}"), f"{text}: {changes} probabilities change")
+    # A picture that is cropped has no overlay.
+    browser.run("await wokureti.editing.make(['script crop 0 16 16 320 160'], '')")
+    browser.wait("document.getElementById('overlay-legend').textContent.includes('do not fit')")
+    browser.run("document.getElementById('timeline').focus()")
+    browser.key("Control", "z")
+    browser.wait("!document.getElementById('overlay-canvas').hidden")
+    # The address keeps the overlay.
+    browser.wait("location.hash.includes('overlay=edges')")
+    browser.run("wokureti.macroblocks.choose('none')")
+    browser.wait("document.getElementById('overlay-canvas').hidden")
+    browser.click("#tab-findings")
+    say("macroblock under the pointer: record, samples now and before, header, a packet of no bytes, a cropped picture")
+
+
+def differing(pictures, column, line):
+    """How many samples of a macroblock differ in two frames."""
+    count = 0
+    for name, side in (("y", 16), ("u", 8), ("v", 8)):
+        width, height = sides(pictures[0].width, pictures[0].height)["yuv".index(name)]
+        planes = [getattr(picture, name).tobytes() for picture in pictures]
+        for down in range(line * side, min(height, line * side + side)):
+            start, end = down * width + column * side, down * width + min(width, column * side + side)
+            count += sum(left != right for left, right in zip(*(plane[start:end] for plane in planes)))
+    return count
+
+
 def edit(page):
     """The other edits, and refusals, which change nothing."""
     browser = page.browser
@@ -641,7 +814,7 @@ def reachable(page):
 def shots(browser, folder, clip, broken):
     """The pictures of the documents: the preview of a repair, in both themes, and the split."""
     folder = pathlib.Path(folder)
-    browser.set_size(1240, 780)
+    browser.set_size(1150, 740)
     page = Page(browser, broken, "--source", clip)
     page.open()
     # Edits right before key packets: nothing after them is damaged.
@@ -662,8 +835,14 @@ def shots(browser, folder, clip, broken):
     browser.wait("document.getElementById('picture-text').textContent.includes('PSNR') && wokureti.findings.check.over && wokureti.findings.check.damage > 1", seconds=60)
     time.sleep(0.5)
     (folder / "page-split.png").write_bytes(browser.screenshot())
+    browser.key("Control", "z")
+    browser.run("wokureti.viewer.choose_view('frame'); await wokureti.model.go(57); wokureti.macroblocks.choose('luma'); document.getElementById('tab-macroblock').click()")
+    browser.wait("!document.getElementById('overlay-canvas').hidden && document.getElementById('macroblock-name').textContent !== ''")
+    browser.run("wokureti.macroblocks.go(14, 8)")
+    time.sleep(0.5)
+    (folder / "page-macroblocks.png").write_bytes(browser.screenshot())
     page.end()
-    for name in ("page.png", "page-light.png", "page-split.png"):
+    for name in ("page.png", "page-light.png", "page-split.png", "page-macroblocks.png"):
         size = (folder / name).stat().st_size
         expect(size <= 300_000, f"{name} has {size} bytes")
         say(f"{name}: {size} bytes")
@@ -692,6 +871,8 @@ def main():
         compare_views(page, clip, 120)
         edit(page)
         page.quiet("comparing and editing")
+        overlays(page, room)
+        page.quiet("overlays")
         save_and_reload(page, room / "saved.ivf", clip)
         two_tabs(page)
         kill(page)

@@ -4,6 +4,7 @@ import functools
 import http.server
 import math
 import os
+import re
 import subprocess
 import sys
 import threading
@@ -12,7 +13,7 @@ from unittest import mock
 
 from support import DATA, ODD, SLOW, SMALL, TOP, Case, command, packets_of, start, whole_text, write_packets
 from test_serve import unpacked
-from wokureti import Session, compare, frames
+from wokureti import Session, compare, frames, programs
 
 BROKEN = b"\x10\x00"
 # 8 frames of 5x3: 15 luma samples, and 6 of each chroma plane.
@@ -92,6 +93,71 @@ class Compare(Case):
             self.assertIn(where, found.first)
             self.assertEqual(found.counts, [12, 1])
         self.assertEqual((width, height), (175, 143))
+
+    def test_the_first_macroblock_is_that_of_raster_order(self):
+        width, height = 40, 35
+        picture = (width, height, bytes(width * height + 2 * 20 * 18))
+        luma, chroma = width * height, 20 * 18
+        for places, wanted in (
+            ([0], (0, 0)),
+            ([luma - 1], (2, 2)),
+            # The sample in the row above is in a macroblock to the right.
+            ([20, 5 * width + 3], (0, 0)),
+            ([16 * width + 39, 18 * width + 17], (1, 1)),
+            ([luma + 8 * 20 + 9, 33 * width], (1, 1)),
+            ([luma + chroma + 17 * 20 + 19], (2, 2)),
+            ([luma + 19, luma + chroma + 7 * 20 + 7], (0, 0)),
+        ):
+            samples = bytearray(picture[2])
+            for place in places:
+                samples[place] = 1
+            self.assertEqual(compare.first_macroblock(picture, (width, height, samples)), wanted, places)
+        self.assertIsNone(compare.first_macroblock(picture, picture))
+
+    def test_the_record_of_the_first_macroblock(self):
+        packets = packets_of(ODD)
+        one, other = (write_packets(self.room / f"{name}.ivf", packets) for name in "ab")
+        # A hidden packet comes first in B, so its packets have other numbers.
+        hidden = bytes([packets[0][0] & ~0x10]) + packets[0][1:]
+        changed = [*packets[:6], packets[7], *packets[7:]]
+        write_packets(other, [hidden, *changed])
+        status, out, errors = command("compare", one, other)
+        lines = out.decode().splitlines()
+        self.assertEqual((status, errors), (1, ""))
+        self.assertTrue(lines[0].startswith("first difference: frame 6: "), lines)
+        found = re.fullmatch(r"first macroblock that differs: (\d+), (\d+)", lines[1])
+        self.assertTrue(found, lines)
+        place = tuple(map(int, found.groups()))
+        with Session(one) as left, Session(other) as right:
+            self.assertEqual(compare.first_macroblock(left.picture(6), right.picture(6)), place)
+        for line, path, name, packet in zip(lines[2:], (one, other), "AB", (6, 7)):
+            start = f"  {name}, packet {packet}: "
+            self.assertTrue(line.startswith(start), line)
+            self.assertEqual(dict(words.split(" ", 1) for words in self.words(line[len(start) :])), self.listed(path, packet, *place))
+        # A YUV4MPEG2 text has no records.
+        status, out, _ = command("compare", one, "-", given=whole_text(other))
+        self.assertEqual((status, out.decode().splitlines()[2:3]), (1, lines[2:3]))
+        self.assertFalse(out.decode().splitlines()[3].startswith("  B, "))
+
+    def words(self, text):
+        """The words of a record: a list has commas without spaces."""
+        return text.split(", ")
+
+    def listed(self, path, packet, column, row):
+        """The line of a macroblock as vp8list prints it, without its position and what it has not."""
+        lines = subprocess.run([programs.find("vp8list"), path, "--macroblocks", str(packet)], stdout=subprocess.PIPE, check=True).stdout.decode().splitlines()
+        names = lines[0].split("\t")
+        rows = (dict(zip(names, line.split("\t"))) for line in lines[1:] if not line.startswith("#"))
+        found = next(line for line in rows if (line["column"], line["row"]) == (str(column), str(row)))
+        return {name: value for name, value in found.items() if name not in ("packet", "column", "row") and value != "-"}
+
+    def test_without_vp8list(self):
+        packets = packets_of(ODD)
+        other = write_packets(self.room / "b.ivf", [*packets[:6], packets[7], *packets[7:]])
+        with mock.patch.dict(os.environ, {"VP8LIST": "/nowhere/vp8list"}):
+            found = compare.compare(str(ODD), str(other))
+        self.assertEqual(len(found.records), 2)
+        self.assertIn("no record: ", found.records[0])
 
     def test_streams(self):
         text = whole_text(ODD)

@@ -657,6 +657,78 @@ class Previews(PageCase):
         self.assertEqual(self.preview(lines=[], frame=0, revision=7)[0], 412)
 
 
+class Macroblocks(PageCase):
+    def listed(self, option, packet):
+        """What vp8list says of a packet of the edited stream, as a file."""
+        status, _, body = self.ask("/stream.ivf")
+        self.assertEqual(status, 200)
+        path = self.folder() / "edited.ivf"
+        path.write_bytes(body)
+        done = subprocess.run([programs.find("vp8list"), path, option, str(packet), "--json"], stdout=subprocess.PIPE, check=True)
+        return [json.loads(line) for line in done.stdout.splitlines()]
+
+    def assertListed(self, *packets):
+        for packet in packets:
+            found = self.members(f"/macroblocks?packet={packet}")
+            self.assertEqual((found["packet"], found["refused"], found["repeats"]), (packet, None, False))
+            self.assertEqual(found["macroblocks"], self.listed("--macroblocks", packet))
+            header = self.members(f"/header?packet={packet}")
+            fields, *changes = self.listed("--header", packet)
+            self.assertEqual({"packet": packet, **header["fields"]}, fields)
+            self.assertEqual([{"packet": packet, **change} for change in header["changes"]], changes)
+
+    def test_records_and_headers(self):
+        self.serve(SCENES)
+        self.assertListed(0, 3, 4, 15, 16, 31)
+        self.step("delete 2", "copy 0 20 5", "blank 9 16 32")
+        self.assertListed(0, 2, 5, 9, 16, 18, 32)
+
+    def test_another_source(self):
+        self.serve(SMALL, sources=[SCENES])
+        found = self.members("/macroblocks?packet=18&source=1")
+        done = subprocess.run([programs.find("vp8list"), SCENES, "--macroblocks", "18", "--json"], stdout=subprocess.PIPE, check=True)
+        self.assertEqual(found["macroblocks"], [json.loads(line) for line in done.stdout.splitlines()])
+
+    def test_packets_without_macroblocks(self):
+        self.serve(self.broken(5))
+        for packet in (5, 7, 15):
+            for path, empty in (("macroblocks", []), ("header", None)):
+                found = self.members(f"/{path}?packet={packet}")
+                self.assertEqual(found["refused"], {"packet": 5, "cause": "ShortPacket"})
+                self.assertEqual(found["fields" if path == "header" else "macroblocks"], empty)
+        self.assertListed(4, 16)
+        self.step("replace 5 -")
+        found = self.members("/macroblocks?packet=5")
+        self.assertEqual((found["repeats"], found["refused"], found["macroblocks"]), (True, None, []))
+        self.assertListed(6)
+
+    def test_requests(self):
+        self.serve(SMALL)
+        count = len(packets_of(SMALL))
+        for path, status in ((f"packet={count}", 404), ("packet=0&source=1", 404), ("packet=x", 400), ("frame=0", 400)):
+            for name in ("macroblocks", "header"):
+                self.assertEqual(self.ask(f"/{name}?{path}")[0], status, path)
+
+    def test_many_readers_while_it_is_edited(self):
+        self.serve(SCENES)
+        failed = []
+
+        def read():
+            for packet in range(20):
+                found = self.members(f"/macroblocks?packet={packet}")
+                if found["refused"] is not None or len(found["macroblocks"]) == 0:
+                    failed.append(found)
+
+        threads = [threading.Thread(target=read) for _ in range(3)]
+        for thread in threads:
+            thread.start()
+        for _ in range(6):
+            self.step("copy 0 0 0")
+        for thread in threads:
+            thread.join(20 * SLOW)
+        self.assertEqual(failed, [])
+
+
 class Killed(PageCase):
     def test_the_page_goes_on(self):
         self.serve(SCENES, edits=self.folder() / "list")

@@ -58,6 +58,14 @@ class Requests(Case):
             stream.frame(11)
             self.assertEqual(stream.decoded(), decoded)
 
+    def test_states_are_counted_in_bytes(self):
+        for cache_bytes, is_decoded_again in ((1, True), (2**30, False)):
+            with self.session(cache_bytes=cache_bytes) as stream:
+                stream.frame(1)
+                decoded = stream.decoded()
+                stream.frame(0)
+                self.assertEqual(stream.decoded() > decoded, is_decoded_again)
+
     def test_refusals(self):
         with self.session() as stream:
             for word, call in (

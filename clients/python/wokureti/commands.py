@@ -209,7 +209,8 @@ def add_compare(commands):
         "compare",
         help="where two streams of frames part",
         description="Compares the frames of A and B, each an IVF file, a YUV4MPEG2 file, a URL, or `-`, a decoder under test on a pipe. Prints the first "
-        "frame that differs, with the first sample, how many frames and samples differ, and the PSNR. Exit status 0 if all are the same, 1 if "
+        "frame that differs, with the first sample and, of IVF files, the record of the first macroblock that differs; how many frames and samples "
+        "differ, and the PSNR. Exit status 0 if all are the same, 1 if "
         "not, 2 for an error.",
     )
     parser.add_argument("one", metavar="A")

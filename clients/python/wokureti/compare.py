@@ -2,6 +2,7 @@
 
 import contextlib
 import itertools
+import json
 import math
 import os
 import shutil
@@ -9,8 +10,8 @@ import sys
 import tempfile
 import urllib.request
 
-from . import convert, files, png, y4m
-from .errors import Refused
+from . import checks, convert, facts, files, png, programs, records, y4m
+from .errors import Ended, Refused
 from .frames import frame_of, sides
 from .session import Session
 
@@ -20,6 +21,8 @@ except ImportError:
     numpy = None
 
 PLANES = ("Y", "Cb", "Cr")
+# Samples of a macroblock each way, in each plane.
+BLOCKS = (16, 8, 8)
 # How much stronger a difference is in its picture.
 GAIN = 8
 
@@ -61,7 +64,7 @@ def of_stream(path, tables=None):
 
 @contextlib.contextmanager
 def opened(name, folder, tables=None):
-    """The frames of an IVF file, a Y4M file, a container, a URL, or of standard input."""
+    """The frames of an IVF file, a Y4M file, a container, a URL, or of standard input, and the path of the IVF file, if it is one."""
     if name.startswith(("http://", "https://")):
         source = urllib.request.urlopen(name, timeout=60)
     elif name == "-":
@@ -70,7 +73,7 @@ def opened(name, folder, tables=None):
         path = convert.as_ivf(name, folder)
         source = open(path, "rb")
     with contextlib.closing(source) as file:
-        head = peek(file)
+        head, ivf_path = peek(file), None
         if head.startswith(b"YUV4MPEG2"):
             frames = y4m.read_frames(Joined(head, file))
         elif head.startswith(b"DKIF"):
@@ -80,11 +83,11 @@ def opened(name, folder, tables=None):
                 with open(path, "wb") as copy:
                     copy.write(head)
                     shutil.copyfileobj(file, copy, 1 << 20)
-            frames = of_stream(path, tables)
+            frames, ivf_path = of_stream(path, tables), path
         else:
             raise ValueError(f"{name} is no IVF file of VP8, and no YUV4MPEG2 text")
         with contextlib.closing(frames):
-            yield frames
+            yield frames, ivf_path
 
 
 def peek(file):
@@ -146,6 +149,43 @@ def psnr(squares, samples):
     return math.inf if not squares else 10 * math.log10(255 * 255 * samples / squares)
 
 
+def first_column(one, other, width, side):
+    """The column of the first block that differs in rows of samples that differ."""
+    columns = (place % width for place in range(len(one)) if one[place] != other[place])
+    return min(columns) // side
+
+
+def first_macroblock(one, other):
+    """The column and the row of the first macroblock, in raster order, that differs in two pictures of one size; None if none does."""
+    found, start = [], 0
+    for side, (width, height) in zip(BLOCKS, sides(*one[:2])):
+        for row in range(0, height, side):
+            begin, end = start + row * width, start + min(row + side, height) * width
+            rows = bytes(one[2][begin:end]), bytes(other[2][begin:end])
+            if rows[0] != rows[1]:
+                found.append((row // side, first_column(*rows, width, side)))
+                break
+        start += width * height
+    return min(found)[::-1] if found else None
+
+
+def record_at(path, frame, macroblock, tables):
+    """What vp8list says of a macroblock of the packet that a frame of an IVF file shows, as a line."""
+    lister, path = programs.find("vp8list"), checks.path(path)
+    for number, line in enumerate(facts.run(lister, path, "--json")):
+        if json.loads(line)["frame"] == frame:
+            break
+    else:
+        return "no packet shows it"
+    try:
+        lines = records.of_file(lister, path, "--macroblocks", number, tables)
+    except records.NoBytes:
+        return f"packet {number} has no bytes: it shows the last frame again"
+    found = map(json.loads, lines)
+    record = next(record for record in found if (record["column"], record["row"]) == macroblock)
+    return f"packet {number}: {records.words_of(record)}"
+
+
 class Comparison:
     """Two streams, frame by frame."""
 
@@ -155,6 +195,8 @@ class Comparison:
         self.planes = [Plane() for _ in PLANES]
         self.first = None
         self.pair = None
+        # The first macroblock that differs in the first frame that does, and what it is in the streams that are IVF files.
+        self.macroblock, self.records = None, []
 
     def part(self, number, text, pair=None):
         """Two frames differ."""
@@ -198,6 +240,8 @@ class Comparison:
         if found is None:
             self.same += 1
         else:
+            if self.first is None:
+                self.macroblock = first_macroblock(one, other)
             self.part(number, found, (one, other))
 
     @property
@@ -210,6 +254,10 @@ class Comparison:
             yield f"{self.frames} frames, all the same"
             return
         yield f"first difference: {self.first}"
+        if self.records:
+            column, row = self.macroblock
+            yield f"first macroblock that differs: {column}, {row}"
+            yield from self.records
         if self.counts[0] != self.counts[1]:
             yield f"A has {self.counts[0]} frames, B has {self.counts[1]}"
         yield f"{self.frames - self.same} of {self.frames} frames differ"
@@ -251,9 +299,19 @@ def compare(one, other, pictures=None, tables=None):
         raise ValueError("only one of the two can be standard input")
     found = Comparison()
     with tempfile.TemporaryDirectory(prefix="wokureti-") as folder:
-        with opened(one, folder, tables) as left, opened(other, folder, tables) as right:
+        with opened(one, folder, tables) as (left, left_path), opened(other, folder, tables) as (right, right_path):
             for number, pair in enumerate(itertools.zip_longest(left, right)):
                 found.add(number, *pair)
+        if found.macroblock is not None:
+            for name, path in zip("AB", (left_path, right_path)):
+                if path is None:
+                    continue
+                try:
+                    said = record_at(path, found.pair[0], found.macroblock, tables)
+                except (OSError, Ended) as error:
+                    # The comparison holds without it.
+                    said = f"no record: {error}"
+                found.records.append(f"  {name}, {said}")
     if pictures is not None and found.pair is not None and found.pair[1] is not None:
         write_pair(pictures, found.pair[0], *found.pair[1])
     return found

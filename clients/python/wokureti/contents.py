@@ -176,6 +176,12 @@ class Contents:
         data = self.made[number - self.of_files][1]
         return ivf.is_key(data) if isinstance(data, bytes) else data[0] == "blank"
 
+    def group_start(self, stream, packet):
+        """The index of the key packet at or before a packet of a stream; 0 if there is none."""
+        while packet > 0 and not self.has_key_tag(stream[packet]):
+            packet -= 1
+        return packet
+
     def forge(self, word, width, height):
         """The bytes of a packet of `blank` or `hold`: those that the program saves after the same request."""
         key = (word, width, height)

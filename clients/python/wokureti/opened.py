@@ -196,9 +196,7 @@ def interrupt(stream):
 def group_of(contents, stream, packet):
     """The packets from the key packet at or before a packet to the next one, as a range of indexes."""
     packet = min(packet, len(stream) - 1)
-    first, end = max(packet, 0), packet + 1
-    while first > 0 and not contents.has_key_tag(stream[first]):
-        first -= 1
+    first, end = contents.group_start(stream, max(packet, 0)), packet + 1
     while end < len(stream) and not contents.has_key_tag(stream[end]):
         end += 1
     return first, min(end, first + MOST_GROUP)

@@ -5,7 +5,7 @@ import os
 import pathlib
 import time
 
-from . import ivf, repair
+from . import ivf, records, repair
 from .errors import Refused
 from .frames import MARK
 from .proposals import Proposals
@@ -54,6 +54,8 @@ class PageRoutes(Routes):
                 ("repairs",): self.repairs,
                 ("repair_all",): self.repair_all,
                 ("differs",): self.differs,
+                ("macroblocks",): self.macroblocks,
+                ("header",): self.header,
                 ("stream.ivf",): self.stream,
             }
         )
@@ -162,6 +164,34 @@ class PageRoutes(Routes):
         source = self.source_of(request, view)
         packet = self.number(request, "packet", 0)
         return as_json({"revision": view.revision, "source": source, "packet": packet, "frame": view.frame_of(source, packet)})
+
+    def lines_of(self, request, option):
+        """The view, and what vp8list says of a packet: lines, and members that say why there are none."""
+        self.only(request, "packet", "source")
+        view = self.live.current_view()
+        source = self.source_of(request, view)
+        packet = self.number(request, "packet", 0)
+        if packet >= len(view.streams[source]):
+            raise Refuse(404, "there is no such packet")
+        members = {"revision": view.revision, "source": source, "packet": packet, "refused": None, "repeats": False}
+        try:
+            return records.of_packet(view.contents, view.streams[source], packet, option), members
+        except records.Refused as refused:
+            return [], {**members, "refused": {"packet": refused.packet, "cause": refused.cause}}
+        except records.NoBytes:
+            return [], {**members, "repeats": True}
+
+    def macroblocks(self, request):
+        """The macroblocks of a packet, in raster order, as objects of `vp8list --macroblocks --json`."""
+        lines, members = self.lines_of(request, "--macroblocks")
+        # Thousands of lines that are JSON are not read here to be written again.
+        text = json.dumps(members).encode()[:-1] + b', "macroblocks": [' + b",".join(lines) + b"]}\n"
+        return Response(200, "application/json", text)
+
+    def header(self, request):
+        """The header of a packet: its fields, and the probabilities that it changes."""
+        lines, members = self.lines_of(request, "--header")
+        return as_json({**members, **(records.header(lines) if lines else {"fields": None, "changes": []})})
 
     def check_of(self, request):
         """The findings of the current stream so far, starting at one of them."""

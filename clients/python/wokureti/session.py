@@ -24,9 +24,9 @@ class Count(NamedTuple):
 class Session:
     """A running vp8serve over an IVF file, or over an empty stream if `stream` is `-`.
 
-    `sources` are the paths of sources 1 to 7, `cache` the number of cached states, `tables` a file that replaces the RFC's long tables,
-    and `save` the file that gets the packets of source 0 when the session is closed; with `pad` players that use libvpx show the
-    packets of `blank` and `hold` in it too. `program` is the path of vp8serve, `lister` that of vp8list, which `packets` needs.
+    `sources` are the paths of sources 1 to 7, `cache` the number of cached states, or `cache_bytes` the number of bytes that their pictures
+    may take, `tables` a file that replaces the RFC's long tables, and `save` the file that gets the packets of source 0 when the session
+    is closed; with `pad` players that use libvpx show the packets of `blank` and `hold` in it too. `program` is the path of vp8serve, `lister` that of vp8list, which `packets` needs.
 
     `edits` is a file that the accepted edits are written to, each when it was accepted; if the file exists, its edits are made first.
     `timeout` is the number of seconds that a call may take, if it gives none of its own. With `explain` the program says why it refuses
@@ -51,6 +51,7 @@ class Session:
         explain=False,
         edits=None,
         lister=None,
+        cache_bytes=None,
     ):
         # Called with the line of each edit that was accepted, also with those of `undo` and `redo`.
         self.on_edit = None
@@ -64,7 +65,7 @@ class Session:
         self._settings = (program or programs.find("vp8serve"), lister or programs.find("vp8list"), tables)
         self._inputs = Inputs([checks.stream(stream), *checks.sources(sources)])
         try:
-            words = self._words(cache, tables, save, pad)
+            words = self._words(cache, cache_bytes, tables, save, pad)
             if edits is not None:
                 checks.outputs(edits, [*self._inputs.paths, *(path for path in (save, tables) if path is not None)], "edits")
             self._edits = EditList(self, edits)
@@ -81,7 +82,7 @@ class Session:
             self.kill()
             raise
 
-    def _words(self, cache, tables, save, pad):
+    def _words(self, cache, cache_bytes, tables, save, pad):
         """The command line of the program."""
         streams = self._inputs.words
         words = [self._settings[0], streams[0], "-", "{frames}", "--live"]
@@ -94,6 +95,8 @@ class Session:
             words += ["--tables", checks.path(tables)]
         if cache is not None:
             words += ["--cache", str(checks.number(cache))]
+        if cache_bytes is not None:
+            words += ["--cache-bytes", str(checks.number(cache_bytes))]
         return words + ["--pad"] * bool(pad) + ["--explain"] * bool(self._explain)
 
     def _close_files(self):

@@ -3,7 +3,7 @@
 const find = (id) => document.getElementById(id);
 
 /** Each key has names as `KeyboardEvent.key` has them, a text, and what it does. */
-export function keysOf({ model, player, timeline, editing, findings, viewer, palette }) {
+export function keysOf({ model, player, timeline, editing, findings, viewer, macroblocks, palette }) {
   const step = (count) => () => model.go(model.frame + count);
   const playOn = (direction) => () => {
     const same = Math.sign(player.speed) === direction;
@@ -12,7 +12,7 @@ export function keysOf({ model, player, timeline, editing, findings, viewer, pal
   return [
     { keys: ["ArrowLeft"], show: "←", text: "back one frame", act: step(-1) },
     { keys: ["ArrowRight"], show: "→", text: "forward one frame", act: step(1) },
-    { keys: ["Shift+ArrowLeft"], show: "Shift ←", text: "extend the selection to the left (on the picture: move the loupe)", act: () => extend(model, -1) },
+    { keys: ["Shift+ArrowLeft"], show: "Shift ←", text: "extend the selection to the left (on the picture: move the loupe, or to the next macroblock)", act: () => extend(model, -1) },
     { keys: ["Shift+ArrowRight"], show: "Shift →", text: "extend the selection to the right", act: () => extend(model, 1) },
     { keys: ["PageUp"], show: "Page Up", text: "back 10 frames", act: step(-10) },
     { keys: ["PageDown"], show: "Page Down", text: "forward 10 frames", act: step(10) },
@@ -44,6 +44,7 @@ export function keysOf({ model, player, timeline, editing, findings, viewer, pal
     { keys: ["4"], act: () => viewer.choose_view("difference") },
     { keys: ["f", "F"], show: "F", text: "fit the picture", act: () => viewer.choose_size("fit") },
     { keys: ["p", "P"], show: "P", text: "the loupe", act: () => viewer.loupe.toggle() },
+    { keys: ["m", "M"], show: "M", text: "the overlay of macroblocks", act: () => macroblocks.toggle() },
     { keys: ["n"], show: "N", text: "next frame that differs; with Shift the one before", act: () => viewer.nextDifference(1) },
     { keys: ["N", "Shift+N"], act: () => viewer.nextDifference(-1) },
     { keys: ["."], show: ".", text: "next finding", act: () => findings.go(1) },
@@ -73,15 +74,16 @@ export function takes(element, name) {
   return false;
 }
 
-export function listen(keys, loupe) {
+export function listen(keys, loupe, macroblocks) {
   const byName = new Map(keys.flatMap((key) => key.keys.map((name) => [name, key])));
   document.addEventListener("keydown", (event) => {
     const name = nameOf(event);
     if (event.altKey || event.defaultPrevented || takes(event.target, name)) return;
     const moves = { "Shift+ArrowLeft": [-1, 0], "Shift+ArrowRight": [1, 0], "Shift+ArrowUp": [0, -1], "Shift+ArrowDown": [0, 1] }[name];
-    if (loupe.isOn && moves && event.target.id === "stage") {
+    const moved = loupe.isOn ? loupe : macroblocks.isPanel ? macroblocks : null;
+    if (moved && moves && event.target.id === "stage") {
       event.preventDefault();
-      loupe.move(...moves);
+      moved.move(...moves);
       return;
     }
     const key = byName.get(name);

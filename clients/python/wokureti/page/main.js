@@ -8,6 +8,7 @@ import { Frames } from "./frames.js";
 import * as server from "./interface.js";
 import * as keys from "./keys.js";
 import { writeLegend } from "./kinds.js";
+import { Macroblocks } from "./macroblock.js";
 import { Model } from "./model.js";
 import { PacketFacts } from "./packet_facts.js";
 import { Player } from "./player.js";
@@ -23,6 +24,7 @@ const status = new Status();
 const frames = new Frames(model);
 const timeline = new Timeline(model);
 const viewer = new Viewer(model, frames, status);
+const macroblocks = new Macroblocks(model, viewer, status);
 const player = new Player(model, frames, viewer);
 const editing = new Editing(model, status);
 const findings = new Findings(model, viewer, editing, timeline, status);
@@ -45,6 +47,7 @@ function showPanel(name) {
     find(tab.getAttribute("aria-controls")).hidden = !isShown;
   }
   packetFacts.soon();
+  macroblocks.soon();
   fragment.soon();
 }
 
@@ -70,9 +73,11 @@ const fragment = new Fragment(() => ({
   view: viewer.picture.view,
   plane: viewer.picture.plane,
   size: viewer.picture.size,
+  overlay: macroblocks.kind,
   panel,
 }));
 timeline.onview = () => fragment.soon();
+macroblocks.onchange = () => fragment.soon();
 for (const name of ["frame", "session"]) model.addEventListener(name, () => fragment.soon());
 document.querySelector("#viewer .tools").addEventListener("click", () => fragment.soon());
 
@@ -167,9 +172,9 @@ const palette = {
   escape: () => (findings.shown ? findings.leave() : model.select(null)),
   showKeys: () => find("keys").showModal(),
 };
-const list = keys.keysOf({ model, player, timeline, editing, findings, viewer, palette });
+const list = keys.keysOf({ model, player, timeline, editing, findings, viewer, macroblocks, palette });
 keys.write(list);
-keys.listen(list, viewer.loupe);
+keys.listen(list, viewer.loupe, macroblocks);
 find("help").addEventListener("click", palette.showKeys);
 
 // What the server says
@@ -220,6 +225,7 @@ async function begin() {
   if (start.view) viewer.choose_view(start.view);
   if (start.plane) viewer.choose_plane(start.plane);
   if (start.size) viewer.choose_size(start.size);
+  if (start.overlay) macroblocks.choose(start.overlay);
   if (start.panel && find(`tab-${start.panel}`)) showPanel(start.panel);
   // The first picture is asked for before anything else is known.
   server.frame(model.frame).then(
@@ -239,7 +245,7 @@ async function begin() {
 }
 
 // For tests.
-window.wokureti = { model, frames, viewer, player, timeline, editing, findings, editList, scriptPanel };
+window.wokureti = { model, frames, viewer, macroblocks, player, timeline, editing, findings, editList, scriptPanel };
 begin().catch((error) => {
   status.say(error.message);
   notice(error.message, { isBad: true });

@@ -1,6 +1,7 @@
-// What vp8list says of the current packet.
+// What vp8list says of the current packet, and of its header.
 
 import * as server from "./interface.js";
+import { whyNone } from "./records.js";
 
 const find = (id) => document.getElementById(id);
 const NAMES = [
@@ -51,6 +52,9 @@ export class PacketFacts {
       return;
     }
     find("packet-name").textContent = `Packet ${packet} of ${packets.toLocaleString("en")}`;
+    // The header of one packet is not shown below the name of another.
+    writeTable(find("header-facts"), []);
+    find("header-changes").hidden = true;
     const answer = await server.members(`packets?from=${packet}&count=1&source=${source}`, "the facts of the packet");
     if (key !== this.asked) return;
     const [facts] = answer.packets;
@@ -62,5 +66,33 @@ export class PacketFacts {
       row.insertCell().textContent = text;
       row.insertCell().textContent = typeof facts[name] === "number" ? facts[name].toLocaleString("en") : facts[name];
     }
+    await this.showHeader(key, source, packet);
+  }
+
+  /** The fields of the header, by their names in RFC 6386. */
+  async showHeader(key, source, packet) {
+    const header = await server.members(`header?packet=${packet}&source=${source}`, "the header of the packet");
+    if (key !== this.asked) return;
+    find("header-note").textContent = whyNone(header) ?? "";
+    const fields = Object.entries(header.fields ?? {}).filter(([name]) => name !== "bits");
+    writeTable(find("header-facts"), fields.map(([name, value]) => [name, Array.isArray(value) ? value.join(", ") : value, bitsText(header.fields.bits?.[name])]));
+    const changes = find("header-changes");
+    changes.hidden = !header.changes.length;
+    changes.querySelector("summary").textContent = `Probabilities that it changes: ${header.changes.length}`;
+    writeTable(changes.querySelector("table"), header.changes.map(({ probability, index, old, new: now }) => [`${probability}[${index}]`, `${old} → ${now}`]));
+  }
+}
+
+/** The bits of a field; a list has those of each value. */
+function bitsText(bits) {
+  return bits === undefined ? "" : [bits].flat().join(", ");
+}
+
+function writeTable(table, rows) {
+  const body = table.tBodies[0];
+  body.replaceChildren();
+  for (const cells of rows) {
+    const row = body.insertRow();
+    for (const cell of cells) row.insertCell().textContent = cell;
   }
 }

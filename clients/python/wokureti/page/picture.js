@@ -63,6 +63,8 @@ export class Picture {
     this.now = null;
     this.before = null;
     this.isFirst = true;
+    // Called when the picture has another size on the page.
+    this.onfit = () => {};
     this.useVideo = hasFrames;
     new ResizeObserver(() => this.fit()).observe(this.stage);
     this.handle = find("split-handle");
@@ -147,6 +149,7 @@ export class Picture {
       canvas.style.imageRendering = scale >= 1 ? "pixelated" : "auto";
     }
     this.handle.style.left = `${this.split * 100}%`;
+    this.onfit();
   }
 
   setSplit(split) {

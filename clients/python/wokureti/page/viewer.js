@@ -26,6 +26,8 @@ export class Viewer {
     this.isStale = false;
     this.showing = null;
     this.isPlaying = false;
+    // Called when another picture is shown.
+    this.onshown = () => {};
     model.addEventListener("frame", () => this.isPlaying || this.show());
     model.addEventListener("session", () => this.show());
     this.choices("view", (view) => {
@@ -129,6 +131,7 @@ export class Viewer {
     this.loupe.show();
     this.note(before);
     this.describe(frame, now, before);
+    this.onshown();
   }
 
   /** Says on the picture why it is not compared. */
