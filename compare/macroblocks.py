@@ -42,6 +42,7 @@ T = constants()
 WHOLE = ["DC_PRED", "V_PRED", "H_PRED", "TM_PRED", "B_PRED"]
 SUB = ["B_DC_PRED", "B_TM_PRED", "B_VE_PRED", "B_HE_PRED", "B_LD_PRED", "B_RD_PRED", "B_VR_PRED", "B_VL_PRED", "B_HD_PRED", "B_HU_PRED"]
 VECTOR_MODES = ["mv_zero", "mv_nearest", "mv_near", "mv_new", "mv_split"]
+SPLITS = ["mv_top_bottom", "mv_left_right", "mv_quarters", "MV_16"]
 COUNTERPARTS = {"DC_PRED": 0, "V_PRED": 2, "H_PRED": 3, "TM_PRED": 1}
 ZIGZAG = [0, 1, 4, 8, 5, 2, 3, 6, 9, 12, 13, 10, 7, 11, 14, 15]
 BANDS = [0, 1, 2, 3, 6, 4, 5, 6, 6, 6, 6, 6, 6, 6, 6, 7]
@@ -50,13 +51,14 @@ TOKEN_TREE = [-11, 2, 0, 4, -1, 6, 8, 12, -2, 10, -3, -4, 14, 16, -5, -6, 18, 20
 
 
 class Reader:
-    """The decoder of section 7.3, bit by bit. `taken` counts the bits that it has shifted in."""
+    """The decoder of section 7.3, bit by bit. `taken` counts the bits that it has shifted in, `asked` the booleans that it has read."""
 
     def __init__(self, text):
-        self.text, self.at, self.range, self.taken = text, 16, 255, 8
+        self.text, self.at, self.range, self.taken, self.asked = text, 16, 255, 8, 0
         self.value = int.from_bytes(text[:2].ljust(2, b"\0"), "big")
 
     def bit(self, prob):
+        self.asked += 1
         split = 1 + ((self.range - 1) * prob >> 8)
         bit = self.value >= split << 8
         if bit:
@@ -113,8 +115,25 @@ class Refused(Exception):
     pass
 
 
+# The bits of the fields that are always coded (sections 9.1 and 19.2); any other takes one.
+FIXED = {
+    "version": 3, "width": 14, "height": 14, "loop_filter_level": 6, "sharpness_level": 3, "log2_nbr_of_dct_partitions": 2, "y_ac_qi": 7,
+    "copy_buffer_to_golden": 2, "copy_buffer_to_arf": 2, "prob_skip_false": 8, "prob_intra": 8, "prob_last": 8, "prob_gf": 8,
+}
+
+
+def measured(r, reads):
+    """The values that are read one after another, and how many booleans each takes."""
+    values, bits = [], []
+    for read in reads:
+        start = r.asked
+        values.append(read())
+        bits.append(r.asked - start)
+    return values, bits
+
+
 def read_header(state, packet):
-    """The fields of a header in order, and what is needed of it."""
+    """The fields of a header in order, with `bits` the bits of each, and what is needed of it."""
     if len(packet) < 3:
         raise Refused
     tag = int.from_bytes(packet[:3], "little")
@@ -138,23 +157,25 @@ def read_header(state, packet):
     if key:
         f["color_space"], f["clamping_type"] = r.flag(), r.flag()
     h = {"segments": r.flag(), "map": 0, "tree": [255] * 3}
+    bits = {}
     f["segmentation_enabled"] = h["segments"]
     if h["segments"]:
         h["map"], data = r.flag(), r.flag()
         f["update_mb_segmentation_map"], f["update_segment_feature_data"] = h["map"], data
         if data:
             state["absolute"] = r.flag()
-            state["quantizers"] = [r.flagged(7) for _ in range(4)]
-            state["levels"] = [r.flagged(6) for _ in range(4)]
+            state["quantizers"], bits["quantizer_update_value"] = measured(r, [lambda: r.flagged(7)] * 4)
+            state["levels"], bits["lf_update_value"] = measured(r, [lambda: r.flagged(6)] * 4)
             f.update(segment_feature_mode=state["absolute"], quantizer_update_value=state["quantizers"], lf_update_value=state["levels"])
         if h["map"]:
-            h["tree"] = [r.number(8) if r.flag() else 255 for _ in range(3)]
+            h["tree"], bits["segment_prob"] = measured(r, [lambda: r.number(8) if r.flag() else 255] * 3)
             f["segment_prob"] = h["tree"]
     f["filter_type"], f["loop_filter_level"], f["sharpness_level"], f["loop_filter_adj_enable"] = r.flag(), r.number(6), r.number(3), r.flag()
     if f["loop_filter_adj_enable"]:
+        bits |= {"mode_ref_lf_delta_update": 1, "ref_frame_delta": [0] * 4, "mb_mode_delta": [0] * 4}
         if r.flag():
-            for name in "reference", "mode":
-                state[name] = [r.signed(6) if r.flag() else before for before in state[name]]
+            for name, field in ("reference", "ref_frame_delta"), ("mode", "mb_mode_delta"):
+                state[name], bits[field] = measured(r, [lambda before=before: r.signed(6) if r.flag() else before for before in state[name]])
         f.update(ref_frame_delta=state["reference"], mb_mode_delta=state["mode"])
     f["log2_nbr_of_dct_partitions"] = r.number(2)
     count, at = 1 << f["log2_nbr_of_dct_partitions"], place + size
@@ -171,7 +192,7 @@ def read_header(state, packet):
     parts.append(packet[at:])
     f["y_ac_qi"] = r.number(7)
     for name in "y_dc_delta", "y2_dc_delta", "y2_ac_delta", "uv_dc_delta", "uv_ac_delta":
-        f[name] = r.flagged(4)
+        (f[name],), (bits[name],) = measured(r, [lambda: r.flagged(4)])
     if not key:
         f["refresh_golden_frame"], f["refresh_alternate_frame"] = r.flag(), r.flag()
         for name, other in ("refresh_golden_frame", "copy_buffer_to_golden"), ("refresh_alternate_frame", "copy_buffer_to_arf"):
@@ -182,24 +203,28 @@ def read_header(state, packet):
     saved = None if f["refresh_entropy_probs"] else copied({name: state[name] for name in PROBABILITIES})
     if not key:
         f["refresh_last"] = r.flag()
+    start = r.asked
     for n, prob in enumerate(T["UPDATES"]):
         if r.bit(prob):
             state["coefficients"][n] = r.number(8)
+    bits["token_prob_update"] = r.asked - start
     f["mb_no_coeff_skip"] = r.flag()
     h["skip"] = r.number(8) if f["mb_no_coeff_skip"] else None
     if h["skip"] is not None:
         f["prob_skip_false"] = h["skip"]
     if not key:
         f["prob_intra"], f["prob_last"], f["prob_gf"] = r.number(8), r.number(8), r.number(8)
-        if r.flag():
-            state["y"] = [r.number(8) for _ in range(4)]
-        if r.flag():
-            state["uv"] = [r.number(8) for _ in range(3)]
+        for name, field, count in ("y", "intra_16x16_prob", 4), ("uv", "intra_chroma_prob", 3):
+            (state[name],), (bits[field],) = measured(r, [lambda name=name, count=count: [r.number(8) for _ in range(count)] if r.flag() else state[name]])
+        start = r.asked
         for row, updates in zip(state["vectors"], T["VECTOR_UPDATE_PROBABILITIES"]):
             for n, prob in enumerate(updates):
                 if r.bit(prob):
                     row[n] = r.number(7) * 2 or 1
+        bits["mv_prob_update"] = r.asked - start
     f["token_partition_sizes"] = [len(part) for part in parts]
+    bits["token_partition_sizes"] = 24 * (len(parts) - 1)
+    f["bits"] = {name: FIXED.get(name, 1) for name in f} | bits
     h["changes"] = list(changes_of(before, state))
     return f, h, state, saved, r, parts
 
@@ -275,7 +300,7 @@ def read_modes(f, h, state, r, columns, rows):
         above = done[place - columns] if row else None
         left = done[place - 1] if column else None
         corner = done[place - columns - 1] if row and column else None
-        mb = {"segment": 0, "subs": [0] * 16, "vectors": [(0, 0)] * 16, "chroma": None}
+        mb = {"segment": 0, "subs": [0] * 16, "vectors": [(0, 0)] * 16, "chroma": None, "split": None}
         start = r.taken
         if h["map"]:
             mb["segment"] = r.leaf(T["SEGMENT_TREE"], h["tree"])
@@ -302,7 +327,15 @@ def read_modes(f, h, state, r, columns, rows):
             mb["chroma"] = WHOLE[r.leaf(T["UV_TREE"], state["uv"])]
         mb["mode_bits"] = r.taken - start
         done.append(mb)
+    if not is_counted(r, done):
+        for mb in done:
+            mb["mode_bits"] = None
     return done
+
+
+def is_counted(r, modes):
+    """The program counts bits past the end of a partition as far as 64 bytes and four for each macroblock."""
+    return r.taken < 8 * (len(r.text) + 64 + 4 * len(modes))
 
 
 def context(mb, n):
@@ -318,7 +351,8 @@ def read_referenced(r, state, mb, around, bias, place):
     table = T["VECTOR_MODE_PROBABILITIES"]
     mb["luma"] = VECTOR_MODES[r.leaf(T["VECTOR_MODE_TREE"], [table[counts[n]][n] for n in range(4)])]
     if mb["luma"] == "mv_split":
-        starts = T["SPLIT_STARTS"][r.leaf(T["SPLIT_TREE"], T["SPLIT_PROBABILITIES"])]
+        way = r.leaf(T["SPLIT_TREE"], T["SPLIT_PROBABILITIES"])
+        starts, mb["split"] = T["SPLIT_STARTS"][way], SPLITS[way]
         vectors = []
         for n, start in enumerate(starts):
             if start != n:
@@ -383,8 +417,7 @@ def read_tokens(state, modes, parts, columns):
                 up[a] = left[b] = int(end > first)
                 mb["has"] = mb["has"] or end > first
         mb["token_bits"] = r.taken - start
-    # The program counts bits past the end of a partition as far as 64 bytes and four for each macroblock.
-    if any(r.taken >= 8 * (len(r.text) + 64 + 4 * len(modes)) for r in readers):
+    if not all(is_counted(r, modes) for r in readers):
         for mb in modes:
             mb["token_bits"] = None
 
@@ -424,10 +457,10 @@ def objects_of(f, state, modes, columns, packet):
             "packet": packet, "column": place % columns, "row": place // columns, "segment": mb["segment"], "skip": mb["skip"], "reference": mb["reference"],
             "luma": mb["luma"], "chroma": mb["chroma"],
             "parts": [SUB[n] for n in mb["subs"]] if mb["luma"] == "B_PRED" else [list(v) for v in mb["vectors"]] if mb["luma"] == "mv_split" else None,
-            "vector": None if mb["reference"] == "intra" else list(mb["vectors"][15]), "quantizer": quantizer, "level": level, "interior_limit": interior,
+            "split": mb["split"], "vector": None if mb["reference"] == "intra" else list(mb["vectors"][15]), "quantizer": quantizer, "level": level, "interior_limit": interior,
             "hev_threshold": variance, "mbedge_limit": edge, "sub_bedge_limit": inner, "inner": int(bool(level and (split or mb["has"]))),
             "blocks": "".join(str(int(any(block))) for block in mb["blocks"]), "coefficients": sum(value != 0 for value in values), "greatest": max(map(abs, values)),
-            "token_bits": mb["token_bits"],
+            "mode_bits": mb["mode_bits"], "token_bits": mb["token_bits"],
         }
 
 
@@ -462,14 +495,46 @@ def wanted(text):
     return macroblocks, headers
 
 
+BITS = ("mode_bits", "token_bits")
+
+
 def said(*words):
     return subprocess.run([LIST, *map(str, words)], capture_output=True, text=True, timeout=600, check=True).stdout.splitlines()
+
+
+UPDATES = {"token_prob_update": (1056, 8), "intra_16x16_prob": (1, 8), "intra_chroma_prob": (1, 8), "mv_prob_update": (38, 7)}
+
+
+def rows_of(header, changes):
+    """The lines of a header by their names: the value and the bits of each field, and the values of each changed probability."""
+    bits, rows = header["bits"], {"packet": [str(header["packet"])]}
+    for name in bits:
+        flags, size = UPDATES.get(name, (0, 1))
+        value = header[name] if name in header else (bits[name] - flags) // size
+        rows[name] = [cell(value), cell(bits[name])]
+    if "mode_ref_lf_delta_update" in bits:
+        rows["mode_ref_lf_delta_update"][0] = str(int(bits["ref_frame_delta"][0] > 0))
+    return rows | {f"{one['probability']}[{one['index']}]": [str(one["old"]), str(one["new"])] for one in changes}
 
 
 def cell(value):
     if isinstance(value, list):
         return ",".join(":".join(map(str, part)) if isinstance(part, list) else str(part) for part in value)
     return "-" if value is None else str(value)
+
+
+def check_lines(path, headers):
+    """Compares the lines of headers with their objects: the names and their number, and the value and the bits of each."""
+    shown = {}
+    for name, *cells in (line.split("\t") for line in said(path, "--header", "all") if "\t" in line):
+        if name == "packet":
+            rows = shown[cells[0]] = {}
+        assert name not in rows, f"{path}: {name} twice"
+        rows[name] = cells
+    for packet, rows in shown.items():
+        own = [one for one in headers if one["packet"] == int(packet)]
+        wanted_rows = rows_of(own[0], own[1:])
+        assert rows == wanted_rows, f"{path}: packet {packet}: {rows} instead of {wanted_rows}"
 
 
 def check(path):
@@ -479,7 +544,7 @@ def check(path):
     shown = [one for one in shown if "column" in one]
     assert len(shown) == len(macroblocks), f"{path}: {len(shown)} macroblocks instead of {len(macroblocks)}"
     for ours, theirs in zip(shown, macroblocks):
-        ours = {**ours, "token_bits": None} if theirs["token_bits"] is None else ours
+        ours = {**ours, **{name: None for name in BITS if theirs[name] is None}}
         assert ours == theirs, f"{path}: {ours} instead of {theirs}"
     names, *lines = [line.split("\t") for line in said(path, "--macroblocks", "all") if not line.startswith("#")]
     for line, one in zip(lines, shown, strict=True):
@@ -489,7 +554,8 @@ def check(path):
     shown = [one for one in shown if "version" in one or "probability" in one]
     for ours, theirs in zip(shown, headers, strict=True):
         assert ours == theirs, f"{path}: {ours} instead of {theirs}"
-    return len(macroblocks), sum("version" in one for one in headers), sum(one["token_bits"] is not None for one in macroblocks)
+    check_lines(path, headers)
+    return len(macroblocks), sum("version" in one for one in headers), sum(None not in [one[name] for name in BITS] for one in macroblocks)
 
 
 SIDES = [(1, 1), (16, 16), (17, 33), (48, 20), (40, 48), (64, 16)]

@@ -16,7 +16,7 @@ import tempfile
 
 from checked import PARTITION, lines as findings
 from listed import lines as listed
-from macroblocks import cell, wanted
+from macroblocks import cell, rows_of, wanted
 
 TOP = pathlib.Path(__file__).resolve().parent.parent
 LIST = os.environ.get("VP8LIST", str(TOP / "crates/vp8list/out/vp8list"))
@@ -87,13 +87,26 @@ def check_details(path):
     for packet in sorted({0, count // 2, count - 1} & set(range(count))):
         own = [line for line in lines if line.startswith((f"{packet}\t", f"# packet {packet}:"))]
         expect(f"{path.name} --macroblocks {packet}", ran(path, "--macroblocks", packet), (0, "".join(line + "\n" for line in [lines[0], *own]), ""))
-        fields = dict(line.split("\t", 1) for line in ran(path, "--header", packet)[1].splitlines() if "\t" in line)
+        fields = {name: cells for name, *cells in (line.split("\t") for line in ran(path, "--header", packet)[1].splitlines() if "\t" in line)}
         own = [header for header in headers if header["packet"] == packet]
-        rows = {name: cell(value) for one in own[:1] for name, value in one.items()}
-        rows.update({f"{one['probability']}[{one['index']}]": str(one["new"]) for one in own[1:]})
-        expect(f"{path.name} --header {packet}", {name: value.split("\t")[-1] for name, value in fields.items()}, rows)
+        expect(f"{path.name} --header {packet}", fields, rows_of(own[0], own[1:]) if own else {})
+    # A file without packets has no span.
+    for span in sorted({f"0-{count - 1}", f"{count // 2}-{min(count // 2 + 2, count - 1)}"} if count else ()):
+        check_span(path, span)
     status, text, errors = ran(path, "--macroblocks", count)
     expect(f"{path.name} packet {count}", (status, text, errors), (2, "", f"vp8list: no packet {count}, the stream has {count} packets\n"))
+
+
+def check_span(path, span):
+    """The lines and objects of packets A to B are those of each of them, one after another."""
+    first, last = map(int, span.split("-"))
+    head = ran(path, "--macroblocks", first)[1].splitlines(True)[:1]
+    for option in "--macroblocks", "--header":
+        each = [ran(path, option, packet)[1].splitlines(True) for packet in range(first, last + 1)]
+        lines = [line for text in each for line in text if [line] != head]
+        expect(f"{path.name} {option} {span}", ran(path, option, span), (0, "".join((head if option == "--macroblocks" else []) + lines), ""))
+        each = [ran(path, option, packet, "--json")[1] for packet in range(first, last + 1)]
+        expect(f"{path.name} {option} {span} --json", ran(path, option, span, "--json"), (0, "".join(each), ""))
 
 
 def check_formats():

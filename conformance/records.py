@@ -1,7 +1,7 @@
 #!/usr/bin/env python3
 """Compares the plain decoder's headers and macroblocks with those of vp8list: records.py [STREAM ..]
 
-coverage.py counts points by what this decoder reads, so each field of each header and each column of each macroblock must be what
+coverage.py counts points by what this decoder reads, so each field of each header with its bits and each column of each macroblock must be what
 `vp8list --header all --json` and `--macroblocks all --json` write. VP8LIST names another program than the one that was built. It prints the
 first difference of each stream, and nothing if there is none.
 """
@@ -21,8 +21,30 @@ STREAMS = pathlib.Path(__file__).resolve().parent / "streams"
 REFERENCES = ("intra", "last", "golden", "altref")
 LUMA = ("DC_PRED", "V_PRED", "H_PRED", "TM_PRED", "B_PRED")
 VECTORS = ("mv_zero", "mv_nearest", "mv_near", "mv_new", "mv_split")
+SPLITS = ("mv_top_bottom", "mv_left_right", "mv_quarters", "MV_16")
+BITS = ("mode_bits", "token_bits")
 SUB_BLOCKS = [f"B_{name}_PRED" for name in ("DC", "TM", "VE", "HE", "LD", "RD", "VR", "VL", "HD", "HU")]
+# Values that the header reads, by the field that lists their bits: each by its place, or all together.
+EACH = {"quantizer_update": "quantizer_update_value", "lf_update": "lf_update_value", "segment_prob_update": "segment_prob"}
+TOGETHER = {"coeff_prob_update": "token_prob_update", "coeff_prob": "token_prob_update", "mv_prob": "mv_prob_update", "copy_buffer_to_alternate": "copy_buffer_to_arf"}
+TOGETHER |= {f"{name}_update_flag": name for name in ("intra_16x16_prob", "intra_chroma_prob")}
+PLACES = {"quantizer_update_value": 4, "lf_update_value": 4, "segment_prob": 3, "ref_frame_delta": 4, "mb_mode_delta": 4}
 PROBABILITIES = (("coeff_prob", "coefficients"), ("y_mode_prob", "y"), ("uv_mode_prob", "uv"))
+
+
+def bits_of(frame):
+    """The bits of each field: those of the tag and the size by section 9.1, and of each other how many booleans it takes."""
+    header = frame.header
+    bits = {"key_frame": 1, "version": 3, "show_frame": 1} | ({"width": 14, "height": 14} if header.is_key else {})
+    if header.loop_filter_adj_enable:
+        bits |= {name: [0] * 4 for name in ("ref_frame_delta", "mb_mode_delta")}
+    for (name, *place), count in frame.asked:
+        field = TOGETHER.get(name, EACH.get(name, name))
+        if field in PLACES:
+            bits.setdefault(field, [0] * PLACES[field])[place[0]] += count
+        else:
+            bits[field] = bits.get(field, 0) + count
+    return bits | {"token_partition_sizes": 24 * (len(frame.partitions) - 1)}
 
 
 def header_of(packet, frame):
@@ -60,7 +82,7 @@ def header_of(packet, frame):
     if not header.is_key:
         fields |= {name: getattr(header, name) for name in ("prob_intra", "prob_last", "prob_gf")}
     fields["token_partition_sizes"] = [len(partition) for partition in frame.partitions]
-    return fields
+    return fields | {"bits": bits_of(frame)}
 
 
 def changes_of(packet, before, after):
@@ -77,6 +99,10 @@ def parts_of(macroblock):
     if macroblock.reference == INTRA:
         return [SUB_BLOCKS[mode] for mode in macroblock.subs] if macroblock.y_mode == B else None
     return [[across, down] for down, across in macroblock.vectors] if macroblock.vector_mode == SPLIT else None
+
+
+def split_of(macroblock):
+    return SPLITS[macroblock.split] if macroblock.reference != INTRA and macroblock.vector_mode == SPLIT else None
 
 
 def limits(macroblock, frame):
@@ -108,18 +134,20 @@ def macroblock_of(packet, place, frame):
         "luma": LUMA[macroblock.y_mode] if is_intra else VECTORS[macroblock.vector_mode],
         "chroma": LUMA[macroblock.uv_mode] if is_intra else None,
         "parts": parts_of(macroblock),
+        "split": split_of(macroblock),
         "vector": None if is_intra else [macroblock.vector[1], macroblock.vector[0]],
         "quantizer": quantizer_of(macroblock, frame),
         **limits(macroblock, frame),
         "blocks": "".join(str(int(any(block or ()))) for block in macroblock.blocks),
         "coefficients": sum(value > 0 for value in values),
         "greatest": max(values, default=0),
+        "mode_bits": macroblock.bits,
         "token_bits": macroblock.token_bits,
     }
 
 
 def ours(path):
-    """The objects of the headers, and those of the macroblocks, of a stream; without the bits of tokens where they mean nothing."""
+    """The objects of the headers, and those of the macroblocks, of a stream; without the bits of records and tokens where they mean nothing."""
     decoder, headers, macroblocks, broken = Decoder(), [], [], None
     for number, packet in enumerate(ivf.read(path)):
         before = decoder.context
@@ -141,7 +169,8 @@ def ours(path):
         headers += changes_of(number, context_for(frame.header, before), frame.context)
         records = [macroblock_of(number, place, frame) for place in range(len(frame.macroblocks))]
         for record in records if not is_counted(frame) else ():
-            del record["token_bits"]
+            for name in BITS:
+                del record[name]
         macroblocks += records
     return headers, macroblocks
 
@@ -157,8 +186,9 @@ def is_counted(frame):
 
 def first_difference(path, wanted, found, option):
     for one, other in zip(wanted, found):
-        if "token_bits" not in one:
-            other.pop("token_bits", None)
+        for name in BITS:
+            if name not in one:
+                other.pop(name, None)
         if one != other:
             names = [name for name in one.keys() | other.keys() if one.get(name, "none") != other.get(name, "none")]
             there = {name: (one.get(name, "none"), other.get(name, "none")) for name in names}

@@ -2,7 +2,10 @@
 
 
 class Reader:
-    """Reads bits from a partition. Zeros follow its last byte, without end. `saw` gets the name of each value that is read, and the value."""
+    """Reads bits from a partition. Zeros follow its last byte, without end. `saw` gets the name of each value that is read, and the value.
+
+    `asked` has the name of each value that was read, and how many booleans it took, as long as it is a list.
+    """
 
     def __init__(self, text, saw=None):
         self.text, self.saw = text, saw
@@ -10,8 +13,10 @@ class Reader:
         self.range = 255
         # How many bits of the text were taken in, zeros after its end included.
         self.taken = 8
+        self.asked, self.booleans = None, 0
 
     def next(self, probability):
+        self.booleans += 1
         split = 1 + ((self.range - 1) * probability >> 8)
         bit = int(self.value >= split)
         self.value, self.range = (self.value - split, self.range - split) if bit else (self.value, split)
@@ -25,6 +30,9 @@ class Reader:
     def named(self, value, name):
         if self.saw and name:
             self.saw(name, value)
+        if self.asked is not None and name:
+            self.asked.append((name, self.booleans))
+            self.booleans = 0
         return value
 
     def bit(self, probability, *name):

@@ -126,6 +126,8 @@ class Frame:
     partitions: list
     readers: list
     header_bits: int
+    # The name of each value that the header read, and how many booleans it took.
+    asked: list
     # What seldom happens: of vectors here, of residuals in the decoder.
     events: set = field(default_factory=set)
 
@@ -526,10 +528,11 @@ def parse(packet, before, size, segment_map, saw=None):
     context = context_for(header, before)
     end = start + header.first_size
     reader = Reader(packet[start:end], saw)
+    reader.asked = asked = []
     read_first_fields(reader, header, context)
     partitions = partitions_of(packet, end, 1 << header.log2_nbr_of_dct_partitions)
     after = read_last_fields(reader, header, context)
-    header_bits = reader.taken
+    header_bits, reader.asked = reader.taken, None
     width, height = (header.width, header.height) if header.is_key else size
     columns, rows = (width + 15) // 16, (height + 15) // 16
     segment_map = map_before(header, columns * rows, segment_map)
@@ -538,4 +541,4 @@ def parse(packet, before, size, segment_map, saw=None):
     tokens = Tokens([Reader(text, saw) for text in partitions], context.coefficients, columns)
     for place, macroblock in enumerate(macroblocks):
         tokens.read(macroblock, place % columns, place // columns)
-    return Frame(header, context, after, columns, rows, macroblocks, segment_map, partitions, [reader, *tokens.readers], header_bits, modes.events)
+    return Frame(header, context, after, columns, rows, macroblocks, segment_map, partitions, [reader, *tokens.readers], header_bits, asked, modes.events)
