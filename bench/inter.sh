@@ -10,7 +10,7 @@ echo 'inter_times staticlib: inter_predict' >> "$room/crates.txt"
 echo 'block_times: pixel_planes inter_predict' >> "$room/crates.txt"
 # A plane takes memory, which an exported function has none of: what `block` makes of a window is
 # timed here, and `block` itself in a program.
-sed -i 's/^mod rows;/pub mod rows;/; s/^mod strips;/pub mod strips;/; s/^mod taps;/pub mod taps;/' "$room/crates/inter_predict/src/lib.rt"
+sed -i 's/^mod rows;/pub mod rows;/; s/^mod samples;/pub mod samples;/; s/^mod strips;/pub mod strips;/; s/^mod taps;/pub mod taps;/' "$room/crates/inter_predict/src/lib.rt"
 cat > "$room/crates/inter_times/src/lib.rt" <<'END'
 #![tactic(auto)]
 
@@ -46,7 +46,7 @@ pub extern "C" fn proved_predict(
                 height: 16,
                 stride: 16,
             };
-            strip::<16, 336>(samples, stride, filters, block, out);
+            strip::<16>(samples, stride, filters, block, out);
         }
         8 => {
             let block = Strip {
@@ -54,7 +54,7 @@ pub extern "C" fn proved_predict(
                 height: 8,
                 stride: 8,
             };
-            strip::<8, 168>(samples, stride, filters, block, out);
+            strip::<8>(samples, stride, filters, block, out);
         }
         _ => {
             let block = Strip {
@@ -62,7 +62,7 @@ pub extern "C" fn proved_predict(
                 height: 4,
                 stride: 4,
             };
-            strip::<4, 84>(samples, stride, filters, block, out);
+            strip::<4>(samples, stride, filters, block, out);
         }
     }
 }

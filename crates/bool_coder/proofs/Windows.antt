@@ -204,20 +204,19 @@ split-fits prob range left probable large most room =
     let product : split_of prob range * 2 ^ left ≤ 255 * 2 ^ left = mul-le-mul_right (2 ^ left) (omega arith) in
     mod-eq_of_lt (omega arith)
 
--- a bit of the level reader of a window that has seven unread bits
-pub bit-one : (prob range value left count : ℕ) (bytes : List ℕ) → prob ≤ 255 → 128 ≤ range → range ≤ 255 → 7 ≤ left → left ≤ 56 → split_of prob range ≤ value / 2 ^ left → count ≤ 7 → 128 ≤ (range - split_of prob range) * 2 ^ count → (range - split_of prob range) * 2 ^ count < 256 → read prob (level (reader_of value left bytes range)) ≡ (leb (split_of prob range) (value / 2 ^ left), level (reader_of (value - split_of prob range * 2 ^ left % 2 ^ 64) (left - count) bytes ((range - split_of prob range) * 2 ^ count)))
+-- a bit of the level reader of a window that has seven unread bits, decided by the split above the low bits
+pub bit-one : (prob range value left count : ℕ) (bytes : List ℕ) → prob ≤ 255 → 128 ≤ range → range ≤ 255 → 7 ≤ left → left ≤ 56 → split_of prob range * 2 ^ left % 2 ^ 64 ≤ value → count ≤ 7 → 128 ≤ (range - split_of prob range) * 2 ^ count → (range - split_of prob range) * 2 ^ count < 256 → read prob (level (reader_of value left bytes range)) ≡ (leb (split_of prob range * 2 ^ left % 2 ^ 64) value, level (reader_of (value - split_of prob range * 2 ^ left % 2 ^ 64) (left - count) bytes ((range - split_of prob range) * 2 ^ count)))
 bit-one prob range value left count bytes probable large most ready room reached few enough small =
     let whole : split_of prob range * 2 ^ left % 2 ^ 64 ≡ split_of prob range * 2 ^ left = split-fits prob range left probable large most room in
-    let power : 0 < 2 ^ left = pow_pos left in
-    let least : split_of prob range * 2 ^ left ≤ value = (le-div_iff_mul-le power).0 reached in
+    let least : split_of prob range * 2 ^ left ≤ value = rw whole at reached in
     let bit : read prob (reader_of value left bytes range) ≡ (true, doublings count (reader_of (value - split_of prob range * 2 ^ left) left bytes (range - split_of prob range))) = read-window_one prob range value left count bytes probable large most least few enough small in
     let enough_bits : count ≤ left = omega arith in
     rw (le-leb _ _ reached, whole) (read-level prob (reader_of value left bytes range) ∙ ap (λ (s : Bool × Reader). (s.0, level s.1)) bit ∙ ap (λ (s : Reader). (true, level s)) (sym (refill-enough count left (value - split_of prob range * 2 ^ left) bytes (range - split_of prob range) enough_bits)))
 
-pub bit-zero : (prob range value left count : ℕ) (bytes : List ℕ) → prob ≤ 255 → 128 ≤ range → range ≤ 255 → 7 ≤ left → value / 2 ^ left < split_of prob range → count ≤ 7 → 128 ≤ split_of prob range * 2 ^ count → split_of prob range * 2 ^ count < 256 → read prob (level (reader_of value left bytes range)) ≡ (leb (split_of prob range) (value / 2 ^ left), level (reader_of value (left - count) bytes (split_of prob range * 2 ^ count)))
-bit-zero prob range value left count bytes probable large most ready below few enough small =
-    let power : 0 < 2 ^ left = pow_pos left in
-    let least : value < split_of prob range * 2 ^ left = (div-lt_iff_lt-mul power).0 below in
+pub bit-zero : (prob range value left count : ℕ) (bytes : List ℕ) → prob ≤ 255 → 128 ≤ range → range ≤ 255 → 7 ≤ left → left ≤ 56 → value < split_of prob range * 2 ^ left % 2 ^ 64 → count ≤ 7 → 128 ≤ split_of prob range * 2 ^ count → split_of prob range * 2 ^ count < 256 → read prob (level (reader_of value left bytes range)) ≡ (leb (split_of prob range * 2 ^ left % 2 ^ 64) value, level (reader_of value (left - count) bytes (split_of prob range * 2 ^ count)))
+bit-zero prob range value left count bytes probable large most ready room below few enough small =
+    let whole : split_of prob range * 2 ^ left % 2 ^ 64 ≡ split_of prob range * 2 ^ left = split-fits prob range left probable large most room in
+    let least : value < split_of prob range * 2 ^ left = rw whole at below in
     let bit : read prob (reader_of value left bytes range) ≡ (false, doublings count (reader_of value left bytes (split_of prob range))) = read-window_zero prob range value left count bytes probable large most least few enough small in
     let enough_bits : count ≤ left = omega arith in
     rw (lt-leb _ _ below) (read-level prob (reader_of value left bytes range) ∙ ap (λ (s : Bool × Reader). (s.0, level s.1)) bit ∙ ap (λ (s : Reader). (false, level s)) (sym (refill-enough count left value bytes (split_of prob range) enough_bits)))

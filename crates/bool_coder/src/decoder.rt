@@ -1,7 +1,7 @@
 //! The decoder of RFC 6386, section 7.
 
 ghost use Rattle.std.specs.Prelude.{◌≡◌, ◌*◌, ◌<◌, ◌≤◌, ◌^◌, IsTrue, length, unsigned_abs};
-ghost use Rattle.bool_coder.specs.Reader.{started, read};
+ghost use Rattle.bool_coder.specs.Reader.{started, read, split_of};
 ghost use Rattle.bool_coder.specs.Reading.{flag, literal, signed};
 ghost use Rattle.bool_coder.specs.Trees.{is_tree, leaf};
 
@@ -68,13 +68,14 @@ impl<'a> Decoder<'a> {
         ensures { read prob self.old ≡ (result, self.new) }
     {
         self.window.ready(self.range);
-        let split = 1 + (((self.range - 1) as u64 * prob as u64) >> 8);
-        let bit = self.window.value >> self.window.left >= split;
+        let split = split_by(self.range, prob);
+        let least = (split as u64) << self.window.left;
+        let bit = self.window.value >= least;
         let range = if bit {
-            self.window.value -= split << self.window.left;
-            self.range - split as u32
+            self.window.value -= least;
+            self.range - split
         } else {
-            split as u32
+            split
         };
         let count = shift_of(range);
         self.window.left -= count;
@@ -136,6 +137,18 @@ impl<'a> Decoder<'a> {
             node = entry as usize;
         }
     }
+}
+
+/// The split of a range of 1 to 255 for a probability, which is 1 + (range - 1) * prob / 256 (RFC 6386,
+/// section 7.3).
+#[inline(always)]
+fn split_by(range: u32, prob: u8) -> u32
+    requires some { 1 ≤ range }
+    requires most { range ≤ 255 }
+    ensures { result ≡ split_of prob range }
+{
+    let prob = prob as u32;
+    (range * prob + (256 - prob)) >> 8
 }
 
 /// The number of bits by which a range of 1 to 255 is shifted to be 128 or more.

@@ -1,8 +1,9 @@
 -- Lanes of 16 bits that are clamped.
-use Rattle.std.specs.Prelude.{min, replicate}
-use Rattle.std.proofs.Common.{◌≡◌, ℕ, ◌+◌, ◌-◌, ◌<◌, ◌/◌, ◌%◌, ◌^◌, Bool, true, false, cond, ltb, leb, List, [], ◌∷◌, map, length, refl, ap, ◌∙◌, arith, w8, w16, Fits}
+use Rattle.std.specs.Prelude.{min, replicate, slice_index}
+use Rattle.std.proofs.Common.{◌≡◌, ℕ, ◌+◌, ◌-◌, ◌<◌, ◌/◌, ◌%◌, ◌^◌, Bool, true, false, cond, ltb, leb, List, [], ◌∷◌, map, length, refl, ap, sym, ◌∙◌, arith, w16, Fits}
 use lib.Lanes.{Each1, zip2, sel_l}
 use Rattle.std.proofs.lemmas.Bool.Decides.{nat_tests}
+use Rattle.std.proofs.lemmas.List.{get_or-map}
 
 -- two lists with equal heads and equal tails
 pub same_lanes : (x y : ℕ) (xs ys : List ℕ) → x ≡ y → xs ≡ ys → x ∷ xs ≡ y ∷ ys
@@ -23,22 +24,28 @@ clamped_rests [] ys fits fits' = refl
 clamped_rests (x ∷ xs) [] fits fits' = refl
 clamped_rests (x ∷ xs) (y ∷ ys) fits fits' = same_lanes _ _ _ _ (held_rest x y fits.0.fits fits'.0.fits) (clamped_rests xs ys fits.1 fits'.1)
 
--- one lane of 128ths, shifted and clamped at 255
-held_sample : (a : ℕ) → cond (leb 32768 (cond (ltb (a / 128) 255) 65535 0)) (a / 128) 255 ≡ min (a / 128) 255
+-- one lane of 128ths, clamped at 32767 and shifted
+held_sample : (a : ℕ) → cond (leb 32768 (cond (ltb a 32767) 65535 0)) a 32767 / 128 ≡ min (a / 128) 255
 held_sample a = rw mask_tells (grind (arith, nat_tests))
 
--- lanes of 128ths, shifted and clamped at 255
+-- lanes of 128ths, clamped at 32767 and shifted
+abbrev pub clamped_lanes : ℕ → List ℕ → List ℕ
+clamped_lanes n xs = sel_l (map (λ m. leb 32768 m) (zip2 (λ a b. cond (ltb a b) 65535 0) xs (replicate n 32767))) xs (replicate n 32767)
+
 abbrev pub shifted_lanes : ℕ → List ℕ → List ℕ
-shifted_lanes n xs = zip2 (λ a b. a / 2 ^ b) xs (replicate n 7)
+shifted_lanes n xs = zip2 (λ a b. a / 2 ^ b) (clamped_lanes n xs) (replicate n 7)
 
-abbrev pub clamped_at_255 : ℕ → List ℕ → List ℕ
-clamped_at_255 n xs = sel_l (map (λ m. leb 32768 m) (zip2 (λ a b. cond (ltb a b) 65535 0) (shifted_lanes n xs) (replicate n 255))) (shifted_lanes n xs) (replicate n 255)
-
-pub clamped_samples : (xs : List ℕ) → map (λ (a : ℕ). a) (clamped_at_255 (length xs) xs) ≡ map (λ (lane : ℕ). min (lane / 128) 255) xs
+clamped_samples : (xs : List ℕ) → shifted_lanes (length xs) xs ≡ map (λ (lane : ℕ). min (lane / 128) 255) xs
 clamped_samples [] = refl
 clamped_samples (x ∷ xs) = same_lanes _ _ _ _ (held_sample x) (clamped_samples xs)
 
--- they fit 8 bits
-pub held_fit : (xs : List ℕ) → Each1 (Fits w8) (clamped_at_255 (length xs) xs)
-held_fit [] = tt
-held_fit (x ∷ xs) = let small : min (x / 128) 255 < 256 = omega arith in (record { fits = rw (held_sample x) small }, held_fit xs)
+pub clamped_lane : (n : ℕ) (xs : List ℕ) (lane : ℕ) → length xs ≡ n → lane < n → slice_index (shifted_lanes n xs) lane ≡ min (slice_index xs lane / 128) 255
+clamped_lane n xs lane long less =
+    ap (λ (k : ℕ). slice_index (shifted_lanes k xs) lane) (sym long)
+    ∙ ap (λ (l : List ℕ). slice_index l lane) (clamped_samples xs)
+    ∙ get_or-map (λ (value : ℕ). min (value / 128) 255) xs lane 0 0 (omega (arith, long))
+
+-- lanes whose width alone changes
+pub as_they_are : (xs : List ℕ) → map (λ (a : ℕ). a) xs ≡ xs
+as_they_are [] = refl
+as_they_are (x ∷ xs) = same_lanes _ _ _ _ refl (as_they_are xs)

@@ -1,6 +1,7 @@
 pub mod FilterLaws
 pub mod HeldLanes
 pub mod FarPieces
+pub mod PairedLanes
 pub mod Predicted
 pub mod StripRows
 pub mod TappedLanes

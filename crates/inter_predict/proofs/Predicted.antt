@@ -9,7 +9,7 @@ use Rattle.inter_predict.specs.declared.kinds.Kind.{Kind}
 use Rattle.inter_predict.specs.declared.taps.Taps.{Taps}
 use Rattle.inter_predict.specs.InterSample.{whole_part, fraction, between, across, inter_sample, predicted}
 use Rattle.inter_predict.specs.Blocks.{IsBlockIn}
-use Rattle.inter_predict.specs.Kernels.{AreTapsOf, IsStrip, IsNear, Predicts, along, between_in, tapped_at, tapped_twice}
+use Rattle.inter_predict.specs.Kernels.{AreTapsOf, IsStrip, IsNear, Predicts, between_in, line_from, tapped_from, tapped_twice}
 use Rattle.inter_predict.proofs.FilterLaws.{at_place, between_byte}
 use Rattle.inter_predict.proofs.Twice.{same_strip, tapped_same}
 
@@ -35,15 +35,14 @@ predicted_is kind p x y right below left top across_taps down_taps samples strid
     ∙ sym (window.each (column + i) (row + j) (omega arith) (omega arith))
     ∙ ap (slice_index samples) place)))
 
--- the taps of a line return the sample between
-pub between_is : (taps : Taps) (kind : Kind) (eighths : ℕ) (samples : List ℕ) (start step : ℕ) → AreTapsOf taps kind eighths → tapped_at taps samples step start ≡ between kind eighths (along samples start step) (pos 2)
-between_is taps kind eighths samples start step are =
-    tapped_same taps _ _ (λ k less. ap (λ (i : ℕ). slice_index samples (start + i * step)) (sym (zero-add k))) ∙ sym (are (along samples start step) (pos 2))
+-- the taps of a filter return the sample between
+pub between_is : (taps : Taps) (kind : Kind) (eighths : ℕ) (sample : ℕ → ℕ → ℕ) (lane at : ℕ) → AreTapsOf taps kind eighths → tapped_from taps sample lane at ≡ between_in kind eighths sample lane at
+between_is taps kind eighths sample lane at are = tapped_same taps _ _ (λ k less. ap (λ (i : ℕ). sample (at + i) lane) (sym (zero-add k))) ∙ sym (are (line_from sample lane at) (pos 2))
 
-pub strip_between : (taps : Taps) (samples : List ℕ) (start stride step first width height out_stride : ℕ) (old new : List ℕ) → IsStrip (λ column row. tapped_at taps samples step (start + row * stride + column)) first width height out_stride old new
-    → (kind : Kind) (eighths : ℕ) → AreTapsOf taps kind eighths → IsStrip (between_in kind eighths samples start stride step) first width height out_stride old new
-strip_between taps samples start stride step first width height out_stride old new strip kind eighths are =
-    same_strip _ (between_in kind eighths samples start stride step) first width height out_stride old new strip (λ column row inside within. between_is taps kind eighths samples (start + row * stride + column) step are)
+pub strip_between : (taps : Taps) (sample : ℕ → ℕ → ℕ) (first width height out_stride : ℕ) (old new : List ℕ) → IsStrip (tapped_from taps sample) first width height out_stride old new
+    → (kind : Kind) (eighths : ℕ) → AreTapsOf taps kind eighths → IsStrip (between_in kind eighths sample) first width height out_stride old new
+strip_between taps sample first width height out_stride old new strip kind eighths are =
+    same_strip (tapped_from taps sample) (between_in kind eighths sample) first width height out_stride old new strip (λ column row inside within. between_is taps kind eighths sample column row are)
 
 -- taps across and down a window return the inter samples
 pub strip_predicts : (across down : Taps) (samples : List ℕ) (stride first columns height out_stride : ℕ) (old new : List ℕ) → IsStrip (λ column row. tapped_twice across down samples stride (first + column) row) first columns height out_stride old new → Predicts across down samples stride first columns height out_stride old new

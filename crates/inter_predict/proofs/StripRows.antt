@@ -1,11 +1,12 @@
 -- Strips that are written row by row.
 use Rattle.std.specs.Prelude.{slice_index}
-use Rattle.std.specs.Simd.Lanes.{put_chunk}
-use Rattle.std.proofs.Common.{◌≡◌, ◌⊎◌, ℕ, ◌+◌, ◌-◌, ◌*◌, ◌<◌, ◌≤◌, inl, inr, List, length, refl, ap, sym, ◌∙◌, arith}
+use Rattle.std.specs.Simd.Lanes.{chunk, put_chunk}
+use Rattle.std.proofs.Common.{◌≡◌, ◌⊎◌, ℕ, ◌+◌, ◌-◌, ◌*◌, ◌<◌, ◌≤◌, inl, inr, List, length, refl, ap, subst, sym, ◌∙◌, arith}
 use Rattle.std.proofs.Math.Nat.{mul-le-mul_right}
 use Rattle.std.proofs.lemmas.Bool.{cases_lt}
-use Rattle.std.proofs.lemmas.Simd.{length-put_chunk, get_or-put_chunk_below, get_or-put_chunk_at, get_or-put_chunk_above}
-use Rattle.inter_predict.specs.Kernels.{IsStrip}
+use Rattle.std.proofs.lemmas.Simd.{length-chunk, get_or-chunk, length-put_chunk, get_or-put_chunk_below, get_or-put_chunk_at, get_or-put_chunk_above}
+use Rattle.inter_predict.specs.declared.rows.Strip.{Strip}
+use Rattle.inter_predict.specs.Kernels.{IsRoomFor, IsStrip}
 
 -- rows do not overlap
 pub earlier_row : (stride row n : ℕ) → row < n → row * stride + stride ≤ n * stride
@@ -65,9 +66,21 @@ row_put sample first width n stride old now line before fits room long right =
       others = λ column row inside beside. kept (n * stride + first) now line (row * stride + column) (rw long (beside_row first width n stride column row fits inside beside)) ∙ before.others column row inside (beside_before first width n column row beside);
     }
 
+-- one more row, of the lanes of a vector from `from` on
+pub row_stored : (sample : ℕ → ℕ → ℕ) (first width n stride from : ℕ) (old now new row : List ℕ) → IsStrip sample first width n stride old now → first + width ≤ stride → n * stride + (first + width) ≤ length old → from + width ≤ length row → new ≡ put_chunk (n * stride + first) now (chunk from width row)
+    → ((column : ℕ) → column < width → slice_index row (from + column) ≡ sample column n) → IsStrip sample first width (n + 1) stride old new
+row_stored sample first width n stride from old now new row before fits room long new_is right =
+    let strip : IsStrip sample first width (n + 1) stride old (put_chunk (n * stride + first) now (chunk from width row)) =
+    row_put sample first width n stride old now (chunk from width row) before fits room (length-chunk from width row long) (λ column inside. get_or-chunk from width row column 0 inside ∙ right column inside) in
+    subst (λ (l : List ℕ). IsStrip sample first width (n + 1) stride old l) (sym new_is) strip
+
 -- a row is no further down than the last
 pub upper_row : (stride row n : ℕ) → row < n → row * stride ≤ (n - 1) * stride
 upper_row stride row n less = mul-le-mul_right stride (omega arith)
+
+-- a row of a strip is in the list
+pub row_there : (strip : Strip) (row width len : ℕ) → row < strip.height → IsRoomFor strip width len → row * strip.stride + (strip.first + width) ≤ len
+row_there strip row width len less room = omega (arith, room.1, upper_row strip.stride row strip.height less)
 
 -- no column
 pub no_columns : (sample : ℕ → ℕ → ℕ) (first height stride : ℕ) (old : List ℕ) → IsStrip sample first 0 height stride old old

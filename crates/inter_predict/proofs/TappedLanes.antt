@@ -1,12 +1,12 @@
 -- Lanes of 16 bits: products of samples with taps, and sums of these.
 use Rattle.std.specs.Prelude.{min, replicate, slice_index}
-use Rattle.std.proofs.Common.{◌≡◌, ℕ, ◌+◌, ◌-◌, ◌<◌, ◌≤◌, ◌*◌, ◌/◌, ◌%◌, List, map, length, refl, ap, subst, sym, ◌∙◌, arith}
+use Rattle.std.proofs.Common.{◌≡◌, ℕ, ◌+◌, ◌-◌, ◌<◌, ◌≤◌, ◌*◌, ◌/◌, ◌%◌, List, length, refl, ap, subst, sym, ◌∙◌, arith}
 use lib.Lanes.{zip2}
 use Rattle.std.proofs.Math.Nat.{mul-le-mul_right}
-use Rattle.std.proofs.lemmas.List.{get_or-replicate, get_or-map, length-replicate}
+use Rattle.std.proofs.lemmas.List.{get_or-replicate, length-replicate}
 use Rattle.std.proofs.lemmas.Simd.{length-zip2, get_or-zip2}
 use Rattle.inter_predict.specs.declared.taps.Taps.{Taps}
-use Rattle.inter_predict.specs.Kernels.{IsTaps, tapped, tapped_at}
+use Rattle.inter_predict.specs.Kernels.{IsLine, IsTaps, tapped, tapped_from}
 
 -- products with a tap, and sums
 abbrev pub times : ℕ → List ℕ → ℕ → List ℕ
@@ -52,27 +52,39 @@ summed n at at' xs ys left right fits = same n _ _ (plus xs ys) (combined (λ a 
 own : (n : ℕ) (xs : List ℕ) → length xs ≡ n → IsLanes n (slice_index xs) xs
 own n xs long = record { long = long; each = λ lane less. refl }
 
--- the products that a filter adds, and 64
-pub added_lanes : (n : ℕ) (t : Taps) (as1 cs ds fs : List ℕ) → IsTaps t → length as1 ≡ n → length cs ≡ n → length ds ≡ n → length fs ≡ n
-    → ((lane : ℕ) → lane < n → (slice_index as1 lane < 256) × (slice_index cs lane < 256) × (slice_index ds lane < 256) × (slice_index fs lane < 256)) → (lane : ℕ) → lane < n
-    → slice_index (plus (plus (plus (plus (times n as1 t.a) (times n cs t.c)) (times n ds t.d)) (times n fs t.f)) (replicate n 64)) lane
+-- the products of the middle taps, and 64
+pub middle_lanes : (n : ℕ) (t : Taps) (cs ds : List ℕ) → IsTaps t → length cs ≡ n → length ds ≡ n → ((lane : ℕ) → lane < n → (slice_index cs lane < 256) × (slice_index ds lane < 256)) → (lane : ℕ) → lane < n
+    → slice_index (plus (plus (times n cs t.c) (times n ds t.d)) (replicate n 64)) lane ≡ slice_index cs lane * t.c + slice_index ds lane * t.d + 64
+middle_lanes n t cs ds small c d bytes =
+    let bound : (lane : ℕ) → lane < n → slice_index cs lane * t.c + slice_index ds lane * t.d ≤ 255 * 160 = λ lane less.
+    let pc = product (slice_index cs lane) t.c (bytes lane less).0 in
+    let pd = product (slice_index ds lane) t.d (bytes lane less).1 in
+    omega (arith, small.added) in
+    let mc = multiplied n t.c _ cs (own n cs c) (omega (arith, small.added)) (λ lane less. (bytes lane less).0) in
+    let md = multiplied n t.d _ ds (own n ds d) (omega (arith, small.added)) (λ lane less. (bytes lane less).1) in
+    let two = summed n _ _ _ _ mc md (λ lane less. let b = bound lane less in omega arith) in
+    let all = summed n _ _ _ _ two (splat n 64) (λ lane less. let b = bound lane less in omega arith) in
+    all.each
+
+-- all products that a filter adds, and 64
+pub added_lanes : (n : ℕ) (t : Taps) (ms as1 cs ds fs : List ℕ) → IsTaps t → length ms ≡ n → length as1 ≡ n → length fs ≡ n
+    → ((lane : ℕ) → lane < n → (slice_index as1 lane < 256) × (slice_index cs lane < 256) × (slice_index ds lane < 256) × (slice_index fs lane < 256))
+    → ((lane : ℕ) → lane < n → slice_index ms lane ≡ slice_index cs lane * t.c + slice_index ds lane * t.d + 64) → (lane : ℕ) → lane < n
+    → slice_index (plus (plus ms (times n as1 t.a)) (times n fs t.f)) lane
     ≡ slice_index as1 lane * t.a + slice_index cs lane * t.c + slice_index ds lane * t.d + slice_index fs lane * t.f + 64
-added_lanes n t as1 cs ds fs small a c d f bytes =
+added_lanes n t ms as1 cs ds fs small m a f bytes middle lane less =
     let bound : (lane : ℕ) → lane < n → slice_index as1 lane * t.a + slice_index cs lane * t.c + slice_index ds lane * t.d + slice_index fs lane * t.f ≤ 255 * 160 = λ lane less.
     let pa = product (slice_index as1 lane) t.a (bytes lane less).0 in
     let pc = product (slice_index cs lane) t.c (bytes lane less).1 in
     let pd = product (slice_index ds lane) t.d (bytes lane less).2 in
     let pf = product (slice_index fs lane) t.f (bytes lane less).3 in
     omega (arith, small.added) in
+    let held : IsLanes n (λ lane. slice_index cs lane * t.c + slice_index ds lane * t.d + 64) ms = record { long = m; each = middle } in
     let ma = multiplied n t.a _ as1 (own n as1 a) (omega (arith, small.added)) (λ lane less. (bytes lane less).0) in
-    let mc = multiplied n t.c _ cs (own n cs c) (omega (arith, small.added)) (λ lane less. (bytes lane less).1) in
-    let md = multiplied n t.d _ ds (own n ds d) (omega (arith, small.added)) (λ lane less. (bytes lane less).2) in
     let mf = multiplied n t.f _ fs (own n fs f) (omega (arith, small.added)) (λ lane less. (bytes lane less).3) in
-    let two = summed n _ _ _ _ ma mc (λ lane less. let b = bound lane less in omega arith) in
-    let three = summed n _ _ _ _ two md (λ lane less. let b = bound lane less in omega arith) in
-    let four = summed n _ _ _ _ three mf (λ lane less. let b = bound lane less in omega arith) in
-    let all = summed n _ _ _ _ four (splat n 64) (λ lane less. let b = bound lane less in omega arith) in
-    all.each
+    let three = summed n _ _ _ _ held ma (λ lane less. let b = bound lane less in omega arith) in
+    let all = summed n _ _ _ _ three mf (λ lane less. let b = bound lane less in omega arith) in
+    all.each lane less ∙ omega arith
 
 -- the products that it subtracts
 pub taken_lanes : (n : ℕ) (t : Taps) (bs es : List ℕ) → IsTaps t → length bs ≡ n → length es ≡ n → ((lane : ℕ) → lane < n → (slice_index bs lane < 256) × (slice_index es lane < 256)) → (lane : ℕ) → lane < n
@@ -86,12 +98,9 @@ taken_lanes n t bs es small b e bytes =
     omega (arith, small.taken)) in
     all.each
 
--- the samples for both sums
-pub whole_lanes : (n : ℕ) (added taken : List ℕ) → length added ≡ n → length taken ≡ n → (lane : ℕ) → lane < n
-    → slice_index (map (λ (lane : ℕ). min (lane / 128) 255) (zip2 (λ a b. a - b) added taken)) lane ≡ min ((slice_index added lane - slice_index taken lane) / 128) 255
-whole_lanes n added taken long long' lane less =
-    let all = combined (λ a b. a - b) n _ _ added taken (own n added long) (own n taken long') in
-    get_or-map (λ (lane : ℕ). min (lane / 128) 255) (zip2 (λ a b. a - b) added taken) lane 0 0 (rw all.long less) ∙ ap (λ (value : ℕ). min (value / 128) 255) (all.each lane less)
+-- what both sums leave
+pub rest_lanes : (n : ℕ) (added taken : List ℕ) → length added ≡ n → length taken ≡ n → (lane : ℕ) → lane < n → slice_index (zip2 (λ a b. a - b) added taken) lane ≡ slice_index added lane - slice_index taken lane
+rest_lanes n added taken long long' lane less = (combined (λ a b. a - b) n _ _ added taken (own n added long) (own n taken long')).each lane less
 
 -- the sample that a filter returns, by one lane of both sums
 pub tapped_lane : (t : Taps) (s : ℕ → ℕ) (a b c d e f added taken : ℕ) → a ≡ s 0 → b ≡ s 1 → c ≡ s 2 → d ≡ s 3 → e ≡ s 4 → f ≡ s 5
@@ -99,50 +108,79 @@ pub tapped_lane : (t : Taps) (s : ℕ → ℕ) (a b c d e f added taken : ℕ) �
 unfolding tapped
 tapped_lane t s a b c d e f added taken at0 at1 at2 at3 at4 at5 sum less = rw (sum, less, at0, at1, at2, at3, at4, at5) refl
 
--- lanes with the samples of a row that begins at `start`
-pub record IsLine (n : ℕ) (xs : List ℕ) (start : ℕ) (line : List ℕ) : Type 0 where
-  pub value : (lane : ℕ) → lane < n → slice_index line lane ≡ slice_index xs (start + lane)
-  pub bytes : (lane : ℕ) → lane < n → slice_index line lane < 256
+-- the same, if the first tap and the last are 0
+four_lane : (t : Taps) (s : ℕ → ℕ) (b c d e added taken : ℕ) → t.a ≡ 0 → t.f ≡ 0 → b ≡ s 1 → c ≡ s 2 → d ≡ s 3 → e ≡ s 4
+    → added ≡ c * t.c + d * t.d + 64 → taken ≡ b * t.b + e * t.e → min ((added - taken) / 128) 255 ≡ tapped t s
+unfolding tapped
+four_lane t s b c d e added taken no_a no_f at1 at2 at3 at4 sum less =
+    let first : s 0 * t.a ≡ 0 = rw no_a (omega arith) in
+    let last : s 5 * t.f ≡ 0 = rw no_f (omega arith) in
+    let all : s 0 * t.a + s 2 * t.c + s 3 * t.d + s 5 * t.f + 64 ≡ s 2 * t.c + s 3 * t.d + 64 = omega (arith, first, last) in
+    rw (sum, less, at1, at2, at3, at4, all) refl
 
-moved : (n : ℕ) (xs : List ℕ) (start start' : ℕ) (line : List ℕ) → start ≡ start' → IsLine n xs start line → IsLine n xs start' line
-moved n xs start start' line same is = record { value = λ lane less. is.value lane less ∙ ap (λ (s : ℕ). slice_index xs (s + lane)) same; bytes = is.bytes }
+-- the same, if all taps but the middle two are 0
+two_lane : (t : Taps) (s : ℕ → ℕ) (c d added : ℕ) → t.a ≡ 0 → t.b ≡ 0 → t.e ≡ 0 → t.f ≡ 0 → c ≡ s 2 → d ≡ s 3 → added ≡ c * t.c + d * t.d + 64 → min (added / 128) 255 ≡ tapped t s
+unfolding tapped
+two_lane t s c d added no_a no_b no_e no_f at2 at3 sum =
+    let first : s 0 * t.a ≡ 0 = rw no_a (omega arith) in
+    let second : s 1 * t.b ≡ 0 = rw no_b (omega arith) in
+    let fifth : s 4 * t.e ≡ 0 = rw no_e (omega arith) in
+    let last : s 5 * t.f ≡ 0 = rw no_f (omega arith) in
+    let all : s 0 * t.a + s 2 * t.c + s 3 * t.d + s 5 * t.f + 64 - (s 1 * t.b + s 4 * t.e) ≡ s 2 * t.c + s 3 * t.d + 64 = omega (arith, first, second, fifth, last) in
+    rw (sum, at2, at3, all) refl
 
--- five rows, `stride` samples apart
-pub record AreLines (n : ℕ) (xs : List ℕ) (start stride : ℕ) (a b c d e : List ℕ) : Type 0 where
-  pub first : IsLine n xs start a
-  pub second : IsLine n xs (start + stride) b
-  pub third : IsLine n xs (start + 2 * stride) c
-  pub fourth : IsLine n xs (start + 3 * stride) d
-  pub fifth : IsLine n xs (start + 4 * stride) e
+-- a line by another number
+pub moved : (n : ℕ) (sample : ℕ → ℕ → ℕ) (i j : ℕ) (lanes : List ℕ) → i ≡ j → IsLine n (sample i) lanes → IsLine n (sample j) lanes
+moved n sample i j lanes same line = subst (λ (k : ℕ). IsLine n (sample k) lanes) same line
 
--- the first five rows
-pub first_lines : (n : ℕ) (xs : List ℕ) (start stride : ℕ) (a b c d e : List ℕ) → AreLines n xs start stride a b c d e → AreLines n xs (start + 0 * stride) stride a b c d e
-first_lines n xs start stride a b c d e lines = let same : start ≡ start + 0 * stride = omega arith in subst (λ (s : ℕ). AreLines n xs s stride a b c d e) same lines
+-- five lines, the first of number `row`
+pub record AreLines (n : ℕ) (sample : ℕ → ℕ → ℕ) (row : ℕ) (a b c d e : List ℕ) : Type 0 where
+  pub first : IsLine n (sample row) a
+  pub second : IsLine n (sample (row + 1)) b
+  pub third : IsLine n (sample (row + 2)) c
+  pub fourth : IsLine n (sample (row + 3)) d
+  pub fifth : IsLine n (sample (row + 4)) e
 
--- the five rows after the first
-pub next_lines : (n : ℕ) (xs : List ℕ) (start row stride : ℕ) (a b c d e f : List ℕ) → AreLines n xs (start + row * stride) stride a b c d e → IsLine n xs (start + (row + 5) * stride) f → AreLines n xs (start + (row + 1) * stride) stride b c d e f
-next_lines n xs start row stride a b c d e f lines sixth =
-    let further : (row + 1) * stride ≡ row * stride + stride = grind arith in
-    let furthest : (row + 5) * stride ≡ row * stride + 5 * stride = grind arith in
-    record {
-      first = moved n xs _ _ b (omega arith) lines.second;
-      second = moved n xs _ _ c (omega arith) lines.third;
-      third = moved n xs _ _ d (omega arith) lines.fourth;
-      fourth = moved n xs _ _ e (omega arith) lines.fifth;
-      fifth = moved n xs _ _ f (omega arith) sixth;
-    }
+-- the five lines after the first
+pub next_lines : (n : ℕ) (sample : ℕ → ℕ → ℕ) (row : ℕ) (a b c d e f : List ℕ) → AreLines n sample row a b c d e → IsLine n (sample (row + 5)) f → AreLines n sample (row + 1) b c d e f
+next_lines n sample row a b c d e f lines sixth = record {
+  first = lines.second;
+  second = moved n sample (row + 2) (row + 1 + 1) c (omega arith) lines.third;
+  third = moved n sample (row + 3) (row + 1 + 2) d (omega arith) lines.fourth;
+  fourth = moved n sample (row + 4) (row + 1 + 3) e (omega arith) lines.fifth;
+  fifth = moved n sample (row + 5) (row + 1 + 4) f (omega arith) sixth;
+}
 
--- a filter down, by one lane of its sums
-pub tapped_down : (n : ℕ) (t : Taps) (xs : List ℕ) (start row stride : ℕ) (a b c d e f : List ℕ) → AreLines n xs (start + row * stride) stride a b c d e → IsLine n xs (start + (row + 5) * stride) f → (added taken lane : ℕ) → lane < n
+-- a filter down by six taps, by one lane of its sums
+pub six_down : (n : ℕ) (t : Taps) (sample : ℕ → ℕ → ℕ) (row : ℕ) (a b c d e f : List ℕ) → AreLines n sample row a b c d e → IsLine n (sample (row + 5)) f → (added taken lane : ℕ) → lane < n
     → added ≡ slice_index a lane * t.a + slice_index c lane * t.c + slice_index d lane * t.d + slice_index f lane * t.f + 64 → taken ≡ slice_index b lane * t.b + slice_index e lane * t.e
-    → min ((added - taken) / 128) 255 ≡ tapped_at t xs stride (start + row * stride + lane)
-tapped_down n t xs start row stride a b c d e f lines sixth added taken lane less sum rest =
-    let furthest : (row + 5) * stride ≡ row * stride + 5 * stride = grind arith in
-    tapped_lane t (λ k. slice_index xs (start + row * stride + lane + k * stride)) _ _ _ _ _ _ added taken
-    (lines.first.value lane less ∙ ap (slice_index xs) (omega arith))
-    (lines.second.value lane less ∙ ap (slice_index xs) (omega arith))
-    (lines.third.value lane less ∙ ap (slice_index xs) (omega arith))
-    (lines.fourth.value lane less ∙ ap (slice_index xs) (omega arith))
-    (lines.fifth.value lane less ∙ ap (slice_index xs) (omega arith))
-    (sixth.value lane less ∙ ap (slice_index xs) (omega (arith, furthest)))
-    sum rest
+    → min ((added - taken) / 128) 255 ≡ tapped_from t sample lane row
+six_down n t sample row a b c d e f lines sixth added taken lane less sum rest =
+    let here : row ≡ row + 0 = omega arith in
+    tapped_lane t (λ k. sample (row + k) lane) _ _ _ _ _ _ added taken (lines.first.value lane less ∙ ap (λ (r : ℕ). sample r lane) here) (lines.second.value lane less) (lines.third.value lane less) (lines.fourth.value lane less) (lines.fifth.value lane less) (sixth.value lane less) sum rest
+
+-- three lines, the first of number `row` + 1
+pub record AreThree (n : ℕ) (sample : ℕ → ℕ → ℕ) (row : ℕ) (b c d : List ℕ) : Type 0 where
+  pub second : IsLine n (sample (row + 1)) b
+  pub third : IsLine n (sample (row + 2)) c
+  pub fourth : IsLine n (sample (row + 3)) d
+
+-- the three lines after the first
+pub next_three : (n : ℕ) (sample : ℕ → ℕ → ℕ) (row : ℕ) (b c d e : List ℕ) → AreThree n sample row b c d → IsLine n (sample (row + 4)) e → AreThree n sample (row + 1) c d e
+next_three n sample row b c d e lines fifth = record {
+  second = moved n sample (row + 2) (row + 1 + 1) c (omega arith) lines.third;
+  third = moved n sample (row + 3) (row + 1 + 2) d (omega arith) lines.fourth;
+  fourth = moved n sample (row + 4) (row + 1 + 3) e (omega arith) fifth;
+}
+
+-- a filter down by four taps, by one lane of its sums
+pub four_down : (n : ℕ) (t : Taps) (sample : ℕ → ℕ → ℕ) (row : ℕ) (b c d e : List ℕ) → t.a ≡ 0 → t.f ≡ 0 → AreThree n sample row b c d → IsLine n (sample (row + 4)) e → (added taken lane : ℕ) → lane < n
+    → added ≡ slice_index c lane * t.c + slice_index d lane * t.d + 64 → taken ≡ slice_index b lane * t.b + slice_index e lane * t.e → min ((added - taken) / 128) 255 ≡ tapped_from t sample lane row
+four_down n t sample row b c d e no_a no_f lines fifth added taken lane less sum rest =
+    four_lane t (λ k. sample (row + k) lane) _ _ _ _ added taken no_a no_f (lines.second.value lane less) (lines.third.value lane less) (lines.fourth.value lane less) (fifth.value lane less) sum rest
+
+-- a filter down by two taps, by one lane of its sum
+pub two_down : (n : ℕ) (t : Taps) (sample : ℕ → ℕ → ℕ) (row : ℕ) (c d : List ℕ) → t.a ≡ 0 → t.b ≡ 0 → t.e ≡ 0 → t.f ≡ 0 → IsLine n (sample (row + 2)) c → IsLine n (sample (row + 3)) d → (added lane : ℕ) → lane < n
+    → added ≡ slice_index c lane * t.c + slice_index d lane * t.d + 64 → min (added / 128) 255 ≡ tapped_from t sample lane row
+two_down n t sample row c d no_a no_b no_e no_f third fourth added lane less sum =
+    two_lane t (λ k. sample (row + k) lane) _ _ added no_a no_b no_e no_f (third.value lane less) (fourth.value lane less) sum

@@ -1,11 +1,10 @@
 -- The sums of inter prediction as the code computes them: positive and negative products are summed separately, so no number is below 0.
-use Rattle.std.specs.Prelude.{◌≡◌, ◌⊎◌, ℕ, ◌+◌, ◌-◌, ◌*◌, ◌/◌, ◌<◌, ◌≤◌, min, List, length, slice_index, ℤ, pos, neg_ℤ, negsuc, ◌+ℤ◌, ◌-ℤ◌, ◌≤ℤ◌}
+use Rattle.std.specs.Prelude.{◌≡◌, ◌⊎◌, nat_lt, if◌then◌else◌, ℕ, ◌+◌, ◌-◌, ◌*◌, ◌/◌, ◌<◌, ◌≤◌, min, List, length, slice_index, ℤ, pos, neg_ℤ, negsuc, ◌+ℤ◌, ◌-ℤ◌, ◌≤ℤ◌}
 use Rattle.pixel_planes.specs.Samples.{Samples}
 use Rattle.pixel_planes.specs.ReferenceSamples.{IsWindow}
 use Rattle.inter_predict.specs.InterSample.{between, fraction, predicted, whole_part}
 use Rattle.inter_predict.specs.declared.kinds.Kind.{Kind}
-use Rattle.inter_predict.specs.declared.passes.Direction.{Direction}
-use Rattle.inter_predict.specs.declared.passes.Direction.TheVariants.{Across, Down}
+use Rattle.inter_predict.specs.declared.rows.Strip.{Strip}
 use Rattle.inter_predict.specs.declared.taps.Taps.{Taps}
 
 -- six numbers as taps
@@ -22,6 +21,14 @@ pub record IsTaps (t : Taps) : Type 0 where
   pub taken : t.b + t.e ≤ 32
   pub alone : t.c ≡ 128 → (t.a ≡ 0) × (t.b ≡ 0) × (t.d ≡ 0) × (t.e ≡ 0) × (t.f ≡ 0)
 
+-- the first tap and the last are 0
+abbrev pub AreFour : Taps → Type 0
+AreFour t = (t.a ≡ 0) × (t.f ≡ 0)
+
+-- all taps but the middle two are 0
+abbrev pub AreTwo : Taps → Type 0
+AreTwo t = (t.a ≡ 0) × (t.b ≡ 0) × (t.e ≡ 0) × (t.f ≡ 0)
+
 -- a coordinate whose neighbours fit in 64 bits too
 abbrev pub IsNear : ℤ → Type 0
 IsNear place = (neg_ℤ (pos 4294967296) ≤ℤ place) × (place ≤ℤ pos 4294967296)
@@ -30,11 +37,6 @@ IsNear place = (neg_ℤ (pos 4294967296) ≤ℤ place) × (place ≤ℤ pos 4294
 abbrev pub IsReached : ℤ → Type 0
 IsReached place = (neg_ℤ (pos 1099511627776) ≤ℤ place) × (place ≤ℤ pos 1099511627776)
 
--- the distance of the samples that taps read: those of a row are next to each other, those of a column `stride` apart
-abbrev pub step_in : Direction → ℕ → ℕ
-step_in Across stride = 1
-step_in Down stride = stride
-
 -- the sample that taps return for six samples `step` apart
 abbrev pub tapped_at : Taps → List ℕ → ℕ → ℕ → ℕ
 tapped_at t samples step place = tapped t (λ k. slice_index samples (place + k * step))
@@ -42,6 +44,27 @@ tapped_at t samples step place = tapped t (λ k. slice_index samples (place + k 
 -- the sample that taps return for six samples of a column, each of which taps return for six samples of a row, in rows `stride` samples apart
 abbrev pub tapped_twice : Taps → Taps → List ℕ → ℕ → ℕ → ℕ → ℕ
 tapped_twice across down samples stride column row = tapped down (λ j. tapped_at across samples 1 ((row + j) * stride + column))
+
+-- `n` lanes hold the samples of a line
+pub record IsLine (n : ℕ) (sample : ℕ → ℕ) (lanes : List ℕ) : Type 0 where
+  pub value : (lane : ℕ) → lane < n → slice_index lanes lane ≡ sample lane
+  pub bytes : (lane : ℕ) → lane < n → slice_index lanes lane < 256
+
+-- the sample that taps return for six samples in a lane, the first in line (or from place) `at`
+abbrev pub tapped_from : Taps → (ℕ → ℕ → ℕ) → ℕ → ℕ → ℕ
+tapped_from t sample lane at = tapped t (λ k. sample (at + k) lane)
+
+-- eight lanes of each of two lines
+abbrev pub paired : (ℕ → ℕ) → (ℕ → ℕ) → ℕ → ℕ
+paired one other lane = if nat_lt lane 8 then one lane else other (lane - 8)
+
+-- row `number` is near enough, and has the places that taps read
+abbrev pub HasRow : (ℕ → Type 0) → ℕ → ℕ → ℕ → Type 0
+HasRow has stride start number = (number * stride + start ≤ 1099511627776) × ((place : ℕ) → number * stride + start ≤ place → place < number * stride + start + 6 → has place)
+
+-- a strip of this width is in a list of this length, and its rows are apart
+abbrev pub IsRoomFor : Strip → ℕ → ℕ → Type 0
+IsRoomFor strip width len = (strip.first + width ≤ strip.stride) × ((strip.height - 1) * strip.stride + (strip.first + width) ≤ len)
 
 -- the strip of `width` columns that starts at column `first`, in `height` rows `stride` samples apart, holds in each column of each row the sample that `sample` returns, and every other sample is as in `old`
 pub record IsStrip (sample : ℕ → ℕ → ℕ) (first width height stride : ℕ) (old new : List ℕ) : Type 0 where
@@ -53,14 +76,14 @@ pub record IsStrip (sample : ℕ → ℕ → ℕ) (first width height stride : �
 abbrev pub AreTapsOf : Taps → Kind → ℕ → Type 0
 AreTapsOf taps kind eighths = (line : ℤ → ℕ) (place : ℤ) → between kind eighths line place ≡ tapped taps (λ k. line ((place -ℤ pos 2) +ℤ pos k))
 
--- the line of samples `step` apart, the first at `start`
-abbrev pub along : List ℕ → ℕ → ℕ → ℤ → ℕ
-along samples start step (pos k) = slice_index samples (start + k * step)
-along samples start step (negsuc k) = 0
+-- the samples in a lane, the first in line (or from place) `at`
+abbrev pub line_from : (ℕ → ℕ → ℕ) → ℕ → ℕ → ℤ → ℕ
+line_from sample lane at (pos k) = sample (at + k) lane
+line_from sample lane at (negsuc k) = 0
 
--- the sample between those of a line, at each column and row of a strip: the third of the six that the taps read is the sample at its position
-abbrev pub between_in : Kind → ℕ → List ℕ → ℕ → ℕ → ℕ → ℕ → ℕ → ℕ
-between_in kind eighths samples start stride step column row = between kind eighths (along samples (start + row * stride + column) step) (pos 2)
+-- the sample between those in a lane: the third of the six that the taps read is the sample at its position
+abbrev pub between_in : Kind → ℕ → (ℕ → ℕ → ℕ) → ℕ → ℕ → ℕ
+between_in kind eighths sample lane at = between kind eighths (line_from sample lane at) (pos 2)
 
 -- the input of a kernel that predicts a block of this width and height at (x, y) by a vector: the window of reference samples that begins two columns and two rows before the whole samples that the vector points to, and the taps of both filters
 pub record IsInput (kind : Kind) (p : Samples) (x y right below : ℤ) (width height : ℕ) (across down : Taps) (samples : List ℕ) (stride : ℕ) : Type 0 where

@@ -7,8 +7,9 @@ ghost use Rattle.inter_predict.specs.Kernels.{IsNear};
 use crate::kinds::Kind;
 use crate::pieces::{block_at, in_rows};
 use crate::rows::{Rows, Strip};
+use crate::samples::Pair;
 use crate::sources::{NearSource, Place, Reference, Source};
-use crate::strips::{copy, strip};
+use crate::strips::{copy, pair_strip, strip};
 use crate::taps::{Filters, Taps};
 use pixel_planes::Plane;
 
@@ -107,22 +108,17 @@ pub fn block_in(source: Source, width: usize, height: usize, out: &mut [u8], str
     ensures { IsBlockIn (predicted source.entry.kind source.entry.plane.now.shown source.entry.x source.entry.y source.entry.vector.0 source.entry.vector.1) width height stride out.old out.new }
 {
     match width {
-        16 => columns::<16, 336>(source, height, out, stride),
-        8 => columns::<8, 168>(source, height, out, stride),
-        4 => columns::<4, 84>(source, height, out, stride),
+        16 => columns::<16>(source, height, out, stride),
+        8 => columns::<8>(source, height, out, stride),
+        4 => columns::<4>(source, height, out, stride),
         _ => any_columns(source, width, height, out, stride),
     }
 }
 
-/// Predicts a block of `N` columns. `M` is 21 times `N`.
+/// Predicts a block of `N` columns.
 #[inline]
-fn columns<const N: usize, const M: usize>(
-    source: Source,
-    height: usize,
-    out: &mut [u8],
-    stride: usize,
-)
-    requires lanes { (0 < N) × (N ≤ 16) × (M ≡ 21 * N) }
+fn columns<const N: usize>(source: Source, height: usize, out: &mut [u8], stride: usize)
+    requires lanes { (0 < N) × (N ≤ 16) }
     requires high { (0 < height) × (height ≤ 16) }
     requires stride { (N ≤ stride) × (stride ≤ 65536) }
     requires room { (height - 1) * stride + N ≤ length out.old }
@@ -140,7 +136,7 @@ fn columns<const N: usize, const M: usize>(
     if fraction(vector.0) == 0 && fraction(vector.1) == 0 {
         copied::<N>(reference, place, vector, height, out, stride);
     } else {
-        filtered::<N, M>(reference, place, vector, height, out, stride);
+        filtered::<N>(reference, place, vector, height, out, stride);
     }
 }
 
@@ -189,7 +185,7 @@ fn copied<const N: usize>(
 
 /// Predicts a block by the filters.
 #[inline(never)]
-fn filtered<const N: usize, const M: usize>(
+fn filtered<const N: usize>(
     reference: Reference,
     place: Place,
     vector: (i32, i32),
@@ -197,7 +193,7 @@ fn filtered<const N: usize, const M: usize>(
     out: &mut [u8],
     stride: usize,
 )
-    requires lanes { (0 < N) × (N ≤ 16) × (M ≡ 21 * N) }
+    requires lanes { (0 < N) × (N ≤ 16) }
     requires high { (0 < height) × (height ≤ 16) }
     requires stride { (N ≤ stride) × (stride ≤ 65536) }
     requires room { (height - 1) * stride + N ≤ length out.old }
@@ -214,7 +210,7 @@ fn filtered<const N: usize, const M: usize>(
             height,
             stride,
         };
-        strip::<N, M>(window.samples, window.stride, filters, columns, out);
+        strip::<N>(window.samples, window.stride, filters, columns, out);
     } else {
         let source = Source {
             plane: reference.plane,
@@ -238,4 +234,71 @@ fn any_columns(source: Source, width: usize, height: usize, out: &mut [u8], stri
     ensures { IsBlockIn (predicted source.entry.kind source.entry.plane.now.shown source.entry.x source.entry.y source.entry.vector.0 source.entry.vector.1) width height stride out.old out.new }
 {
     block_at(near(source), width, height, out, stride);
+}
+
+/// Predicts a block of 8 by 8 samples of each of two planes, by one vector, into rows `stride` samples
+/// apart: at least 8, and at most 65,536.
+///
+/// The second block is in the plane `second`, at the place of the first. The blocks begin with the
+/// first samples of `out` and of `other`; samples next to them and below them stay as they are.
+#[inline]
+pub fn pair_in(source: Source, second: &Plane, out: &mut [u8], other: &mut [u8], stride: usize)
+    requires stride { (8 ≤ stride) × (stride ≤ 65536) }
+    requires out { 7 * stride + 8 ≤ length out.old }
+    requires other { 7 * stride + 8 ≤ length other.old }
+    ensures out { IsBlockIn (predicted source.entry.kind source.entry.plane.now.shown source.entry.x source.entry.y source.entry.vector.0 source.entry.vector.1) 8 8 stride out.old out.new }
+    ensures other { IsBlockIn (predicted source.entry.kind second.now.shown source.entry.x source.entry.y source.entry.vector.0 source.entry.vector.1) 8 8 stride other.old other.new }
+{
+    let (right, below) = source.vector;
+    if fraction(right) == 0 && fraction(below) == 0 {
+        let plane = second;
+        block_in(source, 8, 8, out, stride);
+        block_in(Source { plane, ..source }, 8, 8, other, stride);
+    } else {
+        pair_filtered(source, second, out, other, stride);
+    }
+}
+
+/// Predicts a block of each of two planes by the filters: together, if the rows of their windows are
+/// equally far apart.
+#[inline(never)]
+fn pair_filtered(source: Source, second: &Plane, out: &mut [u8], other: &mut [u8], stride: usize)
+    requires stride { (8 ≤ stride) × (stride ≤ 65536) }
+    requires out { 7 * stride + 8 ≤ length out.old }
+    requires other { 7 * stride + 8 ≤ length other.old }
+    ensures out { IsBlockIn (predicted source.entry.kind source.entry.plane.now.shown source.entry.x source.entry.y source.entry.vector.0 source.entry.vector.1) 8 8 stride out.old out.new }
+    ensures other { IsBlockIn (predicted source.entry.kind second.now.shown source.entry.x source.entry.y source.entry.vector.0 source.entry.vector.1) 8 8 stride other.old other.new }
+{
+    let left = first_tap(source.x, source.vector.0);
+    let top = first_tap(source.y, source.vector.1);
+    let first_window = source.plane.window(left, top, 13, 13);
+    let second_window = second.window(left, top, 13, 13);
+    match (first_window, second_window) {
+        (Some(one), Some(two)) if one.stride == two.stride => {
+            let across = Taps::of(source.kind, fraction(source.vector.0));
+            let down = Taps::of(source.kind, fraction(source.vector.1));
+            let samples = Pair {
+                one: one.samples,
+                other: two.samples,
+            };
+            let strip = Strip {
+                first: 0,
+                height: 8,
+                stride,
+            };
+            pair_strip(
+                samples,
+                one.stride,
+                Filters { across, down },
+                strip,
+                out,
+                other,
+            );
+        }
+        _ => {
+            let plane = second;
+            any_columns(source, 8, 8, out, stride);
+            any_columns(Source { plane, ..source }, 8, 8, other, stride);
+        }
+    }
 }

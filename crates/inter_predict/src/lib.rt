@@ -6,14 +6,16 @@ mod gathering;
 mod kinds;
 mod lanes;
 pub mod laws;
+mod lines;
 mod passes;
 mod pieces;
 mod rows;
+mod samples;
 mod sources;
 mod strips;
 mod taps;
 mod windows;
 
-pub use blocks::{block, block_in};
+pub use blocks::{block, block_in, pair_in};
 pub use kinds::Kind;
 pub use sources::Source;

@@ -1,136 +1,200 @@
-ghost use Rattle.std.specs.Prelude.{◌≡◌, ℕ, ◌+◌, ◌-◌, ◌*◌, ◌<◌, ◌≤◌, length, slice_index};
-ghost use Rattle.inter_predict.specs.Kernels.{AreTapsOf, IsTaps, IsStrip, between_in, step_in, tapped_at};
+ghost use Rattle.std.specs.Prelude.{◌≡◌, ℕ, ◌+◌, ◌-◌, ◌*◌, ◌<◌, ◌≤◌, length};
+ghost use Rattle.inter_predict.specs.Kernels.{AreFour, AreTapsOf, AreTwo, IsRoomFor, IsTaps, IsStrip, between_in, tapped_from};
 ghost use Rattle.inter_predict.specs.declared.kinds.Kind.{Kind};
 
-use crate::lanes::{added, taken, tapped, whole_samples, widened};
-use crate::rows::{Rows, Strip};
+use crate::lanes::{added, clamped_samples, middle, narrowed, taken, whole_samples};
+use crate::lines::Lines;
+use crate::rows::Strip;
+use crate::samples::Samples;
 use crate::taps::Taps;
 
-/// The direction in which taps read samples: along a row, or down a column.
-#[derive(Clone, Copy)]
-pub enum Direction {
-    Across,
-    Down,
-}
-
-/// Filters rows of `N` samples across into a strip of `out`. The first tap of a row's first sample
-/// reads where the row begins.
+/// Stores lines in the rows of a strip of `out`.
 #[inline(always)]
-fn pass_across<const N: usize>(rows: Rows, taps: Taps, strip: Strip, out: &mut [u8])
+pub fn stored<const N: usize, L: Lines<N>, S: Samples<N>>(
+    lines: L,
+    strip: Strip,
+    out: &mut [u8],
+    other: &mut [u8],
+)
     requires lanes { (0 < N) × (N ≤ 16) }
-    requires height { (0 < strip.height) × (strip.height ≤ 21) }
-    requires strides { (rows.start ≤ 262144) × (rows.stride ≤ 65536) × (strip.stride ≤ 65536) }
-    requires room { rows.start + (strip.height - 1) * rows.stride + 5 + N ≤ length rows.samples.now }
-    requires out { (strip.height - 1) * strip.stride + (strip.first + N) ≤ length out.old }
-    requires inside { strip.first + N ≤ strip.stride }
-    requires small { IsTaps taps }
-    ensures taps { IsStrip (λ column row. tapped_at taps rows.entry.samples.now 1 (rows.entry.start + row * rows.entry.stride + column)) strip.first N strip.height strip.stride out.old out.new }
-    ensures between { (kind : Kind) (eighths : ℕ) → AreTapsOf taps kind eighths → IsStrip (between_in kind eighths rows.entry.samples.now rows.entry.start rows.entry.stride 1) strip.first N strip.height strip.stride out.old out.new }
+    requires height { (0 < strip.height) × (strip.height ≤ 16) }
+    requires stride { strip.stride ≤ 65536 }
+    requires lines { (number : ℕ) → number < strip.height → L.has lines number }
+    requires out { IsRoomFor strip S.width (length out.old) }
+    requires other { S.width < N → IsRoomFor strip (N - S.width) (length other.old) }
+    ensures out { IsStrip (λ column row. L.sample lines row column) strip.first S.width strip.height strip.stride out.old out.new }
+    ensures other { S.width < N → IsStrip (λ column row. L.sample lines row (S.width + column)) strip.first (N - S.width) strip.height strip.stride other.old other.new }
 {
-    let Rows {
-        samples,
-        start,
-        stride,
-    } = rows;
     for row in 0..strip.height {
-        tapped::<N>(samples, start + row * stride, taps).copy_to_slice(
-            &mut out[row * strip.stride + strip.first..],
+        S::store(
+            narrowed(lines.line(row)),
+            row * strip.stride + strip.first,
+            out,
+            other,
         );
     }
 }
 
-/// Filters columns down into a strip of `out`. Five rows stay in lanes of 16 bits, so each row is
-/// read once.
+/// Filters lines down into a strip of `out`. Five lines stay in lanes, so each line is made once.
 #[inline(always)]
-fn pass_down<const N: usize>(rows: Rows, taps: Taps, strip: Strip, out: &mut [u8])
+fn six_down<const N: usize, L: Lines<N>, S: Samples<N>>(
+    lines: L,
+    taps: Taps,
+    strip: Strip,
+    out: &mut [u8],
+    other: &mut [u8],
+)
     requires lanes { (0 < N) × (N ≤ 16) }
-    requires height { (0 < strip.height) × (strip.height ≤ 21) }
-    requires strides { (rows.start ≤ 262144) × (rows.stride ≤ 65536) × (strip.stride ≤ 65536) }
-    requires room { rows.start + (strip.height - 1) * rows.stride + 5 * rows.stride + N ≤ length rows.samples.now }
-    requires out { (strip.height - 1) * strip.stride + (strip.first + N) ≤ length out.old }
-    requires inside { strip.first + N ≤ strip.stride }
+    requires height { (0 < strip.height) × (strip.height ≤ 16) }
+    requires stride { strip.stride ≤ 65536 }
+    requires lines { (number : ℕ) → number < strip.height + 5 → L.has lines number }
+    requires out { IsRoomFor strip S.width (length out.old) }
+    requires other { S.width < N → IsRoomFor strip (N - S.width) (length other.old) }
     requires small { IsTaps taps }
-    ensures taps { IsStrip (λ column row. tapped_at taps rows.entry.samples.now rows.entry.stride (rows.entry.start + row * rows.entry.stride + column)) strip.first N strip.height strip.stride out.old out.new }
-    ensures between { (kind : Kind) (eighths : ℕ) → AreTapsOf taps kind eighths → IsStrip (between_in kind eighths rows.entry.samples.now rows.entry.start rows.entry.stride rows.entry.stride) strip.first N strip.height strip.stride out.old out.new }
+    ensures out { IsStrip (tapped_from taps (L.sample lines)) strip.first S.width strip.height strip.stride out.old out.new }
+    ensures other { S.width < N → IsStrip (λ column row. tapped_from taps (L.sample lines) (S.width + column) row) strip.first (N - S.width) strip.height strip.stride other.old other.new }
+    ensures between { (kind : Kind) (eighths : ℕ) → AreTapsOf taps kind eighths → IsStrip (between_in kind eighths (L.sample lines)) strip.first S.width strip.height strip.stride out.old out.new }
 {
-    let Rows {
-        samples,
-        start,
-        stride,
-    } = rows;
-    let mut a = widened::<N>(samples, start);
-    let mut b = widened::<N>(samples, start + stride);
-    let mut c = widened::<N>(samples, start + 2 * stride);
-    let mut d = widened::<N>(samples, start + 3 * stride);
-    let mut e = widened::<N>(samples, start + 4 * stride);
+    let mut a = lines.line(0);
+    let mut b = lines.line(1);
+    let mut c = lines.line(2);
+    let mut d = lines.line(3);
+    let mut e = lines.line(4);
     for row in 0..strip.height {
-        let f = widened::<N>(samples, start + (row + 5) * stride);
-        whole_samples(added(a, c, d, f, taps), taken(b, e, taps)).copy_to_slice(
-            &mut out[row * strip.stride + strip.first..],
+        let f = lines.line(row + 5);
+        let samples = whole_samples(added(a, c, d, f, taps), taken(b, e, taps));
+        S::store(
+            narrowed(samples),
+            row * strip.stride + strip.first,
+            out,
+            other,
         );
         (a, b, c, d, e) = (b, c, d, e, f);
     }
 }
 
-/// Filters rows of `N` samples into a strip of `out`, in either direction.
+/// Filters lines down by taps whose first and last are 0: three lines fewer are made.
 #[inline(always)]
-fn pass_by<const N: usize>(
-    rows: Rows,
-    direction: Direction,
+fn four_down<const N: usize, L: Lines<N>, S: Samples<N>>(
+    lines: L,
     taps: Taps,
     strip: Strip,
     out: &mut [u8],
+    other: &mut [u8],
 )
     requires lanes { (0 < N) × (N ≤ 16) }
-    requires height { (0 < strip.height) × (strip.height ≤ 21) }
-    requires strides { (rows.start ≤ 262144) × (rows.stride ≤ 65536) × (strip.stride ≤ 65536) }
-    requires room { rows.start + (strip.height - 1) * rows.stride + 5 * step_in direction rows.stride + N ≤ length rows.samples.now }
-    requires out { (strip.height - 1) * strip.stride + (strip.first + N) ≤ length out.old }
-    requires inside { strip.first + N ≤ strip.stride }
+    requires height { (0 < strip.height) × (strip.height ≤ 16) }
+    requires stride { strip.stride ≤ 65536 }
+    requires lines { (number : ℕ) → number < strip.height + 5 → L.has lines number }
+    requires out { IsRoomFor strip S.width (length out.old) }
+    requires other { S.width < N → IsRoomFor strip (N - S.width) (length other.old) }
     requires small { IsTaps taps }
-    ensures taps { IsStrip (λ column row. tapped_at taps rows.entry.samples.now (step_in direction rows.entry.stride) (rows.entry.start + row * rows.entry.stride + column)) strip.first N strip.height strip.stride out.old out.new }
-    ensures between { (kind : Kind) (eighths : ℕ) → AreTapsOf taps kind eighths → IsStrip (between_in kind eighths rows.entry.samples.now rows.entry.start rows.entry.stride (step_in direction rows.entry.stride)) strip.first N strip.height strip.stride out.old out.new }
+    requires four { AreFour taps }
+    ensures out { IsStrip (tapped_from taps (L.sample lines)) strip.first S.width strip.height strip.stride out.old out.new }
+    ensures other { S.width < N → IsStrip (λ column row. tapped_from taps (L.sample lines) (S.width + column) row) strip.first (N - S.width) strip.height strip.stride other.old other.new }
+    ensures between { (kind : Kind) (eighths : ℕ) → AreTapsOf taps kind eighths → IsStrip (between_in kind eighths (L.sample lines)) strip.first S.width strip.height strip.stride out.old out.new }
 {
-    match direction {
-        Direction::Across => pass_across::<N>(rows, taps, strip, out),
-        Direction::Down => pass_down::<N>(rows, taps, strip, out),
+    let mut b = lines.line(1);
+    let mut c = lines.line(2);
+    let mut d = lines.line(3);
+    for row in 0..strip.height {
+        let e = lines.line(row + 4);
+        let samples = whole_samples(middle(c, d, taps), taken(b, e, taps));
+        S::store(
+            narrowed(samples),
+            row * strip.stride + strip.first,
+            out,
+            other,
+        );
+        (b, c, d) = (c, d, e);
     }
 }
 
-/// A pass without the products of taps that are 0.
+/// Filters lines down by the two middle taps, if all others are 0.
 #[inline(always)]
-pub fn pass<const N: usize>(
-    rows: Rows,
-    direction: Direction,
+pub fn two_down<const N: usize, L: Lines<N>, S: Samples<N>>(
+    lines: L,
     taps: Taps,
     strip: Strip,
     out: &mut [u8],
+    other: &mut [u8],
 )
     requires lanes { (0 < N) × (N ≤ 16) }
-    requires height { (0 < strip.height) × (strip.height ≤ 21) }
-    requires strides { (rows.start ≤ 262144) × (rows.stride ≤ 65536) × (strip.stride ≤ 65536) }
-    requires room { rows.start + (strip.height - 1) * rows.stride + 5 * step_in direction rows.stride + N ≤ length rows.samples.now }
-    requires out { (strip.height - 1) * strip.stride + (strip.first + N) ≤ length out.old }
-    requires inside { strip.first + N ≤ strip.stride }
+    requires height { (0 < strip.height) × (strip.height ≤ 16) }
+    requires stride { strip.stride ≤ 65536 }
+    requires lines { (number : ℕ) → number < strip.height + 5 → L.has lines number }
+    requires out { IsRoomFor strip S.width (length out.old) }
+    requires other { S.width < N → IsRoomFor strip (N - S.width) (length other.old) }
     requires small { IsTaps taps }
-    ensures taps { IsStrip (λ column row. tapped_at taps rows.entry.samples.now (step_in direction rows.entry.stride) (rows.entry.start + row * rows.entry.stride + column)) strip.first N strip.height strip.stride out.old out.new }
-    ensures between { (kind : Kind) (eighths : ℕ) → AreTapsOf taps kind eighths → IsStrip (between_in kind eighths rows.entry.samples.now rows.entry.start rows.entry.stride (step_in direction rows.entry.stride)) strip.first N strip.height strip.stride out.old out.new }
+    requires two { AreTwo taps }
+    ensures out { IsStrip (tapped_from taps (L.sample lines)) strip.first S.width strip.height strip.stride out.old out.new }
+    ensures other { S.width < N → IsStrip (λ column row. tapped_from taps (L.sample lines) (S.width + column) row) strip.first (N - S.width) strip.height strip.stride other.old other.new }
+    ensures between { (kind : Kind) (eighths : ℕ) → AreTapsOf taps kind eighths → IsStrip (between_in kind eighths (L.sample lines)) strip.first S.width strip.height strip.stride out.old out.new }
 {
-    if taps.a == 0 && taps.f == 0 {
-        if taps.b == 0 && taps.e == 0 {
-            let two = Taps {
-                a: 0,
-                b: 0,
-                e: 0,
-                f: 0,
-                ..taps
-            };
-            pass_by::<N>(rows, direction, two, strip, out);
-        } else {
-            let four = Taps { a: 0, f: 0, ..taps };
-            pass_by::<N>(rows, direction, four, strip, out);
-        }
+    let mut c = lines.line(2);
+    for row in 0..strip.height {
+        let d = lines.line(row + 3);
+        let samples = clamped_samples(middle(c, d, taps));
+        S::store(
+            narrowed(samples),
+            row * strip.stride + strip.first,
+            out,
+            other,
+        );
+        c = d;
+    }
+}
+
+/// Filters lines down by four taps or six.
+#[inline(always)]
+pub fn wide_down<const N: usize, L: Lines<N>, S: Samples<N>>(
+    lines: L,
+    taps: Taps,
+    strip: Strip,
+    out: &mut [u8],
+    other: &mut [u8],
+)
+    requires lanes { (0 < N) × (N ≤ 16) }
+    requires height { (0 < strip.height) × (strip.height ≤ 16) }
+    requires stride { strip.stride ≤ 65536 }
+    requires lines { (number : ℕ) → number < strip.height + 5 → L.has lines number }
+    requires out { IsRoomFor strip S.width (length out.old) }
+    requires other { S.width < N → IsRoomFor strip (N - S.width) (length other.old) }
+    requires small { IsTaps taps }
+    ensures out { IsStrip (tapped_from taps (L.sample lines)) strip.first S.width strip.height strip.stride out.old out.new }
+    ensures other { S.width < N → IsStrip (λ column row. tapped_from taps (L.sample lines) (S.width + column) row) strip.first (N - S.width) strip.height strip.stride other.old other.new }
+    ensures between { (kind : Kind) (eighths : ℕ) → AreTapsOf taps kind eighths → IsStrip (between_in kind eighths (L.sample lines)) strip.first S.width strip.height strip.stride out.old out.new }
+{
+    if taps.are_four() {
+        four_down::<N, L, S>(lines, taps, strip, out, other);
     } else {
-        pass_by::<N>(rows, direction, taps, strip, out);
+        six_down::<N, L, S>(lines, taps, strip, out, other);
+    }
+}
+
+/// Filters lines down into a strip of `out`, without the products of taps that are 0.
+#[inline(always)]
+pub fn filter_down<const N: usize, L: Lines<N>, S: Samples<N>>(
+    lines: L,
+    taps: Taps,
+    strip: Strip,
+    out: &mut [u8],
+    other: &mut [u8],
+)
+    requires lanes { (0 < N) × (N ≤ 16) }
+    requires height { (0 < strip.height) × (strip.height ≤ 16) }
+    requires stride { strip.stride ≤ 65536 }
+    requires lines { (number : ℕ) → number < strip.height + 5 → L.has lines number }
+    requires out { IsRoomFor strip S.width (length out.old) }
+    requires other { S.width < N → IsRoomFor strip (N - S.width) (length other.old) }
+    requires small { IsTaps taps }
+    ensures out { IsStrip (tapped_from taps (L.sample lines)) strip.first S.width strip.height strip.stride out.old out.new }
+    ensures other { S.width < N → IsStrip (λ column row. tapped_from taps (L.sample lines) (S.width + column) row) strip.first (N - S.width) strip.height strip.stride other.old other.new }
+    ensures between { (kind : Kind) (eighths : ℕ) → AreTapsOf taps kind eighths → IsStrip (between_in kind eighths (L.sample lines)) strip.first S.width strip.height strip.stride out.old out.new }
+{
+    if taps.are_two() {
+        two_down::<N, L, S>(lines, taps, strip, out, other);
+    } else {
+        wide_down::<N, L, S>(lines, taps, strip, out, other);
     }
 }

@@ -1,8 +1,8 @@
 /// Rows of samples to read: the first begins at index `start`, and each further one `stride` after
 /// the last.
 #[derive(Clone, Copy)]
-pub struct Rows<'a> {
-    pub samples: &'a [u8],
+pub struct Rows<S> {
+    pub samples: S,
     pub start: usize,
     pub stride: usize,
 }

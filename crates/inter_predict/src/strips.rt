@@ -1,14 +1,16 @@
 ghost use Rattle.std.specs.Prelude.{◌≡◌, ℕ, ◌+◌, ◌-◌, ◌*◌, ◌<◌, ◌≤◌, length, slice_index};
-ghost use Rattle.inter_predict.specs.Kernels.{IsTaps, IsStrip, Predicts, tapped_twice};
+ghost use Rattle.inter_predict.specs.Kernels.{HasRow, IsRoomFor, IsTaps, IsStrip, Predicts, tapped_from, tapped_twice};
 
-use crate::passes::{Direction, pass};
+use crate::lines::Across;
+use crate::passes::{filter_down, stored, two_down, wide_down};
 use crate::rows::{Rows, Strip};
-use crate::taps::Filters;
+use crate::samples::{Pair, Samples};
+use crate::taps::{Filters, Taps};
 use std::simd::Simd;
 
 /// Copies rows of `N` samples into a strip of `out`.
 #[inline]
-pub fn copy<const N: usize>(rows: Rows, strip: Strip, out: &mut [u8])
+pub fn copy<const N: usize>(rows: Rows<&[u8]>, strip: Strip, out: &mut [u8])
     requires lanes { (0 < N) × (N ≤ 16) }
     requires height { (0 < strip.height) × (strip.height ≤ 16) }
     requires strides { (rows.start ≤ 262144) × (rows.stride ≤ 65536) × (strip.stride ≤ 65536) }
@@ -29,58 +31,84 @@ pub fn copy<const N: usize>(rows: Rows, strip: Strip, out: &mut [u8])
     }
 }
 
-/// Predicts `N` columns of a block by both filters: across over five more rows, then down.
+/// Filters rows across into a strip of `out`, without the products of taps that are 0. The first tap of
+/// a row's first sample reads where the row begins.
 #[inline(always)]
-fn across_then_down<const N: usize, const M: usize>(
-    rows: Rows,
+fn filter_across<const N: usize, S: Samples<N>>(
+    rows: Rows<S>,
+    taps: Taps,
+    strip: Strip,
+    out: &mut [u8],
+    other: &mut [u8],
+)
+    requires lanes { (0 < N) × (N ≤ 16) }
+    requires height { (0 < strip.height) × (strip.height ≤ 16) }
+    requires stride { strip.stride ≤ 65536 }
+    requires rows { (number : ℕ) → number < strip.height → HasRow (S.has rows.samples) rows.stride rows.start number }
+    requires out { IsRoomFor strip S.width (length out.old) }
+    requires other { S.width < N → IsRoomFor strip (N - S.width) (length other.old) }
+    requires small { IsTaps taps }
+    ensures out { IsStrip (λ column row. tapped_from taps (S.sample rows.samples) column (row * rows.stride + rows.start)) strip.first S.width strip.height strip.stride out.old out.new }
+    ensures other { S.width < N → IsStrip (λ column row. tapped_from taps (S.sample rows.samples) (S.width + column) (row * rows.stride + rows.start)) strip.first (N - S.width) strip.height strip.stride other.old other.new }
+{
+    if taps.are_two() {
+        let taps = taps.as_two();
+        stored::<N, Across<S>, S>(Across { rows, taps }, strip, out, other);
+    } else if taps.are_four() {
+        let taps = taps.as_four();
+        stored::<N, Across<S>, S>(Across { rows, taps }, strip, out, other);
+    } else {
+        stored::<N, Across<S>, S>(Across { rows, taps }, strip, out, other);
+    }
+}
+
+/// Predicts a strip by both filters: each row that is filtered across stays in lanes for the filter
+/// down.
+#[inline(always)]
+fn filter_both<const N: usize, S: Samples<N>>(
+    rows: Rows<S>,
     filters: Filters,
     strip: Strip,
     out: &mut [u8],
+    other: &mut [u8],
 )
-    requires lanes { (0 < N) × (N ≤ 16) × (M ≡ 21 * N) }
+    requires lanes { (0 < N) × (N ≤ 16) }
     requires height { (0 < strip.height) × (strip.height ≤ 16) }
-    requires strides { (rows.start ≤ 16) × (rows.stride ≤ 65536) × (strip.stride ≤ 65536) }
-    requires room { (strip.height + 4) * rows.stride + (rows.start + N + 5) ≤ length rows.samples.now }
-    requires out { (strip.height - 1) * strip.stride + (strip.first + N) ≤ length out.old }
-    requires inside { strip.first + N ≤ strip.stride }
+    requires stride { strip.stride ≤ 65536 }
+    requires rows { (number : ℕ) → number < strip.height + 5 → HasRow (S.has rows.samples) rows.stride rows.start number }
+    requires out { IsRoomFor strip S.width (length out.old) }
+    requires other { S.width < N → IsRoomFor strip (N - S.width) (length other.old) }
     requires across { IsTaps filters.across }
     requires down { IsTaps filters.down }
-    ensures { IsStrip (λ column row. tapped_twice filters.across filters.down rows.entry.samples.now rows.entry.stride (rows.entry.start + column) row) strip.first N strip.height strip.stride out.old out.new }
+    ensures out { IsStrip (tapped_from filters.down (λ line lane. tapped_from filters.across (S.sample rows.samples) lane (line * rows.stride + rows.start))) strip.first S.width strip.height strip.stride out.old out.new }
+    ensures other { S.width < N → IsStrip (λ column row. tapped_from filters.down (λ line lane. tapped_from filters.across (S.sample rows.samples) lane (line * rows.stride + rows.start)) (S.width + column) row) strip.first (N - S.width) strip.height strip.stride other.old other.new }
 {
-    let mut middle = [0; M];
-    let between = Strip {
-        first: 0,
-        height: strip.height + 5,
-        stride: N,
-    };
-    pass::<N>(
-        rows,
-        Direction::Across,
-        filters.across,
-        between,
-        &mut middle,
-    );
-    let rows = Rows {
-        samples: &middle,
-        start: 0,
-        stride: N,
-    };
-    pass::<N>(rows, Direction::Down, filters.down, strip, out);
+    let Filters { across, down } = filters;
+    if filters.are_two() {
+        let taps = across.as_two();
+        two_down::<N, Across<S>, S>(Across { rows, taps }, down, strip, out, other);
+    } else if across.are_four() {
+        let taps = across.as_four();
+        wide_down::<N, Across<S>, S>(Across { rows, taps }, down, strip, out, other);
+    } else {
+        let taps = across;
+        wide_down::<N, Across<S>, S>(Across { rows, taps }, down, strip, out, other);
+    }
 }
 
 /// Predicts `N` columns of a block: a strip of `out`.
 ///
 /// `samples` are the window that the taps read: it begins two columns and two rows before the
-/// block, and its rows are `stride` samples apart. `M` is 21 times `N`.
+/// block, and its rows are `stride` samples apart.
 #[inline(always)]
-pub fn strip<const N: usize, const M: usize>(
+pub fn strip<const N: usize>(
     samples: &[u8],
     stride: usize,
     filters: Filters,
     strip: Strip,
     out: &mut [u8],
 )
-    requires lanes { (0 < N) × (N ≤ 16) × (M ≡ 21 * N) }
+    requires lanes { (0 < N) × (N ≤ 16) }
     requires height { (0 < strip.height) × (strip.height ≤ 16) }
     requires strides { (stride ≤ 65536) × (strip.stride ≤ 65536) }
     requires room { (strip.height + 4) * stride + (strip.first + N + 5) ≤ length samples.now }
@@ -110,7 +138,7 @@ pub fn strip<const N: usize, const M: usize>(
                 start,
                 stride,
             };
-            pass::<N>(rows, Direction::Across, across, strip, out);
+            filter_across::<N, &[u8]>(rows, across, strip, out, &mut []);
         }
         (true, false) => {
             let start = first + 2;
@@ -119,7 +147,7 @@ pub fn strip<const N: usize, const M: usize>(
                 start,
                 stride,
             };
-            pass::<N>(rows, Direction::Down, down, strip, out);
+            filter_down::<N, Rows<&[u8]>, &[u8]>(rows, down, strip, out, &mut []);
         }
         (false, false) => {
             let rows = Rows {
@@ -127,7 +155,80 @@ pub fn strip<const N: usize, const M: usize>(
                 start: first,
                 stride,
             };
-            across_then_down::<N, M>(rows, filters, strip, out);
+            filter_both::<N, &[u8]>(rows, filters, strip, out, &mut []);
+        }
+    }
+}
+
+/// Samples are bytes: this is a fact for a caller whose samples are in a struct, and no code.
+#[inline(always)]
+fn are_bytes(samples: &[u8])
+    ensures { (place : ℕ) → slice_index samples.now place < 256 }
+{}
+
+/// Predicts 8 columns of a block of each of two planes, by the same filters.
+///
+/// The samples of both planes are windows that the taps read: they begin two columns and two rows
+/// before the block, and their rows are `stride` samples apart.
+#[inline(always)]
+pub fn pair_strip(
+    samples: Pair,
+    stride: usize,
+    filters: Filters,
+    strip: Strip,
+    out: &mut [u8],
+    other: &mut [u8],
+)
+    requires height { (0 < strip.height) × (strip.height ≤ 16) }
+    requires strides { (strip.first ≤ 16) × (stride ≤ 65536) × (strip.stride ≤ 65536) }
+    requires one { (strip.height + 4) * stride + (strip.first + 8 + 5) ≤ length samples.one.now }
+    requires second { (strip.height + 4) * stride + (strip.first + 8 + 5) ≤ length samples.other.now }
+    requires out { IsRoomFor strip 8 (length out.old) }
+    requires other { IsRoomFor strip 8 (length other.old) }
+    requires across { IsTaps filters.across }
+    requires down { IsTaps filters.down }
+    ensures out { IsStrip (λ column row. tapped_twice filters.across filters.down samples.entry.one.now stride (strip.first + column) row) strip.first 8 strip.height strip.stride out.old out.new }
+    ensures other { IsStrip (λ column row. tapped_twice filters.across filters.down samples.entry.other.now stride (strip.first + column) row) strip.first 8 strip.height strip.stride other.old other.new }
+{
+    are_bytes(samples.one);
+    are_bytes(samples.other);
+    let Filters { across, down } = filters;
+    let first = strip.first;
+    match (across.are_whole(), down.are_whole()) {
+        (true, true) => {
+            let start = 2 * stride + first + 2;
+            let rows = Rows {
+                samples,
+                start,
+                stride,
+            };
+            stored::<16, Rows<Pair>, Pair>(rows, strip, out, other);
+        }
+        (false, true) => {
+            let start = 2 * stride + first;
+            let rows = Rows {
+                samples,
+                start,
+                stride,
+            };
+            filter_across::<16, Pair>(rows, across, strip, out, other);
+        }
+        (true, false) => {
+            let start = first + 2;
+            let rows = Rows {
+                samples,
+                start,
+                stride,
+            };
+            filter_down::<16, Rows<Pair>, Pair>(rows, down, strip, out, other);
+        }
+        (false, false) => {
+            let rows = Rows {
+                samples,
+                start: first,
+                stride,
+            };
+            filter_both::<16, Pair>(rows, filters, strip, out, other);
         }
     }
 }

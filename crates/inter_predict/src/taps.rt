@@ -1,6 +1,6 @@
 ghost use Rattle.std.specs.Prelude.{◌≡◌, ℕ, ◌<◌, ℤ, pos, ◌+ℤ◌, ◌-ℤ◌, ◌↔◌, IsTrue};
 ghost use Rattle.inter_predict.specs.InterSample.{between};
-ghost use Rattle.inter_predict.specs.Kernels.{IsTaps, tapped, taps_of};
+ghost use Rattle.inter_predict.specs.Kernels.{AreFour, AreTwo, IsTaps, tapped, taps_of};
 
 use crate::kinds::Kind;
 
@@ -84,5 +84,55 @@ impl Taps {
         ensures { IsTrue result ↔ (self.now.c ≡ 128) }
     {
         self.c == 128
+    }
+
+    /// Whether the first tap and the last are 0.
+    #[inline]
+    pub fn are_four(&self) -> bool
+        ensures { IsTrue result ↔ AreFour self.now }
+    {
+        self.a == 0 && self.f == 0
+    }
+
+    /// Whether all taps but the middle two are 0.
+    #[inline]
+    pub fn are_two(&self) -> bool
+        ensures { IsTrue result ↔ AreTwo self.now }
+    {
+        self.a == 0 && self.b == 0 && self.e == 0 && self.f == 0
+    }
+
+    /// The same taps. The first and the last are constants, so LLVM leaves out their products.
+    #[inline(always)]
+    pub fn as_four(self) -> Taps
+        requires { AreFour self }
+        ensures { result ≡ self }
+    {
+        Taps { a: 0, f: 0, ..self }
+    }
+
+    /// The same taps. All but the middle two are constants, so LLVM leaves out their products.
+    #[inline(always)]
+    pub fn as_two(self) -> Taps
+        requires { AreTwo self }
+        ensures { result ≡ self }
+    {
+        Taps {
+            a: 0,
+            b: 0,
+            e: 0,
+            f: 0,
+            ..self
+        }
+    }
+}
+
+impl Filters {
+    /// Whether all taps of both but the middle two are 0.
+    #[inline]
+    pub fn are_two(&self) -> bool
+        ensures { IsTrue result ↔ (AreTwo self.now.across × AreTwo self.now.down) }
+    {
+        self.across.are_two() && self.down.are_two()
     }
 }

@@ -31,7 +31,7 @@ fn in_fours(
             height,
             stride,
         };
-        strip::<4, 84>(window.samples, window.stride, filters, columns, out);
+        strip::<4>(window.samples, window.stride, filters, columns, out);
     }
 }
 
@@ -52,7 +52,7 @@ fn in_ones(window: Window, filters: Filters, width: usize, rest: Strip, out: &mu
             first: column,
             ..rest
         };
-        strip::<1, 21>(window.samples, window.stride, filters, one, out);
+        strip::<1>(window.samples, window.stride, filters, one, out);
     }
 }
 

@@ -3,3 +3,4 @@ pub mod HeldLanes
 pub mod MeanLemmas
 pub mod Places
 pub mod Rows
+pub mod InPlace

@@ -1,10 +1,30 @@
 ghost use Rattle.std.specs.Prelude.{◌≡◌, ℕ, ◌+◌, ◌-◌, ◌*◌, ◌<◌, ◌≤◌, length, sum, min, slice_index};
-ghost use Rattle.std.specs.Simd.Lanes.{zip2};
+ghost use Rattle.std.specs.Simd.Lanes.{put_chunk, zip2};
 ghost use Rattle.intra_predict.specs.Blocks.{IsBlockAmong};
 ghost use Rattle.intra_predict.specs.Means.{gradient as gradient_of};
 
 use std::simd::Simd;
 use std::simd::prelude::*;
+
+/// The `N` samples starting at `at`.
+#[inline(always)]
+pub fn load<const N: usize>(samples: &[u8], at: usize) -> Simd<u8, N>
+    requires room { at + N ≤ length samples.now }
+    ensures samples { (column : ℕ) → column < N → slice_index result column ≡ slice_index samples.now (at + column) }
+    ensures whole { length result ≡ N }
+{
+    Simd::<u8, N>::from_slice(&samples[at..])
+}
+
+/// Stores `N` samples starting at `at`.
+#[inline(always)]
+pub fn store<const N: usize>(samples: &mut [u8], at: usize, row: Simd<u8, N>)
+    requires room { at + N ≤ length samples.old }
+    ensures value { samples.new ≡ put_chunk at samples.old row.entry }
+    ensures whole { length row.entry ≡ N }
+{
+    row.copy_to_slice(&mut samples[at..]);
+}
 
 /// The sum of `N` samples, in lanes of 16 bits.
 #[inline]
@@ -50,7 +70,7 @@ pub fn fill_columns<const N: usize>(left: Simd<u8, N>, out: &mut [u8], stride: u
 
 /// The lanes of both added, clamped at 255.
 #[inline]
-fn clamped_sums<const N: usize>(first: Simd<u8, N>, second: Simd<u8, N>) -> Simd<u8, N>
+pub fn clamped_sums<const N: usize>(first: Simd<u8, N>, second: Simd<u8, N>) -> Simd<u8, N>
     ensures { result ≡ zip2 (λ a b. min (a + b) 255) first.entry second.entry }
 {
     first.saturating_add(second)
@@ -58,7 +78,7 @@ fn clamped_sums<const N: usize>(first: Simd<u8, N>, second: Simd<u8, N>) -> Simd
 
 /// The lanes of `first` less the lanes of `second`, clamped at 0.
 #[inline]
-fn clamped_rests<const N: usize>(first: Simd<u8, N>, second: Simd<u8, N>) -> Simd<u8, N>
+pub fn clamped_rests<const N: usize>(first: Simd<u8, N>, second: Simd<u8, N>) -> Simd<u8, N>
     ensures { result ≡ zip2 (λ a b. a - b) first.entry second.entry }
 {
     first.saturating_sub(second)

@@ -1,6 +1,7 @@
 //! Laws over the definitions: examples and properties.
 
 ghost use Rattle.std.specs.Prelude.{◌≡◌, ℕ, List, [], ◌∷◌, replicate};
+ghost use Rattle.intra_predict.specs.InPlace.{above_among, left_among, corner_among, whole_among, worked_rows, worked_corner};
 ghost use Rattle.intra_predict.specs.SubLaws.{GoesRight, GoesLeft, worked_row};
 ghost use Rattle.intra_predict.specs.WholeSample.{whole_sample};
 ghost use Rattle.intra_predict.specs.declared.modes.SubMode.TheVariants.{Dc, Tm, Ve, He, Ld, Rd, Vr, Vl, Hd, Hu};
@@ -52,4 +53,19 @@ pub fn worked_whole_blocks()
     ensures true_motion { whole_sample WholeTm (Some (10 ∷ 60 ∷ [])) (Some (1 ∷ 2 ∷ [])) 9 1 0 ≡ 52 }
     ensures true_motion_low { whole_sample WholeTm (Some (10 ∷ 60 ∷ [])) (Some (1 ∷ 2 ∷ [])) 20 0 1 ≡ 0 }
     ensures true_motion_high { whole_sample WholeTm None None 0 0 0 ≡ 255 }
+{}
+
+/// The sides of blocks of 2 by 2 samples among the nine samples of a plane, and two of the samples
+/// that they predict (RFC 6386, section 12.2).
+pub fn worked_sides_in_place()
+    ensures above { above_among worked_rows (worked_corner 1 1) 2 ≡ Some (2 ∷ 3 ∷ []) }
+    ensures above_the_frame { above_among worked_rows (worked_corner 1 0) 2 ≡ None }
+    ensures left { left_among worked_rows (worked_corner 1 1) 2 ≡ Some (4 ∷ 7 ∷ []) }
+    ensures left_of_the_frame { left_among worked_rows (worked_corner 0 1) 2 ≡ None }
+    ensures corner { corner_among worked_rows (worked_corner 1 1) ≡ 1 }
+    ensures corner_above_the_frame { corner_among worked_rows (worked_corner 1 0) ≡ 127 }
+    ensures corner_left_of_the_frame { corner_among worked_rows (worked_corner 0 1) ≡ 129 }
+    ensures corner_of_the_frame { corner_among worked_rows (worked_corner 0 0) ≡ 127 }
+    ensures true_motion { whole_among WholeTm worked_rows (worked_corner 1 1) 2 1 1 ≡ 9 }
+    ensures mean { whole_among WholeDc worked_rows (worked_corner 1 1) 2 0 1 ≡ 4 }
 {}

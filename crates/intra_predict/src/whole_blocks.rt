@@ -9,10 +9,10 @@ use crate::modes::{BlockSize, WholeMode};
 use std::simd::Simd;
 
 /// The samples above a block at the top of the frame.
-const ABOVE_FRAME: u8 = 127;
+pub const ABOVE_FRAME: u8 = 127;
 
 /// The samples to the left of a block at the left edge of the frame.
-const LEFT_OF_FRAME: u8 = 129;
+pub const LEFT_OF_FRAME: u8 = 129;
 
 /// Predicts a whole block from the samples round it into `out` (RFC 6386, section 12.2).
 ///
@@ -115,7 +115,7 @@ fn mean_inside<const N: usize>(above: Option<&[u8]>, left: Option<&[u8]>) -> u8
 
 /// The mean of `count` samples, 1 to 32, rounded.
 #[inline]
-fn mean_of_sum(sum: u16, count: usize) -> u8
+pub fn mean_of_sum(sum: u16, count: usize) -> u8
     requires some { (0 < count) × (count ≤ 32) }
     requires bound { sum ≤ 255 * count }
     ensures { result ≡ (sum + count / 2) / count }

@@ -1,20 +1,19 @@
 -- A block that is written into a plane.
-use Rattle.std.specs.Prelude.{slice_index, slice_index_or, ◌==◌, Option, None, Some}
+use Rattle.std.specs.Prelude.{slice_index, slice_index_or, None, Some}
 use Rattle.std.specs.Simd.Lanes.{put_chunk}
-use Rattle.std.proofs.Common.{refl, ◌≡◌, ℕ, zero, suc, ◌+◌, ◌-◌, ◌*◌, ◌<◌, ◌≤◌, ◌%◌, List, [], pos, ◌+ℤ◌, ◌++◌, length, take, drop, cond, ap, sym, ◌∙◌, arith}
+use Rattle.std.proofs.Common.{refl, ◌≡◌, ℕ, zero, suc, ◌+◌, ◌-◌, ◌*◌, ◌<◌, ◌≤◌, ◌%◌, List, [], pos, ◌+ℤ◌, ◌++◌, length, take, drop, ap, sym, ◌∙◌, arith}
 use Rattle.std.proofs.lemmas.Simd.{put_chunk_is}
 use Rattle.std.proofs.lemmas.List.{length-take-le, length-drop, get_or-take, get_or-drop}
 use Rattle.std.proofs.lemmas.List.FromFn.{fill_by_all, length-map-range_with_len, get_or-map-range_with_len}
 use Rattle.intra_predict.specs.Blocks.{IsBlock}
-use Rattle.intra_predict.specs.WholeSample.{side_of, whole_sample}
+use Rattle.intra_predict.specs.WholeSample.{side_of}
 use Rattle.intra_predict.specs.declared.modes.BlockSize.{BlockSize}
 use Rattle.intra_predict.specs.declared.modes.BlockSize.TheVariants.{Sixteen, Eight}
-use Rattle.intra_predict.specs.declared.modes.WholeMode.{WholeMode}
 use Rattle.pixel_planes.specs.Samples.{Samples}
 use Rattle.reference_frames.specs.Restored.{Residual, block_at, restored}
 use Rattle.vp8_tables.specs.Bounds.{clamped_sample}
 use Rattle.transforms.specs.Transforms.{inverse_dct}
-use Rattle.reference_frames.specs.Unfiltered.{above_row, left_column, corner, block_row, with_block, with_block_rows, whole_block_sample}
+use Rattle.reference_frames.specs.Unfiltered.{block_row, with_block, with_block_rows}
 
 -- a written part of a row, inserted into the row
 pub written_part : (row part span : List ℕ) (x side : ℕ) → part ≡ span → length span ≡ side → x + side ≤ length row → take x row ++ (part ++ drop (x + side - x) (drop x row)) ≡ put_chunk x row span
@@ -54,24 +53,9 @@ part_length row x side within =
     let fits : x + side - x ≤ length (drop x row) = omega (arith, length-drop x row) in
     length-take-le (x + side - x) (drop x row) fits ∙ omega arith
 
--- the samples of a whole block by the sides that were read
-pub sides_read : (p : Samples) (side size mx my n m edge : ℕ) (mode : WholeMode) (upper beside : List ℕ) (above_it left_of_it : Option (List ℕ)) → side ≡ size → n ≡ size → m ≡ size → cond (side * my == 0) None (Some upper) ≡ cond (side * my == 0) None (Some (above_row p (side * mx) (side * my) n)) → cond (side * mx == 0) None (Some beside) ≡ cond (side * mx == 0) None (Some (left_column p (side * mx) (side * my) m)) →
-    edge ≡ corner p (side * mx) (side * my) → above_it ≡ cond (side * my == 0) None (Some upper) → left_of_it ≡ cond (side * mx == 0) None (Some beside) → whole_sample mode above_it left_of_it edge ≡ whole_block_sample p (size * mx) (size * my) size mode
-sides_read p side size mx my n m edge mode upper beside above_it left_of_it sized wide high upper_is beside_is edge_is above_is left_is = rw (above_is ∙ upper_is, left_is ∙ beside_is, edge_is, wide, high, sized) refl
-
-pub side_small : (size : BlockSize) → side_of size ≤ 16
-side_small Sixteen = omega arith
-side_small Eight = omega arith
-
 pub side_some : (size : BlockSize) → 0 < side_of size
 side_some Sixteen = omega arith
 side_some Eight = omega arith
-
--- a part of sixteen samples as long as a side
-pub side_part : (side : ℕ) (size : BlockSize) (samples : List ℕ) → side ≡ side_of size → length samples ≡ 16 → length (take side samples) ≡ side_of size
-side_part side size samples is long =
-    let fits : side ≤ length samples = omega (arith, side_small size) in
-    length-take-le side samples fits ∙ is
 
 -- a residual that was added to predicted samples
 pub restored_block : (side first : ℕ) (residual : Residual) (sample : ℕ → ℕ → ℕ) (old new : List ℕ) → IsBlock side sample old → IsBlock side (restored side first residual (λ column row. slice_index old (row * side + column))) new → IsBlock side (restored side first residual sample) new

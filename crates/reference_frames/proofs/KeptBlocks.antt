@@ -1,6 +1,6 @@
 -- Blocks as they are kept are the blocks of their tokens.
 use Rattle.std.specs.Prelude.{nat_lt, slice_index_or, slice_set, Option, None, Some, if◌then◌else◌}
-use Rattle.std.proofs.Common.{◌≡◌, ℕ, ◌+◌, ◌<◌, ◌≤◌, inl, inr, Bool, List, [], ◌∷◌, map, replicate, ℤ, pos, ◌*ℤ◌, w16, lit<, refl, sym, ◌∙◌, arith}
+use Rattle.std.proofs.Common.{◌≡◌, ℕ, ◌+◌, ◌<◌, ◌≤◌, inl, inr, Bool, List, [], ◌∷◌, map, replicate, ℤ, pos, ◌*ℤ◌, w16, lit<, refl, ap, sym, ◌∙◌, arith}
 use Rattle.std.specs.List.{range_with_len}
 use Rattle.std.proofs.lemmas.Bool.{cases_lt, lt-ltb, le-ltb}
 use Rattle.std.proofs.lemmas.Int.{ints, int_wrap_fits}
@@ -8,9 +8,9 @@ use Rattle.std.proofs.lemmas.List.FromFn.{fill_by_all, length-map-range_with_len
 use Rattle.token_parser.specs.Ends.{IsFirstAlone, EndsHold}
 use Rattle.token_parser.specs.declared.tokens.Tokens.{Tokens}
 use Rattle.transforms.specs.Factors.{dequantised}
-use Rattle.transforms.specs.Transforms.{reduced}
+use Rattle.transforms.specs.Transforms.{reduced, inverse_wht}
 use Rattle.transforms.specs.declared.factor_set.Factors.{Factors}
-use Rattle.reference_frames.specs.FrameTokens.{block_of, block_with, blocks_of, firsts_of, with_first}
+use Rattle.reference_frames.specs.FrameTokens.{block_of, block_with, blocks_of, firsts_of, with_first, y2_results}
 use Rattle.reference_frames.specs.KeptBlocks.{kept_block, kept_blocks}
 
 -- a block with this first coefficient and its others dequantised
@@ -23,6 +23,13 @@ no_product ac = let none : pos 0 *ℤ ac ≡ pos 0 = omega (arith, ints) in rw n
 -- a block with no coefficient after its first has none when it is dequantised
 alone : (coefficients : List ℤ) (first ac : ℤ) → IsFirstAlone coefficients → with_others coefficients first ac ≡ first ∷ replicate 15 (pos 0)
 alone coefficients first ac is = rw (is, no_product ac) refl
+
+-- Y2 with no coefficient after its first
+pub y2_alone : (factors : Factors) (coefficients : List ℤ) → IsFirstAlone coefficients → inverse_wht (reduced (slice_index_or coefficients 0 (pos 0) *ℤ factors.y2_dc) ∷ replicate 15 (pos 0)) ≡ y2_results factors coefficients
+unfolding y2_results block_with
+y2_alone factors coefficients is =
+    let block : dequantised coefficients factors.y2_dc factors.y2_ac ≡ reduced (slice_index_or coefficients 0 (pos 0) *ℤ factors.y2_dc) ∷ replicate 15 (pos 0) = rw (is, no_product factors.y2_ac) refl in
+    ap inverse_wht (sym block)
 
 -- a block by its end
 by_end : (end : ℕ) (coefficients : List ℤ) (first ac : ℤ) → (end ≤ 1 → IsFirstAlone coefficients) → (if nat_lt 1 end then with_others coefficients first ac else first ∷ replicate 15 (pos 0)) ≡ with_others coefficients first ac

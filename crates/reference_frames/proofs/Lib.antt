@@ -16,6 +16,7 @@ pub mod Padded
 pub mod PutRows
 pub mod PlacedInPlanes
 pub mod LentRows
+pub mod WholeInPlace
 pub mod Agree
 pub mod AgreeFrames
 pub mod FrontWritten

@@ -53,7 +53,7 @@ put_placed items height across x y side sample wide high whole =
     }
 
 -- a sample of a plane whose rows are apart
-crop_sample : (width height across : ℕ) (items : List ℕ) (i j : ℕ) → width ≤ across → length items ≡ height * across → i < width → j < height → sample_at (cropped width height across items) i j ≡ slice_index items (j * across + i)
+pub crop_sample : (width height across : ℕ) (items : List ℕ) (i j : ℕ) → width ≤ across → length items ≡ height * across → i < width → j < height → sample_at (cropped width height across items) i j ≡ slice_index items (j * across + i)
 crop_sample width height across items i j wide whole within below =
     let place : 0 + j * across + i ≡ j * across + i = omega arith in
     sample_of_rows items 0 across width height i j wide (omega (arith, whole)) below within ∙ ap (λ n. slice_index items n) place

@@ -2,10 +2,11 @@
 use Rattle.std.specs.Prelude.{ℕ, nat_lt, if◌then◌else◌, List, [], ◌∷◌, map, replicate, slice_index_or, slice_set, ℤ, pos}
 use Rattle.std.specs.List.{range_with_len}
 use Rattle.bool_coder.specs.Reader.{Reader}
+use Rattle.frame_header.specs.declared.header.Header.{Header}
 use Rattle.mode_parser.specs.declared.records.MbMode.{MbMode}
 use Rattle.token_parser.specs.Blocks.{macroblock, skipped, no_coefficients}
 use Rattle.token_parser.specs.declared.tokens.Tokens.{Tokens}
-use Rattle.transforms.specs.Factors.{dequantised}
+use Rattle.transforms.specs.Factors.{dequantised, factors_of}
 use Rattle.transforms.specs.declared.factor_set.Factors.{Factors}
 use Rattle.reference_frames.specs.FrameTokens.{flag_with, has_y2}
 use Rattle.reference_frames.specs.declared.kept_blocks.Flags.{Flags}
@@ -30,3 +31,7 @@ tokens_by probs mode flags reader =
 -- the flags that it leaves
 abbrev pub flags_with : MbMode → Tokens → Flags
 flags_with mode tokens = record { above = tokens.above; left = tokens.left; has_tokens = flag_with mode tokens }
+
+-- the factors of the four segments of a frame (section 9.6)
+abbrev pub frame_factors : Header → List Factors
+frame_factors header = map (factors_of header) (range_with_len 0 4)

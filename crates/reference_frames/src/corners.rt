@@ -1,12 +1,3 @@
-/// The upper left corner of a block in the samples of a plane, whose rows start `across` samples
-/// apart.
-#[derive(Clone, Copy)]
-pub(crate) struct Corner {
-    pub(crate) across: usize,
-    pub(crate) column: usize,
-    pub(crate) row: usize,
-}
-
 /// The place of a macroblock among those of a frame: column `mx` of row `my`.
 #[derive(Clone, Copy)]
 pub(crate) struct MacroblockPlace {

@@ -6,6 +6,7 @@ ghost use Rattle.std.specs.Option.{option_copied};
 ghost use Rattle.bool_coder.specs.Reader.{started};
 ghost use Rattle.transforms.specs.Factors.{factors_of};
 ghost use Rattle.reference_frames.specs.FrameTokenValue.{state_of, kept_residual};
+ghost use Rattle.reference_frames.specs.KeptBlocks.{frame_factors};
 ghost use Rattle.reference_frames.specs.FrameTokens.{outside, reader_of, tokens_at, tokens_start, state_with, residual_with, flag_with};
 
 use crate::kept_blocks::{Blocks, Flags};
@@ -14,6 +15,7 @@ use frame_header::{Header, Place};
 use mode_parser::MbMode;
 use pixel_planes::NoMemory;
 use std::alloc::Global;
+use transforms::{Factors, factors};
 
 /// The number of the partition of a row: the row modulo their count, which is a power of two (RFC
 /// 6386, section 9.5).
@@ -46,6 +48,18 @@ fn partition_readers<'a>(
         readers.push(Decoder::new(&packet[place.start..end]))?;
     }
     Ok(readers)
+}
+
+/// The factors of the four segments of a frame (RFC 6386, section 9.6).
+pub fn frame_factors(header: &Header) -> [Factors; 4]
+    ensures { result ≡ frame_factors header.now }
+{
+    [
+        factors(header, 0),
+        factors(header, 1),
+        factors(header, 2),
+        factors(header, 3),
+    ]
 }
 
 /// The state between the macroblocks of a frame.
@@ -97,9 +111,17 @@ impl<'a> FrameTokens<'a> {
     }
 
     /// Reads the tokens of the macroblock in column `mx` of row `my`, which is next, and keeps its
-    /// residual. If it is skipped, nothing is read.
+    /// residual, for which `factors` are those of the frame's segments. If it is skipped, nothing is read.
     #[tactic(auto, unfolding(crate::specs::FrameTokens::tokens_at))]
-    pub fn read(&mut self, header: &Header, mx: usize, my: usize, mode: &MbMode)
+    pub fn read(
+        &mut self,
+        header: &Header,
+        factors: &[Factors; 4],
+        mx: usize,
+        my: usize,
+        mode: &MbMode,
+    )
+        requires factors { factors.now ≡ frame_factors header.now }
         requires some { 0 < length (state_of self.old).readers }
         requires column { mx < length (state_of self.old).above }
         ensures state { state_of self.new ≡ state_with (state_of self.old) mx my (tokens_at header.now.context.probabilities.coefficients (state_of self.old) mx my mode.now) }
@@ -115,7 +137,7 @@ impl<'a> FrameTokens<'a> {
             left,
             has_tokens: false,
         };
-        let after = self.blocks.read(&mut reader, header, mode, before);
+        let after = self.blocks.read(&mut reader, header, factors, mode, before);
         let (above, left) = (after.above, after.left);
         self.readers[partition] = reader;
         self.above[mx] = above;

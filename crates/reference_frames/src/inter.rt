@@ -1,12 +1,13 @@
 //! Macroblocks that are predicted from a reference (RFC 6386, sections 16.3 and 18).
 
-ghost use Rattle.std.specs.Prelude.{◌≡◌, ℕ, ◌+◌, ◌*◌, ◌/◌, ◌%◌, ◌<◌, ◌≤◌, IsTrue, length, slice_index_or, pos, ◌+ℤ◌, ◌*ℤ◌};
+ghost use Rattle.std.specs.Prelude.{◌≡◌, ℕ, ◌+◌, ◌*◌, ◌/◌, ◌%◌, ◌<◌, ◌≤◌, IsTrue, false, length, slice_index_or, pos, ◌+ℤ◌, ◌*ℤ◌};
 ghost use Rattle.std.specs.Option.{option_copied};
 ghost use Rattle.inter_predict.specs.InterSample.{inter_sample};
 ghost use Rattle.vp8_tables.specs.Bounds.{IsWithin};
 ghost use Rattle.mode_parser.specs.ChromaVectors.{group_vector};
 ghost use Rattle.mode_parser.specs.SplitModes.{is_split};
 ghost use Rattle.mode_parser.specs.Vectors.{zero_vector};
+ghost use Rattle.pixel_planes.specs.Layout.{bordered_side};
 ghost use Rattle.pixel_planes.specs.PlaneSamples.{shown_of};
 ghost use Rattle.reference_frames.specs.InterPrediction.{kind_of, block_vector, luma_sample, chroma_sample, IsWholeVector};
 ghost use Rattle.reference_frames.specs.FourBlocks.{IsOfFour};
@@ -14,10 +15,10 @@ ghost use Rattle.reference_frames.specs.PlacedBlocks.{IsPlaced, from_corner};
 ghost use Rattle.reference_frames.specs.Restored.{restored};
 ghost use Rattle.reference_frames.specs.Unfiltered.{HoldsMacroblock, HoldsSquare, SameShape, SameSides, inter_macroblock, with_block};
 
-use crate::corners::{Corner, MacroblockCorner, MacroblockPlace};
+use crate::corners::{MacroblockCorner, MacroblockPlace};
 use crate::residuals::{Blocks, add_to_square};
-use inter_predict::{Kind, Source, block_in};
-use intra_predict::BlockSize;
+use inter_predict::{Kind, Source, block_in, pair_in};
+use intra_predict::{BlockSize, Corner};
 use mode_parser::{Vector, VectorMode, chroma_vector};
 use pixel_planes::{Picture, Plane, Planes};
 
@@ -87,6 +88,43 @@ fn predict_square(
     let across = corner.across;
     let samples = &mut samples[across * corner.row + corner.column..];
     block_in(source, side, side, samples, across);
+}
+
+/// The chroma planes of a reference.
+#[derive(Clone, Copy)]
+struct ChromaPlanes<'a> {
+    cb: &'a Plane,
+    cr: &'a Plane,
+}
+
+/// Predicts the square of 8 by 8 samples that begins at a corner, in the samples of both chroma planes,
+/// by one vector.
+#[inline]
+fn predict_pair(
+    from: ChromaPlanes,
+    vector: (i32, i32),
+    kind: Kind,
+    cb: &mut [u8],
+    cr: &mut [u8],
+    corner: Corner,
+)
+    requires small { (corner.across ≤ 16512) × (corner.row + 8 ≤ 16384) }
+    requires column { corner.column + 8 ≤ corner.across }
+    requires cb_room { (corner.row + 8) * corner.across ≤ length cb.old }
+    requires cr_room { (corner.row + 8) * corner.across ≤ length cr.old }
+    ensures cb { IsPlaced (λ i j. inter_sample kind from.entry.cb.now.shown (pos i) (pos j) vector.0 vector.1) corner.across 8 corner.column corner.row cb.old cb.new }
+    ensures cr { IsPlaced (λ i j. inter_sample kind from.entry.cr.now.shown (pos i) (pos j) vector.0 vector.1) corner.across 8 corner.column corner.row cr.old cr.new }
+{
+    let source = Source {
+        plane: from.cb,
+        x: corner.column as i32,
+        y: corner.row as i32,
+        vector,
+        kind,
+    };
+    let across = corner.across;
+    let start = across * corner.row + corner.column;
+    pair_in(source, from.cr, &mut cb[start..], &mut cr[start..], across);
 }
 
 /// The vectors of the four blocks of a square, in eighths of a sample: the second block is to the
@@ -320,6 +358,34 @@ fn chroma_samples(
     predict_square(from, whole, kind, 8, samples, corner);
 }
 
+/// Predicts a macroblock that is not split in the samples of both chroma planes, by the vector `whole`.
+fn whole_chroma_samples(
+    from: ChromaPlanes,
+    chroma: ChromaMotion,
+    cb: &mut [u8],
+    cr: &mut [u8],
+    corner: MacroblockCorner,
+)
+    requires whole { IsWholeVector chroma.motion.version chroma.motion.mode chroma.motion.vectors.now chroma.whole }
+    requires one { is_split chroma.motion.mode ≡ false }
+    requires small { (corner.across ≤ 16512) × (8 * corner.my + 8 ≤ 16384) }
+    requires column { 8 * corner.mx + 8 ≤ corner.across }
+    requires cb_room { (8 * corner.my + 8) * corner.across ≤ length cb.old }
+    requires cr_room { (8 * corner.my + 8) * corner.across ≤ length cr.old }
+    ensures cb { IsPlaced (from_corner (8 * corner.mx) (8 * corner.my) (chroma_sample chroma.entry.motion.version from.entry.cb.now.shown corner.mx corner.my (block_vector chroma.entry.motion.mode chroma.entry.motion.vectors.now))) corner.across 8 (8 * corner.mx) (8 * corner.my) cb.old cb.new }
+    ensures cr { IsPlaced (from_corner (8 * corner.mx) (8 * corner.my) (chroma_sample chroma.entry.motion.version from.entry.cr.now.shown corner.mx corner.my (block_vector chroma.entry.motion.mode chroma.entry.motion.vectors.now))) corner.across 8 (8 * corner.mx) (8 * corner.my) cr.old cr.new }
+{
+    let kind = kind_of(chroma.motion.version);
+    let (column, row) = (8 * corner.mx, 8 * corner.my);
+    let across = corner.across;
+    let corner = Corner {
+        across,
+        column,
+        row,
+    };
+    predict_pair(from, chroma.whole, kind, cb, cr, corner);
+}
+
 /// Predicts the luma of a macroblock from a reference's, and adds its residual.
 fn predict_luma(
     plane: &mut Plane,
@@ -376,6 +442,41 @@ fn predict_chroma(
     add_to_square(residual, first, BlockSize::Eight, samples, corner);
 }
 
+/// Predicts a macroblock that is not split in both chroma planes from a reference's, and adds its
+/// residual. The rows of both planes are equally far apart.
+fn predict_whole_chroma(
+    cb: &mut Plane,
+    cr: &mut Plane,
+    from: ChromaPlanes,
+    place: MacroblockPlace,
+    chroma: ChromaMotion,
+    residual: Option<&Blocks>,
+)
+    requires whole { IsWholeVector chroma.motion.version chroma.motion.mode chroma.motion.vectors.now chroma.whole }
+    requires one { is_split chroma.motion.mode ≡ false }
+    requires cb_within { HoldsSquare cb.old.shown (8 * place.mx) (8 * place.my) 8 }
+    requires cr_within { HoldsSquare cr.old.shown (8 * place.mx) (8 * place.my) 8 }
+    requires strides { bordered_side cb.old.shown.width cb.old.border ≡ bordered_side cr.old.shown.width cr.old.border }
+    ensures cb { cb.new.shown ≡ with_block cb.old.shown (8 * place.mx) (8 * place.my) 8 (restored 8 16 (option_copied residual.entry) (chroma_sample chroma.entry.motion.version from.entry.cb.now.shown place.mx place.my (block_vector chroma.entry.motion.mode chroma.entry.motion.vectors.now))) }
+    ensures cr { cr.new.shown ≡ with_block cr.old.shown (8 * place.mx) (8 * place.my) 8 (restored 8 20 (option_copied residual.entry) (chroma_sample chroma.entry.motion.version from.entry.cr.now.shown place.mx place.my (block_vector chroma.entry.motion.mode chroma.entry.motion.vectors.now))) }
+    ensures cb_sides { SameSides cb.old.shown cb.new.shown }
+    ensures cr_sides { SameSides cr.old.shown cr.new.shown }
+{
+    let across = cb.stride();
+    let cb_rows = cb.rows_mut();
+    let cr_rows = cr.rows_mut();
+    let MacroblockPlace { mx, my } = place;
+    let corner = MacroblockCorner { across, mx, my };
+    whole_chroma_samples(from, chroma, cb_rows, cr_rows, corner);
+    let corner = Corner {
+        across,
+        column: 8 * mx,
+        row: 8 * my,
+    };
+    add_to_square(residual, 16, BlockSize::Eight, cb_rows, corner);
+    add_to_square(residual, 20, BlockSize::Eight, cr_rows, corner);
+}
+
 /// Predicts the macroblock at a place from a picture, by its motion, and adds its residual, if it has
 /// one.
 pub(crate) fn predict_inter(
@@ -394,7 +495,19 @@ pub(crate) fn predict_inter(
     let whole = whole_vector(motion.mode, motion.vectors, motion.version);
     let chroma = ChromaMotion { motion, whole };
     let cb = from.cb();
-    predict_chroma(&mut planes.cb, cb, place, chroma, residual, 16);
     let cr = from.cr();
+    if !is_split(motion.mode) && planes.cb.stride() == planes.cr.stride() {
+        let from = ChromaPlanes { cb, cr };
+        predict_whole_chroma(
+            &mut planes.cb,
+            &mut planes.cr,
+            from,
+            place,
+            chroma,
+            residual,
+        );
+        return;
+    }
+    predict_chroma(&mut planes.cb, cb, place, chroma, residual, 16);
     predict_chroma(&mut planes.cr, cr, place, chroma, residual, 20);
 }

@@ -2,11 +2,12 @@
 //! sections 13 and 14).
 
 ghost use Rattle.std.specs.Prelude.{◌≡◌, ℕ, ◌+◌, ◌*◌, ◌<◌, ◌≤◌, [], ◌∷◌, length, replicate, pos, ◌*ℤ◌, if◌then◌else◌, IfSome, None, Some, slice_index_or};
+ghost use Rattle.token_parser.specs.Ends.{EndsHold, IsFirstAlone};
 ghost use Rattle.transforms.specs.Factors.{factors_of};
 ghost use Rattle.transforms.specs.Residuals.{IsAdded};
 ghost use Rattle.transforms.specs.Transforms.{inverse_dct, reduced};
 ghost use Rattle.reference_frames.specs.FrameTokens.{has_y2 as has_y2_of, block_with, y2_results, block_of, firsts_of, flag_with, residual_with};
-ghost use Rattle.reference_frames.specs.KeptBlocks.{flags_with, tokens_by};
+ghost use Rattle.reference_frames.specs.KeptBlocks.{flags_with, frame_factors, tokens_by};
 
 use crate::inter::is_split;
 use bool_coder::Decoder;
@@ -14,7 +15,9 @@ use frame_header::Header;
 use mode_parser::{MbMode, YMode};
 use std::marker::Model;
 use token_parser::{Tokens, read_macroblock, skip_macroblock};
-use transforms::{Factors, dct_add, dct_add_first, dequantise, dequantise_others, factors, wht};
+use transforms::{
+    Factors, dct_add, dct_add_first, dequantise, dequantise_others, factors, wht, wht_first,
+};
 
 /// Whether a macroblock has a block Y2, of the first coefficients of its luma (RFC 6386, section 13).
 #[inline]
@@ -46,6 +49,28 @@ fn y2_results(factors: Factors, coefficients: &[i16; 16]) -> [i16; 16]
     wht(&block_with(coefficients, factors.y2_dc, factors.y2_ac))
 }
 
+/// A coefficient, dequantised.
+#[inline(always)]
+fn product(coefficient: i16, factor: i16) -> i16
+    ensures { result ≡ reduced (coefficient *ℤ factor) }
+{
+    coefficient.wrapping_mul(factor)
+}
+
+/// The same by the index after the last token of the block: one that ends at index 1 or before has at most its
+/// first coefficient.
+#[inline(always)]
+fn y2_results_by(factors: Factors, end: u8, coefficients: &[i16; 16]) -> [i16; 16]
+    requires { end ≤ 1 → IsFirstAlone coefficients.now }
+    ensures { result ≡ y2_results factors coefficients.now }
+{
+    if end > 1 {
+        return y2_results(factors, coefficients);
+    }
+    let first = product(coefficients[0], factors.y2_dc);
+    wht_first(first)
+}
+
 /// Writes the first coefficients of the blocks from `start` to before `end`, dequantised.
 #[inline(always)]
 fn write_firsts(
@@ -67,18 +92,32 @@ fn write_firsts(
 /// The first coefficients of the blocks that have samples: of luma the results of Y2, if there is
 /// one, and otherwise their own, dequantised (RFC 6386, sections 14.1 and 14.3).
 #[inline]
-fn first_coefficients(factors: Factors, has_y2: bool, coefficients: &[[i16; 16]; 25]) -> [i16; 24]
-    ensures { (k : ℕ) → k < 24 → slice_index_or result k (pos 0) ≡ slice_index_or (block_of factors (firsts_of factors has_y2 coefficients.now) coefficients.now k) 0 (pos 0) }
+fn first_coefficients(factors: Factors, has_y2: bool, tokens: &Tokens) -> [i16; 24]
+    requires { EndsHold tokens.now }
+    ensures { (k : ℕ) → k < 24 → slice_index_or result k (pos 0) ≡ slice_index_or (block_of factors (firsts_of factors has_y2 tokens.now.coefficients) tokens.now.coefficients k) 0 (pos 0) }
 {
+    let coefficients = &tokens.coefficients;
     let mut firsts = [0; 24];
     if has_y2 {
-        let results = y2_results(factors, &coefficients[24]);
+        let results = y2_results_by(factors, tokens.ends[24], &coefficients[24]);
         firsts[..16].copy_from_slice(&results);
     } else {
         write_firsts(coefficients, 0, 16, factors.y_dc, &mut firsts);
     }
     write_firsts(coefficients, 16, 24, factors.uv_dc, &mut firsts);
     firsts
+}
+
+/// The factors of a segment among those of the frame.
+#[inline]
+fn factors_in(all: &[Factors; 4], header: &Header, segment: u8) -> Factors
+    requires { all.now ≡ frame_factors header.now }
+    ensures { result ≡ factors_of header.now segment }
+{
+    match all.get(usize::from(segment)) {
+        Some(found) => *found,
+        None => factors(header, segment),
+    }
 }
 
 /// The flags of a macroblock: those above it and to its left before its tokens, and its own after
@@ -141,15 +180,17 @@ impl Blocks {
         }
     }
 
-    /// Reads the tokens of a macroblock after its flags, and keeps its residual. Returns its own
-    /// flags. If it is skipped, nothing is read.
+    /// Reads the tokens of a macroblock after its flags, and keeps its residual, for which `all` are the
+    /// factors of the frame's segments. Returns its own flags. If it is skipped, nothing is read.
     pub fn read(
         &mut self,
         reader: &mut Decoder,
         header: &Header,
+        all: &[Factors; 4],
         mode: &MbMode,
         flags: Flags,
     ) -> Flags
+        requires { all.now ≡ frame_factors header.now }
         ensures reader { reader.new ≡ (tokens_by header.now.context.probabilities.coefficients mode.now flags reader.old).1 }
         ensures flags { result ≡ flags_with mode.now (tokens_by header.now.context.probabilities.coefficients mode.now flags reader.old).0 }
         ensures residual { (if mode.now.is_skipped then None else Some self.new) ≡ residual_with (factors_of header.now mode.now.segment) mode.now (tokens_by header.now.context.probabilities.coefficients mode.now flags reader.old).0 }
@@ -165,8 +206,8 @@ impl Blocks {
         self.tokens.clear();
         let probabilities = &header.context.probabilities.coefficients;
         read_macroblock(reader, probabilities, has_y2, &mut self.tokens);
-        let factors = factors(header, mode.segment);
-        let firsts = first_coefficients(factors, has_y2, &self.tokens.coefficients);
+        let factors = factors_in(all, header, mode.segment);
+        let firsts = first_coefficients(factors, has_y2, &self.tokens);
         self.factors = factors;
         self.firsts = firsts;
         flags_of(&self.tokens, self.tokens.has_tokens(has_y2))

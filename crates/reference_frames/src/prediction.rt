@@ -1,19 +1,18 @@
-ghost use Rattle.std.specs.Prelude.{◌≡◌, ◌*◌, ◌+◌, ◌-◌, ◌/◌, ◌<◌, ◌≤◌, ◌==◌, All, IfOk, None, Some, length, map, min, slice_index, if◌then◌else◌};
+ghost use Rattle.std.specs.Prelude.{◌≡◌, ◌*◌, ◌+◌, ◌-◌, ◌/◌, ◌<◌, ◌≤◌, All, IfOk, length, map, min, slice_index};
 ghost use Rattle.std.specs.List.{range_with_len};
-ghost use Rattle.std.specs.Option.{option_copied, ForSome};
-ghost use Rattle.intra_predict.specs.WholeSample.{side_of, whole_sample};
+ghost use Rattle.std.specs.Option.{option_copied};
+ghost use Rattle.intra_predict.specs.WholeSample.{side_of};
 ghost use Rattle.pixel_planes.specs.PlaneSamples.{shown_of};
 ghost use Rattle.pixel_planes.specs.Samples.{sample_at};
-ghost use Rattle.reference_frames.specs.PlacedBlocks.{IsPlaced, from_corner};
 ghost use Rattle.reference_frames.specs.WrittenBlocks.{block_rows_put};
 ghost use Rattle.reference_frames.specs.Unfiltered.{HoldsSquare, HoldsMacroblock, HaveRoomFor, SameSides, SameShape, above, left, corner, above_row, left_column, above_eight, with_block, predicted_sub_block, predicted_sub_blocks, predicted_whole, predicted_luma, intra_macroblock, referred_macroblock, predicted_macroblock};
 
-use crate::corners::{Corner, MacroblockPlace};
+use crate::corners::MacroblockPlace;
 use crate::inter::{Motion, predict_inter};
 use crate::references::References;
 use crate::residuals::{Blocks, add_to_square, add_to_sub_block};
 use frame_header::Reference;
-use intra_predict::{BlockSize, SubMode, WholeMode, sub, whole};
+use intra_predict::{BlockSize, Corner, SubMode, WholeMode, sub, whole_in_place};
 use mode_parser::{MbMode, VectorMode, YMode};
 use pixel_planes::{Plane, Planes};
 
@@ -139,31 +138,6 @@ fn read_left(plane: &Plane, x: usize, y: usize, out: &mut [u8])
     }
 }
 
-/// Reads the samples above a block at column `x` of row `y` into `out`, if they are in the frame.
-#[inline(always)]
-fn read_above_inside(plane: &Plane, x: usize, y: usize, out: &mut [u8])
-    requires within { (x + length out.old ≤ plane.now.shown.width) × (y ≤ plane.now.shown.height) }
-    requires small { plane.now.shown.width ≤ 16384 }
-    ensures { (if y == 0 then None else Some out.new) ≡ (if y == 0 then None else Some (above_row plane.now.shown x y (length out.old))) }
-{
-    if y > 0 {
-        read_above(plane, x, y, out);
-    }
-}
-
-/// Reads the samples to the left of a block at column `x` of row `y` into `out`, if they are in the
-/// frame.
-#[inline(always)]
-fn read_left_inside(plane: &Plane, x: usize, y: usize, out: &mut [u8])
-    requires within { (x ≤ plane.now.shown.width) × (y + length out.old ≤ plane.now.shown.height) }
-    requires small { plane.now.shown.height ≤ 16384 }
-    ensures { (if x == 0 then None else Some out.new) ≡ (if x == 0 then None else Some (left_column plane.now.shown x y (length out.old))) }
-{
-    if x > 0 {
-        read_left(plane, x, y, out);
-    }
-}
-
 /// Writes the rows of a block of `side` by `side` samples, the first at index `start` and each
 /// further one `stride` after the last.
 #[inline(always)]
@@ -237,50 +211,6 @@ fn predict_sub_blocks(
     }
 }
 
-/// A side of a block, `None` if it is outside the frame.
-fn side_inside(is_outside: bool, samples: &[u8]) -> Option<&[u8]>
-    ensures value { option_copied result ≡ (if is_outside then None else Some samples.now) }
-    ensures len { ForSome result (λ side. length side.now ≡ length samples.now) }
-{
-    if is_outside { None } else { Some(samples) }
-}
-
-/// The samples around a block: the row above it and the column to its left, `None` outside the frame,
-/// and the sample above that column.
-#[derive(Clone, Copy)]
-struct Around<'a> {
-    above: Option<&'a [u8]>,
-    left: Option<&'a [u8]>,
-    diagonal: u8,
-}
-
-/// Predicts the square of this size that begins at a corner, from the samples around it, in the
-/// samples of a plane.
-#[inline(always)]
-fn predict_square(
-    mode: WholeMode,
-    size: BlockSize,
-    around: Around,
-    samples: &mut [u8],
-    corner: Corner,
-)
-    requires above { ForSome around.above (λ side. length side.now ≡ side_of size) }
-    requires left { ForSome around.left (λ side. length side.now ≡ side_of size) }
-    requires small { (corner.across ≤ 16512) × (corner.row + side_of size ≤ 16384) }
-    requires column { corner.column + side_of size ≤ corner.across }
-    requires room { (corner.row + side_of size) * corner.across ≤ length samples.old }
-    ensures { IsPlaced (from_corner corner.column corner.row (whole_sample mode (option_copied around.entry.above) (option_copied around.entry.left) around.entry.diagonal)) corner.across (side_of size) corner.column corner.row samples.old samples.new }
-{
-    let Around {
-        above,
-        left,
-        diagonal,
-    } = around;
-    let across = corner.across;
-    let samples = &mut samples[across * corner.row + corner.column..];
-    whole(mode, size, above, left, diagonal, samples, across);
-}
-
 /// Predicts the whole block of a macroblock of this size straight into a plane, and adds its
 /// residual there, whose blocks are numbered starting at `first`.
 #[inline(always)]
@@ -298,27 +228,14 @@ fn predict_whole(
     ensures sides { SameSides plane.old.shown plane.new.shown }
 {
     let side = size.side();
-    let (x, y) = (side * place.mx, side * place.my);
-    let (mut above, mut left) = ([0; 16], [0; 16]);
-    let (above, left) = (&mut above[..side], &mut left[..side]);
-    read_above_inside(plane, x, y, above);
-    read_left_inside(plane, x, y, left);
-    let above = side_inside(y == 0, above);
-    let left = side_inside(x == 0, left);
-    let diagonal = sample_corner(plane, x, y);
-    let around = Around {
-        above,
-        left,
-        diagonal,
-    };
     let across = plane.stride();
     let samples = plane.rows_mut();
     let corner = Corner {
         across,
-        column: x,
-        row: y,
+        column: side * place.mx,
+        row: side * place.my,
     };
-    predict_square(mode, size, around, samples, corner);
+    whole_in_place(mode, size, samples, corner);
     add_to_square(residual, first, size, samples, corner);
 }
 

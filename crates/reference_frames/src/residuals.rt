@@ -9,9 +9,8 @@ ghost use Rattle.reference_frames.specs.Restored.{restored};
 ghost use Rattle.reference_frames.specs.AddedBlocks.{IsAddedAt, blocks_residual};
 ghost use Rattle.reference_frames.specs.PlacedBlocks.{IsPlaced, from_corner, square_from};
 
-use crate::corners::Corner;
 pub use crate::kept_blocks::Blocks;
-use intra_predict::BlockSize;
+use intra_predict::{BlockSize, Corner};
 use transforms::{dct_add_four_firsts, dct_add_two_firsts};
 
 /// Adds the residual of block `k` to its samples, which begin at this corner.

@@ -1,6 +1,6 @@
-ghost use Rattle.std.specs.Prelude.{◌<◌, ◌≤◌};
+ghost use Rattle.std.specs.Prelude.{◌≡◌, ◌<◌, ◌≤◌, IfOk};
 
-use inter_predict::{Kind, Source, block, block_in};
+use inter_predict::{Kind, Source, block, block_in, pair_in};
 use pixel_planes::{NoMemory, Picture, Plane, Planes};
 use std::alloc::Global;
 use std::test::Fail;
@@ -49,10 +49,7 @@ fn predicted(plane: &Plane, x: i64, y: i64, vector: (i32, i32), kind: Kind) -> u
 
 /// Whether a block of these sides among samples of 7, in rows of 16, is as read plainly, and whether
 /// every other sample is 7 still.
-fn is_right(source: Source, width: usize, height: usize) -> bool
-    requires wide { (0 < width) × (width ≤ 16) }
-    requires high { (0 < height) × (height ≤ 16) }
-{
+fn holds_block(out: &[u8; 256], source: Source, width: usize, height: usize) -> bool {
     let Source {
         plane,
         x,
@@ -60,8 +57,6 @@ fn is_right(source: Source, width: usize, height: usize) -> bool
         vector,
         kind,
     } = source;
-    let mut out = [7; 256];
-    block_in(source, width, height, &mut out, 16);
     for row in 0..16 {
         for column in 0..16 {
             let expected = if row < height && column < width {
@@ -76,6 +71,25 @@ fn is_right(source: Source, width: usize, height: usize) -> bool
         }
     }
     true
+}
+
+/// Whether `block_in` predicts a block of these sides as it is read plainly.
+fn is_right(source: Source, width: usize, height: usize) -> bool
+    requires wide { (0 < width) × (width ≤ 16) }
+    requires high { (0 < height) × (height ≤ 16) }
+{
+    let mut out = [7; 256];
+    block_in(source, width, height, &mut out, 16);
+    holds_block(&out, source, width, height)
+}
+
+/// Whether `pair_in` predicts blocks of both planes as they are read plainly.
+fn is_pair_right(source: Source, second: &Plane) -> bool {
+    let mut out = [7; 256];
+    let mut other = [7; 256];
+    pair_in(source, second, &mut out, &mut other, 16);
+    let plane = second;
+    holds_block(&out, source, 8, 8) && holds_block(&other, Source { plane, ..source }, 8, 8)
 }
 
 /// A picture of 32 by 48 samples whose luma plane has this border and pseudo-random samples.
@@ -143,6 +157,73 @@ fn all_widths_are_as_read_plainly(rt: HostRuntime) -> Result<(), Fail> {
         };
         let holds = is_right(source, width, height);
         assert!(rt; holds, "{width}");
+    }
+    Ok(())
+}
+
+/// A plane of 16 by 24 samples with this border and pseudo-random samples.
+fn chroma_plane(alloc: Global, border: usize, seed: u32) -> Result<Plane, NoMemory>
+    requires { border ≤ 64 }
+    ensures { IfOk result (λ plane. (plane.shown.width ≡ 16) × (plane.shown.height ≡ 24)) }
+{
+    let mut plane = Plane::make_bordered(alloc, 16, 24, 0, border)?;
+    let mut state = seed;
+    for sample in plane.samples_mut() {
+        state = state.wrapping_mul(1_103_515_245).wrapping_add(12345);
+        *sample = (state / 65536 % 256) as u8;
+    }
+    Ok(plane)
+}
+
+/// A picture of 32 by 48 samples whose chroma planes have these borders.
+fn chroma_picture(alloc: Global, border: usize, second: usize) -> Result<Picture, NoMemory>
+    requires { (border ≤ 64) × (second ≤ 64) }
+{
+    let planes = Planes {
+        luma: Plane::make(alloc, 32, 48, 0)?,
+        cb: chroma_plane(alloc, border, 1)?,
+        cr: chroma_plane(alloc, second, 2)?,
+    };
+    Picture::share(alloc, planes, 32, 48)
+}
+
+#[test]
+fn pairs_are_as_read_plainly(rt: HostRuntime) -> Result<(), Fail> {
+    let picture = chroma_picture(rt.alloc(), 32, 32)?;
+    for fractions in 0..64u32 {
+        let vector = ((fractions % 8) as i32 - 16, (fractions / 8) as i32 + 8);
+        for kind in [Kind::SixTap, Kind::Bilinear] {
+            let source = Source {
+                plane: picture.cb(),
+                x: 8,
+                y: 8,
+                vector,
+                kind,
+            };
+            assert!(rt; is_pair_right(source, picture.cr()), "{kind:?} {vector:?}");
+        }
+    }
+    Ok(())
+}
+
+/// If a block is outside a border, or the borders differ, the blocks are the same.
+#[test]
+fn pairs_do_not_depend_on_the_borders(rt: HostRuntime) -> Result<(), Fail> {
+    for (border, second) in [(32, 31), (0, 32), (32, 0), (0, 0)] {
+        let picture = chroma_picture(rt.alloc(), border, second)?;
+        for vector in [(0, 0), (11, -3), (-4000, 4000), (-131, 8)] {
+            let source = Source {
+                plane: picture.cb(),
+                x: 8,
+                y: 16,
+                vector,
+                kind: Kind::SixTap,
+            };
+            assert!(rt;
+                is_pair_right(source, picture.cr()),
+                "{border} {second} {vector:?}"
+            );
+        }
     }
     Ok(())
 }
@@ -232,6 +313,57 @@ fn rows_are_as_worked_by_hand(rt: HostRuntime) -> Result<(), Fail> {
         let mut out = [1];
         block(&plane, 2, 0, (4, 0), Kind::SixTap, 1, 1, &mut out);
         assert_eq!(rt; out, [sample]);
+    }
+    Ok(())
+}
+
+/// A picture of 32 by 32 samples whose luma plane repeats six columns and six rows of 0 and 255: the
+/// filters of these fractions have their greatest sums in it, or their least.
+fn picture_of_extremes(
+    alloc: Global,
+    right: usize,
+    below: usize,
+    is_greatest: bool,
+) -> Result<Picture, NoMemory>
+    requires { (right < 8) × (below < 8) }
+{
+    let mut luma = Plane::make_bordered(alloc, 32, 32, 0, 32)?;
+    for (place, sample) in luma.samples_mut().iter_mut().enumerate() {
+        let (x, y) = (place % 32 % 6, place / 32 % 6);
+        let row_is_greatest = (SIX_TAPS[below][y] > 0) == is_greatest;
+        if (SIX_TAPS[right][x] > 0) == row_is_greatest {
+            *sample = 255;
+        }
+    }
+    let planes = Planes {
+        luma,
+        cb: Plane::make(alloc, 16, 16, 0)?,
+        cr: Plane::make(alloc, 16, 16, 0)?,
+    };
+    Picture::share(alloc, planes, 32, 32)
+}
+
+/// Where each sample is 255 or 0 by the sign of its tap, the sums of both filters are at their greatest
+/// and their least, and are clamped. The taps of column 14 begin at column 12, a multiple of six.
+#[test]
+fn extreme_sums_are_clamped(rt: HostRuntime) -> Result<(), Fail> {
+    for fractions in 0..64 {
+        let (right, below) = (fractions % 8, fractions / 8);
+        for (is_greatest, expected) in [(true, 255), (false, 0)] {
+            let picture = picture_of_extremes(rt.alloc(), right, below, is_greatest)?;
+            let source = Source {
+                plane: picture.luma(),
+                x: 14,
+                y: 14,
+                vector: (right as i32, below as i32),
+                kind: Kind::SixTap,
+            };
+            let mut out = [7; 16];
+            block_in(source, 16, 1, &mut out, 16);
+            assert_eq!(rt; out[0], expected, "{right} {below}");
+            let holds = is_right(source, 16, 2) && is_right(source, 8, 2) && is_right(source, 4, 2);
+            assert!(rt; holds, "{right} {below} {is_greatest}");
+        }
     }
     Ok(())
 }

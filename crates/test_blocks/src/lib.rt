@@ -5,6 +5,8 @@
 #[cfg(test)]
 mod filters;
 #[cfg(test)]
+mod in_place;
+#[cfg(test)]
 mod inter;
 #[cfg(test)]
 mod intra;

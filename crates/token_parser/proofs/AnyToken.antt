@@ -12,9 +12,6 @@ last_or false false = refl
 pub one_more : (f : ℕ → Bool) (k : ℕ) → list_any (λ has. has) (map f (range_with_len 0 (k + 1))) ≡ (list_any (λ has. has) (map f (range_with_len 0 k)) || f k)
 one_more f k = rw (map-range_with_len_more {X = Bool} f 0 k k (omega arith), list_any-append) (last_or (list_any (λ has. has) (map f (range_with_len 0 k))) (f k))
 
--- a test that has passed stays so, and one that has not depends on the next block
-pub found_before : (f : ℕ → Bool) (k : ℕ) (found : Bool) → found ≡ list_any (λ has. has) (map f (range_with_len 0 k)) → found ≡ true → found ≡ list_any (λ has. has) (map f (range_with_len 0 (k + 1)))
-found_before f k found so_far is = rw (one_more f k, ← so_far, is) refl
-
-pub found_here : (f : ℕ → Bool) (k : ℕ) (found here : Bool) → found ≡ list_any (λ has. has) (map f (range_with_len 0 k)) → found ≡ false → here ≡ f k → here ≡ list_any (λ has. has) (map f (range_with_len 0 (k + 1)))
-found_here f k found here so_far is same = rw (one_more f k, ← so_far, is, same) refl
+-- a test of one block more
+pub found_next : (f : ℕ → Bool) (k : ℕ) (found here : Bool) → found ≡ list_any (λ has. has) (map f (range_with_len 0 k)) → here ≡ f k → (found || here) ≡ list_any (λ has. has) (map f (range_with_len 0 (k + 1)))
+found_next f k found here so_far same = rw (one_more f k, ← so_far, same) refl

@@ -2,5 +2,6 @@ pub mod TokenTree
 pub mod Walks
 pub mod Tokens
 pub mod Blocks
+pub mod BlockRows
 pub mod Ends
 pub mod Worked

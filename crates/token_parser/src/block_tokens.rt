@@ -63,9 +63,33 @@ fn read_more_tokens(
     }
 }
 
+/// The same, apart from the callers' loops: most blocks have no token, and the reader that is passed is
+/// copied, so that it stays in registers.
+#[inline(never)]
+fn read_rest(
+    decoder: &mut Decoder,
+    probs: &[u8; 1056],
+    kind: usize,
+    first: usize,
+    flags: usize,
+    coefficients: &mut [i16; 16],
+) -> usize
+    requires kind { kind < 4 }
+    requires first { first < 16 }
+    requires context { flags < 3 }
+    ensures value { tokens_from (16 - first) probs.now kind first flags true coefficients.old decoder.old ≡ ((coefficients.new, result), decoder.new) }
+    ensures least { first ≤ result }
+    ensures most { result ≤ 16 }
+{
+    let mut reader = decoder.copied();
+    let end = read_more_tokens(&mut reader, probs, kind, first, flags, coefficients);
+    *decoder = reader;
+    end
+}
+
 /// The coefficients of a block starting at the index `first`, and the index after its last token
 /// (eob). Others are unchanged.
-#[inline]
+#[inline(always)]
 pub(crate) fn read_tokens(
     reader: &mut Decoder,
     probs: &[u8; 1056],
@@ -82,7 +106,10 @@ pub(crate) fn read_tokens(
     ensures most { result ≤ 16 }
 {
     if reader.bit(nodes_at(probs, kind, first, flags)[0]) {
-        read_more_tokens(reader, probs, kind, first, flags, coefficients)
+        let mut local = reader.copied();
+        let end = read_rest(&mut local, probs, kind, first, flags, coefficients);
+        *reader = local;
+        end
     } else {
         first
     }

@@ -1,38 +1,23 @@
 //! The blocks of a macroblock, in the order of their tokens.
 
 ghost use Rattle.std.specs.Prelude.{◌≡◌, ◌<◌};
-ghost use Rattle.token_parser.specs.Blocks.{place_of, IsInside, block, macroblock, no_flags, skipped, no_tokens, cleared, first_position, has_tokens};
+ghost use Rattle.bool_coder.specs.Reader.{Reader};
+ghost use Rattle.token_parser.specs.Blocks.{IsInside, block, first_blocks, macroblock, no_flags, skipped, no_tokens, cleared, first_position, has_tokens};
+ghost use Rattle.token_parser.specs.BlockRows.{IsRowInside, luma_row, row};
 
 use crate::block_position::BlockPosition;
 use crate::block_tokens::read_tokens;
 use crate::tokens::Tokens;
 use bool_coder::Decoder;
 
-/// The numbers of the blocks in the order of their tokens: Y2, 16 of luma, 4 of U, 4 of V (RFC 6386,
-/// section 13).
-const INDICES: [u8; 25] = [
-    24, 0, 1, 2, 3, 4, 5, 6, 7, 8, 9, 10, 11, 12, 13, 14, 15, 16, 17, 18, 19, 20, 21, 22, 23,
-];
-
-/// The numbers of the flags above these blocks.
-const ABOVE: [u8; 25] = [
-    8, 0, 1, 2, 3, 0, 1, 2, 3, 0, 1, 2, 3, 0, 1, 2, 3, 4, 5, 4, 5, 6, 7, 6, 7,
-];
-
-/// The numbers of the flags to their left.
-const LEFT: [u8; 25] = [
-    8, 0, 0, 0, 0, 1, 1, 1, 1, 2, 2, 2, 2, 3, 3, 3, 3, 4, 4, 5, 5, 6, 6, 7, 7,
-];
-
-/// The kinds of these blocks: luma has kind 3 if the macroblock has no Y2, and 0 after it.
-const KINDS: [[u8; 25]; 2] = [
-    [
-        1, 3, 3, 3, 3, 3, 3, 3, 3, 3, 3, 3, 3, 3, 3, 3, 3, 2, 2, 2, 2, 2, 2, 2, 2,
-    ],
-    [
-        1, 0, 0, 0, 0, 0, 0, 0, 0, 0, 0, 0, 0, 0, 0, 0, 0, 2, 2, 2, 2, 2, 2, 2, 2,
-    ],
-];
+/// The block Y2, whose tokens come first.
+const Y2: BlockPosition = BlockPosition {
+    kind: 1,
+    first: 0,
+    index: 24,
+    above: 8,
+    left: 8,
+};
 
 impl Tokens {
     /// No block has a token or a coefficient: the state at the start of a frame.
@@ -63,7 +48,7 @@ impl Tokens {
     {
         let mut found = false;
         for k in 0..25usize {
-            found = found || usize::from(self.ends[k]) > first_position(has_y2, k);
+            found |= usize::from(self.ends[k]) > first_position(has_y2, k);
         }
         found
     }
@@ -77,25 +62,8 @@ fn first_position(has_y2: bool, index: usize) -> usize
     if has_y2 && index < 16 { 1 } else { 0 }
 }
 
-/// The position of the block whose tokens follow those of `k` others.
-#[inline]
-fn place_of(has_y2: bool, k: usize) -> BlockPosition
-    requires { k < 25 }
-    ensures value { result ≡ place_of has_y2 k }
-    ensures inside { IsInside result }
-{
-    let kind = KINDS[has_y2 as usize][k] as usize;
-    BlockPosition {
-        kind,
-        first: (kind == 0) as usize,
-        index: INDICES[k] as usize,
-        above: ABOVE[k] as usize,
-        left: LEFT[k] as usize,
-    }
-}
-
 /// One block.
-#[inline]
+#[inline(always)]
 #[tactic(auto, unfolding(crate::specs::Blocks::block))]
 fn read_block(reader: &mut Decoder, probs: &[u8; 1056], at: BlockPosition, tokens: &mut Tokens)
     requires { IsInside at }
@@ -108,6 +76,70 @@ fn read_block(reader: &mut Decoder, probs: &[u8; 1056], at: BlockPosition, token
     tokens.above[at.above] = has_token;
     tokens.left[at.left] = has_token;
     tokens.ends[at.index] = end as u8;
+}
+
+/// Blocks next to each other, from left to right, starting with the one at a position.
+#[inline(always)]
+fn read_row(
+    reader: &mut Decoder,
+    probs: &[u8; 1056],
+    at: BlockPosition,
+    count: usize,
+    tokens: &mut Tokens,
+)
+    requires { IsRowInside count at }
+    ensures { row count probs.now at tokens.old reader.old ≡ (tokens.new, reader.new) }
+{
+    for n in 0..count {
+        let here = BlockPosition {
+            index: at.index + n,
+            above: at.above + n,
+            ..at
+        };
+        read_block(reader, probs, here, tokens);
+    }
+}
+
+/// The first block of a row of luma.
+#[inline(always)]
+fn luma_row(has_y2: bool, y: usize) -> BlockPosition
+    requires { y < 4 }
+    ensures { result ≡ luma_row has_y2 y }
+{
+    BlockPosition {
+        kind: if has_y2 { 0 } else { 3 },
+        first: has_y2 as usize,
+        index: 4 * y,
+        above: 0,
+        left: y,
+    }
+}
+
+/// The 16 blocks of luma, which follow Y2.
+#[inline(always)]
+fn read_luma(reader: &mut Decoder, probs: &[u8; 1056], has_y2: bool, tokens: &mut Tokens)
+    ensures { (before : Tokens) (r : Reader) → first_blocks 1 probs.now has_y2 before r ≡ (tokens.old, reader.old) → first_blocks 17 probs.now has_y2 before r ≡ (tokens.new, reader.new) }
+{
+    for y in 0..4usize {
+        read_row(reader, probs, luma_row(has_y2, y), 4, tokens);
+    }
+}
+
+/// The 4 blocks of U and the 4 of V, which follow luma.
+#[inline(always)]
+fn read_chroma(reader: &mut Decoder, probs: &[u8; 1056], has_y2: bool, tokens: &mut Tokens)
+    ensures { (before : Tokens) (r : Reader) → first_blocks 17 probs.now has_y2 before r ≡ (tokens.old, reader.old) → first_blocks 25 probs.now has_y2 before r ≡ (tokens.new, reader.new) }
+{
+    for y in 0..4usize {
+        let at = BlockPosition {
+            kind: 2,
+            first: 0,
+            index: 16 + 2 * y,
+            above: 4 + y / 2 * 2,
+            left: 4 + y,
+        };
+        read_row(reader, probs, at, 2, tokens);
+    }
 }
 
 /// Reads the tokens of a macroblock: of Y2 if it has one, of 16 blocks of luma, 4 of U and 4 of V
@@ -126,9 +158,11 @@ pub fn read_macroblock(
     ensures { macroblock probabilities.now has_y2 tokens.old decoder.old ≡ (tokens.new, decoder.new) }
 {
     let mut reader = decoder.copied();
-    for k in usize::from(!has_y2)..25 {
-        read_block(&mut reader, probabilities, place_of(has_y2, k), tokens);
+    if has_y2 {
+        read_block(&mut reader, probabilities, Y2, tokens);
     }
+    read_luma(&mut reader, probabilities, has_y2, tokens);
+    read_chroma(&mut reader, probabilities, has_y2, tokens);
     *decoder = reader;
 }
 

@@ -64,3 +64,7 @@ inverse_wht_at coefficients column row =
 -- all sixteen, in raster order: the first coefficients of a macroblock's luma blocks
 abbrev pub inverse_wht : List ℤ → List ℤ
 inverse_wht coefficients = map (λ k. inverse_wht_at coefficients (k % 4) (k / 4)) (range_with_len 0 16)
+
+-- each of the sixteen, if only the first coefficient is not 0
+unfoldable pub wht_alone : ℤ → ℤ
+wht_alone first = int_shr (first +ℤ pos 3) 3

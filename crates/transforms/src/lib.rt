@@ -13,4 +13,4 @@ pub use dct::{dct_add, dct_add_first};
 pub use factor_set::Factors;
 pub use firsts::{dct_add_four_firsts, dct_add_two_firsts};
 pub use quantisation::{dequantise, dequantise_others, factors};
-pub use walsh::wht;
+pub use walsh::{wht, wht_first};

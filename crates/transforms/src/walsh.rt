@@ -1,8 +1,8 @@
 //! The inverse WHT of a block, four of its columns or rows at a time (RFC 6386, section 14.3).
 
-ghost use Rattle.std.specs.Prelude.{◌≡◌, map};
+ghost use Rattle.std.specs.Prelude.{◌≡◌, ◌∷◌, map, pos, replicate};
 ghost use Rattle.std.specs.List.{range_with_len};
-ghost use Rattle.transforms.specs.Transforms.{wht_column, inverse_wht};
+ghost use Rattle.transforms.specs.Transforms.{wht_alone, wht_column, inverse_wht};
 
 use std::simd::prelude::*;
 use std::simd::{i16x4, i32x4};
@@ -57,4 +57,22 @@ pub fn wht(coefficients: &[i16; 16]) -> [i16; 16]
         row2[0], row2[1], row2[2], row2[3], //
         row3[0], row3[1], row3[2], row3[3],
     ]
+}
+
+/// Each result of the inverse WHT of a block that has only a first coefficient.
+#[inline(always)]
+#[tactic(auto, unfolding(crate::specs::Transforms::wht_alone))]
+fn alone(first: i16) -> i16
+    ensures { result ≡ wht_alone first }
+{
+    ((i32::from(first) + 3) >> 3) as i16
+}
+
+/// The same as `wht` for coefficients that are 0 except for the first, which is `first`: all results are
+/// equal (RFC 6386, section 14.3).
+#[inline]
+pub fn wht_first(first: i16) -> [i16; 16]
+    ensures { result ≡ inverse_wht (first ∷ replicate 15 (pos 0)) }
+{
+    [alone(first); 16]
 }

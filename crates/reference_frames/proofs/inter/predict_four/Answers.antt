@@ -1,4 +1,4 @@
-use Rattle.std.proofs.Common.{ℕ, ◌+◌, ◌*◌, arith}
+use Rattle.std.proofs.Common.{ℕ, ◌+◌, arith}
 use Rattle.reference_frames.proofs.Placed.{placed_as, four_placed}
 use Rattle.reference_frames.proofs.Squares.{rows_room}
 use Rattle.reference_frames.proofs.inter.predict_four.Goals as goal

@@ -15,10 +15,10 @@ returns c = λ k within.
     elim (cases_lt k 16) [
       | inl luma ↦ elim c.if-has_y2.branch [
         | then-has_y2 w ↦
-            let long : length w.y2_results-results.result ≡ 16 = sym (ap (λ (xs : List ℤ). length xs) w.copy_from_slice.ensures.after) ∙ w.copy_from_slice.ensures.len in
+            let long : length w.y2_results_by-results.result ≡ 16 = sym (ap (λ (xs : List ℤ). length xs) w.copy_from_slice.ensures.after) ∙ w.copy_from_slice.ensures.len in
             c.write_firsts-2.ensures.before k luma
-            ∙ rw (w.firsts-is, w.copy_from_slice.ensures.after, w.if-has_y2.true) (get_or_append_left w.y2_results-results.result _ (pos 0) k (omega (arith, long)) ∙ rw w.y2_results-results.ensures (luma_given c.args.factors (y2_results c.args.factors (slice_index_or c.args.coefficients.now 24 [])) c.args.coefficients.now k luma))
-        | else-has_y2 w ↦ c.write_firsts-2.ensures.before k luma ∙ rw (w.firsts-is, w.if-has_y2.false) (let own = simp to_z-of_z at w.write_firsts.ensures.inside in own k (omega arith) luma ∙ luma_own c.args.factors c.args.coefficients.now k luma)
+            ∙ rw (w.firsts-is, w.copy_from_slice.ensures.after, w.if-has_y2.true) (get_or_append_left w.y2_results_by-results.result _ (pos 0) k (omega (arith, long)) ∙ rw w.y2_results_by-results.ensures (luma_given c.args.factors (y2_results c.args.factors (slice_index_or c.args.tokens.now.coefficients 24 [])) c.args.tokens.now.coefficients k luma))
+        | else-has_y2 w ↦ c.write_firsts-2.ensures.before k luma ∙ rw (w.firsts-is, w.if-has_y2.false) (let own = simp to_z-of_z at w.write_firsts.ensures.inside in own k (omega arith) luma ∙ luma_own c.args.factors c.args.tokens.now.coefficients k luma)
       ]
-      | inr chroma ↦ chroma_is k chroma within ∙ chroma_own c.args.factors (firsts_of c.args.factors c.args.has_y2 c.args.coefficients.now) c.args.coefficients.now k chroma
+      | inr chroma ↦ chroma_is k chroma within ∙ chroma_own c.args.factors (firsts_of c.args.factors c.args.has_y2 c.args.tokens.now.coefficients) c.args.tokens.now.coefficients k chroma
     ]

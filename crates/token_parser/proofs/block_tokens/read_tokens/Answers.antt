@@ -4,7 +4,7 @@ use Rattle.token_parser.proofs.block_tokens.read_tokens.Goals as goal
 
 pub returns-then-bit-clause-value : goal.returns-then-bit-clause-value
 returns-then-bit-clause-value c =
-    more-step _ _ _ _ _ _ _ _ _ c.nodes_at.ensures.value c.requires.first c.bit.ensures c.if-bit.true ∙ c.read_more_tokens.ensures.value
+    more-step _ _ _ _ _ _ _ _ _ c.nodes_at.ensures.value c.requires.first c.bit.ensures c.if-bit.true ∙ rw c.copied-local.ensures at c.read_rest-end.ensures.value
 
 pub returns-else-bit-clause-value : goal.returns-else-bit-clause-value
 returns-else-bit-clause-value c =

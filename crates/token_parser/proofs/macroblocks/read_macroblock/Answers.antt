@@ -1,15 +1,9 @@
-use Rattle.std.proofs.Common.{◌≡◌, arith}
-use Rattle.token_parser.proofs.BlockSteps.{first_blocks-start, first_read-small, is_read, first_blocks-more}
+use Rattle.token_parser.proofs.BlockSteps.{first_blocks-none, first_blocks-y2}
 use Rattle.token_parser.proofs.macroblocks.read_macroblock.Goals as goal
-
-pub loop-k-init : goal.loop-k-init
-loop-k-init c = rw (c.from-k.ensures, c.copied-reader.ensures) (first_blocks-start _ _ _ _)
-
-pub loop-k-preserved : goal.loop-k-preserved
-loop-k-preserved c =
-    first_blocks-more _ _ _ _ _ _ _ _ _ c.loop-k.invariant (is_read c.args.has_y2 c.loop-k.k (rw c.from-k.ensures at c.loop-k.auto.k)) (rw c.place_of.ensures.value at c.read_block.ensures)
+use Rattle.token_parser.proofs.macroblocks.read_macroblock.Goals.{then-has_y2, else-has_y2}
 
 pub returns : goal.returns
-returns c =
-    let all : c.loop-k.k ≡ 25 = omega (arith, c.loop-k.auto.k-end (rw c.from-k.ensures (first_read-small c.args.has_y2))) in
-    rw all at c.loop-k.invariant
+returns c = c.read_chroma.ensures _ _ (c.read_luma.ensures _ _ (elim c.if-has_y2.branch [
+  | then-has_y2 w ↦ rw (w.if-has_y2.true, ← c.copied-reader.ensures, w.tokens-is, w.reader-is) (first_blocks-y2 _ _ _ _ _ w.read_block.ensures)
+  | else-has_y2 w ↦ rw (w.if-has_y2.false, ← c.copied-reader.ensures, w.tokens-is, w.reader-is) (first_blocks-none _ _ _)
+]))
