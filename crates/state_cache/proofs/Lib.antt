@@ -28,4 +28,5 @@ pub mod WalkSteps
 pub mod WalkSettled
 pub mod Decided
 pub mod Evicted
+pub mod Least
 pub mod Victims

@@ -5,7 +5,7 @@ use Rattle.packet_edits.specs.FlagCounts.{flag_at}
 use Rattle.packet_edits.specs.Sizes.{key_tag_at}
 use Rattle.packet_edits.specs.declared.entry.Entry.{Entry}
 use Rattle.state_cache.specs.declared.outcomes.Kept.{Kept}
-use Rattle.state_cache.specs.Evictions.{outcome_before, outcome_from}
+use Rattle.state_cache.specs.ProofsOnly.{outcome_before, outcome_from}
 use Rattle.state_cache.specs.Reaching.{state_cached_before, state_from}
 use Rattle.state_cache.specs.Views.{MarkedPacket, View, key_at, cached_at, marked_packet, marked_packets_of, mark_at}
 use Rattle.state_cache.proofs.Marked.{bytes_seens}

@@ -1,5 +1,6 @@
 -- For proofs only: what the contracts of private functions cite. No public contract depends on this file.
-use Rattle.std.specs.Prelude.{◌≡◌, ℕ, ◌+◌, ◌<◌, ◌≤◌, ◌⊎◌, true, false, List, ◌∷◌, length, slice_get, Option, Some, None, IsSome, Result, Ok, Err}
+use Rattle.std.specs.Prelude.{◌≡◌, ℕ, zero, suc, ◌+◌, ◌<◌, ◌≤◌, ◌⊎◌, true, false, cond, List, ◌∷◌, length, slice_get, Option, Some, None, IsSome, Result, Ok, Err}
+use Rattle.std.specs.Map.{lookup}
 use Rattle.vp8_tables.specs.Tables.{TableEntries}
 use Rattle.frame_header.specs.declared.cause.Cause.{Cause}
 use Rattle.pixel_planes.specs.Pictures.{PictureSamples}
@@ -9,17 +10,32 @@ use Rattle.packet_edits.specs.Edits.{Listing}
 use Rattle.packet_edits.specs.Marks.{StoreValue}
 use Rattle.packet_edits.specs.Shown.{stream_of}
 use Rattle.state_cache.specs.declared.outcomes.Kept.{Kept}
+use Rattle.state_cache.specs.declared.outcomes.PacketKey.{PacketKey}
 use Rattle.state_cache.specs.declared.outcomes.ReachFault.{ReachFault}
 use Rattle.state_cache.specs.declared.outcomes.ReachFault.TheVariants.{Refused, NoMemory}
 use Rattle.state_cache.specs.Costs.{AreUnsettled, HasRoom, IsIdOf, IsOneRun, IsSettled}
 use Rattle.state_cache.specs.Decoding.{outcomes}
 use Rattle.state_cache.specs.Reaching.{CacheValue, IsNext, state_from, view_of}
-use Rattle.state_cache.specs.Views.{MarkedPacket, View, cached_at, marked_packets, outcome_at, step_result}
+use Rattle.state_cache.specs.Views.{MarkedPacket, View, cached_at, key_at, marked_packets, outcome_at, same_key, step_result}
 
 -- the index after the one that was found, or another one
 abbrev pub next_of : Option ℕ → ℕ → ℕ
 next_of (Some found) place = found + 1
 next_of None place = place
+
+-- the outcome from whose state the packet at an index is stepped: none if it has a key tag or index 0
+abbrev pub outcome_before : List MarkedPacket → View → ℕ → Option Kept
+outcome_before packets kept zero = None
+outcome_before packets kept (suc before) = outcome_at packets kept before
+
+abbrev pub outcome_from : List MarkedPacket → View → ℕ → Option Kept
+outcome_from packets kept place = cond (key_at packets place) None (outcome_before packets kept place)
+
+-- the entries without the one at an index, in some order, or all
+abbrev pub IsWithout : Option ℕ → List (PacketKey × Kept) → List (PacketKey × Kept) → Type 0
+IsWithout None before after = after ≡ before
+IsWithout (Some index) before after =
+    (entry : PacketKey × Kept) × (slice_get before index ≡ Some entry) × ((key : PacketKey) → lookup (same_key key) after ≡ cond (same_key entry.0 key) None (lookup (same_key key) before)) × (length after + 1 ≡ length before)
 
 -- the answer of a step at an index: its good outcome, its cause with that index, or that there was no memory
 abbrev pub AnswersAt : ℕ → Result (State × PictureSamples) Cause → Result Kept ReachFault → Type 0

@@ -1,49 +1,50 @@
-ghost use Rattle.std.specs.Prelude.{◌≡◌, ◌+◌, ◌-◌, ◌^◌, ◌<◌, ◌≤◌, ◌&&◌, ℕ, [], cond, length, nat_eq, not, IfErr, IfOk, IfSome, IsSome, None, OnErr, OnOk, Result, Some, false, is_ok, is_some, min, option_copied, option_map, true};
+ghost use Rattle.std.specs.Prelude.{◌≡◌, ◌+◌, ◌-◌, ◌^◌, ◌<◌, ◌≤◌, ◌&&◌, ℕ, [], cond, length, nat_eq, not, IfErr, IfOk, IfSome, IsSome, None, OnErr, OnOk, Result, Some, false, is_ok, is_some, min, option_copied, option_map, true, vec_len};
 ghost use Rattle.std.specs.Map.{lookup};
-ghost use Rattle.lru.specs.LruCache.{IsValid, lru_cache};
 ghost use Rattle.frame_header.specs.declared.cause.Cause.{Cause};
 ghost use Rattle.packet_edits.specs.Nearest.{IsLast};
 ghost use Rattle.pixel_planes.specs.Pictures.{PictureSamples};
 ghost use Rattle.reference_frames.specs.Steps.{StepAnswers};
 ghost use Rattle.reference_frames.specs.States.{StateValue};
 ghost use Rattle.state_cache.specs.Costs.{Costs, most_steps};
-ghost use Rattle.state_cache.specs.Evictions.{Evicts, IsVictim, outcome_from, steps_from, without};
+ghost use Rattle.state_cache.specs.Evictions.{Evicts};
 ghost use Rattle.state_cache.specs.Reaching.{Begins, IsNext, Converged, OthersDrop, OthersStay, Reaches, passed_marks, view_of};
-ghost use Rattle.state_cache.specs.ProofsOnly.{next_of, Advances, IsAfterCached, AnswersAt, CachedAnswers, IterationAnswers, Reports};
+ghost use Rattle.state_cache.specs.ProofsOnly.{next_of, outcome_from, Advances, IsAfterCached, IsWithout, AnswersAt, CachedAnswers, IterationAnswers, Reports};
 ghost use Rattle.state_cache.specs.Walks.{IsPut, IsIteration, IsWalk, IsWalkStep, ConvergesWithSame, entries_with};
 ghost use Rattle.state_cache.specs.Views.{Drops, IsCoherent, is_usable, cached_at, cached_in, key_at, marked_packets, same_key, with_cached, mark_at};
 
 use crate::counted_steps::{StepCount, decode_counted};
 use crate::outcomes::{Broken, Kept, PacketKey, ReachFault};
+use crate::savings::Savings;
 use frame_header::has_key_tag;
-use lru::LruCache;
+use indexmap::IndexMap;
 use packet_edits::Store;
 use pixel_planes::{NoMemory, Picture, Recycled};
 use reference_frames::{State, StepFault, same_state};
 use std::alloc::Global;
 use std::marker::Model;
-use std::num::NonZeroUsize;
 use vp8_tables::Tables;
 
 /// Good outcomes of packets, cached by source and id, and the number of steps made.
 #[derive(Drop)]
 pub struct Cache {
     alloc: Global,
-    kept: LruCache<PacketKey, Kept>,
+    capacity: usize,
+    kept: IndexMap<PacketKey, Kept>,
+    savings: Savings,
     steps: StepCount,
     // The planes of an outcome that was dropped, for the next step.
     recycled: Recycled,
 }
 
 impl Model for Cache {
-    ghost use Rattle.std.specs.Prelude.{◌+◌, ◌-◌, ◌<◌, ◌≤◌, length};
+    ghost use Rattle.std.specs.Prelude.{◌<◌, ◌≤◌, length, vec_len};
     ghost use Rattle.state_cache.specs.Reaching.{CacheValue};
 
     ghost Value = { CacheValue };
 
-    ghost view = { λ c. record { entries = c.kept.entries; capacity = c.kept.cap - 1; decoded = c.steps } };
+    ghost view = { λ c. record { entries = c.kept.entries; capacity = c.capacity; decoded = c.steps } };
 
-    ghost invariant = { λ c. (length c.kept.entries < c.kept.cap) × (1 < c.kept.cap) };
+    ghost invariant = { λ c. (length c.kept.entries ≤ c.capacity) × (0 < c.capacity) × (c.capacity < vec_len c.savings.list) };
 }
 
 impl Cache {
@@ -54,19 +55,18 @@ impl Cache {
         requires { (1 ≤ capacity) × (capacity ≤ 4096) }
         ensures { IfOk result (λ cache. cache ≡ record { entries = []; capacity = capacity; decoded = 0 }) }
     {
-        // One more, so that an outcome is dropped only after another was inserted.
-        let Some(most) = NonZeroUsize::new(capacity as usize + 1) else {
-            return Err(NoMemory);
-        };
-        match LruCache::new(alloc, most) {
-            Ok(kept) => Ok(Cache {
-                alloc,
-                kept,
-                steps: StepCount::new(),
-                recycled: Recycled::new(),
-            }),
-            Err(_) => Err(NoMemory),
-        }
+        let capacity = capacity as usize;
+        // One more, since an outcome is dropped only after another was inserted.
+        let kept = IndexMap::with_capacity(alloc, capacity + 1)?;
+        let savings = Savings::new(alloc, capacity + 1)?;
+        Ok(Cache {
+            alloc,
+            capacity,
+            kept,
+            savings,
+            steps: StepCount::new(),
+            recycled: Recycled::new(),
+        })
     }
 
     /// The number of decoding steps made, refused ones included; at most
@@ -84,7 +84,6 @@ impl Cache {
         ensures bounded { length self.now.entries ≤ self.now.capacity }
         ensures most { self.now.decoded ≤ most_steps }
     {
-        prove_valid(&self.kept);
         let _most = self.steps.made();
     }
 
@@ -128,17 +127,19 @@ impl Cache {
         self.answer(source, store, place)
     }
 
-    /// The cached outcome of the packet at `place`, which is usable.
-    fn answer(&self, source: usize, store: &Store, place: usize) -> Result<Kept, ReachFault>
-        requires place { place < length store.now.list.entries }
-        ensures kept { CachedAnswers (marked_packets store.now) (view_of source self.now) place result }
-        ensures bounded { length self.now.entries ≤ self.now.capacity }
+    /// The cached outcome of the packet at `place`, which is usable. It counts as used.
+    fn answer(&mut self, source: usize, store: &Store, place: usize) -> Result<Kept, ReachFault>
+        requires { place < length store.now.list.entries }
+        ensures kept { CachedAnswers (marked_packets store.now) (view_of source self.old) place result }
+        ensures bounded { length self.old.entries ≤ self.old.capacity }
+        ensures same { self.new ≡ self.old }
     {
         self.prove_few();
         let id = store.id(place);
-        let Some(kept) = self.kept.peek(&PacketKey { source, id }) else {
+        let Some((index, _, kept)) = self.kept.get_full(&PacketKey { source, id }) else {
             return Err(ReachFault::NoMemory);
         };
+        self.savings.touch(index);
         match kept.again() {
             Ok(kept) => Ok(kept),
             Err(_) => Err(ReachFault::NoMemory),
@@ -213,7 +214,8 @@ impl Cache {
         };
         let is_cut = is_cut(store, place);
         let id = store.id(place);
-        let Ok(has_converged) = self.keep(PacketKey { source, id }, new) else {
+        let from = index_before(&self.kept, source, store, place);
+        let Ok(has_converged) = self.keep(PacketKey { source, id }, new, from) else {
             return Err(ReachFault::NoMemory);
         };
         Ok(pass_mark(store, place, is_cut, has_converged))
@@ -243,7 +245,6 @@ impl Cache {
     ) -> Result<Kept, ReachFault>
         requires { place < length store.now.list.entries }
         ensures gives { IterationAnswers tables.now (marked_packets store.now) (view_of source self.old) place result }
-        ensures distance { IfOk result (λ kept. kept.steps ≡ steps_from (outcome_from (marked_packets store.now) (view_of source self.old) place)) }
         ensures counted { self.new ≡ record self.old { decoded = min (self.old.decoded + 1) most_steps } }
     {
         let before = outcome_before(&self.kept, source, store, place);
@@ -251,12 +252,13 @@ impl Cache {
         let packet = store.packet(place);
         let recycled = &mut self.recycled;
         let answer = decode_counted(&mut self.steps, self.alloc, tables, recycled, state, packet);
-        outcome_of_step(place, steps_after(before), answer)
+        outcome_of_step(place, answer)
     }
 
-    /// Caches an outcome; if the cache is full, it then drops the victim. Returns whether an outcome
-    /// with the same state was cached for this key. If memory is refused, nothing changes.
-    fn keep(&mut self, key: PacketKey, new: Kept) -> Result<bool, NoMemory>
+    /// Caches an outcome, stepped from the one at the index `from`, if there is one; if the cache is
+    /// full, it then drops the victim. Returns whether an outcome with the same state was cached for
+    /// this key. If memory is refused, no outcome changes.
+    fn keep(&mut self, key: PacketKey, new: Kept, from: Option<usize>) -> Result<bool, NoMemory>
         ensures drops { OnOk result ((q : ℕ) → Drops (view_of key.source self.new q) (with_cached (view_of key.source self.old) key.id new q)) }
         ensures others { OnOk result (OthersDrop key.source self.old self.new) }
         ensures kept { OnOk result (view_of key.source self.new key.id ≡ Some new) }
@@ -268,12 +270,13 @@ impl Cache {
         ensures same { OnErr result (self.new ≡ self.old) }
         ensures rest { (self.new.capacity ≡ self.old.capacity) × (self.new.decoded ≡ self.old.decoded) }
     {
-        prove_valid(&self.kept);
         let has_converged = self.converges(key, &new);
-        let victim = victim_of(&self.kept, key);
-        match self.kept.put(key, new) {
-            Ok(replaced) => {
-                let evicted = evict(&mut self.kept, victim);
+        self.savings.touch_any(from);
+        let victim = victim_of(&self.savings, &self.kept, self.capacity, key);
+        match self.kept.insert_full(key, new) {
+            Ok((index, replaced)) => {
+                self.savings.cached(index, from);
+                let evicted = evict(&mut self.savings, &mut self.kept, victim);
                 drop_into(replaced, &mut self.recycled);
                 drop_into(evicted, &mut self.recycled);
                 Ok(has_converged)
@@ -287,7 +290,7 @@ impl Cache {
         ensures converged { Converged result (view_of key.source self.now key.id) new.now }
         ensures converges_with_same { ConvergesWithSame result (view_of key.source self.now key.id) new.now }
     {
-        match self.kept.peek(&key) {
+        match self.kept.get(&key) {
             Some(old) => same_state(&old.state, &new.state),
             None => false,
         }
@@ -301,8 +304,7 @@ impl Cache {
         ensures bounded { length self.new.entries ≤ self.new.capacity }
         ensures rest { (self.new.capacity ≡ self.old.capacity) × (self.new.decoded ≡ self.old.decoded) }
     {
-        prove_valid(&self.kept);
-        let dropped = self.kept.pop(&PacketKey { source, id });
+        let dropped = remove(&mut self.savings, &mut self.kept, PacketKey { source, id });
         drop_into(dropped, &mut self.recycled);
     }
 
@@ -312,7 +314,7 @@ impl Cache {
         ensures { result ≡ cached_at (marked_packets store.now) (view_of source self.now) place }
     {
         let id = store.id(place);
-        self.kept.contains(&PacketKey { source, id })
+        self.kept.contains_key(&PacketKey { source, id })
     }
 
     /// The last index from `from` up to `end` at which an outcome is cached, or `None`.
@@ -347,71 +349,54 @@ impl Cache {
     }
 }
 
-/// Does nothing. Its contract: a map has no key twice and no more outcomes than its capacity, which
-/// is not 0.
-fn prove_valid(kept: &LruCache<PacketKey, Kept>)
-    ensures { IsValid same_key kept.now }
-{
-    let _few = kept.len();
-}
-
-/// Whether a key is not cached and the cache is full; `cap` of the table is 1 more than the
-/// capacity.
-fn needs_victim(kept: &LruCache<PacketKey, Kept>, key: PacketKey) -> bool
-    requires { length kept.now.entries < kept.now.cap }
-    ensures { result ≡ (not (is_some (lookup (same_key key) kept.now.entries)) && nat_eq (length kept.now.entries + 1) kept.now.cap) }
-{
-    !kept.contains(&key) && kept.len() + 1 == kept.cap().get()
-}
-
-/// The key of the outcome to drop once another is inserted for `key`: none if an outcome is cached
+/// The index of the outcome to drop once another is inserted for `key`: none if an outcome is cached
 /// for `key`, or there is room.
-fn victim_of(kept: &LruCache<PacketKey, Kept>, key: PacketKey) -> Option<PacketKey>
-    requires few { length kept.now.entries < kept.now.cap }
-    requires some { 1 < kept.now.cap }
-    ensures { Evicts kept.now.entries (kept.now.cap - 1) key result }
+fn victim_of(
+    savings: &Savings,
+    kept: &IndexMap<PacketKey, Kept>,
+    capacity: usize,
+    key: PacketKey,
+) -> Option<usize>
+    requires few { length kept.now.entries ≤ capacity }
+    requires some { 0 < capacity }
+    requires savings { capacity < vec_len savings.now.list }
+    ensures { Evicts savings.now kept.now.entries capacity key result }
 {
-    if needs_victim(kept, key) {
-        least_ranked(kept)
-    } else {
-        None
+    if kept.contains_key(&key) || kept.len() < capacity {
+        return None;
     }
+    savings.least(kept.len())
 }
 
-/// The key of the lowest rank in the older half of the outcomes, the oldest among equals; none if
-/// there are no outcomes.
-fn least_ranked(kept: &LruCache<PacketKey, Kept>) -> Option<PacketKey>
-    ensures victim { IfSome result (IsVictim kept.now.entries) }
-    ensures some { 0 < length kept.now.entries → IsSome result }
+/// Removes the outcome at the index of the victim, if there is one to drop, and returns it.
+fn evict(
+    savings: &mut Savings,
+    kept: &mut IndexMap<PacketKey, Kept>,
+    victim: Option<usize>,
+) -> Option<Kept>
+    requires { IfSome victim (λ index. index < length kept.old.entries) }
+    ensures without { IsWithout victim kept.old.entries kept.new.entries }
+    ensures savings { vec_len savings.new.list ≡ vec_len savings.old.list }
 {
-    let len = kept.len();
-    let mut rest = kept.iter();
-    let (oldest, outcome) = rest.next_back()?;
-    let mut victim = *oldest;
-    let mut least = outcome.rank();
-    let mut at = len - 1;
-    while at > len / 2 {
-        let (key, outcome) = rest.next_back()?;
-        at -= 1;
-        let rank = outcome.rank();
-        if rank < least {
-            victim = *key;
-            least = rank;
-        }
-    }
-    Some(victim)
+    let victim = victim?;
+    let (_, outcome) = kept.swap_remove_index(victim)?;
+    savings.swap_remove(victim, kept.len());
+    Some(outcome)
 }
 
-/// Removes the outcome of `victim`, if there is one to drop, and returns it.
-fn evict(kept: &mut LruCache<PacketKey, Kept>, victim: Option<PacketKey>) -> Option<Kept>
-    ensures valid { IsValid same_key kept.old }
-    ensures entries { kept.new ≡ lru_cache (without victim kept.old.entries) kept.old.cap }
+/// Removes the outcome cached for a key, if there is one, and returns it.
+fn remove(
+    savings: &mut Savings,
+    kept: &mut IndexMap<PacketKey, Kept>,
+    key: PacketKey,
+) -> Option<Kept>
+    ensures without { (other : PacketKey) → lookup (same_key other) kept.new.entries ≡ cond (same_key key other) None (lookup (same_key other) kept.old.entries) }
+    ensures fewer { length kept.new.entries ≤ length kept.old.entries }
+    ensures savings { vec_len savings.new.list ≡ vec_len savings.old.list }
 {
-    prove_valid(kept);
-    match victim {
-        Some(victim) => kept.pop(&victim),
-        None => None,
-    }
+    let (index, _, outcome) = kept.swap_remove_full(&key)?;
+    savings.swap_remove(index, kept.len());
+    Some(outcome)
 }
 
 /// Drops an outcome, if there is one. Planes that nothing else shares become the recycled ones.
@@ -421,22 +406,15 @@ fn drop_into(outcome: Option<Kept>, recycled: &mut Recycled) {
     }
 }
 
-/// The answer of the step at `place` as an outcome of its packet, this number of steps from a key
-/// packet.
+/// The answer of the step at `place` as an outcome of its packet.
 fn outcome_of_step(
     place: usize,
-    steps: u32,
     answer: Result<(State, Picture), StepFault>,
 ) -> Result<Kept, ReachFault>
-    ensures answers { (want : Result (StateValue × PictureSamples) Cause) → StepAnswers want answer → AnswersAt place want result }
-    ensures distance { IfOk result (λ kept. kept.steps ≡ steps) }
+    ensures { (want : Result (StateValue × PictureSamples) Cause) → StepAnswers want answer → AnswersAt place want result }
 {
     match answer {
-        Ok((state, picture)) => Ok(Kept {
-            state,
-            picture,
-            steps,
-        }),
+        Ok((state, picture)) => Ok(Kept { state, picture }),
         Err(StepFault::Refused(cause)) => Err(ReachFault::Refused(Broken { place, cause })),
         Err(StepFault::NoMemory) => Err(ReachFault::NoMemory),
     }
@@ -452,19 +430,9 @@ fn state_of(outcome: Option<&Kept>) -> Option<&State>
     }
 }
 
-/// The number of steps from a key packet to an outcome stepped from this one.
-fn steps_after(outcome: Option<&Kept>) -> u32
-    ensures { result ≡ steps_from (option_copied outcome.entry) }
-{
-    match outcome {
-        Some(kept) => kept.steps.saturating_add(1),
-        None => 0,
-    }
-}
-
 /// The outcome from whose state the packet at `place` is stepped.
 fn outcome_before<'a>(
-    kept: &'a LruCache<PacketKey, Kept>,
+    kept: &'a IndexMap<PacketKey, Kept>,
     source: usize,
     store: &Store,
     place: usize,
@@ -479,7 +447,26 @@ fn outcome_before<'a>(
         return None;
     }
     let id = store.id(place - 1);
-    kept.peek(&PacketKey { source, id })
+    kept.get(&PacketKey { source, id })
+}
+
+/// The index in the map of the outcome from whose state the packet at `place` is stepped.
+fn index_before(
+    kept: &IndexMap<PacketKey, Kept>,
+    source: usize,
+    store: &Store,
+    place: usize,
+) -> Option<usize>
+    requires { place < length store.now.list.entries }
+{
+    if has_key(store, place) {
+        return None;
+    }
+    if place == 0 {
+        return None;
+    }
+    let id = store.id(place - 1);
+    kept.get_index_of(&PacketKey { source, id })
 }
 
 /// Whether the packet at `place` has a key tag.

@@ -85,8 +85,8 @@ pub fn victim_is_unique()
     ensures { VictimIsUnique }
 {}
 
-/// A cache of 8 outcomes drops packets 1, 3, 5 and 2 if packets are played in order from a key
-/// packet on.
+/// Of evenly spaced outcomes the one used longest ago is dropped, one that saves much outlives one
+/// that saves little, and of equals the first is dropped.
 pub fn worked_victims()
     ensures { WorkedVictims }
 {}

@@ -13,6 +13,7 @@ mod cache;
 mod counted_steps;
 pub mod laws;
 mod outcomes;
+mod savings;
 
 pub use cache::Cache;
 pub use outcomes::{Broken, Kept, ReachFault};

@@ -1,5 +1,4 @@
 ghost use Rattle.std.specs.Prelude.{◌≡◌, IfOk};
-ghost use Rattle.state_cache.specs.Evictions.{rank};
 ghost use Rattle.state_cache.specs.Faults.{reach_fault_word};
 
 use frame_header::Cause;
@@ -49,19 +48,9 @@ pub(crate) struct PacketKey {
 pub struct Kept {
     pub state: State,
     pub picture: Picture,
-    // The number of steps from a key packet to this outcome, 0 for the key packet's own.
-    pub(crate) steps: u32,
 }
 
 impl Kept {
-    /// How often 2 divides the number of steps; the greatest for 0. Outcomes of low rank are dropped
-    /// first, so the older ones left are evenly spaced.
-    pub(crate) fn rank(&self) -> u32
-        ensures { result ≡ rank self.now }
-    {
-        self.steps.trailing_zeros()
-    }
-
     /// Another handle to the same outcome. It shares the planes and allocates nothing. `NoMemory`
     /// if the share count of one of its parts is full.
     pub fn again(&self) -> Result<Kept, NoMemory>
@@ -70,17 +59,12 @@ impl Kept {
         Ok(Kept {
             state: self.state.again()?,
             picture: self.picture.again()?,
-            steps: self.steps,
         })
     }
 
     /// Drops the outcome. Planes that nothing else shares become the recycled ones.
     pub(crate) fn drop_into(self, recycled: &mut Recycled) {
-        let Kept {
-            state,
-            picture,
-            steps: _,
-        } = self;
+        let Kept { state, picture } = self;
         state.drop_into(recycled);
         recycled.put(picture);
     }

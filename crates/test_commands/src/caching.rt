@@ -78,7 +78,7 @@ fn ends_with<R: Abort + Files + AllocGlobal>(rt: &R, line: &str, last: &str) -> 
     for _ in 0..32 {
         requests.extend_from_slice(b"hold 1\n")?;
     }
-    requests.extend_from_slice(b"frame 32\nframe 3\nstats\nframe 1\nstats\n")?;
+    requests.extend_from_slice(b"frame 32\nframe 2\nstats\nframe 0\nstats\n")?;
     let mut replies = Vec::new(rt.alloc());
     let mut errors = Vec::new(rt.alloc());
     let mut requests = requests.as_slice();
@@ -87,11 +87,11 @@ fn ends_with<R: Abort + Files + AllocGlobal>(rt: &R, line: &str, last: &str) -> 
     Ok(replies.as_slice().ends_with(last.as_bytes()))
 }
 
-/// Without a key packet in IN the size of a picture is not known, and 32 states are cached. Frame 32 takes 33 steps: with 32 states packet 1
-/// is dropped from the cache, with 31 packet 3 too, with 33 none.
+/// Without a key packet in IN the size of a picture is not known, and 32 states are cached. Frame 32 takes 33 steps: with 32 states packet 0
+/// is dropped from the cache, with 31 packet 2 too, with 33 none.
 #[test]
 fn caches_32_states_without_a_size(rt: HostRuntime) -> Result<(), Fail> {
-    let with_32 = "ok 33\nserved 32\nserved 3\ndecoded 33\nserved 1\ndecoded 34\n";
+    let with_32 = "ok 33\nserved 32\nserved 2\ndecoded 33\nserved 0\ndecoded 34\n";
     for line in [
         "vp8serve",
         "vp8serve --cache 32",
@@ -100,9 +100,9 @@ fn caches_32_states_without_a_size(rt: HostRuntime) -> Result<(), Fail> {
     ] {
         assert!(rt; ends_with(&rt, line, with_32)?, "{line}");
     }
-    let with_31 = "ok 33\nserved 32\nserved 3\ndecoded 34\nserved 1\ndecoded 35\n";
+    let with_31 = "ok 33\nserved 32\nserved 2\ndecoded 34\nserved 0\ndecoded 35\n";
     assert!(rt; ends_with(&rt, "vp8serve --cache 31", with_31)?);
-    let with_33 = "ok 33\nserved 32\nserved 3\ndecoded 33\nserved 1\ndecoded 33\n";
+    let with_33 = "ok 33\nserved 32\nserved 2\ndecoded 33\nserved 0\ndecoded 33\n";
     assert!(rt; ends_with(&rt, "vp8serve --cache 33", with_33)?);
     Ok(())
 }

@@ -64,6 +64,33 @@ fn a_cache_of_one(rt: HostRuntime) -> Result<(), Fail> {
     Ok(())
 }
 
+// With 2 states. Each packet up to 4 drops the one two before it: 0, 1 and 2. At packet 5 the state of packet 3 saves 4 steps, 4 of packet 0
+// up to it, and is of age 3; that of packet 4 saves 1, and is of age 1, so it is dropped, and one step from packet 3 makes it again.
+#[test]
+fn a_cache_of_two(rt: HostRuntime) -> Result<(), Fail> {
+    let requests = b"frame 5\nstats\nframe 4\nstats\n";
+    let file = ivf_of(rt.alloc(), &[KEY, INTER, INTER, INTER, INTER, INTER])?;
+    let ran = run_with(rt.alloc(), 2, file.as_slice(), requests);
+    assert_eq!(rt;
+        ran.replies.as_slice(),
+        b"served 5\ndecoded 6\nserved 4\ndecoded 7\n".as_slice()
+    );
+    Ok(())
+}
+
+// With 3 states, of which each saves 1 step. Packet 0 was served again, so packet 1 was used longest ago and is dropped for packet 3.
+#[test]
+fn a_frame_served_again_stays(rt: HostRuntime) -> Result<(), Fail> {
+    let requests = b"frame 2\nframe 0\nframe 3\nframe 0\nstats\nframe 1\nstats\n";
+    let file = ivf_of(rt.alloc(), &[KEY, INTER, INTER, INTER])?;
+    let ran = run_with(rt.alloc(), 3, file.as_slice(), requests);
+    assert_eq!(rt;
+        ran.replies.as_slice(),
+        b"served 2\nserved 0\nserved 3\nserved 0\ndecoded 4\nserved 1\ndecoded 5\n".as_slice()
+    );
+    Ok(())
+}
+
 // The states meet at packet 1 and at packet 3.
 #[test]
 fn a_move(rt: HostRuntime) -> Result<(), Fail> {

@@ -6,4 +6,4 @@ use Rattle.state_cache.proofs.cache.outcome_before.Goals as goal
 pub returns : goal.returns
 returns c =
     let some : 0 < c.args.place = search (rules, arith) in
-    (c.peek.ensures ∙ outcome_told c.args.store.now.list.entries c.args.store.now.marks (cached_in c.args.kept.now.entries c.args.source) c.args.place c.id-id.result some c.requires (sym c.has_key.ensures ∙ c.if-has_key.false) c.id-id.ensures)
+    (c.get.ensures.value ∙ outcome_told c.args.store.now.list.entries c.args.store.now.marks (cached_in c.args.kept.now.entries c.args.source) c.args.place c.id-id.result some c.requires (sym c.has_key.ensures ∙ c.if-has_key.false) c.id-id.ensures)

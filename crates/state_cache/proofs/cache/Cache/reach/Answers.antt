@@ -1,8 +1,10 @@
 use Rattle.std.proofs.Common.{◌<◌, ◌≤◌, ◌∙◌, Err, false, length, refl, subst, sym, arith, rules}
 use Rattle.std.specs.Prelude.{is_ok}
 use Rattle.packet_edits.specs.Edits.{Listing}
-use Rattle.state_cache.specs.Reaching.{Reaches, view_of}
-use Rattle.state_cache.specs.Views.{marked_packets}
+use Rattle.state_cache.specs.Costs.{Costs}
+use Rattle.state_cache.specs.Reaching.{CacheValue, Reaches, view_of}
+use Rattle.state_cache.specs.Views.{IsCoherent, marked_packets}
+use Rattle.state_cache.specs.Walks.{IsWalk}
 use Rattle.state_cache.proofs.Reached.{length_seens, reaches_answer, reaches_fault}
 use Rattle.state_cache.proofs.Settled.{first_unsettled}
 use Rattle.state_cache.proofs.Walked.{walk_begins, walk_ends, walk_more, walk_refused}
@@ -62,7 +64,8 @@ pub returns-clause-costs : goal.returns-clause-costs
 returns-clause-costs c =
     let inv = c.loop-next.invariant in
     let up : c.args.place < c.loop-next.next = search (rules, arith) in
-    walk_ends c.args.tables.now c.args.source c.args.store.now c.loop-next.store c.args.self.now c.loop-next.self c.args.place c.loop-next.next inv.so_far inv.next up c.answer.ensures.bounded (is_ok c.answer.result)
+    subst (λ (v : CacheValue). Costs c.args.tables.now c.args.source c.args.store.now c.args.self.now c.args.place (is_ok c.answer.result) c.loop-next.store v) (sym c.answer.ensures.same)
+    (walk_ends c.args.tables.now c.args.source c.args.store.now c.loop-next.store c.args.self.now c.loop-next.self c.args.place c.loop-next.next inv.so_far inv.next up c.answer.ensures.bounded (is_ok c.answer.result))
 
 pub returns-in-Err-clause-walks : goal.returns-in-Err-clause-walks
 returns-in-Err-clause-walks c =
@@ -72,10 +75,14 @@ returns-in-Err-clause-walks c =
 pub returns-clause-walks : goal.returns-clause-walks
 returns-clause-walks c =
     let up : c.args.place < c.loop-next.next = search (rules, arith) in
-    walk_arrives c.args.tables.now c.args.source c.args.store.now c.loop-next.store c.args.self.now c.loop-next.self c.args.place c.loop-next.next (is_ok c.answer.result) c.loop-next.invariant.walk up
+    subst (λ (v : CacheValue). IsWalk c.args.tables.now c.args.source c.args.store.now c.args.self.now c.args.place (is_ok c.answer.result) c.loop-next.store v) (sym c.answer.ensures.same)
+    (walk_arrives c.args.tables.now c.args.source c.args.store.now c.loop-next.store c.args.self.now c.loop-next.self c.args.place c.loop-next.next (is_ok c.answer.result) c.loop-next.invariant.walk up)
 
 pub returns-in-Err-clause-others : goal.returns-in-Err-clause-others
 returns-in-Err-clause-others c = walk_others c.args.tables.now c.args.source c.args.store.now c.advance.new.store c.args.self.now c.advance.new.self c.args.place false (returns-in-Err-clause-walks c)
 
 pub returns-clause-others : goal.returns-clause-others
-returns-clause-others c = walk_others c.args.tables.now c.args.source c.args.store.now c.loop-next.store c.args.self.now c.loop-next.self c.args.place (is_ok c.answer.result) (returns-clause-walks c)
+returns-clause-others c = walk_others c.args.tables.now c.args.source c.args.store.now c.loop-next.store c.args.self.now c.answer.new.self c.args.place (is_ok c.answer.result) (returns-clause-walks c)
+
+pub returns-clause-coherent : goal.returns-clause-coherent
+returns-clause-coherent c = subst (λ (v : CacheValue). IsCoherent c.args.tables.now (marked_packets c.loop-next.store) (view_of c.args.source v)) (sym c.answer.ensures.same) c.loop-next.invariant.coherent

@@ -18,7 +18,7 @@ returns-clause-gives c =
       s.is,
       subst (λ (bytes : List ℕ). AnswersAt c.args.place (step_of c.args.tables.now (state_from xs (view_of c.args.source c.args.self.now) c.args.place) bytes) c.outcome_of_step.result)
           (bytes_shown es ms c.args.place s.packet c.packet-packet.result.now s.is c.packet-packet.ensures)
-          (c.outcome_of_step.ensures.answers (step_of c.args.tables.now (state_from xs (view_of c.args.source c.args.self.now) c.args.place) c.packet-packet.result.now)
+          (c.outcome_of_step.ensures (step_of c.args.tables.now (state_from xs (view_of c.args.source c.args.self.now) c.args.place) c.packet-packet.result.now)
           (subst (λ (state : Option State). StepAnswers (step_of c.args.tables.now state c.packet-packet.result.now) c.decode_counted-answer.result)
           (c.state_of-state.ensures ∙ ap (λ (o : Option Kept). option_map (λ (k : Kept). k.state) o) c.outcome_before-before.ensures
           ∙ state_told xs (cached_in c.self.inside.kept.entries c.args.source) c.args.place ∙ ap (λ (kept : View). state_from xs kept c.args.place) (ap (view_of c.args.source) c.self.view_is)) c.decode_counted-answer.ensures.answers)),

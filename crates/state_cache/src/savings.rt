@@ -1,0 +1,240 @@
+//! What each cached outcome saves: from this the one that a full cache drops is chosen.
+ghost use Rattle.std.specs.Prelude.{◌≡◌, ◌↔◌, ◌+◌, ◌-◌, ◌*◌, ◌^◌, ◌<◌, ◌≤◌, ℕ, IfOk, IfSome, IsSome, IsTrue, length, min, slice_get, take, vec_len};
+ghost use Rattle.state_cache.specs.Evictions.{IsVictim, age, saved};
+
+use pixel_planes::NoMemory;
+use std::alloc::Global;
+
+/// The index of no outcome.
+const NONE: u16 = u16::MAX;
+
+/// The greatest age, less 1.
+const MOST_USES: u64 = u32::MAX as u64 - 1;
+
+/// What one cached outcome saves. It counts packets as they were when they were decoded: an edit
+/// leaves the numbers as they are, and then they are estimates.
+#[derive(Clone, Copy)]
+pub(crate) struct Saving {
+    /// The number of uses of the cache once it was last used.
+    pub used: u64,
+    /// How many packets it is after the outcome cached before it in its run; for the first one, after
+    /// the packet before the run.
+    pub before: u16,
+    /// How many packets it is before the outcome cached after it in its run; for the last one, how
+    /// many packets of the run were cached from its own on.
+    pub after: u16,
+    /// The indexes of these two outcomes, or `NONE`.
+    pub previous: u16,
+    pub next: u16,
+}
+
+/// What an outcome saves with none next to it.
+const ALONE: Saving = Saving {
+    used: 0,
+    before: 1,
+    after: 1,
+    previous: NONE,
+    next: NONE,
+};
+
+impl Saving {
+    /// What the outcome is worth after this number of uses.
+    #[inline]
+    fn worth(&self, uses: u64) -> Worth
+        ensures saved { result.saved ≡ saved self.now }
+        ensures age { result.age ≡ age uses self.now }
+    {
+        let since = uses.saturating_sub(self.used);
+        Worth {
+            saved: self.before as u32 * self.after as u32,
+            age: since.min(MOST_USES) as u32 + 1,
+        }
+    }
+}
+
+/// The worth of a cached outcome: the steps that it saves over its age.
+#[derive(Clone, Copy)]
+struct Worth {
+    saved: u32,
+    age: u32,
+}
+
+impl Worth {
+    /// Whether this is less than another.
+    #[inline]
+    fn is_less(self, other: Worth) -> bool
+        ensures { IsTrue result ↔ (self.saved * other.age < other.saved * self.age) }
+    {
+        self.saved as u64 * (other.age as u64) < other.saved as u64 * self.age as u64
+    }
+}
+
+/// What each cached outcome saves, in the order of the outcomes, and the number of uses of the cache.
+/// An outcome is used when it is cached, served again, or when a packet is stepped from it.
+#[derive(Drop)]
+pub(crate) struct Savings {
+    list: Vec<Saving>,
+    uses: u64,
+}
+
+impl Savings {
+    /// For so many outcomes, of which none is cached yet. `NoMemory` if memory was refused.
+    pub fn new(alloc: Global, len: usize) -> Result<Savings, NoMemory>
+        ensures { IfOk result (λ savings. vec_len savings.list ≡ len) }
+    {
+        let list = vec![in alloc; ALONE; len]?;
+        Ok(Savings { list, uses: 0 })
+    }
+
+    /// The index of the outcome of least worth among the first `len`, the first among equals; none
+    /// if `len` is 0.
+    pub fn least(&self, len: usize) -> Option<usize>
+        requires { len ≤ vec_len self.now.list }
+        ensures victim { IfSome result (IsVictim (take len self.now.list.items) self.now.uses) }
+        ensures some { 0 < len → IsSome result }
+    {
+        least_of(&self.list[..len], self.uses)
+    }
+
+    /// Counts a use of the outcome at `index`.
+    #[inline]
+    pub fn touch(&mut self, index: usize)
+        ensures len { vec_len self.new.list ≡ vec_len self.old.list }
+        ensures youngest { IfSome (slice_get self.new.list.items index) (λ saving. age self.new.uses saving ≡ 1) }
+        ensures others { (n : ℕ) → (n ≡ index → ⊥) → slice_get self.new.list.items n ≡ slice_get self.old.list.items n }
+        ensures counted { self.new.uses ≡ min (self.old.uses + 1) (2 ^ 64 - 1) }
+    {
+        let uses = self.uses.saturating_add(1);
+        self.uses = uses;
+        if let Some(saving) = self.list.get_mut(index) {
+            saving.used = uses;
+        }
+    }
+
+    /// Counts a use of the outcome from which a packet is stepped, if there is one.
+    pub fn touch_any(&mut self, index: Option<usize>)
+        ensures { vec_len self.new.list ≡ vec_len self.old.list }
+    {
+        if let Some(index) = index {
+            self.touch(index);
+        }
+    }
+
+    /// Notes that an outcome was cached at `index`. It was stepped from the outcome at `from`, or from
+    /// none.
+    pub fn cached(&mut self, index: usize, from: Option<usize>)
+        ensures { vec_len self.new.list ≡ vec_len self.old.list }
+    {
+        self.unlink(index);
+        let saving = match from {
+            Some(from) => self.saving_after(from),
+            None => ALONE,
+        };
+        self.put(index, saving);
+        self.set_next(saving.previous, link_to(index), 1);
+        self.set_previous(saving.next, link_to(index), saving.after);
+        self.touch(index);
+    }
+
+    /// Notes that the outcome at `index` was dropped, and that the one at `last` moved there.
+    pub fn swap_remove(&mut self, index: usize, last: usize)
+        ensures { vec_len self.new.list ≡ vec_len self.old.list }
+    {
+        self.unlink(index);
+        let moved = self.saving_at(last);
+        self.put(index, moved);
+        self.put(last, ALONE);
+        if index != last {
+            self.set_next(moved.previous, link_to(index), moved.before);
+            self.set_previous(moved.next, link_to(index), moved.after);
+        }
+    }
+
+    /// What the outcome at `index` saves.
+    fn saving_at(&self, index: usize) -> Saving {
+        match self.list.get(index) {
+            Some(saving) => *saving,
+            None => ALONE,
+        }
+    }
+
+    /// What an outcome saves that was stepped from the one at `from`: it is between this one and the
+    /// next one of its run.
+    fn saving_after(&self, from: usize) -> Saving {
+        let before = self.saving_at(from);
+        Saving {
+            before: 1,
+            after: one_less(before.after),
+            previous: link_to(from),
+            ..before
+        }
+    }
+
+    /// Takes the outcome at `index` out of its run: the ones before and after it are next to each
+    /// other then, at the sum of their distances.
+    fn unlink(&mut self, index: usize)
+        ensures { vec_len self.new.list ≡ vec_len self.old.list }
+    {
+        let saving = self.saving_at(index);
+        let distance = saving.before.saturating_add(saving.after);
+        self.set_next(saving.previous, saving.next, distance);
+        self.set_previous(saving.next, saving.previous, distance);
+    }
+
+    /// Sets what the outcome at `index` saves, if the index exists.
+    fn put(&mut self, index: usize, new: Saving)
+        ensures { vec_len self.new.list ≡ vec_len self.old.list }
+    {
+        if let Some(saving) = self.list.get_mut(index) {
+            *saving = new;
+        }
+    }
+
+    /// Sets the outcome after the one at `index`, if there is one, and how many packets it is after it.
+    fn set_next(&mut self, index: u16, next: u16, after: u16)
+        ensures { vec_len self.new.list ≡ vec_len self.old.list }
+    {
+        if let Some(saving) = self.list.get_mut(index as usize) {
+            saving.next = next;
+            saving.after = after;
+        }
+    }
+
+    /// Sets the outcome before the one at `index`, if there is one, and how many packets it is before it.
+    fn set_previous(&mut self, index: u16, previous: u16, before: u16)
+        ensures { vec_len self.new.list ≡ vec_len self.old.list }
+    {
+        if let Some(saving) = self.list.get_mut(index as usize) {
+            saving.previous = previous;
+            saving.before = before;
+        }
+    }
+}
+
+/// The index of the least worth after this number of uses, the first among equals; none if there is
+/// none.
+fn least_of(savings: &[Saving], uses: u64) -> Option<usize>
+    ensures victim { IfSome result (IsVictim savings.now uses) }
+    ensures some { 0 < length savings.now → IsSome result }
+{
+    let mut least = savings.first()?.worth(uses);
+    let mut victim = 0;
+    for (index, saving) in savings.iter().enumerate() {
+        let worth = saving.worth(uses);
+        if worth.is_less(least) {
+            least = worth;
+            victim = index;
+        }
+    }
+    Some(victim)
+}
+
+/// An index as it is stored.
+fn link_to(index: usize) -> u16 {
+    index.min(NONE as usize) as u16
+}
+
+/// The distance of a packet from the one after it, from that of the packet before it.
+fn one_less(distance: u16) -> u16 {
+    distance.saturating_sub(1).max(1)
+}
