@@ -1,11 +1,11 @@
 -- What the program writes when it checks the bytes of a file.
 use Rattle.std.specs.Prelude.{◌≡◌, ◌==◌, ◌&&◌, ◌||◌, ℕ, Bool, not, List, Option, if◌then◌else◌}
 use Rattle.vp8_tables.specs.Tables.{TableEntries}
+use Rattle.macroblock_lists.specs.declared.layouts.Form.{Form}
 use Rattle.stream_files.specs.declared.ivf.Ivf.{Ivf}
 use Rattle.stream_files.specs.Ivf.{IsIvf, IvfRefuses}
 use Rattle.stream_checks.specs.declared.fault.CheckFault.TheVariants as checks
 use Rattle.stream_checks.specs.declared.finding.Tally.{Tally}
-use Rattle.stream_checks.specs.declared.texts.Form.{Form}
 use Rattle.stream_checks.specs.Checks as checks_of
 use Rattle.list_program.specs.declared.fault.Fault.{Fault}
 use Rattle.list_program.specs.declared.fault.Fault.TheVariants.{Input, CannotWrite, NoMemory}

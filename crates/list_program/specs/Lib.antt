@@ -6,4 +6,4 @@ pub mod Answers
 pub mod Details
 pub mod Options
 pub mod Ranges
-pub mod Readings
+pub mod Statuses

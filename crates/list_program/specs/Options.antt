@@ -1,17 +1,16 @@
 -- What the options ask for.
 use Rattle.std.specs.Prelude.{Bool, true, false, ◌||◌, if◌then◌else◌, Option, Some, None}
-use Rattle.stream_checks.specs.declared.texts.Form.{Form}
-use Rattle.stream_checks.specs.declared.texts.Form.TheVariants.{Lines, Objects as ObjectLines}
 use Rattle.list_program.specs.declared.answering.Output.{Output}
 use Rattle.list_program.specs.declared.answering.Output.TheVariants.{List, Objects, Hashes, Findings, Details}
+use Rattle.macroblock_lists.specs.declared.layouts.Form.{Form}
 use Rattle.macroblock_lists.specs.declared.layouts.Form.TheVariants as forms
 use Rattle.macroblock_lists.specs.declared.layouts.What.{What}
 use Rattle.list_program.specs.declared.arguments.Flags.{Flags}
 use Rattle.list_program.specs.declared.ranges.Range.{Range}
 
--- the form of a check's findings
+-- the form of what is written
 abbrev pub form_of : Bool → Form
-form_of is_json = if is_json then ObjectLines else Lines
+form_of is_json = if is_json then forms.Objects else forms.Lines
 
 -- the output that `--json`, `--hash`, `--check` and `--strict` ask for, in this order; none if they do not go together: `--hash` is given
 -- alone, and `--strict` with `--check`
@@ -26,7 +25,7 @@ output_by is_json false false false = Some (if is_json then Objects else List)
 -- the output that asks for parts of packets: none without a range, or with another option than `--json`
 abbrev pub details_of : What → Bool → Option Range → Option Output
 details_of what is_json None = None
-details_of what is_json (Some range) = Some (Details (record { what = what; form = if is_json then forms.Objects else forms.Lines; first = range.first; last = range.last }))
+details_of what is_json (Some range) = Some (Details (record { what = what; form = form_of is_json; first = range.first; last = range.last }))
 
 abbrev pub details_by : What → Option Range → Flags → Option Output
 details_by what range flags = if flags.is_hash || flags.is_check || flags.is_strict then None else details_of what flags.is_json range

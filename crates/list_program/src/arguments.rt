@@ -5,18 +5,12 @@ ghost use Rattle.list_program.specs.Options.{details_by, form_of, output_by};
 use crate::answering::Output;
 use crate::checking::Checking;
 use crate::details::Asked;
-use crate::fault::Fault;
 use crate::ranges::{Range, range_of};
-use clap::{Arg, ArgAction, ArgMatches, Command};
-use macroblock_lists::{Form as DetailForm, What};
+use clap::{Arg, ArgMatches, Command};
+use macroblock_lists::{Form, What};
+use program_parts::{VERSION, flag};
 use std::alloc::{AllocError, Global};
 use std::convert::AsStr;
-use std::env::{self, Env};
-use std::io::ErrorKind;
-use stream_checks::Form;
-
-/// The program's version.
-const VERSION: &str = "0.1.0";
 
 /// The purpose of the program.
 const ABOUT: &str = "\
@@ -153,18 +147,6 @@ pub struct Arguments<'a> {
     pub output: Option<Output>,
 }
 
-/// The program's arguments, its name first.
-///
-/// `CommandLine` if one of them is not UTF-8.
-pub fn given<R: Env + AllocGlobal>(rt: &R) -> Result<Vec<String>, Fault<'static>> {
-    let words = match env::args(rt) {
-        Ok(words) => words,
-        Err(error) if error.kind() == ErrorKind::OutOfMemory => return Err(Fault::NoMemory),
-        Err(_) => return Err(Fault::CommandLine),
-    };
-    words.collect(rt.alloc()).map_err(|_| Fault::NoMemory)
-}
-
 /// The argument that has a place.
 fn stream<'a>(alloc: Global) -> Arg<'a> {
     Arg::new(alloc, "IN")
@@ -178,14 +160,6 @@ fn tables_option<'a>(alloc: Global) -> Arg<'a> {
         .long("tables")
         .value_name("FILE")
         .help("3012 bytes to use instead of RFC 6386's long tables")
-}
-
-/// An option that has no value.
-fn flag<'a>(alloc: Global, id: &'a str, help: &'a str) -> Arg<'a> {
-    Arg::new(alloc, id)
-        .long(id)
-        .action(ArgAction::SetTrue)
-        .help(help)
 }
 
 /// An option for the packets of which something is listed.
@@ -230,7 +204,7 @@ fn command<'a>(alloc: Global) -> Result<Command<'a>, AllocError> {
     with_details(alloc, with_outputs(alloc, command)?)
 }
 
-/// The form of a check's findings.
+/// The form of what is written.
 fn form_of(is_json: bool) -> Form
     ensures { result ≡ form_of is_json }
 {
@@ -280,16 +254,11 @@ fn details_by(what: What, range: Option<Range>, flags: Flags) -> Option<Output>
     if is_hash || is_check || is_strict {
         return None;
     }
-    let form = if is_json {
-        DetailForm::Objects
-    } else {
-        DetailForm::Lines
-    };
     match range {
         None => None,
         Some(Range { first, last }) => Some(Output::Details(Asked {
             what,
-            form,
+            form: form_of(is_json),
             first,
             last,
         })),

@@ -1,4 +1,8 @@
 // The errors that end the program early.
+ghost use Rattle.std.specs.Prelude.{◌≡◌};
+ghost use Rattle.list_program.specs.Statuses.{argument_fault, file_fault};
+
+use program_parts::{ArgumentFault, Ending, FileFault};
 use std::fmt;
 use stream_files::IvfFault;
 use thiserror::Error;
@@ -31,4 +35,42 @@ pub enum Fault<'a> {
     /// Out of memory.
     #[error("no memory")]
     NoMemory,
+}
+
+impl Ending for Fault<'_> {
+    ghost exits_with = { λ _. 2 };
+
+    fn program(self) -> &'static str {
+        "vp8list"
+    }
+
+    /// 2: 0 and 1 are those of a list that was written.
+    fn status(self) -> u8 {
+        2
+    }
+}
+
+impl From<ArgumentFault> for Fault<'_> {
+    ghost from_gives = { λ why told. told ≡ argument_fault why };
+
+    fn from(why: ArgumentFault) -> Self {
+        match why {
+            ArgumentFault::CommandLine => Fault::CommandLine,
+            ArgumentFault::CannotWrite => Fault::CannotWrite,
+            ArgumentFault::NoMemory => Fault::NoMemory,
+        }
+    }
+}
+
+impl<'a> From<FileFault<'a>> for Fault<'a> {
+    ghost from_gives = { λ why told. told ≡ file_fault why };
+
+    fn from(why: FileFault<'a>) -> Self {
+        match why {
+            FileFault::CannotRead(path) => Fault::CannotRead(path),
+            FileFault::TooLong(path) => Fault::TooLong(path),
+            FileFault::Tables => Fault::Tables,
+            FileFault::NoMemory => Fault::NoMemory,
+        }
+    }
 }

@@ -13,15 +13,13 @@ mod objects;
 mod program;
 mod progress_line;
 mod ranges;
-mod reading;
 
 pub use answering::{Output, answer_to};
-pub use arguments::given;
 pub use checking::{Checking, check_to};
 pub use details::{Asked, details_to};
 pub use fault::Fault;
 pub use hashing::hash_to;
 pub use listing::list_to;
 pub use objects::objects_to;
-pub use program::{BYTES_AT_ONCE, answer, tell};
+pub use program::{BYTES_AT_ONCE, answer};
 pub use progress_line::ProgressLine;

@@ -1,14 +1,11 @@
 // The program over two writers.
-ghost use Rattle.std.specs.Prelude.{◌≡◌, ◌≢◌, ◌≤◌, [], IfOk, IsOkUnless, OnOk, Err};
+ghost use Rattle.std.specs.Prelude.{◌≡◌, ◌≤◌, [], IfOk};
 ghost use Rattle.std.specs.Io.Buffered.{writer_buffer};
-ghost use Rattle.clap.specs.Values.{kind_of};
 
 use crate::answering::answer_to;
-use crate::arguments;
+use crate::arguments::{Arguments, parse};
 use crate::fault::Fault;
-use crate::reading::{read_stream, read_tables};
-use clap::error::ErrorKind;
-use file_formats::{format_of, write_format};
+use program_parts::{format_of, help_or_mistake, read_input, read_tables, tell, write_format};
 use std::convert::AsStr;
 use std::io::{BufWriter, Read, Write};
 use std::rt::Files;
@@ -17,39 +14,6 @@ use stream_files::IvfFault;
 
 /// The number of bytes of the list that are buffered.
 pub const BYTES_AT_ONCE: usize = 65_536;
-
-/// The exit status of every error.
-const TROUBLE: u8 = 2;
-
-/// Shows an error to the user, and returns its exit status. If `errors` refuses the text, only the
-/// status reports it.
-pub fn tell<E: Write>(fault: Fault<'_>, errors: &mut E) -> u8
-    ensures { result ≡ 2 }
-{
-    let _ = writeln!(errors, "vp8list: {fault}");
-    TROUBLE
-}
-
-/// Answers arguments that could not be parsed: help or the version, if that was asked for, which is flushed.
-fn help_or_fault<O: Write + Drop>(
-    error: clap::Error,
-    output: &mut BufWriter<O>,
-) -> Result<(), Fault<'static>>
-    ensures help { kind_of error ≡ ErrorKind.DisplayHelp → IsOkUnless result Fault.CannotWrite }
-    ensures version { kind_of error ≡ ErrorKind.DisplayVersion → IsOkUnless result Fault.CannotWrite }
-    ensures flushed { OnOk result (writer_buffer output.new ≡ []) }
-    ensures memory { kind_of error ≡ ErrorKind.OutOfMemory → result ≡ Err Fault.NoMemory }
-    ensures mistake { kind_of error ≢ ErrorKind.DisplayHelp → kind_of error ≢ ErrorKind.DisplayVersion → kind_of error ≢ ErrorKind.OutOfMemory → result ≡ Err Fault.CommandLine }
-{
-    match error.kind() {
-        ErrorKind::DisplayHelp | ErrorKind::DisplayVersion => {
-            write!(output, "{error}").map_err(|_| Fault::CannotWrite)?;
-            output.flush().map_err(|_| Fault::CannotWrite)
-        }
-        ErrorKind::OutOfMemory => Err(Fault::NoMemory),
-        _ => Err(Fault::CommandLine),
-    }
-}
 
 /// Shows why the bytes of a file are not a stream, and for a file of another format the command that converts it.
 /// Returns the exit status.
@@ -61,6 +25,30 @@ fn tell_input<E: Write>(path: &str, bytes: &[u8], fault: IvfFault, errors: &mut 
         let _ = write_format(errors, path, format);
     }
     status
+}
+
+/// Writes what the arguments ask for, and returns the exit status, which is 2 if the bytes are not an IVF file.
+fn answer_given<'a, R: Files + AllocGlobal, I: Read, O: Write + Drop, E: Write, G: Progress>(
+    rt: &R,
+    given: Arguments<'a>,
+    input: &mut I,
+    output: &mut BufWriter<O>,
+    errors: &mut E,
+    progress: &mut G,
+) -> Result<u8, Fault<'a>>
+    ensures status { IfOk result (λ status. status ≤ 2) }
+    ensures flushed { IfOk result (λ status. status ≤ 1 → writer_buffer output.new ≡ []) }
+{
+    let Some(kind) = given.output else {
+        return Err(Fault::CommandLine);
+    };
+    let tables = read_tables(rt, given.tables)?;
+    let bytes = read_input(rt, given.stream, input)?;
+    let bytes = bytes.as_slice();
+    match answer_to(rt.alloc(), kind, &tables, bytes, output, errors, progress) {
+        Err(Fault::Input(fault)) => Ok(tell_input(given.stream, bytes, fault, errors)),
+        answer => answer,
+    }
 }
 
 /// Does what a command line asks for, and returns the exit status.
@@ -80,31 +68,23 @@ fn answer_line<
     errors: &mut E,
     progress: &mut G,
 ) -> Result<u8, Fault<'a>>
-    ensures { IfOk result (λ status. status ≤ 2) }
+    ensures status { IfOk result (λ status. status ≤ 2) }
+    ensures flushed { IfOk result (λ status. status ≤ 1 → writer_buffer output.new ≡ []) }
 {
-    let given = match arguments::parse(rt.alloc(), words) {
+    let given = match parse(rt.alloc(), words) {
         Ok(given) => given,
         Err(error) => {
-            help_or_fault(error, output)?;
+            help_or_mistake(error, output)?;
             return Ok(0);
         }
     };
-    let Some(kind) = given.output else {
-        return Err(Fault::CommandLine);
-    };
-    let tables = read_tables(rt, given.tables)?;
-    let bytes = read_stream(rt, given.stream, input)?;
-    let bytes = bytes.as_slice();
-    match answer_to(rt.alloc(), kind, &tables, bytes, output, errors, progress) {
-        Err(Fault::Input(fault)) => Ok(tell_input(given.stream, bytes, fault, errors)),
-        answer => answer,
-    }
+    answer_given(rt, given, input, output, errors, progress)
 }
 
 /// Runs the program on a command line, whose first argument is the program's name, and returns its
 /// exit status: 0 if the list was written or a check found no damage, also for help and the version, 1
 /// if a check found damage, or with `--strict` a note, or if `--hash` met a refused packet, and 2 for
-/// every error.
+/// every error. At 0 and 1 nothing is left in the buffer of `output`.
 ///
 /// The file, or the input for `-`, is read whole, up to 1,073,741,824 bytes, before the first line is written. The list,
 /// findings, help and the version go to `output`; the text of an error goes to `errors`. `progress` is
@@ -117,7 +97,8 @@ pub fn answer<R: Files + AllocGlobal, S: AsStr, I: Read, O: Write + Drop, E: Wri
     errors: &mut E,
     progress: &mut G,
 ) -> u8
-    ensures { result ≤ 2 }
+    ensures status { result ≤ 2 }
+    ensures flushed { result ≤ 1 → writer_buffer output.new ≡ [] }
 {
     match answer_line(rt, words, input, output, errors, progress) {
         Ok(status) => {

@@ -1,5 +1,5 @@
 -- The progress of a stream, packet by packet.
-use Rattle.std.proofs.Common.{◌≡◌, ◌⊎◌, inl, inr, IfSome, subst, ℕ, suc, ◌+◌, ◌-◌, ◌<◌, get_or, ◌≤◌, List, [], ◌∷◌, ◌++◌, Some, Ok, None, true, false, map, take, drop, length, slice_get, refl, ap, sym, ◌∙◌, arith}
+use Rattle.std.proofs.Common.{◌≡◌, ◌⊎◌, inl, inr, IfSome, subst, ℕ, suc, ◌+◌, ◌-◌, ◌<◌, get_or, ◌≤◌, List, [], ◌∷◌, ◌++◌, Some, Ok, None, true, map, take, drop, length, slice_get, refl, ap, sym, ◌∙◌, arith}
 use Rattle.std.proofs.lemmas.List.{drop-take, drop_more, length-map, length-take-le, map-append, map_more, take-append-drop, take-take}
 use Rattle.std.proofs.lemmas.Option.{get_or_from_slice_get, slice_get_cases}
 use Rattle.vp8_tables.specs.Tables.{TableEntries}

@@ -10,7 +10,7 @@ use Rattle.frame_header.specs.Header.{header_of}
 use Rattle.frame_header.specs.Tags.{has_key_tag}
 use Rattle.mode_parser.specs.FrameModes.{FrameModes, modes_of}
 use Rattle.pixel_planes.specs.Pictures.{macroblocks}
-use Rattle.macroblock_lists.specs.declared.broken.Broken.{Broken}
+use Rattle.state_cache.specs.declared.outcomes.Broken.{Broken}
 
 -- the context of the last header, the segment of each macroblock, and the size of the frames
 pub record Known : Type 0 where

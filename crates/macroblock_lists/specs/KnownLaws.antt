@@ -15,7 +15,7 @@ known_of state = record { context = state.context; segment_map = state.segment_m
 -- and of what decoding has before a packet
 abbrev pub known_in : Decoded → Progress
 known_in (Ok state) = Ok (option_map known_of state)
-known_in (Err broken) = Err (record { place = broken.place; cause = broken.cause })
+known_in (Err broken) = Err broken
 
 -- what decoding has after packets, the first of which has the index `place`
 abbrev pub decoded_over : Tables → ℕ → Decoded → List (List ℕ) → Decoded

@@ -12,7 +12,7 @@ use Rattle.header_bits.specs.Bits.{header_bits}
 use Rattle.header_bits.specs.declared.bits.HeaderBits.{HeaderBits}
 use Rattle.stream_facts.specs.Json.{number_member}
 use Rattle.stream_facts.specs.Lines.{cause_text}
-use Rattle.macroblock_lists.specs.declared.broken.Broken.{Broken}
+use Rattle.state_cache.specs.declared.outcomes.Broken.{Broken}
 use Rattle.macroblock_lists.specs.declared.layouts.Form.{Form}
 use Rattle.macroblock_lists.specs.declared.layouts.Form.TheVariants as forms
 use Rattle.macroblock_lists.specs.declared.layouts.Layout.TheVariants as layouts

@@ -7,7 +7,7 @@ ghost use Rattle.macroblock_lists.specs.PartitionEnds.{marked_start, zeros_for};
 ghost use Rattle.macroblock_lists.specs.Frames.{macroblock_text, texts_of};
 ghost use Rattle.macroblock_lists.specs.Macroblocks.{macroblock_of};
 
-use crate::layouts::Form;
+use crate::layouts::{Form, Target};
 use crate::lines::write_line;
 use crate::listing::ListFault;
 use crate::macroblocks::{Macroblock, filters_inside, index_of, level_in_force, limits_in_force};
@@ -82,30 +82,39 @@ fn write_macroblock<W: Write>(
     }
 }
 
-/// Writes the macroblocks with these records and their facts, in raster order.
+/// A frame that decoding accepts: its header, the number of its columns and rows of macroblocks, and their records.
+#[derive(Drop)]
+pub(crate) struct Frame<'a, 'p> {
+    pub(crate) header: &'a Header<'p>,
+    pub(crate) columns: usize,
+    pub(crate) rows: usize,
+    pub(crate) records: &'a Records,
+}
+
+/// Writes the macroblocks of a frame, in raster order.
 fn write_macroblocks<W: Write>(
     w: &mut W,
-    form: Form,
-    packet: usize,
-    header: &Header,
-    columns: usize,
-    modes: &[MbMode],
-    facts: &[RecordFacts],
+    target: Target,
+    frame: &Frame<'_, '_>,
     walk: &mut Walk,
 ) -> Result<(), WriteFault>
-    requires columns { 0 < columns }
+    requires columns { 0 < frame.now.columns }
     requires some { 0 < length walk.old.tokens.readers }
-    requires above { length walk.old.tokens.above ≡ columns }
+    requires above { length walk.old.tokens.above ≡ frame.now.columns }
     requires marked { 0 < length walk.old.marked.readers }
-    requires marked_above { length walk.old.marked.above ≡ columns }
-    ensures { OnOk result (Appends (W.contents w.old) (W.contents w.new) (texts_of form packet header.now columns walk.old.tokens walk.old.marked modes.now facts.now)) }
+    requires marked_above { length walk.old.marked.above ≡ frame.now.columns }
+    ensures { OnOk result (Appends (W.contents w.old) (W.contents w.new) (texts_of target.form target.place frame.now.header.now frame.now.columns walk.old.tokens walk.old.marked frame.now.records.now.modes.records frame.now.records.now.facts.items)) }
 {
+    let Target { form, place, .. } = target;
+    let columns = frame.columns;
+    let modes = frame.records.modes.records();
+    let facts = frame.records.facts.as_slice();
     let mut mx = 0;
     let mut my = 0;
     for mode in modes {
         let facts = facts_in(facts, my * columns + mx);
-        let macroblock = walk.next(header, mx, my, mode, facts);
-        write_macroblock(w, form, packet, &macroblock)?;
+        let macroblock = walk.next(frame.header, mx, my, mode, facts);
+        write_macroblock(w, form, place, &macroblock)?;
         mx += 1;
         if mx == columns {
             mx = 0;
@@ -115,31 +124,26 @@ fn write_macroblocks<W: Write>(
     Ok(())
 }
 
-/// Writes the macroblocks of a packet that decoding accepts, with this header and these records.
+/// Writes the macroblocks of a packet with this frame.
 pub(crate) fn write_frame<W: Write>(
     w: &mut W,
     alloc: Global,
-    form: Form,
-    place: usize,
+    target: Target,
     packet: &[u8],
-    header: &Header,
-    size: (usize, usize),
-    records: &Records,
+    frame: &Frame<'_, '_>,
 ) -> Result<(), ListFault>
-    requires wide { (0 < size.0) × (size.0 ≤ 1024) }
-    requires high { (0 < size.1) × (size.1 ≤ 1024) }
-    requires some { 0 < length header.now.partitions.items }
-    requires inside { All (λ place. place.start + place.length ≤ length packet.now) header.now.partitions.items }
-    ensures { OnOk result (Appends (W.contents w.old) (W.contents w.new) (texts_of form place header.now size.0 (tokens_start header.now.partitions.items packet.now size.0) (marked_start (zeros_for size.0 size.1) header.now.partitions.items packet.now size.0) records.now.modes.records records.now.facts.items)) }
+    requires wide { (0 < frame.now.columns) × (frame.now.columns ≤ 1024) }
+    requires high { (0 < frame.now.rows) × (frame.now.rows ≤ 1024) }
+    requires some { 0 < length frame.now.header.now.partitions.items }
+    requires inside { All (λ place. place.start + place.length ≤ length packet.now) frame.now.header.now.partitions.items }
+    ensures { OnOk result (Appends (W.contents w.old) (W.contents w.new) (texts_of target.form target.place frame.now.header.now frame.now.columns (tokens_start frame.now.header.now.partitions.items packet.now frame.now.columns) (marked_start (zeros_for frame.now.columns frame.now.rows) frame.now.header.now.partitions.items packet.now frame.now.columns) frame.now.records.now.modes.records frame.now.records.now.facts.items)) }
 {
-    let (columns, rows) = size;
-    let partitions = header.partitions.as_slice();
-    let texts = marked_texts(alloc, zeros_for(columns, rows), packet, partitions)?;
+    let columns = frame.columns;
+    let partitions = frame.header.partitions.as_slice();
+    let texts = marked_texts(alloc, zeros_for(columns, frame.rows), packet, partitions)?;
     let tokens = FrameTokens::new(alloc, packet, partitions, columns)?;
     let marked = FrameTokens::over_texts(alloc, &texts, columns)?;
     let mut walk = Walk { tokens, marked };
-    let modes = records.modes.records();
-    let facts = records.facts.as_slice();
-    write_macroblocks(w, form, place, header, columns, modes, facts, &mut walk)?;
+    write_macroblocks(w, target, frame, &mut walk)?;
     Ok(())
 }

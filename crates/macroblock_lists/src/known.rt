@@ -5,10 +5,10 @@ ghost use Rattle.std.specs.Option.{ForSome, option_copied, option_map};
 ghost use Rattle.pixel_planes.specs.Pictures.{macroblocks as macroblocks_of};
 ghost use Rattle.macroblock_lists.specs.Known.{frame_modes, header_after, height_of, known_after, known_before, known_by, left_at, progress_after, step_of, width_of};
 
-use crate::broken::Broken;
 use frame_header::{Cause, Context, Header, has_key_tag, read_header};
 use mode_parser::{Modes, read_modes};
 use pixel_planes::NoMemory;
+use state_cache::Broken;
 use std::alloc::Global;
 use std::marker::Model;
 use vp8_tables::Tables;

@@ -23,7 +23,7 @@ pub fn past_ends_count_bits<T>(bytes: &[u8])
     bool_coder::laws::marks_count_bits::<T>(bytes);
 }
 
-/// The same of an empty text, without the eight bits that are in its window before the first bit is
+/// Of an empty text they are the bits that a chain of reads takes in, without the eight that are in its window before the first bit is
 /// read.
 pub fn past_ends_of_none_count_bits<T>()
     ensures { CountsBitsOfNone T }

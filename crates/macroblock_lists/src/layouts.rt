@@ -1,11 +1,11 @@
 //! The ways in which a list is written.
 
-/// How the macroblocks and headers of packets are written.
+/// How a list is written.
 #[derive(Clone, Copy, Debug, PartialEq, Eq)]
 pub enum Form {
-    /// A line for each.
+    /// A line for each element.
     Lines,
-    /// A JSON object for each.
+    /// A JSON object for each element, on a line of its own.
     Objects,
 }
 
@@ -18,6 +18,14 @@ pub enum What {
     Header,
 }
 
+/// What is written of a packet, how, and its index.
+#[derive(Clone, Copy)]
+pub(crate) struct Target {
+    pub(crate) what: What,
+    pub(crate) form: Form,
+    pub(crate) place: usize,
+}
+
 /// How the fields of a header are written.
 #[derive(Clone, Copy, Debug, PartialEq, Eq)]
 pub enum Layout {
@@ -27,6 +35,6 @@ pub enum Layout {
     Lines,
     /// As the members of a JSON object, each with a comma after it.
     Members,
-    /// The same of their bits.
+    /// As the members of a JSON object whose values are the numbers of their bits.
     Bits,
 }

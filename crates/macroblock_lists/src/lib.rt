@@ -2,7 +2,6 @@
 //! records, tokens, filter limits and quantizers that decoding has.
 #![tactic(auto)]
 
-mod broken;
 mod changes;
 mod coefficients;
 mod fields;
@@ -23,7 +22,6 @@ mod texts;
 mod tokens;
 mod values;
 
-pub use broken::Broken;
 pub use known::{Known, Progress};
 pub use layouts::{Form, What};
 pub use listing::{ListFault, Wanted, write_list};

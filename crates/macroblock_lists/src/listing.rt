@@ -8,8 +8,8 @@ ghost use Rattle.macroblock_lists.specs.Known.{progress_over};
 ghost use Rattle.macroblock_lists.specs.Texts.{head_of, list_text, progress_before, text_at};
 
 use crate::known::{Progress, progress_after};
-use crate::layouts::{Form, What};
-use crate::texts::{Target, write_packet};
+use crate::layouts::{Form, Target, What};
+use crate::texts::write_packet;
 use frame_header::has_key_tag;
 use pixel_planes::NoMemory;
 use std::alloc::Global;

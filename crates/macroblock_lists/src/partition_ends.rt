@@ -8,7 +8,6 @@ ghost use Rattle.reference_frames.specs.FrameTokens.{token_state};
 ghost use Rattle.macroblock_lists.specs.Known.{frame_modes, header_after, known_before, known_by, left_at, progress_after, step_of};
 ghost use Rattle.macroblock_lists.specs.PartitionEnds.{bytes_past, bytes_unread, end_of, ends_before, first_partition_end as first_partition_end_of, frame_ends, frame_token_ends, no_ends, partition_ends_of, token_ends, zeros_for};
 
-use crate::broken::Broken;
 use crate::known::{
     Known, Progress, context_of, frame_modes, known_after, macroblocks, size_of, step,
 };
@@ -19,6 +18,7 @@ use frame_header::{
 };
 use mode_parser::MbMode;
 use pixel_planes::NoMemory;
+use state_cache::Broken;
 use std::alloc::Global;
 use vp8_tables::Tables;
 

@@ -12,16 +12,16 @@ ghost use Rattle.macroblock_lists.specs.Parts.{after_comma, joined};
 ghost use Rattle.header_bits.specs.Bits.{header_bits};
 ghost use Rattle.macroblock_lists.specs.Texts.{broken_text, comment_of, comment_start, frame_by, header_text, known_text, packet_line, packet_text, repeat_by, repeat_text, sizes_bits, text_by};
 
-use crate::broken::Broken;
 use crate::changes::{probabilities_before, write_changes};
 use crate::fields::write_header_fields;
-use crate::frames::write_frame;
+use crate::frames::{Frame, write_frame};
 use crate::known::{Known, Progress, context_of, macroblocks, size_of};
-use crate::layouts::{Form, Layout, What};
+use crate::layouts::{Form, Layout, Target, What};
 use crate::listing::ListFault;
 use crate::records::read_records;
 use frame_header::{Cause, Header, Place, has_key_tag, read_header};
 use header_bits::{HeaderBits, read_header_bits};
+use state_cache::Broken;
 use std::alloc::Global;
 use std::io::Write;
 use stream_facts::{write_cause, write_number, write_text};
@@ -221,14 +221,6 @@ fn write_header<W: Write>(
     }
 }
 
-/// What is written of a packet, how, and its index.
-#[derive(Clone, Copy)]
-pub(crate) struct Target {
-    pub(crate) what: What,
-    pub(crate) form: Form,
-    pub(crate) place: usize,
-}
-
 /// Writes the macroblocks of a packet that decoding accepts, after a comment with its header.
 fn write_macroblocks<W: Write>(
     w: &mut W,
@@ -249,10 +241,15 @@ fn write_macroblocks<W: Write>(
 {
     let Target { form, place, .. } = target;
     let (width, height) = size_of(header, before);
-    let size = (macroblocks(width), macroblocks(height));
     let records = read_records(alloc, tables, packet, header, before)?;
     write_comment(w, form, place, header, &read_header_bits(tables, packet))?;
-    write_frame(w, alloc, form, place, packet, header, size, &records)
+    let frame = Frame {
+        header,
+        columns: macroblocks(width),
+        rows: macroblocks(height),
+        records: &records,
+    };
+    write_frame(w, alloc, target, packet, &frame)
 }
 
 /// Writes the header of a packet that decoding accepts, and the probabilities that it changes.

@@ -130,7 +130,7 @@ impl<'a> FrameTokens<'a> {
         })
     }
 
-    /// The same over the partitions of a packet.
+    /// The tokens before the first macroblock, over the token partitions of a packet.
     pub(crate) fn new(
         alloc: Global,
         packet: &'a [u8],
@@ -144,7 +144,7 @@ impl<'a> FrameTokens<'a> {
         FrameTokens::over(alloc, readers, columns)
     }
 
-    /// The same over texts.
+    /// The tokens before the first macroblock, over texts.
     pub(crate) fn over_texts(
         alloc: Global,
         texts: &'a [Vec<u8>],

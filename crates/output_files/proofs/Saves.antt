@@ -1,8 +1,8 @@
 -- What saves leave.
-use Rattle.std.proofs.Common.{◌≡◌, ◌⊎◌, ℕ, zero, suc, List, [], ◌∷◌, ◌++◌, Option, Some, None, inl, inr, take, refl, sym, subst, ap, ◌∙◌}
+use Rattle.std.proofs.Common.{◌≡◌, ℕ, zero, suc, List, [], ◌∷◌, ◌++◌, Option, Some, None, inl, inr, take, refl, sym, subst, ap, ◌∙◌}
 use Rattle.std.specs.Io.KnownBytes.{Appends}
 use Rattle.output_files.specs.Disks.{Disk, IsNeverLost, after, after_all}
-use Rattle.output_files.specs.Steps.{IsAbandoned, IsGivenUp, IsRemoval, IsSaved, Step, failed_steps}
+use Rattle.output_files.specs.Steps.{IsGivenUp, IsRemoval, IsSaved, Step, failed_steps}
 use Rattle.output_files.specs.Steps.Step.{Made, Synced, Renamed, Removed, Failed}
 use Rattle.output_files.specs.declared.saving.Unsaved.{Unsaved}
 use Rattle.output_files.specs.declared.saving.Unsaved.TheVariants as unsaved

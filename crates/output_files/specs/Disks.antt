@@ -1,6 +1,6 @@
 -- The file and the new file next to it, after calls of a save.
 use Rattle.std.specs.Prelude.{◌≡◌, ◌⊎◌, ℕ, List, [], ◌∷◌, Option, Some, None, take}
-use Rattle.output_files.specs.Steps.{Step, IsSaved, IsGivenUp}
+use Rattle.output_files.specs.Steps.{Step}
 use Rattle.output_files.specs.Steps.Step.{Made, Synced, Renamed, Removed, Failed}
 
 -- the bytes of both, if they are there. Of a new file that is not on the disk nothing is known, and this has no bytes for it

@@ -1,5 +1,5 @@
 -- When two paths name one file.
-use Rattle.std.specs.Prelude.{Bool, true, false, ◌==◌, ◌&&◌, nat_eq, string_bytes}
+use Rattle.std.specs.Prelude.{◌≡◌, ◌≢◌, ◌⊎◌, ℕ, ◌<◌, ◌-◌, Bool, true, false, ◌==◌, ◌&&◌, nat_eq, List, [], ◌++◌, codes, get_or, length, slice_get, string_bytes, Some}
 use Rattle.std.specs.Cmp.Lexicographic.{pointwise}
 use Rattle.output_files.specs.declared.places.Kind.{Kind}
 use Rattle.output_files.specs.declared.places.Kind.TheVariants.{File, Device, Null}
@@ -27,3 +27,17 @@ is_null_kind Null = true
 -- what is there drops what it is given
 abbrev pub is_null : Place → Bool
 is_null place = is_null_kind place.kind
+
+-- a name in a folder has no `/`
+abbrev pub IsName : List ℕ → Type 0
+IsName name = (k : ℕ) → k < length name → get_or name k 0 ≢ 47
+
+-- what is before it in a path is empty or ends with `/`
+abbrev pub IsFolderPart : List ℕ → Type 0
+IsFolderPart folder = (folder ≡ []) ⊎ (slice_get folder (length folder - 1) ≡ Some 47)
+
+-- the path of the folder of a path: `.` for a bare name, else the path up to its last `/`
+abbrev pub IsFolderOf : (path folder : List ℕ) → Type 0
+IsFolderOf path folder =
+    (IsName path × (folder ≡ codes "."))
+    ⊎ ((name : List ℕ) × (folder ++ name ≡ path) × (slice_get folder (length folder - 1) ≡ Some 47) × IsName name)

@@ -1,5 +1,6 @@
 // The parts of a path, and where links at its end lead.
-ghost use Rattle.std.specs.Prelude.{◌≡◌};
+ghost use Rattle.std.specs.Prelude.{◌≡◌, ◌++◌};
+ghost use Rattle.output_files.specs.Places.{IsFolderOf, IsFolderPart, IsName};
 
 use std::alloc::{AllocError, Global};
 use std::fs;
@@ -10,15 +11,21 @@ use std::rt::Files;
 const MOST_LINKS: usize = 40;
 
 /// The folder of a path with its last `/`, which is empty for a bare name, and the name in it.
-pub fn parts_of(path: &str) -> (&str, &str) {
+pub fn parts_of(path: &str) -> (&str, &str)
+    ensures whole { result.0.now ++ result.1.now ≡ path.now }
+    ensures folder { IsFolderPart result.0.now }
+    ensures name { IsName result.1.now }
+{
     match path.rfind('/') {
         Some(at) => path.split_at(at + 1),
         None => ("", path),
     }
 }
 
-/// The path of the folder of a path.
-pub fn folder_of(path: &str) -> &str {
+/// The path of the folder of a path: `.` for a bare name.
+pub fn folder_of(path: &str) -> &str
+    ensures { IsFolderOf path.now result.now }
+{
     match parts_of(path).0 {
         "" => ".",
         folder => folder,

@@ -5,9 +5,10 @@ use Rattle.std.specs.Borrow.{Bor}
 use Rattle.std.proofs.lemmas.List.{map_more}
 use Rattle.std.proofs.lemmas.List.Elements.{AllZip-push}
 use Rattle.serve_arguments.specs.CommandLines.{names_of}
-use Rattle.serve_arguments.specs.Readings.{AreNamed, AreUnread, IsReadFault}
-use Rattle.serve_arguments.specs.declared.fault.Fault.{Fault}
-use Rattle.serve_arguments.specs.declared.fault.Fault.TheVariants.{CommandLine, NamedTwice, CannotRead, TooLong, Tables, Input, CannotWrite, NoMemory}
+use Rattle.program_parts.specs.Readings.{IsReadFault}
+use Rattle.program_parts.specs.declared.fault.FileFault.{FileFault}
+use Rattle.program_parts.specs.declared.fault.FileFault.TheVariants.{CannotRead, TooLong, Tables, NoMemory}
+use Rattle.serve_arguments.specs.Readings.{AreNamed, AreUnread}
 
 -- the bytes of one more source
 pub named_more : (unnamed first : List ℕ) (more : List (Bor (List ℕ))) (n : ℕ) (d : Bor (List ℕ)) (sources : List (List ℕ)) (bytes : List ℕ) → n < length more → AreNamed unnamed (first ∷ names_of (take n more)) sources → ((slice_index_or more n d).now ≡ codes "-" → bytes ≡ unnamed) → AreNamed unnamed (first ∷ names_of (take (n + 1) more)) (sources ++ bytes ∷ [])
@@ -24,12 +25,8 @@ named_at first (path ∷ more) (suc n) d within =
     (suc later.0, omega (arith, later.1), later.2)
 
 -- why a source was not read
-pub source_unread : (names : List (List ℕ)) (name : List ℕ) (known : Option (List ℕ)) (fault : Fault) → Contains names name → IsReadFault name known fault → AreUnread names fault
-source_unread names name known CommandLine is why = absurd why
-source_unread names name known (NamedTwice same) is why = absurd why
+pub source_unread : (names : List (List ℕ)) (name : List ℕ) (known : Option (List ℕ)) (fault : FileFault) → Contains names name → IsReadFault name known fault → AreUnread names fault
 source_unread names name known (CannotRead path) is why = subst (Contains names) (sym why) is
 source_unread names name known (TooLong path) is why = subst (Contains names) (sym why.0) is
 source_unread names name known Tables is why = absurd why
-source_unread names name known (Input source fault) is why = absurd why
-source_unread names name known CannotWrite is why = absurd why
 source_unread names name known NoMemory is why = tt

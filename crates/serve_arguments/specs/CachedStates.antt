@@ -1,13 +1,11 @@
 -- How many states a session caches, and what one takes.
-use Rattle.std.specs.Prelude.{◌≡◌, ℕ, ◌+◌, ◌*◌, ◌/◌, max, min, nat_le, List, [], ◌∷◌, ◌++◌, Option, Some, None, codes, if◌then◌else◌}
+use Rattle.std.specs.Prelude.{◌≡◌, ℕ, ◌+◌, ◌*◌, ◌/◌, max, min, nat_le, List, [], ◌++◌, Option, Some, None, codes, if◌then◌else◌}
 use Rattle.std.specs.Fmt.{decimal}
-use Rattle.std.specs.Option.{option_or}
 use Rattle.pixel_planes.specs.Layout.{bordered_side}
 use Rattle.pixel_planes.specs.Pictures.{macroblocks}
-use Rattle.frame_header.specs.Tags.{key_size_of}
+use Rattle.stream_facts.specs.Facts.{first_key_size}
 use Rattle.stream_files.specs.Ivf.{IsIvf}
 use Rattle.stream_files.specs.declared.ivf.Ivf.{Ivf}
-use Rattle.stream_files.specs.declared.packets.Packet.{Packet}
 use Rattle.serve_arguments.specs.declared.capacities.Capacity.{Capacity}
 use Rattle.serve_arguments.specs.declared.capacities.Capacity.TheVariants.{States, Bytes}
 
@@ -22,11 +20,6 @@ planes_bytes columns rows = plane_bytes (16 * columns) (16 * rows) + 2 * plane_b
 -- the bytes of a picture of this shown width and height
 abbrev pub picture_bytes : ℕ × ℕ → ℕ
 picture_bytes size = planes_bytes (macroblocks size.0) (macroblocks size.1)
-
--- the width and height of the first packet that has a key frame's start with a size
-abbrev pub first_key_size : List Packet → Option (ℕ × ℕ)
-first_key_size [] = None
-first_key_size (packet ∷ packets) = option_or (key_size_of packet.bytes) (first_key_size packets)
 
 -- the number of states, 1 to 4,096, whose pictures of this size take at most so many bytes; 32 without a size
 abbrev pub states_in : ℕ → Option (ℕ × ℕ) → ℕ

@@ -1,7 +1,11 @@
 -- The program's errors and exit statuses.
-use Rattle.std.specs.Prelude.{ℕ, Result, Ok, Err}
+use Rattle.std.specs.Prelude.{ℕ}
 use Rattle.output_files.specs.declared.saving.Unsaved.{Unsaved}
 use Rattle.output_files.specs.declared.saving.Unsaved.TheVariants as unsaved
+use Rattle.program_parts.specs.declared.fault.ArgumentFault.{ArgumentFault}
+use Rattle.program_parts.specs.declared.fault.ArgumentFault.TheVariants as arguments
+use Rattle.program_parts.specs.declared.fault.FileFault.{FileFault}
+use Rattle.program_parts.specs.declared.fault.FileFault.TheVariants as files
 use Rattle.serve_arguments.specs.declared.fault.Fault.{Fault}
 use Rattle.serve_arguments.specs.declared.fault.Fault.TheVariants.{CommandLine, NamedTwice, CannotRead, TooLong, Tables, Input, CannotWrite, NoMemory}
 
@@ -16,10 +20,18 @@ status_of (Input source fault) = 1
 status_of CannotWrite = 1
 status_of NoMemory = 1
 
--- the status that the program exits with: 0 without an error
-abbrev pub exit_status : {A : Type 0} → Result A Fault → ℕ
-exit_status (Ok a) = 0
-exit_status (Err fault) = status_of fault
+-- an error of the arguments as the program's
+abbrev pub argument_fault : ArgumentFault → Fault
+argument_fault arguments.CommandLine = CommandLine
+argument_fault arguments.CannotWrite = CannotWrite
+argument_fault arguments.NoMemory = NoMemory
+
+-- an error of a file that was not read as the program's
+abbrev pub file_fault : FileFault → Fault
+file_fault (files.CannotRead path) = CannotRead path
+file_fault (files.TooLong path) = TooLong path
+file_fault files.Tables = Tables
+file_fault files.NoMemory = NoMemory
 
 -- the error of packets that were not saved as the program's
 abbrev pub fault_of : Unsaved → Fault

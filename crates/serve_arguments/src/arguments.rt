@@ -2,29 +2,12 @@
 ghost use Rattle.std.specs.Prelude.{◌≡◌, IfSome, None, codes};
 ghost use Rattle.clap.specs.Matches.{first_value, found_of};
 
-use crate::fault::Fault;
 use crate::help::{ABOUT, GRAMMAR};
-use crate::words::{NO_FILE, Words};
-use clap::{Arg, ArgAction, ArgMatches, Command};
+use crate::words::Words;
+use clap::{Arg, ArgMatches, Command};
+use program_parts::{NO_FILE, VERSION, flag};
 use std::alloc::{AllocError, Global};
 use std::convert::AsStr;
-use std::env::{self, Env};
-use std::io::ErrorKind;
-
-/// The program's version.
-const VERSION: &str = "0.1.0";
-
-/// The program's arguments, its name first.
-///
-/// `CommandLine` if one of them is not UTF-8.
-pub fn given<R: Env + AllocGlobal>(rt: &R) -> Result<Vec<String>, Fault<'static>> {
-    let words = match env::args(rt) {
-        Ok(words) => words,
-        Err(error) if error.kind() == ErrorKind::OutOfMemory => return Err(Fault::NoMemory),
-        Err(_) => return Err(Fault::CommandLine),
-    };
-    words.collect(rt.alloc()).map_err(|_| Fault::NoMemory)
-}
 
 /// A positional argument, with its value if it is not given.
 fn positional<'a>(alloc: Global, id: &'a str, value: &'a str, help: &'a str) -> Arg<'a> {
@@ -83,14 +66,6 @@ fn cache_bytes_option<'a>(alloc: Global) -> Result<Arg<'a>, AllocError> {
         "Most bytes of decoded frames to cache instead, for example 64M (K, M, G)",
     )
     .conflicts_with("cache")
-}
-
-/// An option that has no value.
-fn flag<'a>(alloc: Global, id: &'a str, help: &'a str) -> Arg<'a> {
-    Arg::new(alloc, id)
-        .long(id)
-        .action(ArgAction::SetTrue)
-        .help(help)
 }
 
 /// Adds the options that have no value.
@@ -172,7 +147,6 @@ fn words_of<'a>(matches: &ArgMatches<'a>) -> Words<'a> {
         saved: matches.get_str("save"),
         pads: matches.get_flag("pad"),
         is_live: matches.get_flag("live"),
-        explains: matches.get_flag("explain"),
     }
 }
 

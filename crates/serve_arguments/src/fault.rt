@@ -1,11 +1,11 @@
 // The errors that end the program early.
-ghost use Rattle.std.specs.Prelude.{◌≡◌, ◌≤◌};
-ghost use Rattle.serve_arguments.specs.Statuses.{fault_of, status_of};
+ghost use Rattle.std.specs.Prelude.{◌≡◌};
+ghost use Rattle.serve_arguments.specs.Statuses.{argument_fault, fault_of, file_fault, status_of};
 
 use crate::files::SameFile;
 use output_files::Unsaved;
+use program_parts::{ArgumentFault, Ending, FileFault};
 use std::fmt;
-use std::io::Write;
 use stream_files::IvfFault;
 use thiserror::Error;
 
@@ -53,14 +53,43 @@ pub enum Fault<'a> {
     NoMemory,
 }
 
-impl Fault<'_> {
-    /// The program's exit status: 2 for the command line, 1 for all else.
-    pub fn status(self) -> u8
-        ensures { result ≡ status_of self.entry }
-    {
+impl Ending for Fault<'_> {
+    ghost exits_with = { status_of };
+
+    fn program(self) -> &'static str {
+        "vp8serve"
+    }
+
+    /// 2 for the command line, 1 for all else.
+    fn status(self) -> u8 {
         match self {
             Fault::CommandLine | Fault::NamedTwice(_) => 2,
             _ => 1,
+        }
+    }
+}
+
+impl From<ArgumentFault> for Fault<'_> {
+    ghost from_gives = { λ why told. told ≡ argument_fault why };
+
+    fn from(why: ArgumentFault) -> Self {
+        match why {
+            ArgumentFault::CommandLine => Fault::CommandLine,
+            ArgumentFault::CannotWrite => Fault::CannotWrite,
+            ArgumentFault::NoMemory => Fault::NoMemory,
+        }
+    }
+}
+
+impl<'a> From<FileFault<'a>> for Fault<'a> {
+    ghost from_gives = { λ why told. told ≡ file_fault why };
+
+    fn from(why: FileFault<'a>) -> Self {
+        match why {
+            FileFault::CannotRead(path) => Fault::CannotRead(path),
+            FileFault::TooLong(path) => Fault::TooLong(path),
+            FileFault::Tables => Fault::Tables,
+            FileFault::NoMemory => Fault::NoMemory,
         }
     }
 }
@@ -76,13 +105,4 @@ impl From<Unsaved> for Fault<'_> {
             }
         }
     }
-}
-
-/// Shows an error to the user, and returns its exit status. If `errors` refuses the
-/// text, only the status reports it.
-pub fn tell<E: Write>(fault: Fault<'_>, errors: &mut E) -> u8
-    ensures { result ≡ status_of fault.entry }
-{
-    let _ = writeln!(errors, "vp8serve: {fault}");
-    fault.status()
 }

@@ -3,7 +3,8 @@ ghost use Rattle.std.specs.Prelude.{◌≡◌, ◌↔◌, IfErr, IfOk, IsTrue, O
 ghost use Rattle.serve_arguments.specs.CommandLines.{AreApart, argument_name, IsApart, IsFileFault, IsNamedTwice, IsSameFile, file_of, is_device, kept_files, named_file, names_of, out_file, read_files, saved_file};
 
 use crate::fault::Fault;
-use crate::words::{NO_FILE, Words};
+use crate::words::Words;
+use program_parts::NO_FILE;
 use std::alloc::{AllocError, Global};
 use std::fmt;
 

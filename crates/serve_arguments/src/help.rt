@@ -1,10 +1,4 @@
-// Help.
-ghost use Rattle.std.specs.Prelude.{◌≡◌, ◌≢◌, IfErr, Err};
-ghost use Rattle.clap.specs.Values.{kind_of};
-
-use crate::fault::Fault;
-use clap::error::ErrorKind;
-use std::io::Write;
+// The texts of help.
 
 /// The purpose of the program, with an example.
 pub const ABOUT: &str = "\
@@ -72,20 +66,3 @@ nodes:
   fade A FIRST COUNT FROM TO    mix with black: weight FROM/256 before FIRST,
                                 TO/256 after COUNT frames, a ramp between
 Example: script trim 0 0 50; fade 1 25 25 256 0";
-
-/// Answers arguments that could not be parsed: help or the version, if that was asked for.
-pub fn help_or_fault<O: Write>(error: clap::Error, output: &mut O) -> Result<(), Fault<'static>>
-    ensures help { kind_of error ≡ ErrorKind.DisplayHelp → IfErr result (λ fault. fault ≡ Fault.CannotWrite) }
-    ensures version { kind_of error ≡ ErrorKind.DisplayVersion → IfErr result (λ fault. fault ≡ Fault.CannotWrite) }
-    ensures memory { kind_of error ≡ ErrorKind.OutOfMemory → result ≡ Err Fault.NoMemory }
-    ensures mistake { kind_of error ≢ ErrorKind.DisplayHelp → kind_of error ≢ ErrorKind.DisplayVersion → kind_of error ≢ ErrorKind.OutOfMemory → result ≡ Err Fault.CommandLine }
-{
-    match error.kind() {
-        ErrorKind::DisplayHelp | ErrorKind::DisplayVersion => {
-            write!(output, "{error}").map_err(|_| Fault::CannotWrite)?;
-            output.flush().map_err(|_| Fault::CannotWrite)
-        }
-        ErrorKind::OutOfMemory => Err(Fault::NoMemory),
-        _ => Err(Fault::CommandLine),
-    }
-}

@@ -1,6 +1,6 @@
 // Worked sizes, capacities and pictures, as functions without code.
-ghost use Rattle.std.specs.Prelude.{◌≡◌, ◌∷◌, [], None, Some, codes};
-ghost use Rattle.serve_arguments.specs.CachedStates.{cache_text, first_key_size, picture_bytes, states_of};
+ghost use Rattle.std.specs.Prelude.{◌≡◌, [], None, Some, codes};
+ghost use Rattle.serve_arguments.specs.CachedStates.{cache_text, picture_bytes, states_of};
 ghost use Rattle.serve_arguments.specs.Capacities.{capacity_given, size_of};
 ghost use Rattle.serve_arguments.specs.declared.capacities.Capacity.TheVariants as capacities;
 
@@ -59,15 +59,6 @@ pub fn worked_states()
     ensures at_least_one { states_of (capacities.Bytes 1) (Some (16, 16)) ≡ 1 }
     ensures at_most_4096 { states_of (capacities.Bytes 1073741824) (Some (16, 16)) ≡ 4096 }
     ensures no_size { states_of (capacities.Bytes 1) None ≡ 32 }
-{}
-
-/// The size of a worked list of packets: one with a key tag and no size, a hidden key frame of 16x16 and a key frame of 32x32.
-pub fn worked_key_sizes()
-    ensures first { first_key_size (
-        record { stamp = 0; bytes = 16 ∷ 0 ∷ 0 ∷ [] }
-        ∷ record { stamp = 1; bytes = 0 ∷ 0 ∷ 0 ∷ 0x9D ∷ 0x01 ∷ 0x2A ∷ 16 ∷ 0 ∷ 16 ∷ 0 ∷ [] }
-        ∷ record { stamp = 2; bytes = 16 ∷ 0 ∷ 0 ∷ 0x9D ∷ 0x01 ∷ 0x2A ∷ 32 ∷ 0 ∷ 32 ∷ 0 ∷ [] } ∷ []) ≡ Some (16, 16) }
-    ensures none { first_key_size (record { stamp = 0; bytes = 17 ∷ 0 ∷ 0 ∷ [] } ∷ []) ≡ None }
 {}
 
 /// What a state takes is not reported before as many steps as states, and not without a size.

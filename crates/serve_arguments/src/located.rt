@@ -5,8 +5,9 @@ ghost use Rattle.serve_arguments.specs.Locations.{IsClash, is_clash};
 
 use crate::fault::Fault;
 use crate::files::{Argument, SameFile};
-use crate::words::{Accepted, NO_FILE, Words};
+use crate::words::{Accepted, Words};
 use output_files::{Place, place_of};
+use program_parts::NO_FILE;
 use std::alloc::AllocError;
 use std::rt::Files;
 

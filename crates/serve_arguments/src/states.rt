@@ -4,15 +4,16 @@ ghost use Rattle.std.specs.Io.KnownBytes.{Appends};
 ghost use Rattle.pixel_planes.specs.Pictures.{macroblocks};
 ghost use Rattle.stream_files.specs.Ivf.{IsIvf};
 ghost use Rattle.stream_files.specs.declared.ivf.Ivf.{Ivf};
+ghost use Rattle.stream_facts.specs.Facts.{first_key_size};
 ghost use Rattle.serve_arguments.specs.Capacities.{IsGiven};
-ghost use Rattle.serve_arguments.specs.CachedStates.{AreStates, cache_text, first_key_size, picture_bytes, plane_bytes, planes_bytes, states_in, states_of};
+ghost use Rattle.serve_arguments.specs.CachedStates.{AreStates, cache_text, picture_bytes, plane_bytes, planes_bytes, states_in, states_of};
 
 use crate::capacities::Capacity;
 use crate::fault::Fault;
-use frame_header::key_size;
 use std::alloc::Global;
 use std::io::{self, ErrorKind, Write};
-use stream_files::{IvfFault, Packet, ivf_read};
+use stream_facts::first_key_size;
+use stream_files::{IvfFault, ivf_read};
 
 /// The number of samples around a plane at each side.
 const BORDER: u64 = 32;
@@ -79,18 +80,6 @@ fn states_of(capacity: Capacity, size: Option<(u16, u16)>) -> u16
         Capacity::States(states) => states,
         Capacity::Bytes(bytes) => states_in(bytes, size),
     }
-}
-
-/// The width and height of the first packet that has a key frame's start with a size (RFC 6386, section 9.1).
-fn first_key_size(packets: &[Packet]) -> Option<(u16, u16)>
-    ensures { result ≡ first_key_size packets.now }
-{
-    for packet in packets {
-        if let Some(size) = key_size(packet.bytes.as_slice()) {
-            return Some(size);
-        }
-    }
-    None
 }
 
 /// The size of the first key packet of a file that has one. `None` too if the bytes are not an IVF file; `NoMemory`.

@@ -9,9 +9,6 @@ use crate::fault::Fault;
 use crate::files::check_files;
 use std::alloc::{AllocError, Global};
 
-/// The argument for no file, which is also the default.
-pub const NO_FILE: &str = "-";
-
 /// The character between the paths of `--sources`.
 const SEPARATOR: char = ':';
 
@@ -44,8 +41,6 @@ pub struct Words<'a> {
     pub pads: bool,
     /// Whether each request line is answered as it comes.
     pub is_live: bool,
-    /// Whether refusals and errors are explained.
-    pub explains: bool,
 }
 
 impl Words<'_> {

@@ -1,21 +1,20 @@
 -- Why the program exits, part by part.
 use Rattle.std.proofs.Common.{ℕ, List, Option, None, refl}
+use Rattle.program_parts.specs.declared.fault.FileFault.{FileFault}
+use Rattle.program_parts.specs.declared.fault.FileFault.TheVariants as files
 use Rattle.serve_arguments.specs.Readings.{AreNamed, IsInputFault}
+use Rattle.serve_arguments.specs.Statuses.{file_fault}
 use Rattle.serve_arguments.specs.declared.fault.Fault.{Fault}
 use Rattle.serve_arguments.specs.declared.fault.Fault.TheVariants.{CommandLine, NamedTwice, CannotRead, TooLong, Tables, Input, CannotWrite, NoMemory}
 use Rattle.serve_program.specs.Endings.{IsEnded, IsRefused, IsSaveFault}
 
 module _ (unnamed : List ℕ) (tables : Option (List ℕ)) (names : List (List ℕ)) (requests : List ℕ) where
   -- a file was not read
-  pub unread_ended : (left left' replies : Option (List ℕ)) (fault : Fault) → IsInputFault tables names requests left left' fault → IsEnded unnamed tables names requests left left' replies replies fault
-  unread_ended left left' replies CommandLine why = absurd why
-  unread_ended left left' replies (NamedTwice same) why = absurd why
-  unread_ended left left' replies (CannotRead path) why = (why, refl)
-  unread_ended left left' replies (TooLong path) why = (why, refl)
-  unread_ended left left' replies Tables why = (why.0, why.1, refl)
-  unread_ended left left' replies (Input source fault) why = absurd why
-  unread_ended left left' replies CannotWrite why = absurd why
-  unread_ended left left' replies NoMemory why = tt
+  pub unread_ended : (left left' replies : Option (List ℕ)) (fault : FileFault) → IsInputFault tables names requests left left' fault → IsEnded unnamed tables names requests left left' replies replies (file_fault fault)
+  unread_ended left left' replies (files.CannotRead path) why = (why, refl)
+  unread_ended left left' replies (files.TooLong path) why = (why, refl)
+  unread_ended left left' replies files.Tables why = (why.0, why.1, refl)
+  unread_ended left left' replies files.NoMemory why = tt
 
   -- the requests were not answered
   pub run_ended : (left left' replies replies' : Option (List ℕ)) (sources : List (List ℕ)) (fault : Fault) → AreNamed unnamed names sources → IsRefused sources None None replies replies' fault → IsEnded unnamed tables names requests left left' replies replies' fault

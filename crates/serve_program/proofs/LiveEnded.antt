@@ -2,7 +2,9 @@
 use Rattle.std.proofs.Common.{◌≡◌, ◌⊎◌, inl, inr, ℕ, List, Option, refl, sym}
 use Rattle.std.specs.Borrow.{Bor}
 use Rattle.vp8_tables.specs.Tables.{TableEntries}
+use Rattle.program_parts.specs.declared.fault.FileFault.{FileFault}
 use Rattle.serve_arguments.specs.Readings.{AreNamed, IsInputFault}
+use Rattle.serve_arguments.specs.Statuses.{file_fault}
 use Rattle.serve_arguments.specs.declared.fault.Fault.{Fault}
 use Rattle.serve_arguments.specs.declared.fault.Fault.TheVariants.{CommandLine, NamedTwice, CannotRead, TooLong, Tables, Input, CannotWrite, NoMemory}
 use Rattle.frame_session.specs.declared.live.LiveFault.{LiveFault}
@@ -31,7 +33,7 @@ pub unopened : (tables : TableEntries) (sources : List (List ℕ)) (requests : L
 unopened tables sources requests path left replies theirs = inr (inl (theirs, refl))
 
 -- a file that comes before the requests was not read
-pub files_ended : (unnamed : List ℕ) (named : Option (List ℕ)) (names : List (List ℕ)) (requests : List ℕ) (left replies : Option (List ℕ)) (fault : Fault) → ((left : Option (List ℕ)) → IsInputFault named names requests left left fault) → IsLiveEnded unnamed named names requests left left replies replies fault
+pub files_ended : (unnamed : List ℕ) (named : Option (List ℕ)) (names : List (List ℕ)) (requests : List ℕ) (left replies : Option (List ℕ)) (fault : FileFault) → ((left : Option (List ℕ)) → IsInputFault named names requests left left fault) → IsLiveEnded unnamed named names requests left left replies replies (file_fault fault)
 files_ended unnamed named names requests left replies fault why = inl (unread_ended unnamed named names requests left left replies fault (why left))
 
 unopened_ended : (unnamed : List ℕ) (named : Option (List ℕ)) (names : List (List ℕ)) (requests : List ℕ) (left left' replies replies' : Option (List ℕ)) (fault : Fault) → IsUnopened requests replies replies' fault → IsEnded unnamed named names requests left left' replies replies' fault

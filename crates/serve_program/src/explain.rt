@@ -6,9 +6,9 @@ ghost use Rattle.std.specs.List.{list_any};
 
 use crate::messages::Messages;
 use explanations::{CutRecord, StreamReason, cut_record, stream_reason};
-use file_formats::{Format, write_format};
 use output_files::{Taken, Unsaved};
-use serve_arguments::{Fault, NO_FILE, Words, parse};
+use program_parts::{Format, NO_FILE, write_format};
+use serve_arguments::{Fault, Words, parse};
 use std::convert::AsStr;
 use std::fs::{self, File};
 use std::io::{self, Read, Write};
@@ -58,7 +58,7 @@ pub fn explain_fault<R: Files + AllocGlobal, S: AsStr, E: Write>(
     };
 }
 
-/// The same with the values of the arguments.
+/// Explains an error over the values of the arguments.
 fn explain_in<R: Files + AllocGlobal, E: Write>(
     rt: &R,
     words: Words<'_>,

@@ -12,7 +12,8 @@ use crate::runs::{live_fault, settings_over, slices_of};
 use crate::saving::{abandon_save, begin_save};
 use frame_session::{LiveFault, Session, Settings, run_live_observed};
 use output_files::Counted;
-use serve_arguments::{Accepted, Fault, FilesRead, NO_FILE, read_files};
+use program_parts::NO_FILE;
+use serve_arguments::{Accepted, Fault, FilesRead, read_files};
 use std::fs::File;
 use std::io::{self, BufRead, BufReader, BufWriter, Read, Write};
 use std::rt::Files;
@@ -71,7 +72,7 @@ fn run_to_path<R: Files + AllocGlobal, I: BufRead, P: Write, E: Write>(
     answered
 }
 
-/// The same for the lines of a reader that is not buffered.
+/// Answers the lines of a reader that is not buffered, through a buffer.
 fn run_over<R: Files + AllocGlobal, I: Read, P: Write, E: Write>(
     rt: &R,
     settings: Settings,

@@ -1,12 +1,12 @@
 // The program over a reader and two writers.
-ghost use Rattle.std.specs.Prelude.{◌≡◌, ◌≤◌, ℕ, IfOk, IfErr, List, None, OnOk, Option, is_some, length, map, option_map};
+ghost use Rattle.std.specs.Prelude.{◌≡◌, ◌≤◌, ℕ, [], IfOk, IfErr, List, None, OnOk, Option, is_some, length, map, option_map};
+ghost use Rattle.std.specs.Io.Buffered.{writer_buffer};
 ghost use Rattle.std.specs.Io.KnownBytes.{Appends};
 ghost use Rattle.frame_session.specs.Answers.{Means, texts_of};
 ghost use Rattle.serve_arguments.specs.CachedStates.{AreStates};
 ghost use Rattle.serve_arguments.specs.Capacities.{IsGiven};
 ghost use Rattle.serve_arguments.specs.CommandLines.{source_names};
 ghost use Rattle.serve_arguments.specs.Readings.{AreNamed};
-ghost use Rattle.serve_arguments.specs.Statuses.{exit_status};
 ghost use Rattle.serve_program.specs.Endings.{AreReplied, IsEnded, IsRefused, IsReplied, IsSaveFault, IsServed, spare_text, stream_in};
 
 use crate::explain::{explain_end, explain_fault, is_asked};
@@ -16,9 +16,9 @@ use crate::runs::{run_fault, settings_over, slices_of, stream_in};
 use crate::saving::{begin_save, finish_save};
 use frame_session::{Observer, Session, Settings, run_observed};
 use output_files::{Counted, Taken, Target};
+use program_parts::{NO_FILE, exit_status, help_or_mistake};
 use serve_arguments::{
-    Accepted, Fault, FilesRead, Inputs, NO_FILE, check_places, help_or_fault, parse, read_inputs,
-    report_cache, tell,
+    Accepted, Fault, FilesRead, Inputs, check_places, parse, read_inputs, report_cache,
 };
 use std::alloc::Global;
 use std::convert::AsStr;
@@ -58,7 +58,7 @@ pub fn run_to<F: Write, P: Write, V: Observer>(
     Ok(session)
 }
 
-/// The same, with frames that go to the file at `path`, which is created now, or nowhere.
+/// Runs the requests with frames that go to the file at `path`, which is created now, or nowhere.
 fn run_to_path<R: Files + AllocGlobal, P: Write, E: Write>(
     rt: &R,
     settings: Settings,
@@ -215,42 +215,45 @@ fn answer<'a, R: Files + AllocGlobal, I: Read, O: Write, E: Write>(
     answer_inputs(rt, line, inputs, output, messages)
 }
 
-/// Does what a command line asks for.
-fn answer_line<'a, R: Files + AllocGlobal, S: AsStr, I: Read, O: Write, E: Write>(
+/// Flushes the replies.
+fn flush_replies<O: Write + Drop>(output: &mut BufWriter<O>) -> Result<(), Fault<'static>>
+    ensures { OnOk result (writer_buffer output.new ≡ []) }
+{
+    output.flush().map_err(|_| Fault::CannotWrite)
+}
+
+/// Does what a command line asks for, flushes the replies, and returns the exit status.
+fn answer_line<'a, R: Files + AllocGlobal, S: AsStr, I: Read, O: Write + Drop, E: Write>(
     rt: &R,
     words: &'a [S],
     input: &mut I,
-    output: &mut O,
+    output: &mut BufWriter<O>,
     messages: &mut Messages<'_, E>,
-) -> Result<(), Fault<'a>> {
-    match parse(rt.alloc(), words) {
-        Ok(words) => {
-            let line = words.accept(rt.alloc())?;
-            check_places(rt, &line)?;
-            if line.words.is_live {
-                answer_live(rt, &line, input, output, messages)?;
-            } else {
-                answer(rt, &line, input, output, messages)?;
-            }
-            Ok(())
-        }
-        Err(error) => help_or_fault(error, output),
-    }
-}
-
-/// The exit status of the program's result; an error is shown to the user.
-fn exit_status<E: Write>(answer: Result<(), Fault<'_>>, errors: &mut E) -> u8
-    ensures { result ≡ exit_status answer.entry }
+) -> Result<u8, Fault<'a>>
+    ensures status { IfOk result (λ status. status ≡ 0) }
+    ensures flushed { OnOk result (writer_buffer output.new ≡ []) }
 {
-    match answer {
-        Ok(()) => 0,
-        Err(fault) => tell(fault, errors),
+    let words = match parse(rt.alloc(), words) {
+        Ok(words) => words,
+        Err(error) => {
+            help_or_mistake(error, output)?;
+            return Ok(0);
+        }
+    };
+    let line = words.accept(rt.alloc())?;
+    check_places(rt, &line)?;
+    if line.words.is_live {
+        answer_live(rt, &line, input, output, messages)?;
+    } else {
+        answer(rt, &line, input, output, messages)?;
     }
+    flush_replies(output)?;
+    Ok(0)
 }
 
 /// Runs the program on a command line, whose first argument is the program's name, and returns its exit
 /// status: 0 if every request was answered, also by a refusal, and for help and the version; 2 for a
-/// mistake on the command line; 1 for every other error.
+/// mistake on the command line; 1 for every other error. At 0 nothing is left in the buffer of `output`.
 ///
 /// All files are read whole, up to 1,073,741,824 bytes each, before the file for the frames is created: the
 /// tables, IN, the files of `--sources` in their order, the requests. The packets of source 0 are saved after the last
@@ -260,14 +263,15 @@ fn exit_status<E: Write>(answer: Result<(), Fault<'_>>, errors: &mut E) -> u8
 /// run without one the number of trailing bytes of all sources together, if there are any, go to `errors`. With `--explain`
 /// each of them is followed by a line that explains it, each refused request has a line, and after a run that made as many decoding steps as
 /// states are cached a line says what a state takes.
-pub fn serve<R: Files + AllocGlobal, S: AsStr, I: Read, O: Write, E: Write>(
+pub fn serve<R: Files + AllocGlobal, S: AsStr, I: Read, O: Write + Drop, E: Write>(
     rt: &R,
     words: &[S],
     input: &mut I,
-    output: &mut O,
+    output: &mut BufWriter<O>,
     errors: &mut E,
 ) -> u8
-    ensures { result ≤ 2 }
+    ensures status { result ≤ 2 }
+    ensures flushed { result ≡ 0 → writer_buffer output.new ≡ [] }
 {
     let mut messages = Messages::new(errors, is_asked(words));
     let answer = answer_line(rt, words, input, output, &mut messages);

@@ -1,7 +1,6 @@
 -- What is known after each packet is what decoding leaves.
-use Rattle.std.proofs.Common.{◌≡◌, ℕ, ◌+◌, List, [], ◌∷◌, map, refl, ap, ◌∙◌}
-use Rattle.vp8_tables.specs.declared.tables.Tables.{Tables}
-use Rattle.state_cache.specs.Decoding.{Outcome, Progress as Decoded, left_by, outcome, outcomes_from}
+use Rattle.std.proofs.Common.{◌≡◌, ◌+◌, List, [], ◌∷◌, refl, ap, ◌∙◌}
+use Rattle.state_cache.specs.Decoding.{Outcome, left_by, outcome}
 use Rattle.macroblock_lists.specs.Known.{Progress, progress_after}
 use Rattle.macroblock_lists.specs.KnownLaws.{known_in}
 use Rattle.macroblock_lists.proofs.KnownOfStates.{after_one}

@@ -7,7 +7,7 @@ use Rattle.stream_checks.specs.declared.finding.Finding.{Finding}
 use Rattle.stream_checks.specs.declared.finding.Tally.{Tally}
 use Rattle.stream_checks.specs.declared.fault.CheckFault.{CheckFault}
 use Rattle.stream_checks.specs.declared.fault.CheckFault.TheVariants.{NoMemory, Write}
-use Rattle.stream_checks.specs.declared.texts.Form.{Form}
+use Rattle.macroblock_lists.specs.declared.layouts.Form.{Form}
 use Rattle.vp8_tables.specs.Tables.{TableEntries}
 use Rattle.stream_files.specs.declared.ivf.Ivf.{Ivf}
 use Rattle.stream_checks.specs.Checks.{IsBegun, IsChecked, IsEarlyEnd, IsPacketEnd}

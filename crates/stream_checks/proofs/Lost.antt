@@ -8,7 +8,6 @@ use Rattle.stream_files.specs.declared.packets.Packet.{Packet}
 use Rattle.state_cache.specs.declared.outcomes.Broken.{Broken}
 use Rattle.state_cache.specs.Decoding.{Outcome, Progress, left_by, outcomes_from, reported_at}
 use Rattle.stream_checks.specs.Packets.{bytes_of, lost_after}
-use Rattle.stream_checks.specs.Laws.{LostAreBroken}
 
 -- one packet after a break, by whether it has a key tag
 lost_by_key : (key : Bool) (broken : Broken) (stepped : Outcome) (more : Progress → List Outcome) (count j : ℕ)

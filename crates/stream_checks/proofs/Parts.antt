@@ -5,7 +5,7 @@ use Rattle.std.proofs.lemmas.Grind.{flat_map-append}
 use Rattle.std.specs.Io.KnownBytes.{Appends}
 use Rattle.stream_checks.specs.declared.finding.Finding.{Finding}
 use Rattle.stream_checks.specs.declared.finding.Tally.{Tally}
-use Rattle.stream_checks.specs.declared.texts.Form.{Form}
+use Rattle.macroblock_lists.specs.declared.layouts.Form.{Form}
 use Rattle.stream_checks.specs.Severity.{plus, tally_of}
 use Rattle.stream_checks.specs.Texts.{text_of, texts_of}
 use Rattle.stream_checks.proofs.Tallies.{tally_append}

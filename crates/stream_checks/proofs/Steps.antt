@@ -1,5 +1,5 @@
 -- One more packet of a check.
-use Rattle.std.proofs.Common.{◌≡◌, ◌+◌, ◌++◌, ◌∷◌, ℕ, List, refl, sym, subst, ap, ◌∙◌}
+use Rattle.std.proofs.Common.{◌≡◌, ◌++◌, ◌∷◌, ℕ, List, sym, ap, ◌∙◌}
 use Rattle.vp8_tables.specs.Tables.{TableEntries}
 use Rattle.stream_files.specs.declared.packets.Packet.{Packet}
 use Rattle.macroblock_lists.specs.Known.{Progress}

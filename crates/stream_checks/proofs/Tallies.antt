@@ -1,9 +1,8 @@
 -- The tally of findings and others.
-use Rattle.std.proofs.Common.{◌≡◌, ℕ, Bool, not, List, ◌++◌, refl}
+use Rattle.std.proofs.Common.{◌≡◌, ℕ, not, List, ◌++◌, refl}
 use Rattle.std.proofs.lemmas.List.Sums.{sum_by-append}
 use Rattle.std.specs.Prelude.{cond}
 use Rattle.stream_checks.specs.declared.finding.Finding.{Finding}
-use Rattle.stream_checks.specs.declared.finding.Tally.{Tally}
 use Rattle.stream_checks.specs.Severity.{is_damage, plus, tally_of}
 
 pub tally_append : (some others : List Finding) → tally_of (some ++ others) ≡ plus (tally_of some) (tally_of others)

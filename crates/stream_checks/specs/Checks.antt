@@ -15,7 +15,7 @@ use Rattle.stream_checks.specs.declared.finding.Finding.{Finding}
 use Rattle.stream_checks.specs.declared.finding.Tally.{Tally}
 use Rattle.stream_checks.specs.declared.fault.CheckFault.{CheckFault}
 use Rattle.stream_checks.specs.declared.fault.CheckFault.TheVariants.{NoMemory, Write}
-use Rattle.stream_checks.specs.declared.texts.Form.{Form}
+use Rattle.macroblock_lists.specs.declared.layouts.Form.{Form}
 use Rattle.stream_checks.specs.Files.{findings}
 use Rattle.stream_checks.specs.Lines.{frames_of}
 use Rattle.stream_checks.specs.Severity.{tally_of}

@@ -1,16 +1,15 @@
 -- The findings at the header and at the end of an IVF file.
-use Rattle.std.specs.Prelude.{◌≡◌, ℕ, ◌+◌, ◌-◌, ◌==◌, ◌||◌, Bool, if◌then◌else◌, nat_le, List, [], ◌∷◌, ◌++◌, drop, length, Option, Some, None}
+use Rattle.std.specs.Prelude.{ℕ, ◌-◌, ◌==◌, ◌||◌, if◌then◌else◌, nat_le, List, ◌++◌, drop, length, Option, Some, None}
 use Rattle.byteorder.specs.Endian.{little_number}
 use Rattle.vp8_tables.specs.Tables.{TableEntries}
-use Rattle.frame_header.specs.Tags.{key_size_of}
 use Rattle.stream_files.specs.declared.ivf.Head.{Head}
 use Rattle.stream_files.specs.declared.ivf.Ivf.{Ivf}
-use Rattle.stream_files.specs.declared.packets.Packet.{Packet}
+use Rattle.stream_facts.specs.Facts.{first_key_size}
 use Rattle.stream_checks.specs.declared.finding.Finding.{Finding}
 use Rattle.stream_checks.specs.declared.finding.Trouble.{Trouble}
 use Rattle.stream_checks.specs.declared.finding.Trouble.TheVariants.{FrameCount, FrameSize, NoRate, CutRecord}
 use Rattle.stream_checks.specs.Listed.{found_around, listed}
-use Rattle.stream_checks.specs.Packets.{newer, packet_findings}
+use Rattle.stream_checks.specs.Packets.{packet_findings}
 
 -- the number of frames that the header gives: bytes 24 to 27
 abbrev pub claimed_frames : List ℕ → ℕ
@@ -18,11 +17,6 @@ claimed_frames bytes = little_number 4 (drop 24 bytes)
 
 abbrev pub count_trouble : ℕ → ℕ → Option Trouble
 count_trouble claimed packets = if claimed == packets then None else Some (FrameCount claimed packets)
-
--- the size of the first key packet that has one
-abbrev pub first_size : List Packet → Option (ℕ × ℕ)
-first_size [] = None
-first_size (packet ∷ packets) = newer (key_size_of packet.bytes) (first_size packets)
 
 -- the size that the header gives, against that of the first key packet
 abbrev pub size_trouble : ℕ × ℕ → Option (ℕ × ℕ) → Option Trouble
@@ -50,7 +44,7 @@ cut_trouble bytes packets spare = if spare == 0 then None else Some (cut_at byte
 abbrev pub head_findings : List ℕ → Ivf → List Finding
 head_findings bytes file =
     listed (found_around (count_trouble (claimed_frames bytes) (length file.packets)))
-    ++ listed (found_around (size_trouble (file.head.width, file.head.height) (first_size file.packets)))
+    ++ listed (found_around (size_trouble (file.head.width, file.head.height) (first_key_size file.packets)))
     ++ listed (found_around (rate_trouble file.head))
 
 -- and at the end

@@ -1,5 +1,5 @@
 -- Laws about findings.
-use Rattle.std.specs.Prelude.{◌≡◌, ℕ, ◌<◌, List, [], ◌∷◌, map, slice_get, Option, Some, None, Result, Err}
+use Rattle.std.specs.Prelude.{◌≡◌, ℕ, ◌<◌, List, [], ◌∷◌, map, slice_get, Option, Some, None, Err}
 use Rattle.vp8_tables.specs.declared.tables.Tables.{Tables}
 use Rattle.frame_header.specs.declared.cause.Cause.TheVariants.{NoKeyFrame}
 use Rattle.stream_files.specs.declared.packets.Packet.{Packet}
@@ -8,10 +8,8 @@ use Rattle.state_cache.specs.Decoding.{Progress as Decoded, left_by, outcomes_fr
 use Rattle.macroblock_lists.specs.Known.{Progress}
 use Rattle.macroblock_lists.specs.KnownLaws.{known_in}
 use Rattle.macroblock_lists.specs.PartitionEnds.{no_ends}
-use Rattle.macroblock_lists.specs.declared.broken.Broken.{Broken as Break}
 use Rattle.macroblock_lists.specs.declared.partition_ends.PartitionEnd.{PartitionEnd}
 use Rattle.stream_checks.specs.declared.finding.Finding.{Finding}
-use Rattle.stream_checks.specs.declared.finding.Spot.{Spot}
 use Rattle.stream_checks.specs.declared.finding.Trouble.{Trouble}
 use Rattle.stream_checks.specs.declared.finding.Trouble.TheVariants.{NeverShown, PastFirst, PastToken, UnreadToken, EmptyToken, StampGoesBack, StampRepeats, StampSkips}
 use Rattle.stream_checks.specs.Breaks.{progresses_from}
@@ -39,7 +37,7 @@ hidden stamp = record { stamp = stamp; bytes = 0x01 ∷ 0 ∷ 0 ∷ [] }
 -- the findings at packets that are all lost with a break before them
 abbrev pub found_in : ℕ → List Packet → List Finding
 found_in step packets =
-    let broken : Break = record { place = 1000; cause = NoKeyFrame } in
+    let broken : Broken = record { place = 1000; cause = NoKeyFrame } in
     let lost : Progress = Err broken in
     findings_from step first_position packets (map (λ packet. lost) packets) (map (λ packet. no_ends) packets)
 

@@ -1,6 +1,5 @@
 -- The text of findings: a line each.
-use Rattle.std.specs.Prelude.{ℕ, if◌then◌else◌, List, [], ◌∷◌, ◌++◌, codes, count_by, length, Option, Some, None}
-use Rattle.std.specs.List.{flat_map}
+use Rattle.std.specs.Prelude.{ℕ, if◌then◌else◌, List, [], ◌++◌, codes, count_by, Option, Some, None}
 use Rattle.std.specs.Fmt.{decimal}
 use Rattle.frame_header.specs.Tags.{is_shown}
 use Rattle.stream_files.specs.declared.packets.Packet.{Packet}

@@ -1,5 +1,5 @@
 -- A finding as a JSON object (RFC 8259).
-use Rattle.std.specs.Prelude.{ℕ, if◌then◌else◌, List, [], ◌∷◌, ◌++◌, codes, Option, Some, None}
+use Rattle.std.specs.Prelude.{ℕ, if◌then◌else◌, List, ◌++◌, codes, Option, Some, None}
 use Rattle.stream_facts.specs.Json.{member, number_member, optional_member}
 use Rattle.stream_facts.specs.Lines.{cause_text}
 use Rattle.stream_checks.specs.declared.finding.Finding.{Finding}

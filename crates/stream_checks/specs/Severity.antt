@@ -1,5 +1,5 @@
 -- Damage and notes.
-use Rattle.std.specs.Prelude.{ℕ, ◌+◌, Bool, true, false, not, List, count_by}
+use Rattle.std.specs.Prelude.{◌+◌, Bool, true, false, not, List, count_by}
 use Rattle.stream_checks.specs.declared.finding.Finding.{Finding}
 use Rattle.stream_checks.specs.declared.finding.Tally.{Tally}
 use Rattle.stream_checks.specs.declared.finding.Trouble.{Trouble}

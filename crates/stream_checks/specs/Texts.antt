@@ -3,8 +3,8 @@ use Rattle.std.specs.Prelude.{ℕ, List, []}
 use Rattle.std.specs.List.{flat_map}
 use Rattle.stream_checks.specs.declared.finding.Finding.{Finding}
 use Rattle.stream_checks.specs.declared.finding.Tally.{Tally}
-use Rattle.stream_checks.specs.declared.texts.Form.{Form}
-use Rattle.stream_checks.specs.declared.texts.Form.TheVariants.{Lines, Objects}
+use Rattle.macroblock_lists.specs.declared.layouts.Form.{Form}
+use Rattle.macroblock_lists.specs.declared.layouts.Form.TheVariants.{Lines, Objects}
 use Rattle.stream_checks.specs.Lines as lines
 use Rattle.stream_checks.specs.Objects as objects
 

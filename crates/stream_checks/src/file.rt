@@ -2,17 +2,18 @@
 
 ghost use Rattle.std.specs.Prelude.{◌≡◌, ◌+◌, ◌≤◌, IfOk, OnOk, length};
 ghost use Rattle.std.specs.Io.KnownBytes.{Appends};
-ghost use Rattle.stream_checks.specs.Files.{claimed_frames, claimed_size, count_trouble, cut_trouble, end_findings, first_size, head_findings, rate_trouble, size_trouble};
+ghost use Rattle.stream_checks.specs.Files.{claimed_frames, claimed_size, count_trouble, cut_trouble, end_findings, head_findings, rate_trouble, size_trouble};
 ghost use Rattle.stream_checks.specs.Listed.{found_around};
 ghost use Rattle.stream_checks.specs.Severity.{tally_of};
 ghost use Rattle.stream_checks.specs.Texts.{texts_of};
 
 use crate::finding::{Finding, Tally, Trouble};
-use crate::texts::{Form, write_found};
+use crate::texts::write_found;
 use byteorder::{ByteOrder, LittleEndian};
-use frame_header::key_size;
+use macroblock_lists::Form;
 use std::io::Write;
-use stream_files::{Head, Ivf, Packet, WriteFault};
+use stream_facts::first_key_size;
+use stream_files::{Head, Ivf, WriteFault};
 
 /// The number of frames that the header gives.
 fn claimed_frames(bytes: &[u8]) -> u32
@@ -33,18 +34,6 @@ fn count_trouble(bytes: &[u8], packets: usize) -> Option<Trouble>
     } else {
         Some(Trouble::FrameCount { claimed, packets })
     }
-}
-
-/// The size of the first key packet that has one.
-fn first_size(packets: &[Packet]) -> Option<(u16, u16)>
-    ensures { result ≡ first_size packets.now }
-{
-    for packet in packets {
-        if let Some(size) = key_size(packet.bytes.as_slice()) {
-            return Some(size);
-        }
-    }
-    None
 }
 
 /// Compares the size that the header gives with that of the first key packet.
@@ -126,7 +115,7 @@ pub(crate) fn write_head<W: Write>(
 {
     let head = file.head;
     let packets = file.packets.as_slice();
-    let size = size_trouble((head.width, head.height), first_size(packets));
+    let size = size_trouble((head.width, head.height), first_key_size(packets));
     let count = write_found(w, form, found(count_trouble(bytes, packets.len())))?;
     let size = write_found(w, form, found(size))?;
     let rate = write_found(w, form, found(rate_trouble(head)))?;

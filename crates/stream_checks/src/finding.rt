@@ -40,7 +40,7 @@ pub enum Trouble {
     PastFirst {
         bytes: usize,
     },
-    /// The same of one of its token partitions.
+    /// Decoding the packet reads so many bytes past the end of this token partition.
     PastToken {
         partition: usize,
         bytes: usize,
@@ -50,7 +50,7 @@ pub enum Trouble {
         bytes: usize,
         size: usize,
     },
-    /// The same of one of its token partitions.
+    /// Decoding the packet leaves so many bytes of this token partition, of `size` bytes, unread.
     UnreadToken {
         partition: usize,
         bytes: usize,

@@ -9,13 +9,8 @@ use crate::samples::{sample_count, samples_md5};
 use crate::time_bases::TimeBase;
 use pixel_planes::Picture;
 use std::io::Write;
+use stream_facts::write_text;
 use stream_files::WriteFault;
-
-fn write_text<W: Write>(w: &mut W, text: &str) -> Result<(), WriteFault>
-    ensures { OnOk result (Appends (W.contents w.old) (W.contents w.new) text.now) }
-{
-    w.write_all(text.as_bytes()).map_err(|_| WriteFault::Write)
-}
 
 /// Writes the lines before the frames.
 pub(crate) fn write_head<W: Write>(

@@ -54,33 +54,33 @@ pub fn samples_follow_the_mark()
 {}
 
 /// Every number of a list of bytes is a byte.
-fn numbers_are_bytes(bytes: &[u8])
+fn prove_bytes(bytes: &[u8])
     ensures { AreProbabilities bytes.now }
 {}
 
 /// So is every number of two lists.
-fn rows_are_bytes(rows: &[[u8; 19]; 2])
+fn prove_rows(rows: &[[u8; 19]; 2])
     ensures { AreRows rows.now }
 {
-    numbers_are_bytes(&rows[0]);
-    numbers_are_bytes(&rows[1]);
+    prove_bytes(&rows[0]);
+    prove_bytes(&rows[1]);
 }
 
 /// And each probability of a context.
-fn probabilities_are_bytes(context: &Context)
+fn prove_probabilities(context: &Context)
     ensures { AreBytes context.now.probabilities }
 {
-    numbers_are_bytes(&context.probabilities.y_modes);
-    numbers_are_bytes(&context.probabilities.uv_modes);
-    rows_are_bytes(&context.probabilities.vectors);
+    prove_bytes(&context.probabilities.y_modes);
+    prove_bytes(&context.probabilities.uv_modes);
+    prove_rows(&context.probabilities.vectors);
 }
 
 /// And of the context that is known.
-fn known_has_bytes(known: Option<&Known>)
+fn prove_known(known: Option<&Known>)
     ensures { IfSome (option_copied known.entry) (λ k. AreBytes k.context.probabilities) }
 {
     if let Some(known) = known {
-        probabilities_are_bytes(known.context());
+        prove_probabilities(known.context());
     }
 }
 
@@ -96,7 +96,7 @@ pub fn first_partitions_are_chains(tables: &Tables, known: Option<&Known>)
     frame_header::laws::headers_are_chains(tables.updates());
     frame_header::laws::headers_are_over_their_own();
     mode_parser::laws::records_are_chains();
-    known_has_bytes(known);
+    prove_known(known);
 }
 
 /// What decoding reads of a token partition, the tokens of the macroblocks whose rows read it, is one

@@ -26,5 +26,5 @@ pub use checking::check;
 pub use fault::CheckFault;
 pub use finding::{Finding, Spot, Tally, Trouble};
 pub use hashes::{HashFault, write_hashes};
+pub use macroblock_lists::Form;
 pub use progress::{Progress, Unwatched};
-pub use texts::Form;

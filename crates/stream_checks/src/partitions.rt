@@ -8,8 +8,8 @@ ghost use Rattle.stream_checks.specs.Severity.{tally_of};
 ghost use Rattle.stream_checks.specs.Texts.{texts_of};
 
 use crate::finding::{Finding, Spot, Tally, Trouble};
-use crate::texts::{Form, write_found};
-use macroblock_lists::{PartitionEnd, PartitionEnds};
+use crate::texts::write_found;
+use macroblock_lists::{Form, PartitionEnd, PartitionEnds};
 use std::io::Write;
 use stream_files::WriteFault;
 

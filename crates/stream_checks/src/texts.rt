@@ -9,17 +9,9 @@ ghost use Rattle.stream_checks.specs.Texts.{end_of, text_of, texts_of};
 use crate::finding::{Finding, Tally};
 use crate::lines::{write_line, write_summary};
 use crate::objects::write_object;
+use macroblock_lists::Form;
 use std::io::Write;
 use stream_files::WriteFault;
-
-/// How findings are written.
-#[derive(Clone, Copy, Debug, PartialEq, Eq)]
-pub enum Form {
-    /// A line for each, and one with their numbers at the end.
-    Lines,
-    /// A JSON object a line.
-    Objects,
-}
 
 /// Writes a finding.
 fn write_finding<W: Write>(w: &mut W, form: Form, finding: Finding) -> Result<(), WriteFault>
@@ -50,7 +42,7 @@ pub(crate) fn write_found<W: Write>(
     }
 }
 
-/// Writes what follows the findings.
+/// Writes what follows the findings: after lines, one with their numbers.
 pub(crate) fn write_end<W: Write>(
     w: &mut W,
     form: Form,

@@ -1,6 +1,7 @@
 -- The facts of a packet, by the headers of the packets before it.
 use Rattle.std.specs.Prelude.{ℕ, ◌+◌, ◌==◌, ◌&&◌, ◌||◌, Bool, true, false, not, if◌then◌else◌, List, [], ◌∷◌, is_ok, length, Option, Some, None, Result, Ok, Err}
 use Rattle.std.specs.Int.{from_bool}
+use Rattle.std.specs.Option.{option_or}
 use Rattle.stream_files.specs.declared.packets.Packet.{Packet}
 use Rattle.frame_header.specs.declared.cause.Cause.{Cause}
 use Rattle.frame_header.specs.declared.cause.Cause.TheVariants.{NoKeyFrame}
@@ -84,3 +85,8 @@ facts_from position (packet ∷ packets) = facts_of position packet ∷ facts_fr
 -- of packets whose first record begins at this byte of the file
 abbrev pub facts_in : ℕ → List Packet → List Facts
 facts_in begins packets = facts_from (first_position begins) packets
+
+-- the width and height of the first packet that has a key frame's start with a size
+abbrev pub first_key_size : List Packet → Option (ℕ × ℕ)
+first_key_size [] = None
+first_key_size (packet ∷ packets) = option_or (key_size_of packet.bytes) (first_key_size packets)

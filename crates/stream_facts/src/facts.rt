@@ -1,7 +1,7 @@
 //! The facts of one packet after another.
 
 ghost use Rattle.std.specs.Prelude.{◌≡◌, ◌+◌, ◌<◌, ◌≤◌, ◌^◌};
-ghost use Rattle.stream_facts.specs.Facts.{facts_of, first_position, follows_after, header_facts, position_after, record_length};
+ghost use Rattle.stream_facts.specs.Facts.{facts_of, first_key_size, first_position, follows_after, header_facts, position_after, record_length};
 
 use frame_header::{
     Cause, Outline, Tag, has_key_tag, is_shown, key_scales, key_size, read_outline, tag,
@@ -114,4 +114,16 @@ impl Position {
             is_lost,
         }
     }
+}
+
+/// The width and height of the first packet that has a key frame's start with a size (RFC 6386, section 9.1).
+pub fn first_key_size(packets: &[Packet]) -> Option<(u16, u16)>
+    ensures { result ≡ first_key_size packets.now }
+{
+    for packet in packets {
+        if let Some(size) = key_size(packet.bytes.as_slice()) {
+            return Some(size);
+        }
+    }
+    None
 }

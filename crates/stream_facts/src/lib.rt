@@ -3,11 +3,12 @@
 
 mod facts;
 mod json;
+pub mod laws;
 mod lines;
 mod listing;
 mod refusals;
 
-pub use facts::{Facts, Position};
+pub use facts::{Facts, Position, first_key_size};
 pub use json::{write_member, write_number, write_objects, write_optional};
 pub use lines::{write_cause, write_text};
 pub use listing::write_listing;

@@ -2,7 +2,7 @@
 use serve_program::serve;
 use std::alloc::AllocError;
 use std::fs;
-use std::io::{self, ErrorKind, Read, Write};
+use std::io::{self, BufWriter, ErrorKind, Read, Write};
 use std::process::Abort;
 use std::rt::Files;
 
@@ -10,7 +10,7 @@ use std::rt::Files;
 pub const ONE: &[u8] =
     b"DKIF\0\0\x20\0VP80\x10\0\x10\0\x1E\0\0\0\x01\0\0\0\x01\0\0\0\0\0\0\0\x0A\0\0\0\0\0\0\0\0\0\0\0\x10\0\0\x9D\x01\x2A\x10\0\x10\0";
 
-/// The same without its packet: its header, with the number 0.
+/// A file of no packets: the header of `ONE`, with the number 0.
 pub const NONE: &[u8] = b"DKIF\0\0\x20\0VP80\x10\0\x10\0\x1E\0\0\0\x01\0\0\0\0\0\0\0\0\0\0\0";
 
 /// A file of one 16x16 key frame whose residual depends on the token probabilities.
@@ -40,7 +40,7 @@ pub fn expect<R: Abort + Files + AllocGlobal>(
     expect_from(rt, line, &mut requests.as_bytes(), replies, errors, status);
 }
 
-/// The same with the requests of a reader.
+/// Runs the program with the requests of a reader, and checks its replies, its messages and its exit status.
 pub fn expect_from<R: Abort + Files + AllocGlobal, I: Read>(
     rt: &R,
     line: &str,
@@ -70,7 +70,19 @@ pub fn run_line<R: Abort + Files + AllocGlobal, I: Read, O: Write, E: Write>(
 ) -> u8 {
     let words: Result<Vec<&str>, AllocError> = line.split(' ').collect(rt.alloc());
     let words = words.expect(rt, "memory for the words");
-    serve(rt, words.as_slice(), requests, output, errors)
+    run_words(rt, words.as_slice(), requests, output, errors)
+}
+
+/// Runs the program on the words of a command line, with a buffer before `output`, and returns its exit status.
+fn run_words<R: Abort + Files + AllocGlobal, I: Read, O: Write, E: Write>(
+    rt: &R,
+    words: &[&str],
+    requests: &mut I,
+    output: &mut O,
+    errors: &mut E,
+) -> u8 {
+    let mut output = BufWriter::new(rt.alloc(), output).expect(rt, "memory for a buffer");
+    serve(rt, words, requests, &mut output, errors)
 }
 
 /// Checks that a command line is refused with this text, before any request is answered, and the same with `--live`.
@@ -87,7 +99,7 @@ fn expect_refused<R: Abort + Files + AllocGlobal>(rt: &R, words: &[&str], text: 
     let mut output = Vec::new(rt.alloc());
     let mut told = Vec::new(rt.alloc());
     let mut requests = b"frame 0\n".as_slice();
-    let ended = serve(rt, words, &mut requests, &mut output, &mut told);
+    let ended = run_words(rt, words, &mut requests, &mut output, &mut told);
     let status = if text.starts_with("command line") {
         2
     } else {

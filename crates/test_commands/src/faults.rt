@@ -1,6 +1,7 @@
 // Errors that end the program: their texts, their statuses, and which of two is reported.
 use crate::expected::{Broken, ONE, check, clear, expect, expect_fault, put};
-use serve_arguments::{Argument, Fault, SameFile, tell};
+use program_parts::tell;
+use serve_arguments::{Argument, Fault, SameFile};
 use std::fs::hard_link;
 use std::os::unix::fs::symlink;
 use std::process::Abort;

@@ -1,5 +1,10 @@
 // Help and the version.
 use crate::expected::expect;
+use list_program::answer;
+use std::io::BufWriter;
+use std::process::Abort;
+use std::rt::Files;
+use stream_checks::Unwatched;
 
 const HELP: &str = "\
 Serves frames of a VP8 stream (IVF) as YUV4MPEG2, while you edit its packets.
@@ -85,6 +90,169 @@ nodes:
 Example: script trim 0 0 50; fade 1 25 25 256 0
 ";
 
+const LIST_HELP: &str = "\
+Lists the packets of a VP8 stream (IVF): a line with the names of the columns,
+and a line a packet, with tabs between columns. Only headers are read.
+Each of --json, --hash, --check, --macroblocks and --header replaces the list; give one of them,
+or --json with --check, --macroblocks or --header.
+
+  vp8list in.ivf | column -t
+  vp8list in.ivf | awk '$5 == \"key\" { print $1, $8 }'
+
+  packet      index of the packet, from 0
+  frame       index of the frame that it is shown as, `-` if it is hidden
+  stamp       time stamp
+  bytes       length
+  kind        `key` or `inter`, `-` with fewer than 3 bytes
+  show        `shown` or `hidden`
+  version     0 to 7
+  size        width x height of a key packet
+  first       length of the first partition, as the tag gives it
+  partitions  number of token partitions
+  quantizer   quantizer index, 0 to 127
+  level       loop filter level, 0 to 63
+  last, golden, altref
+              `new` if the frame becomes that reference; `last`, `golden` or
+              `altref` if it becomes a copy of that one; `-` if it stays
+  cause       why decoding refuses the packet: a name, or `lost` if it is because of an
+              earlier packet; else `-`
+  byte        index of the packet's first byte in the file
+  scale       horizontal x vertical scale of a key packet, 0 to 3
+  color       color space bit of a key packet, 0 or 1
+  clamp       clamping type bit of a key packet, 0 or 1
+
+--json prints a line a packet, an object with a member for each column, null
+instead of `-`:
+
+  vp8list in.ivf --json | jq 'select(.kind == \"key\") | .packet'
+
+--hash prints what ffmpeg prints for the same stream:
+
+  vp8list in.ivf --hash > ours
+  ffmpeg -nostdin -v error -copyts -i in.ivf -fps_mode passthrough \\
+      -autoscale 0 -bitexact -f framemd5 - | diff - ours
+
+A frame that is hidden or does not decode has no line. A refused packet is named on
+standard error, and the exit status is 1 then.
+For a time stamp that
+goes back ffmpeg prints the greatest one so far, and vp8list the stamp itself.
+
+With --check every packet is decoded, and there is a line for each finding instead. Damage
+means that samples are lost, or are not those that were coded:
+
+  damage: packet 60: refused ShortPacket, packets lost with it: 12
+              why a packet is not decoded, and how many packets before the next
+              key packet are lost with it
+  damage: packet 12: first partition: 2 bytes read past its end
+  damage: packet 12: token partition 0: 5 bytes read past its end
+              decoding reads zeros after the end of a partition, as it does if
+              the packet was cut or changed; libvpx calls the frame corrupt
+  damage: packet 12: token partition 0: 40 of 900 bytes are not read
+              decoding ends too early, as it does if the packet was changed; up
+              to 3 bytes are left in sound streams
+  damage: record 100 at byte 51234: claims 12 + 900 bytes, 324 are there
+              the file ends within a record; 12 bytes are the record's head
+
+Anything else is a note:
+
+  note: header: 100 frames, 99 packets
+  note: header: size 320x180, first key packet 640x360
+  note: header: rate 0, scale 1
+              the header of the file is not that of its packets
+  note: packet 12: token partition 0: no bytes, which libvpx calls corrupt
+  note: packet 12: no bytes, at which vpxdec ends
+  note: packet 31: time stamp 30 repeats
+  note: packet 31: time stamp 28 goes back from 30
+              against the shown packet before it
+  note: packet 31: time stamp 35 skips from 33
+              two or more steps: the median of the steps between shown packets,
+              one for each packet
+  note: packet 48: size 320x180 changes to 640x360
+              against the key packet before it
+  note: packet 7: hidden, never shown
+              no shown packet comes before the next key packet, or the end
+  100 packets, 99 frames, damage: 1, notes: 2
+
+--check --json prints a line a finding, an object:
+
+  vp8list in.ivf --check --json | jq 'select(.severity == \"damage\") | .packet'
+
+--macroblocks lists what each macroblock of a packet is made of, --header the fields of its
+header with their bits, by their names in RFC 6386. They take the index of a packet, as 12,
+several packets, as 12-15, or all:
+
+  vp8list in.ivf --macroblocks 12 | column -t
+  vp8list in.ivf --macroblocks all | awk '$6 == \"golden\" { print $1, $2, $3 }'
+  vp8list in.ivf --header 0 --json | jq .y_ac_qi
+
+  packet, column, row
+              index of the packet, position of the macroblock
+  segment     0 to 3
+  skip        1 if it has no tokens
+  reference   intra, last, golden or altref
+  luma        DC_PRED, V_PRED, H_PRED, TM_PRED or B_PRED; with a reference mv_zero,
+              mv_nearest, mv_near, mv_new or mv_split
+  chroma      DC_PRED, V_PRED, H_PRED or TM_PRED
+  parts       the 16 modes of B_PRED, or the 16 vectors of mv_split
+  split       the parts of mv_split: mv_top_bottom, mv_left_right, mv_quarters or MV_16
+  vector      x:y in quarters of a sample, to the right and down
+  quantizer   quantizer index in force, 0 to 127
+  level       filter level in force, 0 to 63
+  interior_limit, hev_threshold, mbedge_limit, sub_bedge_limit
+              filter limits in force
+  inner       1 if its inner edges are filtered
+  blocks      a digit for each block: 1 if it has a coefficient that is not 0
+  coefficients, greatest
+              how many are not 0, and the greatest absolute value
+  mode_bits, token_bits
+              bits that its record and its tokens take
+
+A line that begins with # has the header of a packet, or why it is refused.
+
+Exit status: 0; 1 if --check finds damage, with --strict also a note, or if --hash meets a refused
+packet; 2 for a mistake on the command line, a file that is not IVF, a packet that is
+not there and any other error.
+
+Usage: vp8list [OPTIONS] <IN>
+
+Arguments:
+  <IN>  IVF file; - reads standard input
+
+Options:
+      --tables <FILE>                3012 bytes to use instead of RFC 6386's long tables
+      --hash                         The MD5 of each frame, as ffmpeg's framemd5
+      --json                         A JSON object a packet
+      --check                        Report what is wrong with the stream instead
+      --strict                       With --check: a note is as bad as damage
+      --macroblocks <N, A-B or all>  What each macroblock of these packets is made of
+      --header <N, A-B or all>       The header fields of these packets
+  -h, --help                         Print help
+  -V, --version                      Print version
+";
+
+/// Checks what vp8list prints for the words of a command line that reads no file.
+fn expect_list<R: Abort + Files + AllocGlobal>(rt: &R, words: &[&str], text: &str) {
+    let mut output = Vec::new(rt.alloc());
+    let mut errors = Vec::new(rt.alloc());
+    let mut input = b"".as_slice();
+    let status = {
+        let mut buffered = BufWriter::new(rt.alloc(), &mut output).expect(
+            rt,
+            "memory for a buffer",
+        );
+        answer(
+            rt,
+            words,
+            &mut input,
+            &mut buffered,
+            &mut errors,
+            &mut Unwatched {},
+        )
+    };
+    assert!(rt; status == 0 && errors.is_empty(), "status of vp8list");
+    assert!(rt; output.as_slice() == text.as_bytes(), "text of vp8list");
+}
+
 #[test]
 fn shows_help(rt: HostRuntime) {
     expect(&rt, "vp8serve --help", "frame 0\n", HELP, "", 0);
@@ -102,4 +270,16 @@ fn shows_its_version(rt: HostRuntime) {
         0,
     );
     expect(&rt, "vp8serve -V", "frame 0\n", "vp8serve 0.1.0\n", "", 0);
+}
+
+#[test]
+fn shows_help_of_the_list(rt: HostRuntime) {
+    expect_list(&rt, &["vp8list", "--help"], LIST_HELP);
+    expect_list(&rt, &["vp8list", "-h"], LIST_HELP);
+}
+
+#[test]
+fn shows_the_version_of_the_list(rt: HostRuntime) {
+    expect_list(&rt, &["vp8list", "--version"], "vp8list 0.1.0\n");
+    expect_list(&rt, &["vp8list", "-V"], "vp8list 0.1.0\n");
 }

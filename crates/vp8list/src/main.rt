@@ -1,8 +1,9 @@
 //! Lists the packets of a VP8 stream: an IVF file in, a line a packet out.
 #![tactic(auto)]
 
-use list_program::{BYTES_AT_ONCE, Fault, ProgressLine, answer, given, tell};
+use list_program::{BYTES_AT_ONCE, Fault, ProgressLine, answer};
 use message_writer::MessageWriter;
+use program_parts::{exit_status, given};
 use std::io::{BufWriter, Write};
 use std::process::ExitCode;
 
@@ -25,9 +26,6 @@ fn start<E: Write>(rt: &HostRuntime, errors: &mut E) -> Result<u8, Fault<'static
 
 fn main(rt: HostRuntime) -> ExitCode {
     let mut errors = MessageWriter::new(rt.stderr());
-    let status = match start(&rt, &mut errors) {
-        Ok(status) => status,
-        Err(fault) => tell(fault, &mut errors),
-    };
-    ExitCode::from(status)
+    let ended = start(&rt, &mut errors);
+    ExitCode::from(exit_status(ended, &mut errors))
 }

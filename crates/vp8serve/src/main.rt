@@ -3,7 +3,8 @@
 #![tactic(auto)]
 
 use message_writer::MessageWriter;
-use serve_program::{Fault, given, name_explain, name_help, serve, tell};
+use program_parts::{exit_status, given};
+use serve_program::{Fault, name_explain, name_help, serve};
 use std::fs::File;
 use std::io::{BufWriter, IsTerminal, Write};
 use std::os::fd::AsRawFd;
@@ -41,9 +42,6 @@ fn main(rt: HostRuntime) -> ExitCode {
     let _standard = (standard_file(&rt), standard_file(&rt), standard_file(&rt));
     let is_terminal = rt.stderr().is_terminal();
     let mut errors = MessageWriter::new(rt.stderr());
-    let status = match start(&rt, &mut errors, is_terminal) {
-        Ok(status) => status,
-        Err(fault) => tell(fault, &mut errors),
-    };
-    ExitCode::from(status)
+    let ended = start(&rt, &mut errors, is_terminal);
+    ExitCode::from(exit_status(ended, &mut errors))
 }

@@ -1,4 +1,3 @@
-use Rattle.std.proofs.Common.{◌∙◌, ℕ, ap}
 use Rattle.std.proofs.KnownBytes.{Appends-kept}
 use Rattle.list_program.proofs.checking.check_to.Goals as goal
 

@@ -11,8 +11,8 @@ use Rattle.macroblock_lists.proofs.frames.write_frame.Goals as goal
 pub returns : goal.returns
 returns g c =
     let places : List Place = c.as_slice-partitions.result.now in
-    let own : List Place = c.args.header.now.partitions.items in
-    let columns = c.args.size.0 in
+    let own : List Place = c.args.frame.now.header.now.partitions.items in
+    let columns = c.args.frame.now.columns in
     let zeros = c.zeros_for.result in
     let are : places ≡ own = c.as_slice-partitions.ensures.value in
     let tokens_are : c.in_ok-tokens.tokens ≡ tokens_start own c.args.packet.now columns =
@@ -20,9 +20,9 @@ returns g c =
     let readers : map (λ text. started text.items) c.deref.result.now ≡ map (λ place. started (marked_text zeros c.args.packet.now place)) places =
     ap (λ texts. map (λ text. started text.items) texts) c.deref.ensures.value ∙ marked_readers (λ text. text.items) zeros c.args.packet.now c.in_ok-texts.texts.items places c.in_ok-texts.ensures in
     let state : List Reader → TokenState = λ rs. record { readers = rs; above = replicate columns outside; left = outside } in
-    let marked_are : c.in_ok-marked.marked ≡ marked_start (zeros_for columns c.args.size.1) own c.args.packet.now columns =
+    let marked_are : c.in_ok-marked.marked ≡ marked_start (zeros_for columns c.args.frame.now.rows) own c.args.packet.now columns =
     c.in_ok-marked.ensures ∙ ap state readers ∙ ap (λ (ps : List Place). marked_start zeros ps c.args.packet.now columns) are
     ∙ ap (λ n. marked_start n own c.args.packet.now columns) c.zeros_for.ensures.value in
-    let Written : TokenState → TokenState → Type 0 = λ a b. Appends (g.W.Write.contents c.args.w.now) (g.W.Write.contents c.write_macroblocks.new.w) (texts_of c.args.form c.args.place c.args.header.now columns a b c.args.records.now.modes.records c.args.records.now.facts.items) in
+    let Written : TokenState → TokenState → Type 0 = λ a b. Appends (g.W.Write.contents c.args.w.now) (g.W.Write.contents c.write_macroblocks.new.w) (texts_of c.args.target.form c.args.target.place c.args.frame.now.header.now columns a b c.args.frame.now.records.now.modes.records c.args.frame.now.records.now.facts.items) in
     subst (λ (b : TokenState). Written (tokens_start own c.args.packet.now columns) b) marked_are
-    (subst (λ (a : TokenState). Written a c.in_ok-marked.marked) tokens_are (rw (c.records-modes.ensures, c.as_slice-facts.ensures.value) at c.in_ok-write_macroblocks.ensures))
+    (subst (λ (a : TokenState). Written a c.in_ok-marked.marked) tokens_are c.in_ok-write_macroblocks.ensures)

@@ -7,9 +7,9 @@ use Rattle.macroblock_lists.proofs.frames.write_macroblocks.Given as goal
 
 abbrev pub invariant-loop-mode : goal.invariant-loop-mode
 invariant-loop-mode g l = record {
-  said : Appends (g.W.Write.contents l.fn.w) (g.W.Write.contents l.w) (flat_map (text_at l.form l.packet l.header l.columns l.initial.walk.tokens l.initial.walk.marked l.modes l.facts) (range_with_len 0 l.mode-index));
-  tokens : l.walk.tokens ≡ token_state l.header l.columns l.initial.walk.tokens l.modes l.mode-index;
-  marked : l.walk.marked ≡ token_state l.header l.columns l.initial.walk.marked l.modes l.mode-index;
+  said : Appends (g.W.Write.contents l.fn.w) (g.W.Write.contents l.w) (flat_map (text_at l.form l.place l.frame.header.now l.columns l.initial.walk.tokens l.initial.walk.marked l.modes l.facts) (range_with_len 0 l.mode-index));
+  tokens : l.walk.tokens ≡ token_state l.frame.header.now l.columns l.initial.walk.tokens l.modes l.mode-index;
+  marked : l.walk.marked ≡ token_state l.frame.header.now l.columns l.initial.walk.marked l.modes l.mode-index;
   readers : 0 < length l.walk.tokens.readers;
   above : length l.walk.tokens.above ≡ l.columns;
   marked_readers : 0 < length l.walk.marked.readers;

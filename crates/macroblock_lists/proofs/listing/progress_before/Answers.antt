@@ -1,4 +1,4 @@
-use Rattle.std.proofs.Common.{◌≡◌, ◌∙◌}
+use Rattle.std.proofs.Common.{◌∙◌}
 use Rattle.std.proofs.lemmas.Result.{IfOk-weaker}
 use Rattle.macroblock_lists.proofs.Progress.{progress_starts}
 use Rattle.macroblock_lists.proofs.listing.progress_before.Goals as goal

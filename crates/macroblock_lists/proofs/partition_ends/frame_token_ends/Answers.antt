@@ -1,8 +1,8 @@
-use Rattle.std.proofs.Common.{◌≡◌, List, length, map, replicate, ap, ◌∙◌}
+use Rattle.std.proofs.Common.{◌≡◌, List, length, map, ap, ◌∙◌}
 use Rattle.std.proofs.lemmas.List.{length-map}
 use Rattle.frame_header.specs.declared.places.Place.{Place}
 use Rattle.bool_coder.specs.Reader.{Reader, started}
-use Rattle.reference_frames.specs.FrameTokens.{TokenState, outside}
+use Rattle.reference_frames.specs.FrameTokens.{TokenState}
 use Rattle.macroblock_lists.specs.PartitionEnds.{marked_text}
 use Rattle.macroblock_lists.proofs.MarkedPartitions.{marked_readers, token_ends_are}
 use Rattle.macroblock_lists.proofs.partition_ends.frame_token_ends.Goals as goal

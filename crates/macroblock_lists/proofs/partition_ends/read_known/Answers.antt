@@ -1,4 +1,4 @@
-use Rattle.std.proofs.Common.{◌≡◌, sym, ◌∙◌}
+use Rattle.std.proofs.Common.{sym, ◌∙◌}
 use Rattle.macroblock_lists.proofs.EmptyPackets.{empty_ends}
 use Rattle.macroblock_lists.proofs.partition_ends.read_known.Goals as goal
 

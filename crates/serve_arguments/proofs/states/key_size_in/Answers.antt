@@ -1,7 +1,7 @@
 use Rattle.std.proofs.Common.{◌∙◌, ap}
 use Rattle.stream_files.specs.declared.ivf.Ivf.{Ivf}
 use Rattle.stream_files.proofs.OneAnswer.{file_refused, one_file}
-use Rattle.serve_arguments.specs.CachedStates.{first_key_size}
+use Rattle.stream_facts.specs.Facts.{first_key_size}
 use Rattle.serve_arguments.proofs.states.key_size_in.Goals as goal
 
 pub returns-in-Ok-clause-size : goal.returns-in-Ok-clause-size

@@ -18,7 +18,7 @@ returns c =
       own = c.headers_are_over_their_own.ensures;
     } in
     let bytes : (packet : List ℕ) → AreBytes (first_context c.args.tables.now (has_key_tag packet) (context_in (option_copied c.args.known))).probabilities =
-    λ packet. first_bytes c.args.tables.now (has_key_tag packet) (option_copied c.args.known) c.known_has_bytes.ensures in
+    λ packet. first_bytes c.args.tables.now (has_key_tag packet) (option_copied c.args.known) c.prove_known.ensures in
     record {
       chain = first_is_chain c.args.tables.now (option_copied c.args.known) chains.first chains.trailing chains.frames chains.key_subs bytes;
       read = first_is_read_so c.args.tables.now (option_copied c.args.known) chains bytes;

@@ -1,0 +1,29 @@
+// Help.
+ghost use Rattle.std.specs.Prelude.{◌≡◌, ◌≢◌, [], IsOkUnless, OnOk, Err};
+ghost use Rattle.std.specs.Io.Buffered.{writer_buffer};
+ghost use Rattle.clap.specs.Values.{kind_of};
+
+use crate::fault::ArgumentFault;
+use clap::error::ErrorKind;
+use std::io::{BufWriter, Write};
+
+/// Answers arguments that could not be parsed: help or the version, if that was asked for, goes to `output`, which is flushed.
+pub fn help_or_mistake<O: Write + Drop>(
+    error: clap::Error,
+    output: &mut BufWriter<O>,
+) -> Result<(), ArgumentFault>
+    ensures help { kind_of error ≡ ErrorKind.DisplayHelp → IsOkUnless result ArgumentFault.CannotWrite }
+    ensures version { kind_of error ≡ ErrorKind.DisplayVersion → IsOkUnless result ArgumentFault.CannotWrite }
+    ensures flushed { OnOk result (writer_buffer output.new ≡ []) }
+    ensures memory { kind_of error ≡ ErrorKind.OutOfMemory → result ≡ Err ArgumentFault.NoMemory }
+    ensures mistake { kind_of error ≢ ErrorKind.DisplayHelp → kind_of error ≢ ErrorKind.DisplayVersion → kind_of error ≢ ErrorKind.OutOfMemory → result ≡ Err ArgumentFault.CommandLine }
+{
+    match error.kind() {
+        ErrorKind::DisplayHelp | ErrorKind::DisplayVersion => {
+            write!(output, "{error}").map_err(|_| ArgumentFault::CannotWrite)?;
+            output.flush().map_err(|_| ArgumentFault::CannotWrite)
+        }
+        ErrorKind::OutOfMemory => Err(ArgumentFault::NoMemory),
+        _ => Err(ArgumentFault::CommandLine),
+    }
+}

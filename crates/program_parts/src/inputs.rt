@@ -1,0 +1,100 @@
+// The files that a command line names.
+ghost use Rattle.std.specs.Prelude.{◌≡◌, ◌≢◌, ◌≤◌, IfErr, IfOk, IfSome, None, Ok, codes, false, is_some, option_map, vec_len};
+ghost use Rattle.vp8_tables.specs.Rfc.{rfc_entries};
+ghost use Rattle.vp8_tables.specs.Tables.{entries_of};
+ghost use Rattle.program_parts.specs.Readings.{IsReadFault, IsTableFault, IsTablesFault, limit};
+
+use crate::fault::FileFault;
+use std::alloc::Global;
+use std::fs::File;
+use std::io::Read;
+use std::rt::Files;
+use stream_files::{ReadFault, read_all};
+use vp8_tables::Tables;
+
+/// The argument for standard input, or for no file.
+pub const NO_FILE: &str = "-";
+
+/// The most bytes that a file may have.
+const LIMIT: usize = 1_073_741_824;
+
+/// All bytes of a reader that the command line names `path`.
+fn read_whole<'a, I: Read>(
+    alloc: Global,
+    reader: &mut I,
+    path: &'a str,
+) -> Result<Vec<u8>, FileFault<'a>>
+    ensures within { IfOk result (λ all. vec_len all ≤ limit) }
+    ensures whole { IfOk result (λ all. IfSome (I.remaining reader.old) (λ left. all.items ≡ left)) }
+    ensures fault { IfErr result (IsReadFault path.now (I.remaining reader.old)) }
+{
+    match read_all(alloc, reader, LIMIT) {
+        Ok(all) => Ok(all),
+        Err(ReadFault::Read) => Err(FileFault::CannotRead(path)),
+        Err(ReadFault::TooLong) => Err(FileFault::TooLong(path)),
+        Err(ReadFault::NoMemory) => Err(FileFault::NoMemory),
+    }
+}
+
+/// The bytes of a file.
+///
+/// `CannotRead`, `TooLong` if it has more than 1,073,741,824 bytes, `NoMemory`.
+pub fn read_file<'a, R: Files + AllocGlobal>(
+    rt: &R,
+    path: &'a str,
+) -> Result<Vec<u8>, FileFault<'a>>
+    ensures within { IfOk result (λ all. vec_len all ≤ limit) }
+    ensures fault { IfErr result (IsReadFault path.now None) }
+{
+    match File::open(rt, path) {
+        Ok(mut file) => read_whole(rt.alloc(), &mut file, path),
+        Err(_) => Err(FileFault::CannotRead(path)),
+    }
+}
+
+/// The bytes of a file, or of `input` if the path is `-`. Nothing is read from `input` otherwise.
+///
+/// `CannotRead`, `TooLong` if there are more than 1,073,741,824 bytes, `NoMemory`.
+pub fn read_input<'a, R: Files + AllocGlobal, I: Read>(
+    rt: &R,
+    path: &'a str,
+    input: &mut I,
+) -> Result<Vec<u8>, FileFault<'a>>
+    ensures within { IfOk result (λ all. vec_len all ≤ limit) }
+    ensures input { path.now ≡ codes "-" → IfOk result (λ all. IfSome (I.remaining input.old) (λ left. all.items ≡ left)) }
+    ensures unread { path.now ≢ codes "-" → I.remaining input.new ≡ I.remaining input.old }
+    ensures fault { IfErr result (IsReadFault path.now None) }
+{
+    if path == NO_FILE {
+        read_whole(rt.alloc(), input, path)
+    } else {
+        read_file(rt, path)
+    }
+}
+
+/// The tables whose entries are the bytes of a text.
+fn tables_of(bytes: &[u8]) -> Result<Tables, FileFault<'static>>
+    ensures read { IfOk result (λ tables. entries_of bytes.now ≡ Ok tables) }
+    ensures fault { IfErr result (IsTableFault bytes.now) }
+{
+    Tables::read(bytes).map_err(|_| FileFault::Tables)
+}
+
+/// The tables of a file, or the tables of RFC 6386 if none is given.
+///
+/// The errors of `read_file`, and `Tables` if it does not have 3012 bytes.
+pub fn read_tables<'a, R: Files + AllocGlobal>(
+    rt: &R,
+    path: Option<&'a str>,
+) -> Result<Tables, FileFault<'a>>
+    ensures rfc { is_some path.entry ≡ false → result ≡ Ok rfc_entries }
+    ensures fault { IfErr result (IsTablesFault (option_map (λ path. path.now) path.entry)) }
+{
+    match path {
+        Some(path) => {
+            let bytes = read_file(rt, path)?;
+            tables_of(bytes.as_slice())
+        }
+        None => Ok(Tables::rfc()),
+    }
+}
