@@ -148,7 +148,7 @@ def prove(crates, room, log):
             done.append(line[3:])
             say(f"proved {line[3:]} ({len(done)} of {len(crates)}, {elapsed(since)})")
 
-    say(f"proving {len(crates)} crates, {jobs()} at a time: allow an hour on 4 processors. rt first reads all sources.")
+    say(f"proving {len(crates)} crates, {jobs()} at a time: allow 40 minutes on 4 idle processors. rt first reads all sources.")
     run(["rt", "all", "check", "--jobs", str(jobs())], room, log, progress)
 
 

@@ -1,6 +1,7 @@
-"""Times the decoding of whole clips: decode.py ROOM CLIPS TURNS LEVELS CLIP ..
+"""Times the decoding of whole clips: decode.py ROOM CLIPS TURNS MINUTES LEVELS CLIP ..
 
-ROOM has the program for each of LEVELS, CLIPS the clips. decode.sh runs it.
+ROOM has the program for each of LEVELS, CLIPS the clips. MINUTES is for all clips together, or empty: no turn of a clip after its third
+begins when its share is used up. decode.sh runs it.
 """
 
 import os
@@ -10,7 +11,8 @@ import struct
 import sys
 import time
 
-ROOM, CLIPS, TURNS, LEVELS, *NAMES = sys.argv[1:]
+ROOM, CLIPS, TURNS, MINUTES, LEVELS, *NAMES = sys.argv[1:]
+CACHES = (1, 8, 32)
 NOWHERE = os.open("/dev/null", os.O_RDWR)
 
 
@@ -45,47 +47,75 @@ def ways_for(clip, requests):
     """The commands that decode a clip: those that drop the frames, and those that write them."""
     ways = {}
     for level in LEVELS.split():
-        for cache in ["", " --cache 1"]:
-            ways[level + cache] = [f"{ROOM}/{level}", clip, requests, "-", *cache.split()]
-    ffmpeg = ["ffmpeg", "-v", "error", "-threads", "1"]
+        for states in CACHES:
+            ways[f"{level}, {states} state{'s' * (states > 1)}"] = [f"{ROOM}/{level}", clip, requests, "-", "--cache", str(states)]
     ways["vpxdec"] = ["vpxdec", "--threads=1", "--noblit", clip]
-    ways["ffmpeg"] = [*ffmpeg, "-i", clip, "-f", "null", "-"]
-    ways["ffmpeg without SIMD"] = [*ffmpeg, "-cpuflags", "0", "-i", clip, "-f", "null", "-"]
+    ways["ffmpeg"] = ["ffmpeg", "-v", "error", "-threads", "1", "-i", clip, "-f", "null", "-"]
     ways["frames written"] = [f"{ROOM}/{LEVELS.split()[-1]}", clip, requests, "/dev/null"]
     ways["vpxdec, written"] = ["vpxdec", "--threads=1", "--i420", "-o", "/dev/null", clip]
     return ways
+
+
+def quartiles(values):
+    """The first quartile, the median and the third."""
+    values = sorted(values)
+    return statistics.quantiles(values, n=4, method="inclusive") if len(values) > 1 else values * 3
 
 
 def median(values):
     return statistics.median(list(values))
 
 
+def ratios(runs, way):
+    """The time of each turn over vpxdec's in the same turn."""
+    beside = runs["vpxdec, written" if "written" in way else "vpxdec"]
+    return [mine.time() / other.time() for mine, other in zip(runs[way], beside)]
+
+
 def report(runs):
-    """A line for each command: medians of its runs, and of each turn's time over vpxdec's."""
-    print(f"  {'':24}{'user':>6}{'system':>7}{'wall':>7} ms {'faults':>8}{'MB':>7}   user and system over vpxdec's (best)")
+    """A line for each command: medians of its runs; of each turn's time over vpxdec's the median, and the quartiles around it."""
+    print(f"  {'':24}{'user':>6}{'system':>7}{'wall':>7} ms {'faults':>8}{'MB':>7}   user and system over vpxdec's, middle half")
     for way, taken in runs.items():
-        beside = runs["vpxdec, written" if "written" in way else "vpxdec"]
-        ratio = median(mine.time() / other.time() for mine, other in zip(taken, beside))
-        best = min(run.time() for run in taken) / min(run.time() for run in beside)
+        low, middle, high = quartiles(ratios(runs, way))
         times = [1000 * median(getattr(run, field) for run in taken) for field in ("user", "system", "wall")]
         faults, memory = (median(getattr(run, field) for run in taken) for field in ("faults", "memory"))
-        print(f"  {way:24}{times[0]:6.0f}{times[1]:7.0f}{times[2]:7.0f}    {faults:8.0f}{memory / 1024:7.1f}   {ratio:.2f} ({best:.2f})")
+        print(f"  {way:24}{times[0]:6.0f}{times[1]:7.0f}{times[2]:7.0f}    {faults:8.0f}{memory / 1024:7.1f}   {middle:.2f} ({low:.2f} to {high:.2f})")
+
+
+def turns_of(ways, order):
+    """The runs of each command, in turns in random order."""
+    runs = {way: [] for way in ways}
+    last = time.monotonic() + 60 * float(MINUTES) / len(NAMES) if MINUTES else float("inf")
+    for turn in range(int(TURNS)):
+        if turn >= 3 and time.monotonic() > last:
+            break
+        for way in order.sample(list(ways), len(ways)):
+            runs[way].append(Run(ways[way]))
+    return runs
+
+
+def summary(taken):
+    """The table of bench/README.md: the medians of the ratios, by clip."""
+    ways = [way for way in next(iter(taken.values())) if way != "vpxdec" and "written" not in way]
+    print("| over vpxdec | " + " | ".join(ways) + " | frames written |")
+    print("|---" * (len(ways) + 2) + "|")
+    for name, runs in taken.items():
+        cells = [f"{median(ratios(runs, way)):.2f}" for way in [*ways, "frames written"]]
+        print(f"| {name} | " + " | ".join(cells) + " |")
 
 
 def main():
     order = random.Random(6386)
+    taken = {}
     for name in NAMES:
         clip, requests = f"{CLIPS}/{name}.ivf", f"{ROOM}/requests"
         frames = frames_of(clip)
         with open(requests, "w") as file:
             file.writelines(f"frame {n}\n" for n in range(frames))
-        ways = ways_for(clip, requests)
-        runs = {way: [] for way in ways}
-        for _ in range(int(TURNS)):
-            for way in order.sample(list(ways), len(ways)):
-                runs[way].append(Run(ways[way]))
-        print(f"{name}, {frames} frames, {TURNS} turns in random order")
+        runs = taken[name] = turns_of(ways_for(clip, requests), order)
+        print(f"{name}, {frames} frames, {len(runs['vpxdec'])} turns in random order", flush=True)
         report(runs)
+    summary(taken)
 
 
 main()

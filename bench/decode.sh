@@ -1,5 +1,6 @@
 #!/bin/sh
-# Times the decoding of whole clips next to vpxdec and ffmpeg, and profiles it: bench/decode.sh [CLIP ..]. README.md says more.
+# Times the decoding of whole clips next to vpxdec and ffmpeg, and profiles it: [TURNS=N] [MINUTES=N] bench/decode.sh [CLIP ..].
+# MINUTES=10 takes as many turns as fit. README.md says more.
 . "$(dirname "$0")/prologue.sh"
 need vpxenc vpxdec ffmpeg /usr/bin/time
 
@@ -40,7 +41,7 @@ for level in $levels; do
     "$top/build.py" --cpu "$level"
     cp "$top/bin/vp8serve" "$room/$level"
 done
-python3 "$here/decode.py" "$room" "$clips" "${TURNS:-5}" "$levels" "$@"
+python3 "$here/decode.py" "$room" "$clips" "${TURNS:-15}" "${MINUTES:-}" "$levels" "$@"
 
 command -v perf > /dev/null || exit 0
 echo "$own, zoom-1080p, percent of the time by function"

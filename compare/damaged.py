@@ -82,6 +82,7 @@ def decoded(room, packets, decoder):
     words = {
         "vpxdec": [os.environ.get("VPXDEC", "vpxdec"), "--codec=vp8", "--i420", "--keep-going", "-o", shown, stream],
         "ffmpeg": ["ffmpeg", "-y", "-v", "error", "-i", stream, "-fps_mode", "passthrough", "-pix_fmt", "yuv420p", "-f", "rawvideo", shown],
+        "ffmpeg without SIMD": ["ffmpeg", "-y", "-v", "error", "-cpuflags", "0", "-i", stream, "-fps_mode", "passthrough", "-pix_fmt", "yuv420p", "-f", "rawvideo", shown],
     }[decoder]
     subprocess.run([str(word) for word in words], stdout=subprocess.PIPE, stderr=subprocess.PIPE)
     text = shown.read_bytes()

