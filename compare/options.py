@@ -19,8 +19,16 @@ from listed import lines as listed
 from macroblocks import cell, rows_of, wanted
 
 TOP = pathlib.Path(__file__).resolve().parent.parent
-LIST = os.environ.get("VP8LIST", str(TOP / "crates/vp8list/out/vp8list"))
-SERVE = os.environ.get("VP8SERVE", str(TOP / "crates/vp8serve/out/vp8serve"))
+
+
+def built(name):
+    """The program that rt ci built here, and else the one in bin/."""
+    out = TOP / f"crates/{name}/out/{name}"
+    return str(out if out.exists() else TOP / "bin" / name)
+
+
+LIST = os.environ.get("VP8LIST") or built("vp8list")
+SERVE = os.environ.get("VP8SERVE") or built("vp8serve")
 DATA = TOP / "crates/gate_checks/data"
 LARGE = TOP / "examples/large.ivf"
 STREAMS = [*sorted(DATA.glob("*.ivf")), TOP / "crates/vp8list/data/damaged.ivf", LARGE]
