@@ -1,11 +1,13 @@
 -- The level of the loop filter for a macroblock (RFC 6386, sections 9.3, 9.4 and 15).
-use Rattle.std.specs.Prelude.{ℕ, Bool, min, if◌then◌else◌, slice_index_or, ℤ, pos, negsuc, ◌+ℤ◌}
+use Rattle.std.specs.Prelude.{ℕ, Bool, false, min, if◌then◌else◌, slice_index_or, ℤ, pos, negsuc, ◌+ℤ◌}
 use Rattle.frame_header.specs.declared.context.FilterDeltas.{FilterDeltas}
 use Rattle.frame_header.specs.declared.context.Segments.{Segments}
 use Rattle.frame_header.specs.declared.header.Header.{Header}
 use Rattle.frame_header.specs.declared.references.Reference.{Reference}
 use Rattle.frame_header.specs.declared.references.Reference.TheVariants.{Last, Golden, Altref}
+use Rattle.intra_predict.specs.declared.modes.WholeMode.TheVariants.{Dc}
 use Rattle.mode_parser.specs.declared.records.MbMode.{MbMode}
+use Rattle.mode_parser.specs.Records.{no_sub_modes, no_vectors}
 use Rattle.mode_parser.specs.declared.records.VectorMode.{VectorMode}
 use Rattle.mode_parser.specs.declared.records.VectorMode.TheVariants.{Zero, Nearest, Near, New, Split}
 use Rattle.mode_parser.specs.declared.records.YMode.{YMode}
@@ -59,3 +61,7 @@ unfoldable pub level_of : Header → MbMode → ℕ
 level_of header mode =
     let level = level_in header.filter.level header.segmentation.is_enabled header.context.segments mode.segment in
     if header.adjusts_level then changed_level header.context.deltas mode.y_mode level else level
+
+-- a record of this segment and mode; no level depends on what else it has
+abbrev pub record_by : ℕ → YMode → MbMode
+record_by segment mode = record { segment = segment; is_skipped = false; y_mode = mode; sub_modes = no_sub_modes; uv_mode = Dc; vectors = no_vectors }

@@ -13,7 +13,7 @@ use crate::edge_limits::Limits;
 use crate::macroblocks::{Macroblock, filter_macroblock};
 use crate::strengths::{Strength, limits_of_levels, strength_for};
 use frame_header::Header;
-use mode_parser::{MbMode, Modes};
+use mode_parser::{Modes, Records};
 use pixel_planes::{Plane, Planes};
 
 /// The macroblocks of a frame, in raster order, their number each way, and the limits of each
@@ -21,7 +21,7 @@ use pixel_planes::{Plane, Planes};
 #[derive(Clone, Copy)]
 struct Macroblocks<'a> {
     header: &'a Header<'a>,
-    records: &'a [MbMode],
+    records: &'a Records,
     flags: &'a [bool],
     columns: usize,
     rows: usize,
@@ -38,10 +38,13 @@ fn strength_at(all: Macroblocks, place: usize) -> Option<Strength>
     ensures value { result ≡ strengths all.entry place }
     ensures small { IfSome result HasSmallLimits }
 {
+    let mode = all.records.at(place);
+    let (segment, y_mode) = (mode.segment(), mode.y_mode());
     strength_for(
         all.header,
         all.limits,
-        &all.records[place],
+        segment,
+        y_mode,
         all.flags[place],
     )
 }
@@ -243,7 +246,7 @@ fn filter_flat_chroma(all: Macroblocks, y: &mut Plane, cb: &mut Plane, cr: &mut 
 #[derive(Clone, Copy)]
 pub struct RowFilter<'a> {
     pub(crate) header: &'a Header<'a>,
-    pub(crate) records: &'a [MbMode],
+    pub(crate) records: &'a Records,
     pub(crate) limits: [Limits; 64],
 }
 

@@ -1,5 +1,5 @@
 ghost use Rattle.std.specs.Prelude.{◌≡◌, ◌≤◌, pos, ◌+ℤ◌, slice_index_or};
-ghost use Rattle.loop_filter.specs.Levels.{clamped_level, level_in, reference_delta, mode_delta, changed_level, level_of};
+ghost use Rattle.loop_filter.specs.Levels.{clamped_level, level_in, reference_delta, mode_delta, changed_level, level_of, record_by};
 
 use frame_header::{FilterDeltas, Header, Reference, Segments};
 use mode_parser::{MbMode, VectorMode, YMode};
@@ -84,6 +84,27 @@ fn changed_level(deltas: &FilterDeltas, mode: YMode, level: u8) -> u8
     with_changes(level, by_reference, by_mode)
 }
 
+/// The level of a macroblock by its segment and its mode.
+#[tactic(auto, unfolding(crate::specs::Levels::level_of))]
+pub(crate) fn level_by(header: &Header, segment: u8, y_mode: YMode) -> u8
+    ensures value { result ≡ level_of header.now (record_by segment y_mode) }
+    ensures small { result ≤ 63 }
+{
+    let context = &header.context;
+    let has_segments = header.segmentation.is_enabled;
+    let level = level_in(
+        header.filter.level,
+        has_segments,
+        &context.segments,
+        segment,
+    );
+    if header.adjusts_level {
+        changed_level(&context.deltas, y_mode, level)
+    } else {
+        level
+    }
+}
+
 /// The level of the loop filter for a macroblock, 0 to 63 (RFC 6386, sections 9.3, 9.4 and 15).
 ///
 /// It is the frame's level, or with segments the segment's or their sum, clamped to 0 to 63. If the
@@ -93,17 +114,5 @@ pub fn level(header: &Header, mode: &MbMode) -> u8
     ensures value { result ≡ level_of header.now mode.now }
     ensures small { result ≤ 63 }
 {
-    let context = &header.context;
-    let has_segments = header.segmentation.is_enabled;
-    let level = level_in(
-        header.filter.level,
-        has_segments,
-        &context.segments,
-        mode.segment,
-    );
-    if header.adjusts_level {
-        changed_level(&context.deltas, mode.y_mode, level)
-    } else {
-        level
-    }
+    level_by(header, mode.segment, mode.y_mode)
 }

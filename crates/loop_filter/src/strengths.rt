@@ -1,12 +1,13 @@
 ghost use Rattle.std.specs.Prelude.{◌≡◌, ◌≤◌, IfSome};
 ghost use Rattle.loop_filter.specs.Blocks.{HasSmallLimits};
 ghost use Rattle.loop_filter.specs.Strengths.{AreLimits, interior_limit, variance_threshold, limits_of};
+ghost use Rattle.loop_filter.specs.Levels.{record_by};
 ghost use Rattle.loop_filter.specs.Frames.{has_subblock_modes, strength_of};
 
 use crate::edge_limits::Limits;
-use crate::levels::level;
+use crate::levels::level_by;
 use frame_header::Header;
-use mode_parser::{MbMode, VectorMode, YMode};
+use mode_parser::{VectorMode, YMode};
 
 /// The filter limits of a macroblock, and whether its inner edges are filtered.
 #[derive(Clone, Copy)]
@@ -98,26 +99,27 @@ fn has_subblock_modes(mode: YMode) -> bool
     }
 }
 
-/// The filter limits of a macroblock, given whether one of its blocks has a token, from the limits
+/// The filter limits of a macroblock of this segment and mode, given whether one of its blocks has a token, from the limits
 /// of each level. `None` if it is not filtered.
 #[inline]
 #[tactic(auto, unfolding(crate::specs::Frames::strength_of))]
 pub(crate) fn strength_for(
     header: &Header,
     limits: &[Limits; 64],
-    mode: &MbMode,
+    segment: u8,
+    y_mode: YMode,
     has_tokens: bool,
 ) -> Option<Strength>
     requires limits { AreLimits header.now.filter.sharpness header.now.is_key limits.now }
-    ensures value { result ≡ strength_of header.now mode.now has_tokens }
+    ensures value { result ≡ strength_of header.now (record_by segment y_mode) has_tokens }
     ensures small { IfSome result HasSmallLimits }
 {
-    let level = level(header, mode);
+    let level = level_by(header, segment, y_mode);
     if level == 0 {
         return None;
     }
     Some(Strength {
         limits: limits[usize::from(level)],
-        has_inner_edges: has_subblock_modes(mode.y_mode) || has_tokens,
+        has_inner_edges: has_subblock_modes(y_mode) || has_tokens,
     })
 }

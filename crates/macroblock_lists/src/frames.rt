@@ -111,9 +111,10 @@ fn write_macroblocks<W: Write>(
     let facts = frame.records.facts.as_slice();
     let mut mx = 0;
     let mut my = 0;
-    for mode in modes {
-        let facts = facts_in(facts, my * columns + mx);
-        let macroblock = walk.next(frame.header, mx, my, mode, facts);
+    for n in 0..modes.len() {
+        let mode = modes.at(n).mode();
+        let facts = facts_in(facts, n);
+        let macroblock = walk.next(frame.header, mx, my, &mode, facts);
         write_macroblock(w, form, place, &macroblock)?;
         mx += 1;
         if mx == columns {

@@ -16,7 +16,7 @@ use arrayvec::ArrayVec;
 use frame_header::{
     Context, Header, Place, first_partition, has_key_tag, read_header, read_header_over,
 };
-use mode_parser::MbMode;
+use mode_parser::Records;
 use pixel_planes::NoMemory;
 use state_cache::Broken;
 use std::alloc::Global;
@@ -113,7 +113,7 @@ fn end_of(zeros: usize, size: usize, left: u128) -> PartitionEnd
 }
 
 /// Reads the tokens of the macroblocks with these records, in raster order.
-fn read_tokens(tokens: &mut FrameTokens, header: &Header, columns: usize, modes: &[MbMode])
+fn read_tokens(tokens: &mut FrameTokens, header: &Header, columns: usize, modes: &Records)
     requires columns { 0 < columns }
     requires some { 0 < length tokens.old.readers }
     requires above { length tokens.old.above ≡ columns }
@@ -122,8 +122,9 @@ fn read_tokens(tokens: &mut FrameTokens, header: &Header, columns: usize, modes:
 {
     let mut mx = 0;
     let mut my = 0;
-    for mode in modes {
-        tokens.read(header, mx, my, mode);
+    for n in 0..modes.len() {
+        let mode = modes.at(n).mode();
+        tokens.read(header, mx, my, &mode);
         mx += 1;
         if mx == columns {
             mx = 0;
@@ -154,7 +155,7 @@ fn frame_token_ends(
     packet: &[u8],
     header: &Header,
     columns: usize,
-    modes: &[MbMode],
+    modes: &Records,
 ) -> Result<ArrayVec<PartitionEnd, 8>, NoMemory>
     requires zeros { zeros ≤ 4194368 }
     requires columns { 0 < columns }
@@ -203,7 +204,7 @@ fn frame_ends(
     tables: &Tables,
     packet: &[u8],
     header: &Header,
-    records: &[MbMode],
+    records: &Records,
     known: Option<&Known>,
 ) -> Result<PartitionEnds, NoMemory>
     requires key { header.now.is_key ≡ has_key_tag packet.now }

@@ -12,8 +12,14 @@ use Rattle.mode_parser.specs.declared.records.MbMode.{MbMode}
 use Rattle.mode_parser.specs.declared.records.Split.{Split}
 use Rattle.mode_parser.specs.declared.records.Split.TheVariants.{Sixteenths}
 use Rattle.mode_parser.specs.declared.record_facts.RecordFacts.{RecordFacts}
+use Rattle.frame_header.specs.declared.references.Reference.{Reference}
+use Rattle.mode_parser.specs.declared.records.VectorMode.{VectorMode}
+use Rattle.mode_parser.specs.declared.nearby.MbPosition.{MbPosition}
+use Rattle.mode_parser.specs.declared.nearby.Near.{Near}
+use Rattle.mode_parser.specs.NearVectors.{near_of}
+use Rattle.mode_parser.specs.InterRecords.{which_reference, vector_mode}
 use Rattle.mode_parser.specs.FrameModes.{first_modes}
-use Rattle.mode_parser.specs.RecordFacts.{splits, which_split, split_at, facts_at}
+use Rattle.mode_parser.specs.RecordFacts.{splits, which_split, split_by, referenced_split, split_at, facts_at}
 
 pub which_split-leaf : (number : ℕ) (r s : Reader) → leaf_below 6 SPLIT_TREE SPLIT_PROBABILITIES 0 r ≡ (number, s) → which_split r ≡ (slice_index_or splits number Sixteenths, s)
 unfolding which_split leaf
@@ -28,3 +34,8 @@ pub facts-more : (tables : TableEntries) (header : Header) (columns rows : ℕ) 
 facts-more tables header columns rows segments n before after r s facts bits split done more count are_bits is_split so_far =
     let here : ◌≡◌ {A = RecordFacts} record { bits = bits; split = split } (facts_at tables header columns rows segments n) = rw (are_bits, is_split, count, done, more) refl in
     rw (so_far, here) (sym (map-range_with_len_more (facts_at tables header columns rows segments) 0 n n (omega arith)))
+
+-- the split of a macroblock with a reference, by the parts from which the code makes it
+pub referenced_split-is : (header : Header) (place : MbPosition) (above left above_left : Option MbMode) (from : Reference) (near : Near) (mode : VectorMode) (split : Option Split) (r s t u : Reader) → which_reference header.reference_probabilities r ≡ (from, s) → near ≡ near_of above left above_left from header.context.sign_biases place → vector_mode near.counts s ≡ (mode, t) → split_by mode t ≡ (split, u) → referenced_split header place above left above_left r ≡ (split, u)
+unfolding referenced_split
+referenced_split-is header place above left above_left from near mode split r s t u is_from is_near is_mode is_split = rw (is_from, ← is_near, is_mode) is_split

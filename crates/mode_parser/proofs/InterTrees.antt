@@ -15,12 +15,13 @@ use Rattle.mode_parser.specs.declared.nearby.Near.{Near}
 use Rattle.mode_parser.specs.declared.records.VectorMode.{VectorMode}
 use Rattle.mode_parser.specs.declared.records.YMode.TheVariants.{B, Inter}
 use Rattle.mode_parser.specs.NearVectors.{near_of}
-use Rattle.mode_parser.specs.Appending.{appended}
+use Rattle.mode_parser.specs.declared.record_list.Start.{Start}
+use Rattle.mode_parser.specs.Appending.{appended, appended_split}
 use Rattle.mode_parser.specs.declared.records.VectorMode.TheVariants.{Split}
 use Rattle.mode_parser.specs.Vectors.{MotionVector, zero_vector, sum_of}
 use Rattle.mode_parser.specs.VectorReading.{new_vector}
 use Rattle.mode_parser.specs.Records.{y_modes, no_sub_modes}
-use Rattle.mode_parser.specs.InterRecords.{inter_y_mode, vector_modes, counted_probabilities, vector_mode, vector_above, vector_left, part_row, part_vector, block_vector, split_starts, which_reference, vectors_by, referenced_mode}
+use Rattle.mode_parser.specs.InterRecords.{inter_y_mode, vector_modes, counted_probabilities, vector_mode, vector_above, vector_left, part_row, part_vector, block_vector, split_starts, split_vectors, which_reference, vectors_by, referenced_mode}
 
 pub inter_y_mode-leaf : (probabilities : List ℕ) (number : ℕ) (r s : Reader) → leaf_below 8 INTER_Y_TREE probabilities 0 r ≡ (number, s) → inter_y_mode probabilities r ≡ (slice_index_or y_modes number B, s)
 unfolding inter_y_mode leaf
@@ -67,3 +68,8 @@ vector_mode-leaf counts nodes number r s are told = let there = rw are at told i
 pub referenced_mode-appended : (is_skipped : Bool) (header : Header) (segment : ℕ) (place : MbPosition) (above left above_left : Option MbMode) (before : List MbMode) (from : Reference) (near : Near) (mode : VectorMode) (vectors : List MotionVector) (r s t u : Reader) → which_reference header.reference_probabilities r ≡ (from, s) → near ≡ near_of above left above_left from header.context.sign_biases place → vector_mode near.counts s ≡ (mode, t) → vectors_by mode near header.context.probabilities.vectors above left t ≡ (vectors, u) → appended segment before (referenced_mode is_skipped header place above left above_left) r ≡ (before ++ record { segment = segment; is_skipped = is_skipped; y_mode = Inter from mode; sub_modes = no_sub_modes; uv_mode = Dc; vectors = vectors } ∷ [], u)
 unfolding referenced_mode
 referenced_mode-appended is_skipped header segment place above left above_left before from near mode vectors r s t u is_from is_near is_mode are_vectors = rw (is_from, ← is_near, is_mode, are_vectors) refl
+
+-- the same for a split macroblock, before its vectors are read
+pub referenced_mode-split : (header : Header) (start : Start) (place : MbPosition) (above left above_left : Option MbMode) (before : List MbMode) (from : Reference) (near : Near) (mode : VectorMode) (r s t : Reader) → which_reference header.reference_probabilities r ≡ (from, s) → near ≡ near_of above left above_left from header.context.sign_biases place → vector_mode near.counts s ≡ (mode, t) → mode ≡ Split → appended start.segment before (referenced_mode start.is_skipped header place above left above_left) r ≡ appended_split start from before (split_vectors header.context.probabilities.vectors near.best above left) t
+unfolding referenced_mode vectors_by
+referenced_mode-split header start place above left above_left before from near mode r s t is_from is_near is_mode is_split = rw (is_from, ← is_near, is_mode, is_split) refl

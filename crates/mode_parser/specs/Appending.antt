@@ -5,7 +5,13 @@ use Rattle.vp8_tables.specs.Tables.{TableEntries}
 use Rattle.frame_header.specs.declared.header.Header.{Header}
 use Rattle.mode_parser.specs.declared.records.MbMode.{MbMode}
 use Rattle.mode_parser.specs.declared.nearby.MbPosition.{MbPosition}
-use Rattle.mode_parser.specs.Records.{key_mode}
+use Rattle.frame_header.specs.declared.references.Reference.{Reference}
+use Rattle.intra_predict.specs.declared.modes.WholeMode.TheVariants.{Dc}
+use Rattle.mode_parser.specs.declared.records.VectorMode.TheVariants.{Split}
+use Rattle.mode_parser.specs.declared.records.YMode.TheVariants.{Inter}
+use Rattle.mode_parser.specs.declared.record_list.Start.{Start}
+use Rattle.mode_parser.specs.Vectors.{MotionVector}
+use Rattle.mode_parser.specs.Records.{key_mode, no_sub_modes}
 use Rattle.mode_parser.specs.InterRecords.{referenced_mode, inter_mode}
 use Rattle.mode_parser.specs.FrameModes.{record_above, record_left, record_above_left, mode_at}
 
@@ -37,3 +43,9 @@ abbrev pub inter_mode_at : Header → MbPosition → List MbMode → Reading MbM
 inter_mode_at header place before =
     let here = length before in
     inter_mode header place (record_above before place.columns here) (record_left before place.columns here) (record_above_left before place.columns here)
+
+-- records with that of a split macroblock appended, of which the vectors are read
+abbrev pub appended_split : Start → Reference → List MbMode → Reading (List MotionVector) → Reading (List MbMode)
+appended_split start reference before rest = do
+  vectors ← rest
+  give (before ++ record { segment = start.segment; is_skipped = start.is_skipped; y_mode = Inter reference Split; sub_modes = no_sub_modes; uv_mode = Dc; vectors = vectors } ∷ [])

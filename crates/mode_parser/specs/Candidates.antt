@@ -1,15 +1,8 @@
 -- How the code stores the vectors from which a macroblock's own are predicted.
-use Rattle.std.specs.Prelude.{ℕ, ◌≤◌, Bool, List, [], ◌∷◌}
-use Rattle.intra_predict.specs.declared.modes.WholeMode.TheVariants.{Dc}
-use Rattle.frame_header.specs.declared.references.Reference.{Reference}
-use Rattle.mode_parser.specs.declared.records.VectorMode.{VectorMode}
-use Rattle.mode_parser.specs.declared.records.YMode.TheVariants.{Inter}
-use Rattle.mode_parser.specs.declared.records.MbMode.{MbMode}
+use Rattle.std.specs.Prelude.{ℕ, ◌≤◌, List, [], ◌∷◌}
 use Rattle.mode_parser.specs.declared.nearby.MbPosition.{MbPosition}
 use Rattle.mode_parser.specs.declared.nearby.Near.{Near}
 use Rattle.mode_parser.specs.declared.nearby.Candidates.{Candidates}
-use Rattle.mode_parser.specs.Vectors.{MotionVector}
-use Rattle.mode_parser.specs.Records.{no_sub_modes}
 use Rattle.mode_parser.specs.NearVectors.{near_in}
 
 -- the near vectors of a macroblock at a position, by its candidates
@@ -26,7 +19,3 @@ pub record AreLight (found : Candidates) : Type 0 where
   pub nearest : found.nearest.weight ≤ 5
   pub near : found.near.weight ≤ 5
   pub split : found.split ≤ 5
-
--- the record of a macroblock with a reference and these vectors, in segment 0
-abbrev pub moved_record : Bool → Reference → VectorMode → List MotionVector → MbMode
-moved_record is_skipped reference mode vectors = record { segment = 0; is_skipped = is_skipped; y_mode = Inter reference mode; sub_modes = no_sub_modes; uv_mode = Dc; vectors = vectors }

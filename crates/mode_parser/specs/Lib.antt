@@ -3,6 +3,7 @@ pub mod Vectors
 pub mod Records
 pub mod SplitModes
 pub mod NearVectors
+pub mod RecordList
 pub mod Neighbours
 pub mod Candidates
 pub mod VectorReading

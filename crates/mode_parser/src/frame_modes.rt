@@ -5,7 +5,7 @@ ghost use Rattle.std.specs.Option.{option_copied};
 ghost use Rattle.mode_parser.specs.FrameModes.{modes_of};
 
 use crate::frame_records::read_records;
-use crate::records::MbMode;
+use crate::record_list::Records;
 use crate::segments::map_after;
 use bool_coder::NoMemory;
 use frame_header::Header;
@@ -16,7 +16,7 @@ use vp8_tables::Tables;
 /// The modes of a frame: a record for each macroblock, and the segment map after the frame.
 #[derive(Drop)]
 pub struct Modes {
-    records: Vec<MbMode>,
+    records: Records,
     segment_map: Vec<u8>,
     left: u128,
 }
@@ -26,12 +26,12 @@ impl Model for Modes {
 
     ghost Value = { FrameModes };
 
-    ghost view = { λ m. record { records = m.records.items; segment_map = m.segment_map.items; left = m.left } };
+    ghost view = { λ m. record { records = m.records; segment_map = m.segment_map.items; left = m.left } };
 }
 
 impl Modes {
     /// One record for each macroblock, in raster order.
-    pub fn records(&self) -> &[MbMode]
+    pub fn records(&self) -> &Records
         ensures { result.now ≡ self.now.records }
     {
         &self.records

@@ -3,40 +3,18 @@
 ghost use Rattle.std.specs.Prelude.{◌≡◌, ◌<◌, ◌≤◌, ◌*◌, length, IfOk, OnOk};
 ghost use Rattle.std.specs.Option.{option_copied};
 ghost use Rattle.mode_parser.specs.FrameModes.{place_of, prediction_at, first_modes};
-ghost use Rattle.mode_parser.specs.Appending.{appended, key_mode_at, one_more};
+ghost use Rattle.mode_parser.specs.Appending.{appended, one_more};
 
 use crate::inter_modes::push_inter_mode;
-use crate::key_modes::read_key_mode;
+use crate::key_modes::push_key_mode;
 use crate::nearby::MbPosition;
-use crate::places::{next_place, record_above, record_left};
-use crate::records::MbMode;
+use crate::places::next_place;
+use crate::record_list::Records;
 use crate::segments::read_segment;
 use bool_coder::{Decoder, NoMemory};
 use frame_header::Header;
 use std::alloc::Global;
 use vp8_tables::Tables;
-
-/// Reads the record of a macroblock in a key frame, at `place`, the index after these, and appends
-/// it to them. It is a function of its own, so other frames clear no memory for it.
-#[inline(never)]
-fn push_key_mode(
-    reader: &mut Decoder,
-    tables: &Tables,
-    skip_probability: Option<u8>,
-    segment: u8,
-    place: MbPosition,
-    records: &mut Vec<MbMode>,
-) -> Result<(), NoMemory>
-    requires { place ≡ place_of place.columns place.rows (length records.old.items) }
-    ensures { OnOk result (appended segment records.old.items (key_mode_at tables.now skip_probability place records.old.items) reader.old ≡ (records.new.items, reader.new)) }
-{
-    let above = record_above(records, place.columns);
-    let left = record_left(records, place);
-    let mut mode = read_key_mode(reader, tables, skip_probability, above, left);
-    mode.segment = segment;
-    records.push(mode)?;
-    Ok(())
-}
 
 /// Reads the record at `place`, the index after these, except its segment, which is before the
 /// rest, and appends it to them.
@@ -47,12 +25,12 @@ fn push_prediction(
     header: &Header,
     segment: u8,
     place: MbPosition,
-    records: &mut Vec<MbMode>,
+    records: &mut Records,
 ) -> Result<(), NoMemory>
-    requires at { place ≡ place_of place.columns place.rows (length records.old.items) }
+    requires at { place ≡ place_of place.columns place.rows (length records.old) }
     requires across { (place.column < place.columns) × (place.columns ≤ 1024) }
     requires down { (place.row < place.rows) × (place.rows ≤ 1024) }
-    ensures { OnOk result (appended segment records.old.items (prediction_at tables.now header.now place.columns place.rows (length records.old.items) records.old.items) reader.old ≡ (records.new.items, reader.new)) }
+    ensures { OnOk result (appended segment records.old (prediction_at tables.now header.now place.columns place.rows (length records.old) records.old) reader.old ≡ (records.new, reader.new)) }
 {
     if !header.is_key {
         return push_inter_mode(reader, header, segment, place, records);
@@ -80,12 +58,12 @@ pub(crate) fn push_mode(
     header: &Header,
     map: Option<&[u8]>,
     place: MbPosition,
-    records: &mut Vec<MbMode>,
+    records: &mut Records,
 ) -> Result<(), NoMemory>
-    requires at { place ≡ place_of place.columns place.rows (length records.old.items) }
+    requires at { place ≡ place_of place.columns place.rows (length records.old) }
     requires across { (place.column < place.columns) × (place.columns ≤ 1024) }
     requires down { (place.row < place.rows) × (place.rows ≤ 1024) }
-    ensures { OnOk result (one_more tables.now header.now place.columns place.rows (option_copied map.entry) records.old.items reader.old ≡ (records.new.items, reader.new)) }
+    ensures { OnOk result (one_more tables.now header.now place.columns place.rows (option_copied map.entry) records.old reader.old ≡ (records.new, reader.new)) }
 {
     let segment = read_segment(reader, header, map, records.len());
     push_prediction(reader, tables, header, segment, place, records)
@@ -100,17 +78,17 @@ pub(crate) fn read_records(
     columns: usize,
     rows: usize,
     map: Option<&[u8]>,
-) -> Result<(Vec<MbMode>, u128), NoMemory>
+) -> Result<(Records, u128), NoMemory>
     requires some { 1 ≤ columns }
     requires wide { columns ≤ 1024 }
     requires high { rows ≤ 1024 }
-    ensures value { IfOk result (λ read. read.0.items ≡ (first_modes (columns * rows) tables.now header.now columns rows (option_copied map.entry) header.now.reader).0) }
+    ensures value { IfOk result (λ read. read.0 ≡ (first_modes (columns * rows) tables.now header.now columns rows (option_copied map.entry) header.now.reader).0) }
     ensures left { IfOk result (λ read. read.1 ≡ length (first_modes (columns * rows) tables.now header.now columns rows (option_copied map.entry) header.now.reader).1.rest) }
-    ensures count { IfOk result (λ read. length read.0.items ≡ columns * rows) }
+    ensures count { IfOk result (λ read. length read.0 ≡ columns * rows) }
 {
     // A copy of its own keeps the reader in registers.
     let mut reader = header.reader.copied();
-    let mut records = Vec::with_capacity(alloc, columns * rows)?;
+    let mut records = Records::with_capacity(alloc, columns * rows)?;
     // The index is incremented: a division for each macroblock is slow.
     let mut place = MbPosition {
         column: 0,

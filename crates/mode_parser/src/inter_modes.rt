@@ -1,19 +1,19 @@
 //! The record of a macroblock in an inter frame (RFC 6386, sections 16 and 19.3).
 
 ghost use Rattle.std.specs.Prelude.{◌≡◌, ◌<◌, ◌≤◌, length, OnOk};
-ghost use Rattle.std.specs.Option.{option_copied};
 ghost use Rattle.vp8_tables.specs.Bounds.{IsWithin};
 ghost use Rattle.mode_parser.specs.InterRecords.{inter_y_mode, first_inter_sub_modes, which_reference, vector_mode, split_vectors, intra_mode};
-ghost use Rattle.mode_parser.specs.FrameModes.{place_of};
-ghost use Rattle.mode_parser.specs.Appending.{appended, referenced_mode_at, inter_mode_at};
-ghost use Rattle.mode_parser.specs.Candidates.{AreLight, counts_of, moved_record};
-ghost use Rattle.mode_parser.specs.declared.records.VectorMode.TheVariants.{Split};
+ghost use Rattle.mode_parser.specs.FrameModes.{place_of, record_above as record_above_of, record_left as record_left_of};
+ghost use Rattle.mode_parser.specs.Appending.{appended, appended_split, referenced_mode_at, inter_mode_at};
+ghost use Rattle.mode_parser.specs.RecordList.{own_or_whole};
+ghost use Rattle.mode_parser.specs.Candidates.{AreLight, counts_of};
 
 use crate::key_modes::{read_skip, read_uv_mode};
 use crate::key_sub_modes::read_sub_mode;
-use crate::nearby::{Candidates, MbPosition, candidates_of};
+use crate::nearby::{Candidates, MbPosition, candidates_beside};
 use crate::places::{record_above, record_above_left, record_left};
-use crate::records::{MbMode, VectorMode, YMode};
+use crate::record_list::{Records, Start};
+use crate::records::VectorMode;
 use crate::split_vectors::read_split_vectors;
 use crate::vector_reading::read_vector;
 use crate::vectors::Vector;
@@ -22,25 +22,26 @@ use frame_header::{Header, Probabilities, Reference, ReferenceProbabilities};
 use intra_predict::{SubMode, WholeMode};
 use vp8_tables::{INTER_SUB_PROBABILITIES, VECTOR_MODE_PROBABILITIES};
 
-/// The luma mode of a macroblock without a reference: the leaf of its tree.
+/// The luma mode of a macroblock without a reference: the leaf of its tree. `None` if the sub blocks
+/// have modes of their own.
 #[inline]
-fn read_y_mode(reader: &mut Decoder, probabilities: &[u8; 4]) -> YMode
-    ensures { inter_y_mode probabilities.now reader.old ≡ (result, reader.new) }
+fn read_y_mode(reader: &mut Decoder, probabilities: &[u8; 4]) -> Option<WholeMode>
+    ensures { inter_y_mode probabilities.now reader.old ≡ (own_or_whole result, reader.new) }
 {
     if !reader.bit(probabilities[0]) {
-        return YMode::Whole(WholeMode::Dc);
+        return Some(WholeMode::Dc);
     }
     if !reader.bit(probabilities[1]) {
         return if reader.bit(probabilities[2]) {
-            YMode::Whole(WholeMode::H)
+            Some(WholeMode::H)
         } else {
-            YMode::Whole(WholeMode::V)
+            Some(WholeMode::V)
         };
     }
     if reader.bit(probabilities[3]) {
-        YMode::B
+        None
     } else {
-        YMode::Whole(WholeMode::Tm)
+        Some(WholeMode::Tm)
     }
 }
 
@@ -100,62 +101,58 @@ pub(crate) fn read_vector_mode(reader: &mut Decoder, found: &Candidates) -> Vect
     }
 }
 
-/// The record of a split macroblock below and to the right of these. It is a function of its own,
-/// so the vectors of other macroblocks are not written to memory one at a time.
-#[inline(never)]
-fn read_split_mode(
-    reader: &mut Decoder,
-    is_skipped: bool,
-    reference: Reference,
-    best: Vector,
-    probabilities: &[[u8; 19]; 2],
-    above: Option<&MbMode>,
-    left: Option<&MbMode>,
-) -> MbMode
-    requires across { IsWithin 65536 best.x }
-    requires down { IsWithin 65536 best.y }
-    ensures value { split_vectors probabilities.now best (option_copied above.entry) (option_copied left.entry) reader.old ≡ (result.vectors, reader.new) }
-    ensures rest { result ≡ moved_record is_skipped reference Split result.vectors }
-{
-    let vectors = read_split_vectors(reader, probabilities, best, above, left);
-    MbMode {
-        segment: 0,
-        is_skipped,
-        y_mode: YMode::Inter(reference, VectorMode::Split),
-        sub_modes: [SubMode::Dc; 16],
-        uv_mode: WholeMode::Dc,
-        vectors,
-    }
-}
-
-/// Reads the record of a macroblock without a reference, and appends it to these. It is a function
-/// of its own for the same reason as `read_split_mode`.
+/// Reads the rest of the record of a macroblock without a reference, and appends it to these. It is a
+/// function of its own, so that the modes of sub blocks need no memory where there are none.
 #[inline(never)]
 #[tactic(auto, unfolding(crate::specs::InterRecords::intra_mode, crate::specs::InterRecords::inter_sub_modes))]
 fn push_intra_mode(
     reader: &mut Decoder,
-    is_skipped: bool,
+    start: Start,
     probabilities: &Probabilities,
-    segment: u8,
-    records: &mut Vec<MbMode>,
+    records: &mut Records,
 ) -> Result<(), NoMemory>
-    ensures { OnOk result (appended segment records.old.items (intra_mode is_skipped probabilities.now) reader.old ≡ (records.new.items, reader.new)) }
+    ensures { OnOk result (appended start.segment records.old (intra_mode start.is_skipped probabilities.now) reader.old ≡ (records.new, reader.new)) }
 {
-    let y_mode = read_y_mode(reader, &probabilities.y_modes);
-    let sub_modes = match y_mode {
-        YMode::Whole(_) | YMode::Inter(_, _) => [SubMode::Dc; 16],
-        YMode::B => read_sub_modes(reader),
-    };
-    let uv_mode = read_uv_mode(reader, &probabilities.uv_modes);
-    records.push(MbMode {
-        segment,
-        is_skipped,
-        y_mode,
-        sub_modes,
-        uv_mode,
-        vectors: [Vector::ZERO; 16],
-    })?;
-    Ok(())
+    match read_y_mode(reader, &probabilities.y_modes) {
+        Some(mode) => {
+            let uv_mode = read_uv_mode(reader, &probabilities.uv_modes);
+            records.push_whole(start, mode, uv_mode)
+        }
+        None => {
+            let sub_modes = read_sub_modes(reader);
+            let uv_mode = read_uv_mode(reader, &probabilities.uv_modes);
+            records.push_sub_modes(start, sub_modes, uv_mode)
+        }
+    }
+}
+
+/// What the vectors of a split macroblock refer to: its reference, and its best near vector.
+#[derive(Clone, Copy)]
+struct SplitStart {
+    reference: Reference,
+    best: Vector,
+}
+
+/// Reads the vectors of a split macroblock at `place`, the index after these, and appends its record to them. It
+/// is a function of its own for the same reason.
+#[inline(never)]
+fn push_split_mode(
+    reader: &mut Decoder,
+    start: Start,
+    moved: SplitStart,
+    probabilities: &[[u8; 19]; 2],
+    place: MbPosition,
+    records: &mut Records,
+) -> Result<(), NoMemory>
+    requires at { place ≡ place_of place.columns place.rows (length records.old) }
+    requires across { IsWithin 65536 moved.best.x }
+    requires down { IsWithin 65536 moved.best.y }
+    ensures { OnOk result (appended_split start moved.reference records.old (split_vectors probabilities.now moved.best (record_above_of records.old place.columns (length records.old)) (record_left_of records.old place.columns (length records.old))) reader.old ≡ (records.new, reader.new)) }
+{
+    let above = record_above(records, place.columns);
+    let left = record_left(records, place);
+    let vectors = read_split_vectors(reader, probabilities, moved.best, &above, &left);
+    records.push_split(start, moved.reference, vectors)
 }
 
 /// Reads the record of a macroblock with a reference, at `place`, the index after these, and
@@ -164,23 +161,22 @@ fn push_intra_mode(
 #[tactic(auto, unfolding(crate::specs::InterRecords::referenced_mode, crate::specs::InterRecords::vectors_by))]
 fn push_referenced_mode(
     reader: &mut Decoder,
-    is_skipped: bool,
+    start: Start,
     header: &Header,
-    segment: u8,
     place: MbPosition,
-    records: &mut Vec<MbMode>,
+    records: &mut Records,
 ) -> Result<(), NoMemory>
-    requires at { place ≡ place_of place.columns place.rows (length records.old.items) }
+    requires at { place ≡ place_of place.columns place.rows (length records.old) }
     requires across { (place.column < place.columns) × (place.columns ≤ 1024) }
     requires down { (place.row < place.rows) × (place.rows ≤ 1024) }
-    ensures { OnOk result (appended segment records.old.items (referenced_mode_at is_skipped header.now place records.old.items) reader.old ≡ (records.new.items, reader.new)) }
+    ensures { OnOk result (appended start.segment records.old (referenced_mode_at start.is_skipped header.now place records.old) reader.old ≡ (records.new, reader.new)) }
 {
     let context = &header.context;
     let above = record_above(records, place.columns);
     let left = record_left(records, place);
     let above_left = record_above_left(records, place);
     let reference = read_reference(reader, header.reference_probabilities);
-    let found = candidates_of(above, left, above_left, reference, context.sign_biases);
+    let found = candidates_beside(&above, &left, &above_left, reference, context.sign_biases);
     let probabilities = &context.probabilities.vectors;
     let mode = read_vector_mode(reader, &found);
     let vector = match mode {
@@ -189,36 +185,20 @@ fn push_referenced_mode(
         VectorMode::Near => found.near(place),
         VectorMode::New => found.best(place).plus(read_vector(reader, probabilities)),
         VectorMode::Split => {
+            let best = found.best(place);
+            let moved = SplitStart { reference, best };
             let mut local = reader.copied();
-            let mut split = read_split_mode(
-                &mut local,
-                is_skipped,
-                reference,
-                found.best(place),
-                probabilities,
-                above,
-                left,
-            );
+            push_split_mode(&mut local, start, moved, probabilities, place, records)?;
             *reader = local;
-            split.segment = segment;
-            records.push(split)?;
             return Ok(());
         }
     };
-    records.push(MbMode {
-        segment,
-        is_skipped,
-        y_mode: YMode::Inter(reference, mode),
-        sub_modes: [SubMode::Dc; 16],
-        uv_mode: WholeMode::Dc,
-        vectors: [vector; 16],
-    })?;
+    records.push_moved(start, reference, mode, vector)?;
     Ok(())
 }
 
 /// Reads the record of a macroblock in an inter frame, at `place`, the index after these, and
-/// appends it to them. Most records are made in their final memory: a returned one is copied each
-/// time. Calls get copies of the reader, so it stays in registers here.
+/// appends it to them. Calls get copies of the reader, so it stays in registers here.
 #[inline]
 #[tactic(auto, unfolding(crate::specs::InterRecords::inter_mode))]
 pub(crate) fn push_inter_mode(
@@ -226,20 +206,24 @@ pub(crate) fn push_inter_mode(
     header: &Header,
     segment: u8,
     place: MbPosition,
-    records: &mut Vec<MbMode>,
+    records: &mut Records,
 ) -> Result<(), NoMemory>
-    requires at { place ≡ place_of place.columns place.rows (length records.old.items) }
+    requires at { place ≡ place_of place.columns place.rows (length records.old) }
     requires across { (place.column < place.columns) × (place.columns ≤ 1024) }
     requires down { (place.row < place.rows) × (place.rows ≤ 1024) }
-    ensures { OnOk result (appended segment records.old.items (inter_mode_at header.now place records.old.items) reader.old ≡ (records.new.items, reader.new)) }
+    ensures { OnOk result (appended segment records.old (inter_mode_at header.now place records.old) reader.old ≡ (records.new, reader.new)) }
 {
     let is_skipped = read_skip(reader, header.skip_probability);
+    let start = Start {
+        segment,
+        is_skipped,
+    };
     if reader.bit(header.reference_probabilities.intra) {
-        return push_referenced_mode(reader, is_skipped, header, segment, place, records);
+        return push_referenced_mode(reader, start, header, place, records);
     }
     let mut local = reader.copied();
     let probabilities = &header.context.probabilities;
-    push_intra_mode(&mut local, is_skipped, probabilities, segment, records)?;
+    push_intra_mode(&mut local, start, probabilities, records)?;
     *reader = local;
     Ok(())
 }

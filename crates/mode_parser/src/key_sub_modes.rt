@@ -1,12 +1,12 @@
 //! The modes of a macroblock's sub blocks in a key frame.
 
 ghost use Rattle.std.specs.Prelude.{◌≡◌, ◌<◌, length, take};
-ghost use Rattle.std.specs.Option.{option_copied};
-ghost use Rattle.mode_parser.specs.SubModes.{number_of, counterpart, context_in, mode_above, mode_left, sub_mode, key_sub_mode, first_sub_modes};
+ghost use Rattle.mode_parser.specs.RecordList.{neighbour_of};
+ghost use Rattle.mode_parser.specs.SubModes.{number_of, mode_above, mode_left, sub_mode, key_sub_mode, first_sub_modes};
 
-use crate::records::{MbMode, YMode};
+use crate::record_list::Neighbour;
 use bool_coder::Decoder;
-use intra_predict::{SubMode, WholeMode};
+use intra_predict::SubMode;
 use vp8_tables::Tables;
 
 /// The number of a mode in the tables of a key frame.
@@ -29,43 +29,14 @@ fn number_of(mode: SubMode) -> usize
     }
 }
 
-/// The sub block mode as which a whole block's mode counts (RFC 6386, section 11.3).
-#[inline]
-fn counterpart(mode: WholeMode) -> SubMode
-    ensures { result ≡ counterpart mode }
-{
-    match mode {
-        WholeMode::Dc => SubMode::Dc,
-        WholeMode::V => SubMode::Ve,
-        WholeMode::H => SubMode::He,
-        WholeMode::Tm => SubMode::Tm,
-    }
-}
-
-/// The mode of sub block `n` of a macroblock, as its neighbours take it; DC outside the frame.
-#[inline]
-fn context_in(macroblock: Option<&MbMode>, n: usize) -> SubMode
-    requires { n < 16 }
-    ensures { result ≡ context_in (option_copied macroblock.entry) n }
-{
-    match macroblock {
-        None => SubMode::Dc,
-        Some(macroblock) => match macroblock.y_mode {
-            YMode::Whole(mode) => counterpart(mode),
-            YMode::B => macroblock.sub_modes[n],
-            YMode::Inter(_, _) => SubMode::Dc,
-        },
-    }
-}
-
 /// The mode above sub block `n`, in its own macroblock or in the one above.
 #[inline]
-fn mode_above(above: Option<&MbMode>, modes: &[SubMode; 16], n: usize) -> SubMode
+fn mode_above(above: &Neighbour, modes: &[SubMode; 16], n: usize) -> SubMode
     requires { n < 16 }
-    ensures { result ≡ mode_above (option_copied above.entry) (take n modes.now) n }
+    ensures { result ≡ mode_above (neighbour_of above.now) (take n modes.now) n }
 {
     if n < 4 {
-        context_in(above, n + 12)
+        above.sub_mode(n + 12)
     } else {
         modes[n - 4]
     }
@@ -73,12 +44,12 @@ fn mode_above(above: Option<&MbMode>, modes: &[SubMode; 16], n: usize) -> SubMod
 
 /// The mode to the left of sub block `n`, in its own macroblock or in the one to the left.
 #[inline]
-fn mode_left(left: Option<&MbMode>, modes: &[SubMode; 16], n: usize) -> SubMode
+fn mode_left(left: &Neighbour, modes: &[SubMode; 16], n: usize) -> SubMode
     requires { n < 16 }
-    ensures { result ≡ mode_left (option_copied left.entry) (take n modes.now) n }
+    ensures { result ≡ mode_left (neighbour_of left.now) (take n modes.now) n }
 {
     if n % 4 == 0 {
-        context_in(left, n + 3)
+        left.sub_mode(n + 3)
     } else {
         modes[n - 1]
     }
@@ -142,10 +113,10 @@ fn read_key_sub_mode(
 pub(crate) fn read_key_sub_modes(
     reader: &mut Decoder,
     tables: &Tables,
-    above: Option<&MbMode>,
-    left: Option<&MbMode>,
+    above: &Neighbour,
+    left: &Neighbour,
 ) -> [SubMode; 16]
-    ensures { first_sub_modes 16 tables.now (option_copied above.entry) (option_copied left.entry) reader.old ≡ (result, reader.new) }
+    ensures { first_sub_modes 16 tables.now (neighbour_of above.now) (neighbour_of left.now) reader.old ≡ (result, reader.new) }
 {
     let mut modes = [SubMode::Dc; 16];
     for n in 0..16usize {

@@ -5,10 +5,12 @@ ghost use Rattle.std.specs.Prelude.{◌≡◌, ◌<◌, ◌≤◌, All};
 ghost use Rattle.std.specs.Option.{option_copied};
 ghost use Rattle.vp8_tables.specs.Bounds.{IsWithin};
 ghost use Rattle.mode_parser.specs.NearVectors.{clamped_component, clamped, best_in, near_in, near_of};
+ghost use Rattle.mode_parser.specs.RecordList.{as_moved, moved_mode, neighbour_of};
 ghost use Rattle.mode_parser.specs.Candidates.{near_by, AreLight};
 
 use crate::neighbours::{Weighted, neighbours_of};
-use crate::records::MbMode;
+use crate::record_list::{Moved, Neighbour};
+use crate::records::{MbMode, YMode};
 use crate::vectors::Vector;
 use frame_header::{Reference, SignBiases};
 
@@ -129,13 +131,13 @@ impl Candidates {
 /// predicted from `reference` (RFC 6386, section 16.3). A neighbour outside the frame is `None`.
 #[inline(always)]
 pub(crate) fn candidates_of(
-    above: Option<&MbMode>,
-    left: Option<&MbMode>,
-    above_left: Option<&MbMode>,
+    above: Moved,
+    left: Moved,
+    above_left: Moved,
     reference: Reference,
     biases: SignBiases,
 ) -> Candidates
-    ensures value { (place : MbPosition) → near_by place result ≡ near_of (option_copied above.entry) (option_copied left.entry) (option_copied above_left.entry) reference biases place }
+    ensures value { (place : MbPosition) → near_by place result ≡ near_of (moved_mode above) (moved_mode left) (moved_mode above_left) reference biases place }
     ensures light { AreLight result }
 {
     let neighbours = neighbours_of(above, left, above_left, reference, biases);
@@ -160,6 +162,45 @@ pub(crate) fn candidates_of(
     }
 }
 
+/// The same for the neighbours of a macroblock whose own record is not read yet.
+#[inline(always)]
+pub(crate) fn candidates_beside(
+    above: &Neighbour,
+    left: &Neighbour,
+    above_left: &Neighbour,
+    reference: Reference,
+    biases: SignBiases,
+) -> Candidates
+    ensures value { (place : MbPosition) → near_by place result ≡ near_of (neighbour_of above.now) (neighbour_of left.now) (neighbour_of above_left.now) reference biases place }
+    ensures light { AreLight result }
+{
+    candidates_of(
+        above.moved(),
+        left.moved(),
+        above_left.moved(),
+        reference,
+        biases,
+    )
+}
+
+/// What of a macroblock, or of the outside of the frame, the near vectors are made of.
+fn moved_of(mode: Option<&MbMode>) -> Moved
+    ensures { moved_mode result ≡ as_moved (option_copied mode.entry) }
+{
+    match mode {
+        Some(mode) => Moved {
+            is_inside: true,
+            y_mode: mode.y_mode,
+            vector: mode.vectors[15],
+        },
+        None => Moved {
+            is_inside: false,
+            y_mode: YMode::B,
+            vector: Vector::ZERO,
+        },
+    }
+}
+
 /// The near vectors of a macroblock at `place`, whose neighbours are `above`, `left` and
 /// `above_left` and which is predicted from `reference` (RFC 6386, section 16.3). A neighbour
 /// outside the frame is `None`.
@@ -178,6 +219,8 @@ pub fn near_vectors(
     ensures across { IsWithin 65536 result.best.x }
     ensures down { IsWithin 65536 result.best.y }
 {
+    let (above, left) = (moved_of(above), moved_of(left));
+    let above_left = moved_of(above_left);
     let found = candidates_of(above, left, above_left, reference, biases);
     Near {
         counts: [

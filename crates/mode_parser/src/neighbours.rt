@@ -1,12 +1,13 @@
 //! The vectors of a macroblock's neighbours (RFC 6386, section 16.3).
 
 ghost use Rattle.std.specs.Prelude.{◌≡◌, ◌+◌, ◌*◌, ◌<◌, ◌≤◌, replicate};
-ghost use Rattle.std.specs.Option.{option_copied};
+ghost use Rattle.mode_parser.specs.RecordList.{moved_mode};
 ghost use Rattle.mode_parser.specs.Vectors.{is_biased, with_sign_bias, zero_vector};
 ghost use Rattle.mode_parser.specs.NearVectors.{with_vector, with_neighbour, listing_of, listed_at, first_in, splits};
 ghost use Rattle.mode_parser.specs.Neighbours.{listing_in, weight_in, ThirdWeighs, AreListed};
 
-use crate::records::{MbMode, VectorMode, YMode};
+use crate::record_list::Moved;
+use crate::records::{VectorMode, YMode};
 use crate::vectors::Vector;
 use frame_header::{Reference, SignBiases};
 
@@ -100,7 +101,7 @@ impl Neighbours {
     #[inline(always)]
     fn add(
         &mut self,
-        macroblock: Option<&MbMode>,
+        macroblock: Moved,
         weight: u32,
         reference: Reference,
         biases: SignBiases,
@@ -109,22 +110,22 @@ impl Neighbours {
         requires light { weight_in (listing_in self.old) + weight ≤ 255 }
         requires few { self.old.split + weight ≤ 255 }
         requires listed { AreListed self.old.vectors self.old.weights self.old.newest }
-        ensures value { listing_in self.new ≡ with_neighbour biases reference (listing_in self.old) (option_copied macroblock.entry) weight }
+        ensures value { listing_in self.new ≡ with_neighbour biases reference (listing_in self.old) (moved_mode macroblock) weight }
         ensures listed { AreListed self.new.vectors self.new.weights self.new.newest }
         ensures newest { self.new.newest ≤ self.old.newest + 1 }
-        ensures split { self.new.split ≡ self.old.split + weight * splits (option_copied macroblock.entry) }
+        ensures split { self.new.split ≡ self.old.split + weight * splits (moved_mode macroblock) }
         ensures few { self.new.split ≤ self.old.split + weight }
     {
-        let Some(macroblock) = macroblock else {
+        if !macroblock.is_inside {
             return;
-        };
+        }
         match macroblock.y_mode {
             YMode::Whole(_) | YMode::B => (),
             YMode::Inter(other, mode) => {
                 if mode == VectorMode::Split {
                     self.split += weight;
                 }
-                let vector = with_sign_bias(biases, reference, other, macroblock.vectors[15]);
+                let vector = with_sign_bias(biases, reference, other, macroblock.vector);
                 self.add_vector(vector, weight);
             }
         }
@@ -167,18 +168,18 @@ impl Neighbours {
 #[inline(always)]
 #[tactic(auto, unfolding(crate::specs::NearVectors::listing_of))]
 pub(crate) fn neighbours_of(
-    above: Option<&MbMode>,
-    left: Option<&MbMode>,
-    above_left: Option<&MbMode>,
+    above: Moved,
+    left: Moved,
+    above_left: Moved,
     reference: Reference,
     biases: SignBiases,
 ) -> Neighbours
-    ensures value { listing_in result ≡ listing_of (option_copied above.entry) (option_copied left.entry) (option_copied above_left.entry) reference biases }
+    ensures value { listing_in result ≡ listing_of (moved_mode above) (moved_mode left) (moved_mode above_left) reference biases }
     ensures weight { weight_in (listing_in result) ≤ 5 }
     ensures third { ThirdWeighs 1 (listing_in result).listed }
     ensures listed { AreListed result.vectors result.weights result.newest }
     ensures most { result.newest ≤ 3 }
-    ensures split { result.split ≡ 2 * (splits (option_copied above.entry) + splits (option_copied left.entry)) + splits (option_copied above_left.entry) }
+    ensures split { result.split ≡ 2 * (splits (moved_mode above) + splits (moved_mode left)) + splits (moved_mode above_left) }
     ensures few { result.split ≤ 5 }
 {
     let mut found = Neighbours::none();

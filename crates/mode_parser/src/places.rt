@@ -1,49 +1,49 @@
 //! The indices of macroblocks in raster order, and the records next to one.
 
 ghost use Rattle.std.specs.Prelude.{◌≡◌, ◌<◌, ◌≤◌, ◌+◌, ℕ, length};
-ghost use Rattle.std.specs.Option.{option_copied};
+ghost use Rattle.mode_parser.specs.RecordList.{neighbour_of};
 ghost use Rattle.mode_parser.specs.FrameModes.{record_above, record_left, record_above_left, place_of};
 
 use crate::nearby::MbPosition;
-use crate::records::MbMode;
+use crate::record_list::{Neighbour, Records};
 
 /// The record above the index after these; `None` outside the frame.
 #[inline]
-pub(crate) fn record_above(records: &[MbMode], columns: usize) -> Option<&MbMode>
-    ensures { option_copied result ≡ record_above records.now columns (length records.now) }
+pub(crate) fn record_above(records: &Records, columns: usize) -> Neighbour<'_>
+    ensures { neighbour_of result ≡ record_above records.now columns (length records.now) }
 {
     let number = records.len();
     if number < columns {
-        None
+        records.outside()
     } else {
-        records.get(number - columns)
+        records.neighbour(number - columns)
     }
 }
 
 /// The record to the left of `place`, the index after these; `None` outside the frame.
 #[inline]
-pub(crate) fn record_left(records: &[MbMode], place: MbPosition) -> Option<&MbMode>
+pub(crate) fn record_left(records: &Records, place: MbPosition) -> Neighbour<'_>
     requires { place ≡ place_of place.columns place.rows (length records.now) }
-    ensures { option_copied result ≡ record_left records.now place.columns (length records.now) }
+    ensures { neighbour_of result ≡ record_left records.now place.columns (length records.now) }
 {
     if place.column == 0 {
-        None
+        records.outside()
     } else {
-        records.get(records.len() - 1)
+        records.neighbour(records.len() - 1)
     }
 }
 
 /// The record above and to the left of `place`, the index after these; `None` outside the frame.
 #[inline]
-pub(crate) fn record_above_left(records: &[MbMode], place: MbPosition) -> Option<&MbMode>
+pub(crate) fn record_above_left(records: &Records, place: MbPosition) -> Neighbour<'_>
     requires { place ≡ place_of place.columns place.rows (length records.now) }
-    ensures { option_copied result ≡ record_above_left records.now place.columns (length records.now) }
+    ensures { neighbour_of result ≡ record_above_left records.now place.columns (length records.now) }
 {
     let number = records.len();
     if number < place.columns || place.column == 0 {
-        None
+        records.outside()
     } else {
-        records.get(number - place.columns - 1)
+        records.neighbour(number - place.columns - 1)
     }
 }
 

@@ -9,9 +9,10 @@ ghost use Rattle.mode_parser.specs.RecordFacts.{facts_of, inter_split, reference
 use crate::frame_records::push_mode;
 use crate::inter_modes::{read_reference, read_vector_mode};
 use crate::key_modes::read_skip;
-use crate::nearby::{MbPosition, candidates_of};
+use crate::nearby::{MbPosition, candidates_beside};
 use crate::places::{next_place, record_above, record_above_left, record_left};
-use crate::records::{MbMode, Split, VectorMode};
+use crate::record_list::Records;
+use crate::records::{Split, VectorMode};
 use crate::segments::read_segment;
 use bool_coder::{Decoder, NoMemory};
 use frame_header::Header;
@@ -61,7 +62,7 @@ fn read_referenced_split(
     reader: &mut Decoder,
     header: &Header,
     place: MbPosition,
-    records: &[MbMode],
+    records: &Records,
 ) -> Option<Split>
     requires at { place ≡ place_of place.columns place.rows (length records.now) }
     requires across { (place.column < place.columns) × (place.columns ≤ 1024) }
@@ -73,7 +74,7 @@ fn read_referenced_split(
     let above_left = record_above_left(records, place);
     let reference = read_reference(reader, header.reference_probabilities);
     let biases = header.context.sign_biases;
-    let found = candidates_of(above, left, above_left, reference, biases);
+    let found = candidates_beside(&above, &left, &above_left, reference, biases);
     let mode = read_vector_mode(reader, &found);
     read_split(reader, mode)
 }
@@ -84,7 +85,7 @@ fn read_inter_split(
     reader: &mut Decoder,
     header: &Header,
     place: MbPosition,
-    records: &[MbMode],
+    records: &Records,
 ) -> Option<Split>
     requires at { place ≡ place_of place.columns place.rows (length records.now) }
     requires across { (place.column < place.columns) × (place.columns ≤ 1024) }
@@ -106,7 +107,7 @@ fn next_split(
     header: &Header,
     map: Option<&[u8]>,
     place: MbPosition,
-    records: &[MbMode],
+    records: &Records,
 ) -> Option<Split>
     requires at { place ≡ place_of place.columns place.rows (length records.now) }
     requires across { (place.column < place.columns) × (place.columns ≤ 1024) }
@@ -139,7 +140,7 @@ pub fn read_record_facts(
     ensures { IfOk result (λ facts. facts.items ≡ facts_of tables.now header.now columns rows (option_copied map.entry)) }
 {
     let mut reader = header.reader.copied();
-    let mut records = Vec::with_capacity(alloc, columns * rows)?;
+    let mut records = Records::with_capacity(alloc, columns * rows)?;
     let mut facts = Vec::with_capacity(alloc, columns * rows)?;
     let mut place = MbPosition {
         column: 0,

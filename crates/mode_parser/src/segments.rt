@@ -1,10 +1,10 @@
 //! The segments of macroblocks (RFC 6386, sections 9.3 and 10).
 
-ghost use Rattle.std.specs.Prelude.{◌≡◌, map, IfOk};
+ghost use Rattle.std.specs.Prelude.{◌≡◌, IfOk};
 ghost use Rattle.std.specs.Option.{option_copied};
 ghost use Rattle.mode_parser.specs.Segments.{kept_map, kept_segment as kept_segment_of, map_after, segment_at, segment_number};
 
-use crate::records::MbMode;
+use crate::record_list::Records;
 use bool_coder::{Decoder, NoMemory};
 use frame_header::Header;
 use std::alloc::Global;
@@ -68,29 +68,18 @@ fn kept_map(
     }
 }
 
-/// The segment of each record.
-fn segments_of(alloc: Global, records: &[MbMode]) -> Result<Vec<u8>, NoMemory>
-    ensures { IfOk result (λ segments. segments.items ≡ map (λ macroblock. macroblock.segment) records.now) }
-{
-    let mut segments = Vec::with_capacity(alloc, records.len())?;
-    for record in records {
-        segments.push(record.segment)?;
-    }
-    Ok(segments)
-}
-
 /// The segment map after a frame with these records.
 pub(crate) fn map_after(
     alloc: Global,
     header: &Header,
     count: usize,
     before: Option<&[u8]>,
-    records: &[MbMode],
+    records: &Records,
 ) -> Result<Vec<u8>, NoMemory>
     ensures { IfOk result (λ segments. segments.items ≡ map_after header.now count (option_copied before.entry) records.now) }
 {
     if header.segmentation.updates_map {
-        segments_of(alloc, records)
+        records.segments(alloc)
     } else {
         kept_map(alloc, header.is_key, count, before)
     }

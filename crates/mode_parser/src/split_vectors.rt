@@ -1,36 +1,24 @@
 //! The vectors of a split macroblock (RFC 6386, section 16.4).
 
 ghost use Rattle.std.specs.Prelude.{◌≡◌, ◌<◌, ◌≤◌, take, IsTrue};
-ghost use Rattle.std.specs.Option.{option_copied};
+ghost use Rattle.mode_parser.specs.RecordList.{neighbour_of};
 ghost use Rattle.vp8_tables.specs.Bounds.{IsWithin};
-ghost use Rattle.mode_parser.specs.InterRecords.{vector_in, vector_above, vector_left, part_row, part_vector, block_vector, first_vectors, split_starts, split_vectors, are_starts};
+ghost use Rattle.mode_parser.specs.InterRecords.{vector_above, vector_left, part_row, part_vector, block_vector, first_vectors, split_starts, split_vectors, are_starts};
 
-use crate::records::MbMode;
+use crate::record_list::Neighbour;
 use crate::vector_reading::read_vector;
 use crate::vectors::Vector;
 use bool_coder::Decoder;
 use vp8_tables::{PART_VECTOR_PROBABILITIES, SPLIT_PROBABILITIES, SPLIT_STARTS};
 
-/// The vector of block `n` of a neighbour; zero outside the frame.
-#[inline]
-fn vector_in(macroblock: Option<&MbMode>, n: usize) -> Vector
-    requires { n < 16 }
-    ensures { result ≡ vector_in (option_copied macroblock.entry) n }
-{
-    match macroblock {
-        None => Vector::ZERO,
-        Some(macroblock) => macroblock.vectors[n],
-    }
-}
-
 /// The vector above block `n`, in its own macroblock or in the one above.
 #[inline]
-fn vector_above(above: Option<&MbMode>, vectors: &[Vector; 16], n: usize) -> Vector
+fn vector_above(above: &Neighbour, vectors: &[Vector; 16], n: usize) -> Vector
     requires { n < 16 }
-    ensures { result ≡ vector_above (option_copied above.entry) (take n vectors.now) n }
+    ensures { result ≡ vector_above (neighbour_of above.now) (take n vectors.now) n }
 {
     if n < 4 {
-        vector_in(above, n + 12)
+        above.vector(n + 12)
     } else {
         vectors[n - 4]
     }
@@ -38,12 +26,12 @@ fn vector_above(above: Option<&MbMode>, vectors: &[Vector; 16], n: usize) -> Vec
 
 /// The vector to the left of block `n`, in its own macroblock or in the one to the left.
 #[inline]
-fn vector_left(left: Option<&MbMode>, vectors: &[Vector; 16], n: usize) -> Vector
+fn vector_left(left: &Neighbour, vectors: &[Vector; 16], n: usize) -> Vector
     requires { n < 16 }
-    ensures { result ≡ vector_left (option_copied left.entry) (take n vectors.now) n }
+    ensures { result ≡ vector_left (neighbour_of left.now) (take n vectors.now) n }
 {
     if n % 4 == 0 {
-        vector_in(left, n + 3)
+        left.vector(n + 3)
     } else {
         vectors[n - 1]
     }
@@ -98,8 +86,8 @@ fn read_block_vector(
     start: usize,
     probabilities: &[[u8; 19]; 2],
     best: Vector,
-    above: Option<&MbMode>,
-    left: Option<&MbMode>,
+    above: &Neighbour,
+    left: &Neighbour,
     vectors: &[Vector; 16],
     n: usize,
 ) -> Vector
@@ -107,7 +95,7 @@ fn read_block_vector(
     requires starts { start ≤ n }
     requires across { IsWithin 65536 best.x }
     requires down { IsWithin 65536 best.y }
-    ensures { block_vector start probabilities.now best (option_copied above.entry) (option_copied left.entry) (take n vectors.now) n reader.old ≡ (result, reader.new) }
+    ensures { block_vector start probabilities.now best (neighbour_of above.now) (neighbour_of left.now) (take n vectors.now) n reader.old ≡ (result, reader.new) }
 {
     if start < n {
         return vectors[start];
@@ -123,13 +111,13 @@ fn read_block_vectors(
     starts: &[u8; 16],
     probabilities: &[[u8; 19]; 2],
     best: Vector,
-    above: Option<&MbMode>,
-    left: Option<&MbMode>,
+    above: &Neighbour,
+    left: &Neighbour,
 ) -> [Vector; 16]
     requires starts { IsTrue (are_starts 0 starts.now) }
     requires across { IsWithin 65536 best.x }
     requires down { IsWithin 65536 best.y }
-    ensures { first_vectors 16 starts.now probabilities.now best (option_copied above.entry) (option_copied left.entry) reader.old ≡ (result, reader.new) }
+    ensures { first_vectors 16 starts.now probabilities.now best (neighbour_of above.now) (neighbour_of left.now) reader.old ≡ (result, reader.new) }
 {
     // A copy of its own keeps the reader in registers.
     let mut local = reader.copied();
@@ -178,12 +166,12 @@ pub(crate) fn read_split_vectors(
     reader: &mut Decoder,
     probabilities: &[[u8; 19]; 2],
     best: Vector,
-    above: Option<&MbMode>,
-    left: Option<&MbMode>,
+    above: &Neighbour,
+    left: &Neighbour,
 ) -> [Vector; 16]
     requires across { IsWithin 65536 best.x }
     requires down { IsWithin 65536 best.y }
-    ensures { split_vectors probabilities.now best (option_copied above.entry) (option_copied left.entry) reader.old ≡ (result, reader.new) }
+    ensures { split_vectors probabilities.now best (neighbour_of above.now) (neighbour_of left.now) reader.old ≡ (result, reader.new) }
 {
     let starts = read_split_starts(reader);
     read_block_vectors(reader, starts, probabilities, best, above, left)

@@ -5,6 +5,7 @@ ghost use Rattle.std.specs.Prelude.{◌≡◌, ◌+◌, ◌%◌, ◌<◌, ◌≤
 ghost use Rattle.std.specs.Option.{option_copied};
 ghost use Rattle.bool_coder.specs.Reader.{started};
 ghost use Rattle.transforms.specs.Factors.{factors_of};
+ghost use Rattle.mode_parser.specs.RecordList.{mode_of};
 ghost use Rattle.reference_frames.specs.FrameTokenValue.{state_of, kept_residual};
 ghost use Rattle.reference_frames.specs.KeptBlocks.{frame_factors};
 ghost use Rattle.reference_frames.specs.FrameTokens.{outside, reader_of, tokens_at, tokens_start, state_with, residual_with, flag_with};
@@ -12,7 +13,7 @@ ghost use Rattle.reference_frames.specs.FrameTokens.{outside, reader_of, tokens_
 use crate::kept_blocks::{Blocks, Flags};
 use bool_coder::Decoder;
 use frame_header::{Header, Place};
-use mode_parser::MbMode;
+use mode_parser::Record;
 use pixel_planes::NoMemory;
 use std::alloc::Global;
 use transforms::{Factors, factors};
@@ -119,14 +120,14 @@ impl<'a> FrameTokens<'a> {
         factors: &[Factors; 4],
         mx: usize,
         my: usize,
-        mode: &MbMode,
+        mode: &Record,
     )
         requires factors { factors.now ≡ frame_factors header.now }
         requires some { 0 < length (state_of self.old).readers }
         requires column { mx < length (state_of self.old).above }
-        ensures state { state_of self.new ≡ state_with (state_of self.old) mx my (tokens_at header.now.context.probabilities.coefficients (state_of self.old) mx my mode.now) }
-        ensures flag { self.new.has_tokens ≡ flag_with mode.now (tokens_at header.now.context.probabilities.coefficients (state_of self.old) mx my mode.now).0 }
-        ensures residual { kept_residual self.new mode.now ≡ residual_with (factors_of header.now mode.now.segment) mode.now (tokens_at header.now.context.probabilities.coefficients (state_of self.old) mx my mode.now).0 }
+        ensures state { state_of self.new ≡ state_with (state_of self.old) mx my (tokens_at header.now.context.probabilities.coefficients (state_of self.old) mx my (mode_of mode.now)) }
+        ensures flag { self.new.has_tokens ≡ flag_with (mode_of mode.now) (tokens_at header.now.context.probabilities.coefficients (state_of self.old) mx my (mode_of mode.now)).0 }
+        ensures residual { kept_residual self.new (mode_of mode.now) ≡ residual_with (factors_of header.now (mode_of mode.now).segment) (mode_of mode.now) (tokens_at header.now.context.probabilities.coefficients (state_of self.old) mx my (mode_of mode.now)).0 }
     {
         let partition = partition_of(my, self.readers.len());
         let mut reader = self.readers[partition].copied();
@@ -148,10 +149,10 @@ impl<'a> FrameTokens<'a> {
     /// The residual of the macroblock that was read last, of which this is the record. A skipped
     /// macroblock has none.
     #[inline]
-    pub fn residual(&self, mode: &MbMode) -> Option<&Blocks>
-        ensures { option_copied result ≡ kept_residual self.now mode.now }
+    pub fn residual(&self, mode: &Record) -> Option<&Blocks>
+        ensures { option_copied result ≡ kept_residual self.now (mode_of mode.now) }
     {
-        if mode.is_skipped {
+        if mode.is_skipped() {
             None
         } else {
             Some(&self.blocks)

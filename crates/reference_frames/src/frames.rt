@@ -18,7 +18,7 @@ use crate::prediction::{Sources, predict_macroblock};
 use crate::references::References;
 use frame_header::Header;
 use loop_filter::RowFilter;
-use mode_parser::{MbMode, Modes};
+use mode_parser::{Modes, Records};
 use pixel_planes::{NoMemory, Picture, Planes};
 use std::alloc::Global;
 use transforms::Factors;
@@ -28,7 +28,7 @@ use transforms::Factors;
 struct Raster<'a> {
     columns: usize,
     rows: usize,
-    modes: &'a [MbMode],
+    modes: &'a Records,
 }
 
 /// A frame as its macroblocks are decoded: its header, the factors of its segments, the sources of prediction, and
@@ -63,10 +63,10 @@ fn predict_row(
 {
     let Raster { columns, modes, .. } = frame.raster;
     for mx in 0..columns {
-        let mode = &modes[my * columns + mx];
-        tokens.read(frame.header, &frame.factors, mx, my, mode);
-        let residual = tokens.residual(mode);
-        predict_macroblock(planes, frame.sources, mx, my, mode, residual);
+        let mode = modes.at(my * columns + mx);
+        tokens.read(frame.header, &frame.factors, mx, my, &mode);
+        let residual = tokens.residual(&mode);
+        predict_macroblock(planes, frame.sources, mx, my, &mode, residual);
         flags.push(tokens.has_tokens)?;
     }
     Ok(())

@@ -6,13 +6,14 @@ ghost use Rattle.token_parser.specs.Ends.{EndsHold, IsFirstAlone};
 ghost use Rattle.transforms.specs.Factors.{factors_of};
 ghost use Rattle.transforms.specs.Residuals.{IsAdded};
 ghost use Rattle.transforms.specs.Transforms.{inverse_dct, reduced};
+ghost use Rattle.mode_parser.specs.RecordList.{mode_of};
 ghost use Rattle.reference_frames.specs.FrameTokens.{has_y2 as has_y2_of, block_with, y2_results, block_of, firsts_of, flag_with, residual_with};
 ghost use Rattle.reference_frames.specs.KeptBlocks.{flags_with, frame_factors, tokens_by};
 
 use crate::inter::is_split;
 use bool_coder::Decoder;
 use frame_header::Header;
-use mode_parser::{MbMode, YMode};
+use mode_parser::{Record, YMode};
 use std::marker::Model;
 use token_parser::{Tokens, read_macroblock, skip_macroblock};
 use transforms::{
@@ -21,10 +22,10 @@ use transforms::{
 
 /// Whether a macroblock has a block Y2, of the first coefficients of its luma (RFC 6386, section 13).
 #[inline]
-fn has_y2(mode: &MbMode) -> bool
-    ensures { result ≡ has_y2_of mode.now.y_mode }
+fn has_y2(mode: YMode) -> bool
+    ensures { result ≡ has_y2_of mode }
 {
-    match mode.y_mode {
+    match mode {
         YMode::Whole(_) => true,
         YMode::B => false,
         YMode::Inter(_, mode) => !is_split(mode),
@@ -187,26 +188,26 @@ impl Blocks {
         reader: &mut Decoder,
         header: &Header,
         all: &[Factors; 4],
-        mode: &MbMode,
+        mode: &Record,
         flags: Flags,
     ) -> Flags
         requires { all.now ≡ frame_factors header.now }
-        ensures reader { reader.new ≡ (tokens_by header.now.context.probabilities.coefficients mode.now flags reader.old).1 }
-        ensures flags { result ≡ flags_with mode.now (tokens_by header.now.context.probabilities.coefficients mode.now flags reader.old).0 }
-        ensures residual { (if mode.now.is_skipped then None else Some self.new) ≡ residual_with (factors_of header.now mode.now.segment) mode.now (tokens_by header.now.context.probabilities.coefficients mode.now flags reader.old).0 }
+        ensures reader { reader.new ≡ (tokens_by header.now.context.probabilities.coefficients (mode_of mode.now) flags reader.old).1 }
+        ensures flags { result ≡ flags_with (mode_of mode.now) (tokens_by header.now.context.probabilities.coefficients (mode_of mode.now) flags reader.old).0 }
+        ensures residual { (if (mode_of mode.now).is_skipped then None else Some self.new) ≡ residual_with (factors_of header.now (mode_of mode.now).segment) (mode_of mode.now) (tokens_by header.now.context.probabilities.coefficients (mode_of mode.now) flags reader.old).0 }
     {
-        let has_y2 = has_y2(mode);
+        let has_y2 = has_y2(mode.y_mode());
         let (above, left) = (flags.above, flags.left);
         self.tokens.above = above;
         self.tokens.left = left;
-        if mode.is_skipped {
+        if mode.is_skipped() {
             skip_macroblock(has_y2, &mut self.tokens);
             return flags_of(&self.tokens, false);
         }
         self.tokens.clear();
         let probabilities = &header.context.probabilities.coefficients;
         read_macroblock(reader, probabilities, has_y2, &mut self.tokens);
-        let factors = factors_in(all, header, mode.segment);
+        let factors = factors_in(all, header, mode.segment());
         let firsts = first_coefficients(factors, has_y2, &self.tokens);
         self.factors = factors;
         self.firsts = firsts;

@@ -4,6 +4,7 @@ ghost use Rattle.std.specs.Option.{option_copied};
 ghost use Rattle.intra_predict.specs.WholeSample.{side_of};
 ghost use Rattle.pixel_planes.specs.PlaneSamples.{shown_of};
 ghost use Rattle.pixel_planes.specs.Samples.{sample_at};
+ghost use Rattle.mode_parser.specs.RecordList.{mode_of};
 ghost use Rattle.reference_frames.specs.WrittenBlocks.{block_rows_put};
 ghost use Rattle.reference_frames.specs.Unfiltered.{HoldsSquare, HoldsMacroblock, HaveRoomFor, SameSides, SameShape, above, left, corner, above_row, left_column, above_eight, with_block, predicted_sub_block, predicted_sub_blocks, predicted_whole, predicted_luma, intra_macroblock, referred_macroblock, predicted_macroblock};
 
@@ -13,7 +14,7 @@ use crate::references::References;
 use crate::residuals::{Blocks, add_to_square, add_to_sub_block};
 use frame_header::Reference;
 use intra_predict::{BlockSize, Corner, SubMode, WholeMode, sub, whole_in_place};
-use mode_parser::{MbMode, VectorMode, YMode};
+use mode_parser::{Record, VectorMode, YMode};
 use pixel_planes::{Plane, Planes};
 
 /// Each sample above the frame (RFC 6386, section 12.2).
@@ -240,17 +241,20 @@ fn predict_whole(
 }
 
 /// Predicts the luma of a macroblock, as one block or by sub blocks, and adds its residual.
-fn predict_luma(plane: &mut Plane, mx: usize, my: usize, mode: &MbMode, residual: Option<&Blocks>)
+fn predict_luma(plane: &mut Plane, mx: usize, my: usize, mode: &Record, residual: Option<&Blocks>)
     requires { HoldsSquare plane.old.shown (16 * mx) (16 * my) 16 }
-    ensures value { plane.new.shown ≡ predicted_luma plane.old.shown mx my mode.now.y_mode mode.now.sub_modes (option_copied residual.entry) }
+    ensures value { plane.new.shown ≡ predicted_luma plane.old.shown mx my (mode_of mode.now).y_mode (mode_of mode.now).sub_modes (option_copied residual.entry) }
     ensures sides { SameSides plane.old.shown plane.new.shown }
 {
-    match mode.y_mode {
+    match mode.y_mode() {
         YMode::Whole(whole) => {
             let place = MacroblockPlace { mx, my };
             predict_whole(plane, BlockSize::Sixteen, place, whole, residual, 0);
         }
-        YMode::B => predict_sub_blocks(plane, mx, my, &mode.sub_modes, residual),
+        YMode::B => {
+            let sub_modes = mode.sub_modes();
+            predict_sub_blocks(plane, mx, my, &sub_modes, residual);
+        }
         YMode::Inter(..) => {}
     }
 }
@@ -261,17 +265,18 @@ fn predict_intra(
     planes: &mut Planes,
     mx: usize,
     my: usize,
-    mode: &MbMode,
+    mode: &Record,
     residual: Option<&Blocks>,
 )
     requires { HoldsMacroblock (shown_of planes.old) mx my }
-    ensures value { shown_of planes.new ≡ intra_macroblock (shown_of planes.old) mx my mode.now (option_copied residual.entry) }
+    ensures value { shown_of planes.new ≡ intra_macroblock (shown_of planes.old) mx my (mode_of mode.now) (option_copied residual.entry) }
     ensures sides { SameShape (shown_of planes.old) (shown_of planes.new) }
 {
     predict_luma(&mut planes.luma, mx, my, mode, residual);
     let (size, place) = (BlockSize::Eight, MacroblockPlace { mx, my });
-    predict_whole(&mut planes.cb, size, place, mode.uv_mode, residual, 16);
-    predict_whole(&mut planes.cr, size, place, mode.uv_mode, residual, 20);
+    let uv_mode = mode.uv_mode();
+    predict_whole(&mut planes.cb, size, place, uv_mode, residual, 16);
+    predict_whole(&mut planes.cr, size, place, uv_mode, residual, 20);
 }
 
 /// The sources of prediction besides the current picture: the references (a key frame has none),
@@ -296,20 +301,21 @@ fn predict_referred(
     sources: Sources,
     referred: Referred,
     place: MacroblockPlace,
-    mode: &MbMode,
+    mode: &Record,
     residual: Option<&Blocks>,
 )
     requires { HoldsMacroblock (shown_of planes.old) place.mx place.my }
-    ensures value { shown_of planes.new ≡ referred_macroblock sources.entry.version (option_copied sources.entry.references) referred.reference referred.vector_mode (shown_of planes.old) place.mx place.my mode.now (option_copied residual.entry) }
+    ensures value { shown_of planes.new ≡ referred_macroblock sources.entry.version (option_copied sources.entry.references) referred.reference referred.vector_mode (shown_of planes.old) place.mx place.my (mode_of mode.now) (option_copied residual.entry) }
     ensures sides { SameShape (shown_of planes.old) (shown_of planes.new) }
 {
     match sources.references {
         Some(references) => {
             let from = references.picture(referred.reference);
+            let vectors = mode.vectors();
             let motion = Motion {
                 version: sources.version,
                 mode: referred.vector_mode,
-                vectors: &mode.vectors,
+                vectors: &vectors,
             };
             predict_inter(planes, from, place, motion, residual);
         }
@@ -324,14 +330,14 @@ pub(crate) fn predict_macroblock(
     sources: Sources,
     mx: usize,
     my: usize,
-    mode: &MbMode,
+    mode: &Record,
     residual: Option<&Blocks>,
 )
     requires { HoldsMacroblock (shown_of planes.old) mx my }
-    ensures value { shown_of planes.new ≡ predicted_macroblock sources.entry.version (option_copied sources.entry.references) (shown_of planes.old) mx my mode.now (option_copied residual.entry) }
+    ensures value { shown_of planes.new ≡ predicted_macroblock sources.entry.version (option_copied sources.entry.references) (shown_of planes.old) mx my (mode_of mode.now) (option_copied residual.entry) }
     ensures sides { SameShape (shown_of planes.old) (shown_of planes.new) }
 {
-    match mode.y_mode {
+    match mode.y_mode() {
         YMode::Whole(_) => predict_intra(planes, mx, my, mode, residual),
         YMode::B => predict_intra(planes, mx, my, mode, residual),
         YMode::Inter(reference, vector_mode) => {

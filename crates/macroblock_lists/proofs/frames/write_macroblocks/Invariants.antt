@@ -5,15 +5,15 @@ use Rattle.reference_frames.specs.FrameTokens.{token_state}
 use Rattle.macroblock_lists.specs.Frames.{text_at}
 use Rattle.macroblock_lists.proofs.frames.write_macroblocks.Given as goal
 
-abbrev pub invariant-loop-mode : goal.invariant-loop-mode
-invariant-loop-mode g l = record {
-  said : Appends (g.W.Write.contents l.fn.w) (g.W.Write.contents l.w) (flat_map (text_at l.form l.place l.frame.header.now l.columns l.initial.walk.tokens l.initial.walk.marked l.modes l.facts) (range_with_len 0 l.mode-index));
-  tokens : l.walk.tokens ≡ token_state l.frame.header.now l.columns l.initial.walk.tokens l.modes l.mode-index;
-  marked : l.walk.marked ≡ token_state l.frame.header.now l.columns l.initial.walk.marked l.modes l.mode-index;
+abbrev pub invariant-loop-n : goal.invariant-loop-n
+invariant-loop-n g l = record {
+  said : Appends (g.W.Write.contents l.fn.w) (g.W.Write.contents l.w) (flat_map (text_at l.form l.place l.frame.header.now l.columns l.initial.walk.tokens l.initial.walk.marked l.modes l.facts) (range_with_len 0 l.n));
+  tokens : l.walk.tokens ≡ token_state l.frame.header.now l.columns l.initial.walk.tokens l.modes l.n;
+  marked : l.walk.marked ≡ token_state l.frame.header.now l.columns l.initial.walk.marked l.modes l.n;
   readers : 0 < length l.walk.tokens.readers;
   above : length l.walk.tokens.above ≡ l.columns;
   marked_readers : 0 < length l.walk.marked.readers;
   marked_above : length l.walk.marked.above ≡ l.columns;
-  place : l.my * l.columns + l.mx ≡ l.mode-index;
+  place : l.my * l.columns + l.mx ≡ l.n;
   column : l.mx < l.columns;
 }

@@ -5,8 +5,8 @@ use Rattle.mode_parser.proofs.frame_records.read_records.Goals as goal
 
 pub loop-number-init : goal.loop-number-init
 loop-number-init c = record {
-  same = rw (c.in_ok-records.ensures.items, c.copied-reader.ensures) (first_modes-none _ _ _ _ _ _);
-  count = ap length c.in_ok-records.ensures.items;
+  same = rw (c.in_ok-records.ensures, c.copied-reader.ensures) (first_modes-none _ _ _ _ _ _);
+  count = ap length c.in_ok-records.ensures;
   at = place-start _ _ c.requires.some;
 }
 

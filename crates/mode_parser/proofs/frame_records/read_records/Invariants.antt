@@ -5,7 +5,7 @@ use Rattle.mode_parser.proofs.frame_records.read_records.Given as goal
 
 abbrev pub invariant-loop-number : goal.invariant-loop-number
 invariant-loop-number l = record {
-  same : first_modes l._number l.tables l.header l.columns l.rows (option_copied l.map) l.header.reader ≡ (l.records.items, l.reader);
-  count : length l.records.items ≡ l._number;
+  same : first_modes l._number l.tables l.header l.columns l.rows (option_copied l.map) l.header.reader ≡ (l.records, l.reader);
+  count : length l.records ≡ l._number;
   at : l.place ≡ place_of l.columns l.rows l._number;
 }

@@ -6,8 +6,8 @@ use Rattle.mode_parser.proofs.record_facts.read_record_facts.Goals as goal
 
 pub loop-number-init : goal.loop-number-init
 loop-number-init c = record {
-  same = rw (c.in_ok-records.ensures.items, c.copied-reader.ensures) (first_modes-none _ _ _ _ _ _);
-  count = ap length c.in_ok-records.ensures.items;
+  same = rw (c.in_ok-records.ensures, c.copied-reader.ensures) (first_modes-none _ _ _ _ _ _);
+  count = ap length c.in_ok-records.ensures;
   at = place-start _ _ c.requires.wide.0;
   facts = c.in_ok-facts.ensures.items;
 }
@@ -19,7 +19,7 @@ loop-number-preserved c =
     let following = rw at at c.next_place-place.ensures in
     let longer = one_more-length c.args.tables.now c.args.header.now _ _ _ _ _ _ _ more in
     let same = first_modes-more _ _ _ _ _ _ _ _ _ _ _ c.loop-number.invariant.count c.loop-number.invariant.same more in
-    let split = rw (at, c.deref.ensures.value) at c.next_split-split.ensures in
+    let split = rw at at c.next_split-split.ensures in
     let bits = rw (c.left-left.ensures, c.left.ensures) at c.saturating_sub-bits.ensures in
     record {
       same = same;

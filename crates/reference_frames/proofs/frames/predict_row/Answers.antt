@@ -3,6 +3,7 @@ use Rattle.std.specs.Option.{option_copied}
 use Rattle.std.proofs.lemmas.List.{length-set}
 use Rattle.std.proofs.lemmas.Option.{slice_get-get_or}
 use Rattle.mode_parser.specs.declared.records.MbMode.{MbMode}
+use Rattle.mode_parser.specs.RecordList.{mode_of}
 use Rattle.pixel_planes.specs.PlaneSamples.{shown_of}
 use Rattle.reference_frames.specs.FrameTokens.{TokenState, flag_at, residual_at}
 use Rattle.reference_frames.specs.FrameTokenValue.{state_of}
@@ -29,6 +30,9 @@ read-requires-clause-column c = omega (arith, c.requires.above, c.loop-mx.invari
 pub predict_macroblock-requires : goal.predict_macroblock-requires
 predict_macroblock-requires c = search rules
 
+pub at-mode-requires : goal.at-mode-requires
+at-mode-requires c = rw c.requires.each (place_within c.args.frame.raster.columns c.args.frame.raster.rows c.args.my c.loop-mx.mx c.loop-mx-test.true c.requires.row)
+
 pub loop-mx-preserved : goal.loop-mx-preserved
 loop-mx-preserved c =
     let header = c.args.frame.header.now in
@@ -36,9 +40,8 @@ loop-mx-preserved c =
     let modes = c.args.frame.raster.modes.now in
     let mx : ℕ = c.loop-mx.mx in
     let place : ℕ = c.args.my * columns + mx in
-    let mode : MbMode = c.index-modes-my.result in
-    let within : place < length modes = rw c.requires.each (place_within columns c.args.frame.raster.rows c.args.my mx c.loop-mx-test.true c.requires.row) in
-    let found : slice_get modes place ≡ Some mode = slice_get-get_or modes place mode within ∙ ap Some (sym c.index-modes-my.is) in
+    let mode : MbMode = mode_of c.at-mode.result in
+    let found : slice_get modes place ≡ Some mode = c.at-mode.ensures in
     let so_far = c.loop-mx.invariant in
     let old : TokenState = state_of c.loop-mx.tokens in
     let next : place + 1 ≡ c.args.my * columns + (mx + 1) = omega arith in

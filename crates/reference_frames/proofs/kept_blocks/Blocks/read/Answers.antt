@@ -1,6 +1,7 @@
 use Rattle.std.specs.Prelude.{slice_index_or}
 use Rattle.std.proofs.Common.{◌≡◌, ℕ, ◌<◌, Bool, List, ℤ, pos, Some, ap, ◌∙◌, subst}
 use Rattle.bool_coder.specs.Reader.{Reader}
+use Rattle.mode_parser.specs.RecordList.{mode_of}
 use Rattle.token_parser.specs.Ends.{EndsHold}
 use Rattle.token_parser.specs.declared.tokens.Tokens.{Tokens}
 use Rattle.token_parser.proofs.Ends.{ends_hold}
@@ -11,15 +12,15 @@ use Rattle.reference_frames.proofs.kept_blocks.Blocks.read.Goals as goal
 
 pub first_coefficients-firsts-requires : goal.first_coefficients-firsts-requires
 first_coefficients-firsts-requires c =
-    let tokens_are = rw (c.has_y2-has_y2.ensures, c.clear.ensures) at c.read_macroblock.ensures in
-    subst (λ (t : Tokens × Reader). EndsHold t.0) tokens_are (ends_hold c.args.header.now.context.probabilities.coefficients (has_y2 c.args.mode.now.y_mode) (record c.self.inside.tokens { above = c.args.flags.above; left = c.args.flags.left }) c.args.reader.now)
+    let tokens_are = rw (c.has_y2-has_y2.ensures, c.y_mode.ensures, c.clear.ensures) at c.read_macroblock.ensures in
+    subst (λ (t : Tokens × Reader). EndsHold t.0) tokens_are (ends_hold c.args.header.now.context.probabilities.coefficients (has_y2 (mode_of c.args.mode.now).y_mode) (record c.self.inside.tokens { above = c.args.flags.above; left = c.args.flags.left }) c.args.reader.now)
 
 pub returns-clause-residual : goal.returns-clause-residual
 returns-clause-residual c =
-    let y2 : Bool = has_y2 c.args.mode.now.y_mode in
+    let y2 : Bool = has_y2 (mode_of c.args.mode.now).y_mode in
     let tokens : Tokens = c.read_macroblock.new.tokens in
-    let tokens_are = rw (c.has_y2-has_y2.ensures, c.clear.ensures) at c.read_macroblock.ensures in
+    let tokens_are = rw (c.has_y2-has_y2.ensures, c.y_mode.ensures, c.clear.ensures) at c.read_macroblock.ensures in
     let held : EndsHold tokens = subst (λ (t : Tokens × Reader). EndsHold t.0) tokens_are (ends_hold c.args.header.now.context.probabilities.coefficients y2 (record c.self.inside.tokens { above = c.args.flags.above; left = c.args.flags.left }) c.args.reader.now) in
-    let firsts : (k : ℕ) → k < 24 → slice_index_or c.first_coefficients-firsts.result k (pos 0) ≡ slice_index_or (block_of c.factors_in-factors.result (firsts_of c.factors_in-factors.result y2 tokens.coefficients) tokens.coefficients k) 0 (pos 0) = rw c.has_y2-has_y2.ensures at c.first_coefficients-firsts.ensures in
+    let firsts : (k : ℕ) → k < 24 → slice_index_or c.first_coefficients-firsts.result k (pos 0) ≡ slice_index_or (block_of c.factors_in-factors.result (firsts_of c.factors_in-factors.result y2 tokens.coefficients) tokens.coefficients k) 0 (pos 0) = rw (c.has_y2-has_y2.ensures, c.y_mode.ensures) at c.first_coefficients-firsts.ensures in
     let kept = kept_all c.factors_in-factors.result y2 tokens c.first_coefficients-firsts.result held firsts in
-    rw (c.if-mode.false, tokens_are) (ap (λ (bs : List (List ℤ)). Some bs) (kept ∙ ap (λ (f : Factors). blocks_of f y2 tokens.coefficients) c.factors_in-factors.ensures))
+    rw (← c.is_skipped.ensures, c.if-is_skipped.false, tokens_are) (ap (λ (bs : List (List ℤ)). Some bs) (kept ∙ ap (λ (f : Factors). blocks_of f y2 tokens.coefficients) rw c.segment.ensures at c.factors_in-factors.ensures))
