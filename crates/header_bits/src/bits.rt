@@ -241,7 +241,7 @@ fn read_all(reader: &mut Decoder, is_key: bool, updates: &[u8; 1056]) -> HeaderB
     }
 }
 
-/// The text of the first partition of a packet; what the packet has of it if the packet ends before it.
+/// The text of the first partition of a packet, as far as the packet has it.
 fn first_text(packet: &[u8]) -> &[u8]
     ensures { result.now ≡ first_text packet.now }
 {

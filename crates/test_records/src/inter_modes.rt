@@ -2,7 +2,7 @@ use bool_coder::Encoder;
 use frame_header::{Header, Reference, read_header};
 use intra_predict::{SubMode, WholeMode};
 use mode_parser::{
-    MbMode, Split, Vector, VectorMode, YMode, chroma_vector, read_modes, read_record_facts,
+    MbMode, Records, Split, Vector, VectorMode, YMode, chroma_vector, read_modes, read_record_facts,
 };
 use std::alloc::{AllocError, Global};
 use std::process::Abort;
@@ -121,6 +121,16 @@ fn check_frame(
     expect_modes(rt, alloc, &header, columns, records)
 }
 
+/// Whether these are the records that were read.
+fn are_records(found: &Records, expected: &[MbMode]) -> bool {
+    for n in 0..found.len() {
+        if expected.get(n) != Some(&found.at(n).mode()) {
+            return false;
+        }
+    }
+    found.len() == expected.len()
+}
+
 /// The records of a frame whose map before it is of threes.
 fn expect_modes<R: Abort>(
     rt: &R,
@@ -137,7 +147,7 @@ fn expect_modes<R: Abort>(
     assert!(rt; columns * rows <= 16);
     let map = &map[..columns * rows];
     let modes = read_modes(alloc, &Tables::rfc(), header, columns, rows, Some(map))?;
-    assert!(rt; modes.records() == records && modes.segment_map() == map);
+    assert!(rt; are_records(modes.records(), records) && modes.segment_map() == map);
     Ok(())
 }
 

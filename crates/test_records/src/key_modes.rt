@@ -1,7 +1,7 @@
 use bool_coder::Encoder;
 use frame_header::read_header;
 use intra_predict::{SubMode, WholeMode};
-use mode_parser::{MbMode, Vector, YMode, read_modes};
+use mode_parser::{MbMode, Records, Vector, YMode, read_modes};
 use std::alloc::{AllocError, Global};
 use std::process::Abort;
 use std::test::Fail;
@@ -277,10 +277,12 @@ fn expect_frame<R: Abort>(
     Ok(())
 }
 
-fn expect_records<R: Abort>(rt: &R, records: &[MbMode], skips: bool) {
+fn expect_records<R: Abort>(rt: &R, records: &Records, skips: bool) {
     assert!(rt; records.len() == 8);
-    for (record, macroblock) in records.iter().zip(&frame()) {
-        assert!(rt; *record == record_of(macroblock, skips), "{record:?}");
+    let frame = frame();
+    for n in 0..8 {
+        let record = records.at(n).mode();
+        assert!(rt; record == record_of(&frame[n], skips), "{record:?}");
     }
 }
 

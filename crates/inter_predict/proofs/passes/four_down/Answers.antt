@@ -16,7 +16,7 @@ pub line-d-requires : goal.line-d-requires
 line-d-requires g c = (omega arith, (omega arith, c.requires.lines 3 (omega arith)))
 
 pub line-e-requires : goal.line-e-requires
-line-e-requires g c = (omega arith, (omega arith, c.requires.lines (c.loop-row.row + 4) (omega arith)))
+line-e-requires g c = (omega arith, (omega arith, c.requires.lines _ (omega arith)))
 
 pub loop-row-init : goal.loop-row-init
 loop-row-init g c = (

@@ -22,7 +22,7 @@ pub line-e-requires : goal.line-e-requires
 line-e-requires g c = (omega arith, (omega arith, c.requires.lines 4 (omega arith)))
 
 pub line-f-requires : goal.line-f-requires
-line-f-requires g c = (omega arith, (omega arith, c.requires.lines (c.loop-row.row + 5) (omega arith)))
+line-f-requires g c = (omega arith, (omega arith, c.requires.lines _ (omega arith)))
 
 pub loop-row-init : goal.loop-row-init
 loop-row-init g c = (
