@@ -71,7 +71,7 @@ row_room stride row width count less room =
     let le : row * stride ≤ 3 * stride = mul-le-mul_right stride (omega (arith, less)) in
     omega (arith, le, room)
 
-kept : (i : ℕ) (xs ys : List ℕ) (p : ℕ) → (p < i) ⊎ (i + length ys ≤ p) → slice_index (put_chunk i xs ys) p ≡ slice_index xs p
+pub kept : (i : ℕ) (xs ys : List ℕ) (p : ℕ) → (p < i) ⊎ (i + length ys ≤ p) → slice_index (put_chunk i xs ys) p ≡ slice_index xs p
 kept i xs ys p (inl before) = get_or-put_chunk_below i xs ys p 0 before
 kept i xs ys p (inr following) = get_or-put_chunk_above i xs ys p 0 following
 
