@@ -5,7 +5,7 @@ use Rattle.std.proofs.lemmas.Bool.{cases_lt}
 use Rattle.std.proofs.lemmas.List.{same_lists, length-replicate, get_or-replicate, length-take-le, get_or-take}
 use Rattle.std.proofs.lemmas.Int.{int_wrap_fits}
 use Rattle.vp8_tables.specs.Bounds.{clamped_sample}
-use Rattle.transforms.specs.Residuals.{IsAdded, firsts_residual}
+use Rattle.transforms.specs.Residuals.{IsAdded, firsts_residual, pair_residual}
 use Rattle.transforms.specs.Transforms.{inverse_dct, dct_pass, dct_column, by_sine, by_cosine, eighth}
 use Rattle.reference_frames.specs.AddedBlocks.{IsAddedAt, blocks_residual}
 use Rattle.reference_frames.proofs.Squares.{index_in, index_before, index_above, index_within, start_within, part_old, part_new, part_before, part_kept, whole_put}
@@ -103,34 +103,37 @@ added_same one other across width column row old new same is = record {
 
 -- ---- blocks next to each other
 
--- no block
-pub none_added_at : (residual : ℕ → ℕ → ℤ) (across column row : ℕ) (old : List ℕ) → IsAddedAt residual across 0 column row old old
-none_added_at residual across column row old = record {
-  whole = refl;
-  each = λ i j inside. absurd (let from : column ≤ i = inside.0 in let to : i < column + 0 = inside.1 in omega (arith, from, to));
-  others = λ i j a out. refl;
-}
+-- the residual of two blocks of a list
+pub pair_is : (blocks : List (List ℤ)) (across k column row : ℕ) (old new : List ℕ) → IsAddedAt (pair_residual (slice_index_or blocks k []) (slice_index_or blocks (k + 1) [])) across 8 column row old new → IsAddedAt (blocks_residual blocks k) across 8 column row old new
+unfolding pair_residual
+pair_is blocks across k column row old new is =
+    added_same (pair_residual (slice_index_or blocks k []) (slice_index_or blocks (k + 1) [])) (blocks_residual blocks k) across 8 column row old new
+    (λ i j less below.
+    elim (cases_lt i 4) [
+      | inl first ↦ let at : i / 4 ≡ 0 = omega (arith, first) in rw (at, add-zero) refl
+      | inr from ↦ let at : i / 4 ≡ 1 = omega (arith, from, less) in rw at refl
+    ]) is
 
--- one block more
-pub one_added : (blocks : List (List ℤ)) (across k n column row : ℕ) (old samples new : List ℕ) → column + 4 * n + 4 ≤ across → IsAddedAt (blocks_residual blocks k) across (4 * n) column row old samples →
-    IsAddedAt (inverse_dct (slice_index_or blocks (k + n) [])) across 4 (column + 4 * n) row samples new → IsAddedAt (blocks_residual blocks k) across (4 * (n + 1)) column row old new
-one_added blocks across k n column row old samples new wide before is = record {
+-- two pairs
+pub two_pairs : (blocks : List (List ℤ)) (across k column row : ℕ) (old samples new : List ℕ) → column + 16 ≤ across → IsAddedAt (blocks_residual blocks k) across 8 column row old samples →
+    IsAddedAt (blocks_residual blocks (k + 2)) across 8 (column + 8) row samples new → IsAddedAt (blocks_residual blocks k) across 16 column row old new
+two_pairs blocks across k column row old samples new wide before is = record {
   whole = is.whole ∙ before.whole;
   each = λ i j inside.
       let from_i : column ≤ i = inside.0 in
-      let to_i : i < column + 4 * (n + 1) = inside.1 in
+      let to_i : i < column + 16 = inside.1 in
       let in_row : i < across = omega (arith, to_i, wide) in
-      elim (cases_lt i (column + 4 * n)) [
-        | inl earlier ↦ is.others i j in_row (λ q. let from : column + 4 * n ≤ i = q.0 in absurd (omega (arith, from, earlier))) ∙ before.each i j (from_i, earlier, inside.2, inside.3)
+      elim (cases_lt i (column + 8)) [
+        | inl earlier ↦ is.others i j in_row (λ q. let from : column + 8 ≤ i = q.0 in absurd (omega (arith, from, earlier))) ∙ before.each i j (from_i, earlier, inside.2, inside.3)
         | inr from ↦
-            let block : (i - column) / 4 ≡ n = omega (arith, from, to_i) in
-            let at : i - (column + 4 * n) ≡ (i - column) % 4 = omega (arith, from, to_i) in
-            let kept : slice_index samples (j * across + i) ≡ slice_index old (j * across + i) = before.others i j in_row (λ q. let to : i < column + 4 * n = q.1 in absurd (omega (arith, from, to))) in
+            let block : k + 2 + (i - (column + 8)) / 4 ≡ k + (i - column) / 4 = omega (arith, from, to_i) in
+            let at : (i - (column + 8)) % 4 ≡ (i - column) % 4 = omega (arith, from, to_i) in
+            let kept : slice_index samples (j * across + i) ≡ slice_index old (j * across + i) = before.others i j in_row (λ q. let to : i < column + 8 = q.1 in absurd (omega (arith, from, to))) in
             is.each i j (from, omega (arith, to_i), inside.2, inside.3) ∙ rw (kept, at, block) refl
       ];
   others = λ i j a out.
-      is.others i j a (λ q. let from : column + 4 * n ≤ i = q.0 in let to : i < column + 4 * n + 4 = q.1 in out (omega (arith, from), omega (arith, to), q.2, q.3))
-      ∙ before.others i j a (λ q. let to : i < column + 4 * n = q.1 in out (q.0, omega (arith, to), q.2, q.3));
+      is.others i j a (λ q. let from : column + 8 ≤ i = q.0 in let to : i < column + 8 + 8 = q.1 in out (omega (arith, from), omega (arith, to), q.2, q.3))
+      ∙ before.others i j a (λ q. let to : i < column + 8 = q.1 in out (q.0, omega (arith, to), q.2, q.3));
 }
 
 -- blocks that each have only a first coefficient

@@ -4,7 +4,7 @@
 ghost use Rattle.std.specs.Prelude.{◌≡◌, ℕ, ◌+◌, ◌*◌, ◌<◌, ◌≤◌, [], ◌∷◌, length, replicate, pos, ◌*ℤ◌, if◌then◌else◌, IfSome, None, Some, slice_index_or};
 ghost use Rattle.token_parser.specs.Ends.{EndsHold, IsFirstAlone};
 ghost use Rattle.transforms.specs.Factors.{factors_of};
-ghost use Rattle.transforms.specs.Residuals.{IsAdded};
+ghost use Rattle.transforms.specs.Residuals.{IsAdded, pair_residual};
 ghost use Rattle.transforms.specs.Transforms.{inverse_dct, reduced};
 ghost use Rattle.mode_parser.specs.RecordList.{mode_of};
 ghost use Rattle.reference_frames.specs.FrameTokens.{has_y2 as has_y2_of, block_with, y2_results, block_of, firsts_of, flag_with, residual_with};
@@ -17,7 +17,8 @@ use mode_parser::{Record, YMode};
 use std::marker::Model;
 use token_parser::{Tokens, read_macroblock, skip_macroblock};
 use transforms::{
-    Factors, dct_add, dct_add_first, dequantise, dequantise_others, factors, wht, wht_first,
+    Factors, dct_add, dct_add_first, dct_add_two, dequantise, dequantise_others, factors, wht,
+    wht_first,
 };
 
 /// Whether a macroblock has a block Y2, of the first coefficients of its luma (RFC 6386, section 13).
@@ -214,6 +215,26 @@ impl Blocks {
         flags_of(&self.tokens, self.tokens.has_tokens(has_y2))
     }
 
+    /// Block `k`, dequantised.
+    #[inline(always)]
+    fn dequantised(&self, k: usize) -> [i16; 16]
+        requires { k < 24 }
+        ensures { result ≡ slice_index_or self.now k [] }
+    {
+        let first = self.firsts[k];
+        if self.tokens.ends[k] > 1 {
+            let ac = if k < 16 {
+                self.factors.y_ac
+            } else {
+                self.factors.uv_ac
+            };
+            return dequantise_others(&self.tokens.coefficients[k], first, ac);
+        }
+        let mut block = [0; 16];
+        block[0] = first;
+        block
+    }
+
     /// Adds the residual of block `k` to its 4 by 4 samples at the start of `samples`, in rows
     /// `stride` apart.
     #[inline(always)]
@@ -223,21 +244,28 @@ impl Blocks {
         requires room { 3 * stride + 4 ≤ length samples.old }
         ensures { IsAdded (inverse_dct (slice_index_or self.now k [])) 4 stride samples.old samples.new }
     {
-        let first = self.firsts[k];
         if self.tokens.ends[k] > 1 {
-            let ac = if k < 16 {
-                self.factors.y_ac
-            } else {
-                self.factors.uv_ac
-            };
-            dct_add(
-                &dequantise_others(&self.tokens.coefficients[k], first, ac),
-                samples,
-                stride,
-            );
-        } else if first != 0 {
+            dct_add(&self.dequantised(k), samples, stride);
+            return;
+        }
+        let first = self.firsts[k];
+        if first != 0 {
             dct_add_first(first, samples, stride);
         }
+    }
+
+    /// Adds the residuals of blocks `k` and `k + 1` to their 8 by 4 samples at the start of `samples`,
+    /// in rows `stride` apart.
+    #[inline(always)]
+    pub fn add_pair(&self, k: usize, samples: &mut [u8], stride: usize)
+        requires blocks { k + 2 ≤ 24 }
+        requires wide { 8 ≤ stride }
+        requires room { 3 * stride + 8 ≤ length samples.old }
+        ensures { IsAdded (pair_residual (slice_index_or self.now k []) (slice_index_or self.now (k + 1) [])) 8 stride samples.old samples.new }
+    {
+        let first = self.dequantised(k);
+        let second = self.dequantised(k + 1);
+        dct_add_two(&first, &second, samples, stride);
     }
 
     /// The first coefficients of four blocks, starting with block `k`, if none of these has others.

@@ -13,55 +13,21 @@ pub use crate::kept_blocks::Blocks;
 use intra_predict::{BlockSize, Corner};
 use transforms::{dct_add_four_firsts, dct_add_two_firsts};
 
-/// Adds the residual of block `k` to its samples, which begin at this corner.
+/// Adds the residuals of blocks `k` and `k + 1`, next to each other, the first of which begins at
+/// this corner.
 #[inline(always)]
-fn add_at(blocks: &Blocks, k: usize, samples: &mut [u8], corner: Corner)
-    requires block { k < 24 }
+fn add_pair(blocks: &Blocks, k: usize, samples: &mut [u8], corner: Corner)
+    requires blocks { k + 2 ≤ 24 }
     requires small { (corner.across ≤ 16512) × (corner.row + 4 ≤ 16384) }
-    requires column { corner.column + 4 ≤ corner.across }
+    requires column { corner.column + 8 ≤ corner.across }
     requires room { (corner.row + 4) * corner.across ≤ length samples.old }
-    ensures { IsAddedAt (inverse_dct (slice_index_or blocks.now k [])) corner.across 4 corner.column corner.row samples.old samples.new }
+    ensures { IsAddedAt (blocks_residual blocks.now k) corner.across 8 corner.column corner.row samples.old samples.new }
 {
     let start = corner.across * corner.row + corner.column;
-    blocks.add(k, &mut samples[start..], corner.across);
+    blocks.add_pair(k, &mut samples[start..], corner.across);
 }
 
-/// Adds the residuals of `count` blocks next to each other, starting with block `k`, one after
-/// another.
-#[inline(always)]
-fn add_each(blocks: &Blocks, k: usize, count: usize, samples: &mut [u8], corner: Corner)
-    requires blocks { (count ≤ 4) × (k + count ≤ 24) }
-    requires small { (corner.across ≤ 16512) × (corner.row + 4 ≤ 16384) }
-    requires column { corner.column + 4 * count ≤ corner.across }
-    requires room { (corner.row + 4) * corner.across ≤ length samples.old }
-    ensures { IsAddedAt (blocks_residual blocks.now k) corner.across (4 * count) corner.column corner.row samples.old samples.new }
-{
-    for n in 0..count {
-        let column = corner.column + 4 * n;
-        add_at(blocks, k + n, samples, Corner { column, ..corner });
-    }
-}
-
-/// Adds the residuals of four blocks next to each other, starting with block `k`: at once if each
-/// has only a first coefficient.
-#[inline(always)]
-fn add_four(blocks: &Blocks, k: usize, samples: &mut [u8], corner: Corner)
-    requires blocks { k + 4 ≤ 24 }
-    requires small { (corner.across ≤ 16512) × (corner.row + 4 ≤ 16384) }
-    requires column { corner.column + 16 ≤ corner.across }
-    requires room { (corner.row + 4) * corner.across ≤ length samples.old }
-    ensures { IsAddedAt (blocks_residual blocks.now k) corner.across 16 corner.column corner.row samples.old samples.new }
-{
-    match blocks.four_firsts(k) {
-        Some(firsts) => {
-            let start = corner.across * corner.row + corner.column;
-            dct_add_four_firsts(firsts, &mut samples[start..], corner.across);
-        }
-        None => add_each(blocks, k, 4, samples, corner),
-    }
-}
-
-/// The same for two blocks.
+/// The same, a row of samples at a time if both have only a first coefficient.
 #[inline(always)]
 fn add_two(blocks: &Blocks, k: usize, samples: &mut [u8], corner: Corner)
     requires blocks { k + 2 ≤ 24 }
@@ -75,7 +41,30 @@ fn add_two(blocks: &Blocks, k: usize, samples: &mut [u8], corner: Corner)
             let start = corner.across * corner.row + corner.column;
             dct_add_two_firsts(firsts, &mut samples[start..], corner.across);
         }
-        None => add_each(blocks, k, 2, samples, corner),
+        None => add_pair(blocks, k, samples, corner),
+    }
+}
+
+/// Adds the residuals of blocks `k` to `k + 3`, next to each other: two at a time, unless each has
+/// only a first coefficient.
+#[inline(always)]
+fn add_four(blocks: &Blocks, k: usize, samples: &mut [u8], corner: Corner)
+    requires blocks { k + 4 ≤ 24 }
+    requires small { (corner.across ≤ 16512) × (corner.row + 4 ≤ 16384) }
+    requires column { corner.column + 16 ≤ corner.across }
+    requires room { (corner.row + 4) * corner.across ≤ length samples.old }
+    ensures { IsAddedAt (blocks_residual blocks.now k) corner.across 16 corner.column corner.row samples.old samples.new }
+{
+    match blocks.four_firsts(k) {
+        Some(firsts) => {
+            let start = corner.across * corner.row + corner.column;
+            dct_add_four_firsts(firsts, &mut samples[start..], corner.across);
+        }
+        None => {
+            add_two(blocks, k, samples, corner);
+            let column = corner.column + 8;
+            add_two(blocks, k + 2, samples, Corner { column, ..corner });
+        }
     }
 }
 

@@ -38,10 +38,10 @@ more_stands k y x fits factor room =
     let part : Stand w16 (of_z w16 (shifted k x)) (int_shr (x *ℤ y) 16) = rw (shifted_is k y x fits factor room) (Stand-of w16 _ (shifted_fits _ room)) in
     Stand-plus w16 _ _ _ _ (Stand-of w16 x fits) part
 
-sine_stands : (x : ℤ) → SFits w16 x → Stand w16 (more_bits 4294937228 x) (by_sine x)
+pub sine_stands : (x : ℤ) → SFits w16 x → Stand w16 (more_bits 4294937228 x) (by_sine x)
 sine_stands x fits = Stand-same w16 _ _ _ (sym (sine_less x)) (more_stands _ _ x fits sine_factor (sine_product x fits))
 
-cosine_stands : (x : ℤ) → SFits w16 x → Stand w16 (more_bits 20091 x) (by_cosine x)
+pub cosine_stands : (x : ℤ) → SFits w16 x → Stand w16 (more_bits 20091 x) (by_cosine x)
 unfolding by_cosine
 cosine_stands x fits = more_stands _ _ x fits cosine_factor (cosine_product x fits)
 

@@ -7,3 +7,9 @@ pub mod ResidualLanes
 pub mod Held
 pub mod WalshLanes
 pub mod MovedRows
+pub mod PairLanes
+pub mod SmallLanes
+pub mod SecondPass
+pub mod EightSums
+pub mod EachBlock
+pub mod PairRows

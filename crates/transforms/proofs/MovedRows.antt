@@ -1,7 +1,7 @@
 -- Rows of samples to which lanes are added, and from which others are subtracted.
 use Rattle.std.specs.Prelude.{slice_index, slice_index_or}
 use Rattle.std.specs.Simd.Lanes.{put_chunk}
-use Rattle.std.proofs.Common.{◌≡◌, ◌⊎◌, ℕ, zero, suc, lit<, ◌-ℤ◌, ◌+◌, ◌-◌, ◌*◌, ◌/◌, ◌%◌, ◌<◌, ◌≤◌, inl, inr, min, Bool, true, false, cond, ltb, leb, List, [], ◌∷◌, ◌++◌, length, map, get_or, refl, ap, sym, ◌∙◌, arith, ℤ, pos, negsuc, ◌+ℤ◌, neg_ℤ, w8, w16, Fits, SFits, to_z, of_z}
+use Rattle.std.proofs.Common.{◌≡◌, ◌⊎◌, ℕ, zero, suc, lit<, ◌-ℤ◌, ◌+◌, ◌-◌, ◌*◌, ◌/◌, ◌%◌, ◌<◌, ◌≤◌, inl, inr, min, Bool, true, false, cond, ltb, leb, List, [], ◌∷◌, ◌++◌, length, map, get_or, refl, ap, sym, ◌∙◌, arith, add-zero, ℤ, pos, negsuc, ◌+ℤ◌, neg_ℤ, w8, w16, Fits, SFits, to_z, of_z}
 use lib.Lanes.{Each1, zip2, sel_l, chunk}
 use lib.Dec.{T}
 use lib.IntN.{nat_abs}
@@ -9,7 +9,7 @@ use lib.Signed.{non_neg}
 use Rattle.std.proofs.Math.Nat.{mul-le-mul_right}
 use Rattle.std.proofs.lemmas.Bool.{cases_lt}
 use Rattle.std.proofs.lemmas.Bool.Decides.{nat_tests}
-use Rattle.std.proofs.lemmas.Int.{ints}
+use Rattle.std.proofs.lemmas.Int.{ints, to_z-of_z}
 use Rattle.std.proofs.lemmas.Simd.{length-chunk, length-zip2, get_or-zip2, get_or-chunk, length-put_chunk, get_or-put_chunk_below, get_or-put_chunk_at, get_or-put_chunk_above}
 use Rattle.vp8_tables.specs.Bounds.{IsWithin, clamped_sample}
 use Rattle.std.specs.List.{range_with_len}
@@ -71,7 +71,7 @@ row_room stride row width count less room =
     let le : row * stride ≤ 3 * stride = mul-le-mul_right stride (omega (arith, less)) in
     omega (arith, le, room)
 
-kept : (i : ℕ) (xs ys : List ℕ) (p : ℕ) → (p < i) ⊎ (i + length ys ≤ p) → slice_index (put_chunk i xs ys) p ≡ slice_index xs p
+pub kept : (i : ℕ) (xs ys : List ℕ) (p : ℕ) → (p < i) ⊎ (i + length ys ≤ p) → slice_index (put_chunk i xs ys) p ≡ slice_index xs p
 kept i xs ys p (inl before) = get_or-put_chunk_below i xs ys p 0 before
 kept i xs ys p (inr following) = get_or-put_chunk_above i xs ys p 0 following
 
@@ -264,3 +264,23 @@ parts_of_two firsts lanes lanes' fits are are' column row inside below =
     let k : column / 4 < 2 = omega (arith, inside) in
     let is = residual_is firsts column row (fits (column / 4) k) below in
     (four_times_two-at lanes column inside ∙ are (column / 4) k ∙ sym (ap clamped_sample is), four_times_two-at lanes' column inside ∙ are' (column / 4) k ∙ sym (ap (λ z. clamped_sample (neg_ℤ z)) is))
+
+-- ---- first coefficients that are 0
+
+no_residual : (firsts : List ℤ) (column row : ℕ) → slice_index_or firsts (column / 4) (pos 0) ≡ pos 0 → row < 4 → firsts_residual firsts column row ≡ pos 0
+unfolding firsts_residual eighth
+no_residual firsts column row none below = rw none (inverse_dct-first (pos 0) (record { sfits = lit< tt }) (column % 4) row (omega arith) below)
+
+alone : (sample : ℕ) → sample < 256 → clamped_sample (pos sample +ℤ pos 0) ≡ sample
+alone sample small = rw add-zero (omega arith)
+
+pub zero_of : (z : ℤ) → SFits w16 z → of_z w16 z ≡ 0 → z ≡ pos 0
+zero_of z fits is = sym (to_z-of_z w16 z fits) ∙ ap (to_z w16) is
+
+-- samples to which nothing is added
+pub nothing_added : (firsts : List ℤ) (count stride : ℕ) (samples : List ℕ) → ((k : ℕ) → k < count → slice_index_or firsts k (pos 0) ≡ pos 0) → ((k : ℕ) → slice_index samples k < 256) → IsAdded (firsts_residual firsts) (4 * count) stride samples samples
+nothing_added firsts count stride samples none small = record {
+  whole = refl;
+  each = λ column row inside below. sym (ap (λ (r : ℤ). clamped_sample (pos (slice_index samples (row * stride + column)) +ℤ r)) (no_residual firsts column row (none (column / 4) (omega (arith, inside))) below) ∙ alone _ (small (row * stride + column)));
+  others = λ column row inside beside. refl;
+}

@@ -30,7 +30,7 @@ four-other old start v0 v1 v2 v3 place (inr above) = get_or-set_other _ (start +
 -- a row of four samples, each with its residual
 pub row_added : (old : List ℕ) (start : ℕ) (rs : List ℤ) (v0 v1 v2 v3 : ℕ) → start + 4 ≤ length old
     → v0 ≡ clamped_sample (pos (get_or old start 0) +ℤ get_or rs 0 (pos 0)) → v1 ≡ clamped_sample (pos (get_or old (start + 1) 0) +ℤ get_or rs 1 (pos 0)) → v2 ≡ clamped_sample (pos (get_or old (start + 2) 0) +ℤ get_or rs 2 (pos 0)) → v3 ≡ clamped_sample (pos (get_or old (start + 3) 0) +ℤ get_or rs 3 (pos 0))
-    → IsRowAdded rs start old (set (set (set (set old start v0) (start + 1) v1) (start + 2) v2) (start + 3) v3)
+    → IsRowAdded 4 rs start old (set (set (set (set old start v0) (start + 1) v1) (start + 2) v2) (start + 3) v3)
 unfolding four_set
 row_added old start rs v0 v1 v2 v3 room is0 is1 is2 is3 =
     let room1 : start + 1 < length (set old start v0) = omega (arith, length-set old start v0) in
@@ -48,14 +48,14 @@ row_added old start rs v0 v1 v2 v3 room is0 is1 is2 is3 =
     }
 
 -- the first n rows have their residuals
-pub record RowsAdded (residual : ℕ → ℕ → ℤ) (stride n : ℕ) (old new : List ℕ) : Type 0 where
+pub record RowsAdded (residual : ℕ → ℕ → ℤ) (width stride n : ℕ) (old new : List ℕ) : Type 0 where
   pub whole : length new ≡ length old
-  pub each : (column row : ℕ) → column < 4 → row < n → slice_index new (row * stride + column) ≡ clamped_sample (pos (slice_index old (row * stride + column)) +ℤ residual column row)
-  pub others : (column row : ℕ) → column < stride → (4 ≤ column) ⊎ (n ≤ row) → slice_index new (row * stride + column) ≡ slice_index old (row * stride + column)
+  pub each : (column row : ℕ) → column < width → row < n → slice_index new (row * stride + column) ≡ clamped_sample (pos (slice_index old (row * stride + column)) +ℤ residual column row)
+  pub others : (column row : ℕ) → column < stride → (width ≤ column) ⊎ (n ≤ row) → slice_index new (row * stride + column) ≡ slice_index old (row * stride + column)
 
 -- no row
-pub no_rows : (residual : ℕ → ℕ → ℤ) (stride : ℕ) (old : List ℕ) → RowsAdded residual stride 0 old old
-no_rows residual stride old = record { whole = refl; each = λ column row inside below. absurd (omega arith); others = λ column row inside out. refl }
+pub no_rows : (residual : ℕ → ℕ → ℤ) (width stride : ℕ) (old : List ℕ) → RowsAdded residual width stride 0 old old
+no_rows residual width stride old = record { whole = refl; each = λ column row inside below. absurd (omega arith); others = λ column row inside out. refl }
 
 -- an earlier row ends before a later one
 row_before : (stride row n : ℕ) → row < n → row * stride + stride ≤ n * stride
@@ -66,22 +66,22 @@ row_behind : (stride row n : ℕ) → n ≤ row → n * stride ≤ row * stride
 row_behind stride row n from = grind (arith, mul-le-mul_left)
 
 -- a sample right of a block, or below its row n, is outside that row
-outside_row : (stride n start row column : ℕ) → 4 ≤ stride → start ≡ n * stride → column < stride → (4 ≤ column) ⊎ (n + 1 ≤ row) → (row * stride + column < start) ⊎ (start + 4 ≤ row * stride + column)
-outside_row stride n start row column wide starts inside (inl right) =
+outside_row : (width stride n start row column : ℕ) → width ≤ stride → start ≡ n * stride → column < stride → (width ≤ column) ⊎ (n + 1 ≤ row) → (row * stride + column < start) ⊎ (start + width ≤ row * stride + column)
+outside_row width stride n start row column wide starts inside (inl right) =
     elim (cases_lt row n) [
       | inl earlier ↦ inl (let apart = row_before stride row n earlier in omega arith)
       | inr from ↦ inr (let apart = row_behind stride row n from in omega arith)
     ]
-outside_row stride n start row column wide starts inside (inr below) = inr (let apart = row_before stride n row (omega arith) in omega arith)
+outside_row width stride n start row column wide starts inside (inr below) = inr (let apart = row_before stride n row (omega arith) in omega arith)
 
-outside_fewer : (n row column : ℕ) → (4 ≤ column) ⊎ (n + 1 ≤ row) → (4 ≤ column) ⊎ (n ≤ row)
-outside_fewer n row column (inl right) = inl right
-outside_fewer n row column (inr below) = inr (omega arith)
+outside_fewer : (width n row column : ℕ) → (width ≤ column) ⊎ (n + 1 ≤ row) → (width ≤ column) ⊎ (n ≤ row)
+outside_fewer width n row column (inl right) = inl right
+outside_fewer width n row column (inr below) = inr (omega arith)
 
 -- one more row
-pub one_more : (residual : ℕ → ℕ → ℤ) (stride n start : ℕ) (residuals : List ℤ) (old between new : List ℕ) → 4 ≤ stride → start ≡ n * stride → RowsAdded residual stride n old between → IsRowAdded residuals start between new
-    → ((column : ℕ) → column < 4 → slice_index_or residuals column (pos 0) ≡ residual column n) → RowsAdded residual stride (n + 1) old new
-one_more residual stride n start residuals old between new wide starts before row_is same =
+pub one_more : (residual : ℕ → ℕ → ℤ) (width stride n start : ℕ) (residuals : List ℤ) (old between new : List ℕ) → width ≤ stride → start ≡ n * stride → RowsAdded residual width stride n old between → IsRowAdded width residuals start between new
+    → ((column : ℕ) → column < width → slice_index_or residuals column (pos 0) ≡ residual column n) → RowsAdded residual width stride (n + 1) old new
+one_more residual width stride n start residuals old between new wide starts before row_is same =
     record {
       whole = row_is.whole ∙ before.whole;
       each = λ column row inside less.
@@ -93,9 +93,9 @@ one_more residual stride n start residuals old between new wide starts before ro
                 let kept : slice_index between (n * stride + column) ≡ slice_index old (n * stride + column) = before.others column n (omega arith) (inr (omega arith)) in
                 rw is (at ∙ ap (λ (k : ℕ). clamped_sample (pos k +ℤ slice_index_or residuals column (pos 0))) kept ∙ ap (λ (r : ℤ). clamped_sample (pos (slice_index old (n * stride + column)) +ℤ r)) (same column inside))
           ];
-      others = λ column row inside out. row_is.others (row * stride + column) (outside_row stride n start row column wide starts inside out) ∙ before.others column row inside (outside_fewer n row column out);
+      others = λ column row inside out. row_is.others (row * stride + column) (outside_row width stride n start row column wide starts inside out) ∙ before.others column row inside (outside_fewer width n row column out);
     }
 
 -- all four rows
-pub all_rows : (residual : ℕ → ℕ → ℤ) (stride : ℕ) (old new : List ℕ) → RowsAdded residual stride 4 old new → IsAdded residual 4 stride old new
-all_rows residual stride old new rows = record { whole = rows.whole; each = rows.each; others = rows.others }
+pub all_rows : (residual : ℕ → ℕ → ℤ) (width stride : ℕ) (old new : List ℕ) → RowsAdded residual width stride 4 old new → IsAdded residual width stride old new
+all_rows residual width stride old new rows = record { whole = rows.whole; each = rows.each; others = rows.others }

@@ -1,3 +1,4 @@
 pub mod Transforms
 pub mod Residuals
 pub mod Factors
+pub mod Pairs

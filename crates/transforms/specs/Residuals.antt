@@ -1,5 +1,5 @@
 -- Residuals that are added to blocks of 4 by 4 samples (RFC 6386, section 14.5).
-use Rattle.std.specs.Prelude.{◌≡◌, ◌⊎◌, ℕ, ◌+◌, ◌*◌, ◌/◌, ◌%◌, ◌<◌, ◌≤◌, ◌∷◌, List, length, replicate, slice_index, slice_index_or, ℤ, pos, ◌+ℤ◌}
+use Rattle.std.specs.Prelude.{◌≡◌, ◌⊎◌, ℕ, ◌+◌, ◌*◌, ◌/◌, ◌%◌, ◌<◌, ◌≤◌, [], ◌∷◌, List, length, replicate, slice_index, slice_index_or, ℤ, pos, ◌+ℤ◌}
 use Rattle.vp8_tables.specs.Bounds.{clamped_sample}
 use Rattle.transforms.specs.Transforms.{inverse_dct}
 
@@ -13,8 +13,12 @@ pub record IsAdded (residual : ℕ → ℕ → ℤ) (width stride : ℕ) (old ne
 unfoldable pub firsts_residual : List ℤ → ℕ → ℕ → ℤ
 firsts_residual firsts column row = inverse_dct (slice_index_or firsts (column / 4) (pos 0) ∷ replicate 15 (pos 0)) (column % 4) row
 
--- four residuals were added to the samples starting at `start`, and every other sample is unchanged
-pub record IsRowAdded (residuals : List ℤ) (start : ℕ) (old new : List ℕ) : Type 0 where
+-- the residual of two blocks next to each other
+unfoldable pub pair_residual : List ℤ → List ℤ → ℕ → ℕ → ℤ
+pair_residual first second column row = inverse_dct (slice_index_or (first ∷ second ∷ []) (column / 4) []) (column % 4) row
+
+-- `width` residuals were added to the samples starting at `start`, and every other sample is unchanged
+pub record IsRowAdded (width : ℕ) (residuals : List ℤ) (start : ℕ) (old new : List ℕ) : Type 0 where
   pub whole : length new ≡ length old
-  pub each : (column : ℕ) → column < 4 → slice_index new (start + column) ≡ clamped_sample (pos (slice_index old (start + column)) +ℤ slice_index_or residuals column (pos 0))
-  pub others : (place : ℕ) → (place < start) ⊎ (start + 4 ≤ place) → slice_index new place ≡ slice_index old place
+  pub each : (column : ℕ) → column < width → slice_index new (start + column) ≡ clamped_sample (pos (slice_index old (start + column)) +ℤ slice_index_or residuals column (pos 0))
+  pub others : (place : ℕ) → (place < start) ⊎ (start + width ≤ place) → slice_index new place ≡ slice_index old place

@@ -11,7 +11,7 @@ use std::simd::{i16x4, u8x4};
 pub fn add_row(samples: &mut [u8], start: usize, residuals: [i16; 4])
     requires room { start + 4 ≤ length samples.old }
     requires small { (column : ℕ) → column < 4 → IsWithin 16384 (slice_index_or residuals column (pos 0)) }
-    ensures { IsRowAdded residuals start samples.old samples.new }
+    ensures { IsRowAdded 4 residuals start samples.old samples.new }
 {
     let before = u8x4::from_array([
         samples[start],

@@ -12,9 +12,9 @@ use std::simd::{i16x4, i32x4};
 
 /// The square root of 2 times the sine of pi / 8, minus 1, in 65,536ths: `sinpi8sqrt2` of RFC 6386,
 /// 35468, minus 65536.
-const SINE_LESS_ONE: i32 = -30068;
+pub(crate) const SINE_LESS_ONE: i32 = -30068;
 /// The square root of 2 times the cosine of pi / 8, minus 1, in 65,536ths: `cospi8sqrt2minus1`.
-const COSINE_LESS_ONE: i32 = 20091;
+pub(crate) const COSINE_LESS_ONE: i32 = 20091;
 
 /// The coefficients after the first pass: each of the four columns, with its rows in lanes. Lanes
 /// of 16 bits wrap, so each number is reduced to its low 16 bits.

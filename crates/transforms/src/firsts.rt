@@ -78,6 +78,9 @@ pub fn dct_add_four_firsts(firsts: [i16; 4], samples: &mut [u8], stride: usize)
     requires room { 3 * stride + 16 ≤ length samples.old }
     ensures { IsAdded (firsts_residual firsts) 16 stride samples.old samples.new }
 {
+    if firsts[0] == 0 && firsts[1] == 0 && firsts[2] == 0 && firsts[3] == 0 {
+        return;
+    }
     let (more, less) = parts([firsts[0], firsts[1], firsts[2], firsts[3]]);
     let more = more.swizzle([0, 0, 0, 0, 1, 1, 1, 1, 2, 2, 2, 2, 3, 3, 3, 3]);
     let less = less.swizzle([0, 0, 0, 0, 1, 1, 1, 1, 2, 2, 2, 2, 3, 3, 3, 3]);
@@ -92,6 +95,9 @@ pub fn dct_add_two_firsts(firsts: [i16; 2], samples: &mut [u8], stride: usize)
     requires room { 3 * stride + 8 ≤ length samples.old }
     ensures { IsAdded (firsts_residual firsts) 8 stride samples.old samples.new }
 {
+    if firsts[0] == 0 && firsts[1] == 0 {
+        return;
+    }
     let (more, less) = parts([firsts[0], firsts[1], 0, 0]);
     let more = more.swizzle([0, 0, 0, 0, 1, 1, 1, 1]);
     let less = less.swizzle([0, 0, 0, 0, 1, 1, 1, 1]);

@@ -2,7 +2,7 @@ use Rattle.std.proofs.Common.{◌≡◌, ℕ, ◌<◌, List, ◌++◌, get_or, p
 use Rattle.std.specs.Prelude.{slice_index, slice_index_or}
 use Rattle.std.proofs.lemmas.Int.{to_z-of_z}
 use Rattle.transforms.specs.Residuals.{firsts_residual}
-use Rattle.transforms.proofs.MovedRows.{four_times_two, RowsMoved, more_of, less_of, below_two, parts_of_two, moved_added}
+use Rattle.transforms.proofs.MovedRows.{four_times_two, RowsMoved, more_of, less_of, below_two, parts_of_two, moved_added, nothing_added, zero_of}
 use Rattle.transforms.proofs.firsts.dct_add_two_firsts.Goals as goal
 
 pub returns : goal.returns
@@ -18,3 +18,10 @@ returns c =
     let rows : RowsMoved more less 8 c.args.stride 4 c.args.samples.now c.move_rows.new.samples = record { whole = c.move_rows.ensures.whole; each = c.move_rows.ensures.each; others = c.move_rows.ensures.others } in
     moved_added (firsts_residual c.args.firsts) more less 8 c.args.stride c.args.samples.now c.move_rows.new.samples rows small
     (parts_of_two c.args.firsts (c.parts.result.0 ++ c.parts.result.0) (c.parts.result.1 ++ c.parts.result.1) fits (below_two (λ k. slice_index (c.parts.result.0 ++ c.parts.result.0) k ≡ more_of c.args.firsts k) (rw is refl) (rw is refl)) (below_two (λ k. slice_index (c.parts.result.1 ++ c.parts.result.1) k ≡ less_of c.args.firsts k) (rw is_less refl) (rw is_less refl)))
+
+pub returns-then-firsts-eq0-2 : goal.returns-then-firsts-eq0-2
+returns-then-firsts-eq0-2 c =
+    let fits0 : SFits w16 (get_or c.args.firsts 0 (pos 0)) = search rules in
+    let fits1 : SFits w16 (get_or c.args.firsts 1 (pos 0)) = search rules in
+    let small : (k : ℕ) → slice_index c.args.samples.now k < 256 = λ k. (let f : Fits w8 (get_or c.args.samples.now k 0) = search rules in f.fits) in
+    nothing_added c.args.firsts 2 c.args.stride c.args.samples.now (below_two (λ k. slice_index_or c.args.firsts k (pos 0) ≡ pos 0) (zero_of _ fits0 c.if-firsts-eq0.true) (zero_of _ fits1 c.if-firsts-eq0-2.true)) small
