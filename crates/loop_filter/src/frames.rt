@@ -40,13 +40,7 @@ fn strength_at(all: Macroblocks, place: usize) -> Option<Strength>
 {
     let mode = all.records.at(place);
     let (segment, y_mode) = (mode.segment(), mode.y_mode());
-    strength_for(
-        all.header,
-        all.limits,
-        segment,
-        y_mode,
-        all.flags[place],
-    )
+    strength_for(all.header, all.limits, segment, y_mode, all.flags[place])
 }
 
 /// The position of the block of the macroblock in column `mx` of row `my` among the samples of a

@@ -50,7 +50,7 @@ unfolding listing_of
 listing-as_moved above left above_left reference biases =
     rw (neighbour-as_moved biases reference no_listing above 2, neighbour-as_moved biases reference (with_neighbour biases reference no_listing above 2) left 2, neighbour-as_moved biases reference (with_neighbour biases reference (with_neighbour biases reference no_listing above 2) left 2) above_left 1) refl
 
--- the near vectors are made of what `Moved` has of the neighbours
+-- near vectors depend on no more of the neighbours
 pub near-as_moved : (above left above_left : Option MbMode) (reference : Reference) (biases : SignBiases) (place : MbPosition) → near_of (as_moved above) (as_moved left) (as_moved above_left) reference biases place ≡ near_of above left above_left reference biases place
 unfolding near_of
 near-as_moved above left above_left reference biases place =

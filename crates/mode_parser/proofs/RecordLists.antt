@@ -1,9 +1,8 @@
 -- Stored records while the lists beside them grow
-use Rattle.std.proofs.Common.{◌≡◌, ℕ, zero, suc, ◌<◌, Bool, true, false, List, [], ◌∷◌, ◌++◌, length, map, refl, ap, arith, slice_index_or, replicate}
+use Rattle.std.proofs.Common.{◌≡◌, ℕ, suc, ◌<◌, Bool, true, false, List, [], ◌∷◌, ◌++◌, length, map, refl, arith, slice_index_or, replicate}
 use Rattle.std.specs.Prelude.{if◌then◌else◌}
 use Rattle.std.specs.List.{All}
-use Rattle.std.proofs.lemmas.List.{get_or_append_left, map-append}
-use Rattle.std.proofs.Math.Seq.{get_or-append_seam}
+use Rattle.std.proofs.lemmas.List.{get_or_append_left}
 use Rattle.intra_predict.specs.declared.modes.SubMode.{SubMode}
 use Rattle.mode_parser.specs.declared.records.MbMode.{MbMode}
 use Rattle.mode_parser.specs.declared.record_list.Stored.{Stored}

@@ -48,7 +48,7 @@ neighbour_of n = if n.is_inside then Some (stored_with n.lists.now.sub_modes.ite
 abbrev pub moved_by : YMode → MotionVector → MbMode
 moved_by y_mode vector = record { segment = 0; is_skipped = false; y_mode = y_mode; sub_modes = no_sub_modes; uv_mode = Dc; vectors = replicate 16 vector }
 
--- a neighbour, by what of it the near vectors are made of
+-- a neighbour, by the part of it on which near vectors depend
 abbrev pub moved_mode : Moved → Option MbMode
 moved_mode n = if n.is_inside then Some (moved_by n.y_mode n.vector) else None
 

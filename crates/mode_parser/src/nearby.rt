@@ -183,7 +183,7 @@ pub(crate) fn candidates_beside(
     )
 }
 
-/// What of a macroblock, or of the outside of the frame, the near vectors are made of.
+/// The part of a macroblock, or of the outside of the frame, on which near vectors depend.
 fn moved_of(mode: Option<&MbMode>) -> Moved
     ensures { moved_mode result ≡ as_moved (option_copied mode.entry) }
 {

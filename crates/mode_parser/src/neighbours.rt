@@ -99,13 +99,7 @@ impl Neighbours {
     /// Counts a macroblock, which weighs `weight`. One outside the frame or without a reference is
     /// passed over.
     #[inline(always)]
-    fn add(
-        &mut self,
-        macroblock: Moved,
-        weight: u32,
-        reference: Reference,
-        biases: SignBiases,
-    )
+    fn add(&mut self, macroblock: Moved, weight: u32, reference: Reference, biases: SignBiases)
         requires room { self.old.newest < 3 }
         requires light { weight_in (listing_in self.old) + weight ≤ 255 }
         requires few { self.old.split + weight ≤ 255 }

@@ -1,7 +1,7 @@
 //! The records of a frame as they are stored: the modes and the vectors that only some macroblocks have are in lists
 //! of their own, so that most records take 24 bytes.
 
-ghost use Rattle.std.specs.Prelude.{◌≡◌, ◌==◌, ◌<◌, ◌++◌, ◌∷◌, [], true, false, Some, None, if◌then◌else◌, length, IfOk, OnOk, map, slice_get, slice_index_or, replicate};
+ghost use Rattle.std.specs.Prelude.{◌≡◌, ◌==◌, ◌<◌, ◌++◌, ◌∷◌, [], false, Some, None, length, IfOk, OnOk, map, slice_get, slice_index_or, replicate};
 ghost use Rattle.intra_predict.specs.declared.modes.WholeMode.TheVariants.{Dc};
 ghost use Rattle.mode_parser.specs.InterRecords.{vector_in};
 ghost use Rattle.mode_parser.specs.SubModes.{context_in, counterpart};
@@ -197,8 +197,7 @@ pub(crate) struct Neighbour<'a> {
     pub(crate) lists: &'a Lists,
 }
 
-/// What of a neighbour the near vectors are made of: how it is predicted, and the vector of its last luma
-/// block.
+/// The part of a neighbour on which near vectors depend: its mode, and the vector of its last luma block.
 #[derive(Clone, Copy)]
 pub(crate) struct Moved {
     pub(crate) is_inside: bool,
@@ -207,7 +206,7 @@ pub(crate) struct Moved {
 }
 
 impl<'a> Neighbour<'a> {
-    /// What of it the near vectors are made of.
+    /// The part of it on which near vectors depend.
     #[inline(always)]
     pub(crate) fn moved(&self) -> Moved
         ensures { moved_mode result ≡ as_moved (neighbour_of self.now) }
@@ -268,7 +267,7 @@ impl Model for Records {
     ghost invariant = { λ r. All (IsInside (length r.lists.sub_modes.items) (length r.lists.vectors.items)) r.stored.items };
 }
 
-/// What a record has of itself, whatever the macroblock is predicted from.
+/// The first fields of a record, which are read before its modes.
 #[derive(Clone, Copy)]
 pub(crate) struct Start {
     pub(crate) segment: u8,

@@ -1,4 +1,4 @@
-use Rattle.std.proofs.Common.{◌≡◌, [], length, refl, arith}
+use Rattle.std.proofs.Common.{◌≡◌, [], length, refl}
 use Rattle.std.proofs.lemmas.List.{map-append}
 use Rattle.std.proofs.Math.Seq.{get_or-append_seam}
 use Rattle.mode_parser.specs.Records.{no_sub_modes}
