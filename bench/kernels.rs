@@ -10,6 +10,7 @@ const STRIDE: i32 = 16;
 
 unsafe extern "C" {
     fn proved_dct_add(coefficients: *const i16, samples: *mut u8);
+    fn proved_dct_add_two(first: *const i16, second: *const i16, samples: *mut u8);
     fn proved_dct_add_first(first: i16, samples: *mut u8);
     fn proved_wht(coefficients: *const i16, out: *mut i16);
     fn proved_dequantise(coefficients: *const i16, dc: i16, ac: i16, out: *mut i16);
@@ -38,6 +39,7 @@ extern "C" fn plain_dequantise(input: &[i16; 16], factors: &[i16; 16], out: &mut
 #[derive(Clone, Copy, PartialEq)]
 enum Kernel {
     Dct,
+    Two,
     First,
     Wht,
     Dequantise,
@@ -69,13 +71,22 @@ fn run(kernel: Kernel, way: Way, coefficients: &Coefficients, samples: &mut Samp
     let first = coefficients.0[0];
     let out = samples.0.as_mut_ptr();
     let to = numbers.0.as_mut_ptr();
-    // Each call reads sixteen coefficients and writes a block of four rows, 16 samples apart, or
-    // numbers that have room.
+    // Each call reads sixteen coefficients and writes a block of four rows, 16 samples apart, two such
+    // blocks, or numbers that have room.
     unsafe {
         match (kernel, way) {
             (Kernel::Dct, Way::Proved) => proved_dct_add(input, out),
             (Kernel::Dct, Way::Lanes) => vp8_short_idct4x4llm_mmx(input, out, STRIDE, out, STRIDE),
             (Kernel::Dct, Way::Plain) => vp8_short_idct4x4llm_c(input, out, STRIDE, out, STRIDE),
+            (Kernel::Two, Way::Proved) => proved_dct_add_two(input, input, out),
+            (Kernel::Two, Way::Lanes) => {
+                vp8_short_idct4x4llm_mmx(input, out, STRIDE, out, STRIDE);
+                vp8_short_idct4x4llm_mmx(input, out.add(4), STRIDE, out.add(4), STRIDE);
+            }
+            (Kernel::Two, Way::Plain) => {
+                vp8_short_idct4x4llm_c(input, out, STRIDE, out, STRIDE);
+                vp8_short_idct4x4llm_c(input, out.add(4), STRIDE, out.add(4), STRIDE);
+            }
             (Kernel::First, Way::Proved) => proved_dct_add_first(first, out),
             (Kernel::First, Way::Lanes) => vp8_dc_only_idct_add_mmx(first, out, STRIDE, out, STRIDE),
             (Kernel::First, Way::Plain) => vp8_dc_only_idct_add_c(first, out, STRIDE, out, STRIDE),
@@ -144,6 +155,7 @@ fn main() {
     println!("{:16}{:>10}{:>10}{:>10}{:>8}", "ns", "proved", "mmx/sse2", "c", "ratio");
     for (name, kernel) in [
         ("dct_add", Kernel::Dct),
+        ("dct_add_two", Kernel::Two),
         ("dct_add_first", Kernel::First),
         ("wht", Kernel::Wht),
         ("dequantise", Kernel::Dequantise),

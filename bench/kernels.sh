@@ -10,11 +10,16 @@ echo 'transform_times staticlib: transforms' >> "$room/crates.txt"
 cat > "$room/crates/transform_times/src/lib.rt" <<'END'
 #![tactic(auto)]
 
-use transforms::{dct_add, dct_add_first, dequantise, wht};
+use transforms::{dct_add, dct_add_first, dct_add_two, dequantise, wht};
 
 #[unsafe(no_mangle)]
 pub extern "C" fn proved_dct_add(coefficients: &[i16; 16], samples: &mut [u8; 64]) {
     dct_add(coefficients, samples, 16);
+}
+
+#[unsafe(no_mangle)]
+pub extern "C" fn proved_dct_add_two(first: &[i16; 16], second: &[i16; 16], samples: &mut [u8; 64]) {
+    dct_add_two(first, second, samples, 16);
 }
 
 #[unsafe(no_mangle)]

@@ -11,6 +11,8 @@ mod inter;
 #[cfg(test)]
 mod intra;
 #[cfg(test)]
+mod pairs;
+#[cfg(test)]
 mod pictures;
 #[cfg(test)]
 mod planes;

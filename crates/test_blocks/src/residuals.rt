@@ -201,7 +201,7 @@ fn plain_wht(i0: i64, i1: i64, i2: i64, i3: i64) -> [i64; 4] {
 }
 
 /// Both passes, in numbers of 64 bits; `is_dct` chooses the transform.
-fn plain_transform(is_dct: bool, coefficients: &[i16; 16]) -> [i64; 16] {
+pub fn plain_transform(is_dct: bool, coefficients: &[i16; 16]) -> [i64; 16] {
     let mut between = [0; 16];
     for column in 0..4 {
         let i0 = i64::from(coefficients[column]);
@@ -272,14 +272,14 @@ fn transforms_are_those_of_plain_formulas(rt: HostRuntime) {
 }
 
 /// The next number of a linear congruential generator.
-fn mixed(state: u64) -> u64 {
+pub fn mixed(state: u64) -> u64 {
     state
         .wrapping_mul(6364136223846793005)
         .wrapping_add(1442695040888963407)
 }
 
 /// A number of 16 bits down to 5, depending on the iteration.
-fn narrowed(state: u64, turn: u32) -> i16 {
+pub fn narrowed(state: u64, turn: u32) -> i16 {
     let value = i64::from((state >> 48) as u16) - 32768;
     (value >> (turn % 12)) as i16
 }
