@@ -41,8 +41,8 @@ fn pairs_are_plain_at_the_bounds_of_sixteen_bits(rt: HostRuntime) {
 }
 
 /// The first pass leaves a row of coefficients as it is if the other rows are 0. The second adds up
-/// to 3.85 times these numbers, so that 9000 is too large for 16 bits.
-const NEAR: [i16; 6] = [8191, 8192, -8192, -8193, 9000, 0];
+/// to 3.85 times these numbers, so that 8520 is too large for 16 bits.
+const NEAR: [i16; 6] = [8191, 8192, -8192, -8193, 8520, 0];
 
 #[test]
 fn pairs_are_plain_near_the_bound_of_the_first_pass(rt: HostRuntime) {
