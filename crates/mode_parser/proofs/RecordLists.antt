@@ -23,18 +23,18 @@ map-same f g P (x ∷ xs) each all =
     let tail : map f xs ≡ map g xs = map-same f g P xs each (λ k d below. all (suc k) d (omega (arith, below))) in
     rw (head, tail) refl
 
-more-modes-one : (modes : List (List SubMode)) (vectors : List (List MotionVector)) (more : List SubMode) (stored : Stored) → IsInside (length modes) (length vectors) stored → stored_with (modes ++ more ∷ []) vectors stored ≡ stored_with modes vectors stored
+more-modes-one : (modes : List (List SubMode)) (vectors : List (List MotionVector)) (more : List SubMode) (stored : Stored) → IsInside modes vectors stored → stored_with (modes ++ more ∷ []) vectors stored ≡ stored_with modes vectors stored
 more-modes-one modes vectors more stored inside = rw (kept (has_sub_modes stored.y_mode) modes more stored.side no_sub_modes no_sub_modes inside.modes) refl
 
 -- the records before are the same when modes of sub blocks are appended, and when vectors are
-pub more-modes : (modes : List (List SubMode)) (vectors : List (List MotionVector)) (more : List SubMode) (all : List Stored) → All (IsInside (length modes) (length vectors)) all → map (stored_with (modes ++ more ∷ []) vectors) all ≡ map (stored_with modes vectors) all
-more-modes modes vectors more all inside = map-same (stored_with (modes ++ more ∷ []) vectors) (stored_with modes vectors) (IsInside (length modes) (length vectors)) all (more-modes-one modes vectors more) inside
+pub more-modes : (modes : List (List SubMode)) (vectors : List (List MotionVector)) (more : List SubMode) (all : List Stored) → All (IsInside modes vectors) all → map (stored_with (modes ++ more ∷ []) vectors) all ≡ map (stored_with modes vectors) all
+more-modes modes vectors more all inside = map-same (stored_with (modes ++ more ∷ []) vectors) (stored_with modes vectors) (IsInside modes vectors) all (more-modes-one modes vectors more) inside
 
-more-vectors-one : (modes : List (List SubMode)) (vectors : List (List MotionVector)) (more : List MotionVector) (stored : Stored) → IsInside (length modes) (length vectors) stored → stored_with modes (vectors ++ more ∷ []) stored ≡ stored_with modes vectors stored
+more-vectors-one : (modes : List (List SubMode)) (vectors : List (List MotionVector)) (more : List MotionVector) (stored : Stored) → IsInside modes vectors stored → stored_with modes (vectors ++ more ∷ []) stored ≡ stored_with modes vectors stored
 more-vectors-one modes vectors more stored inside = rw (kept (is_split_mode stored.y_mode) vectors more stored.side no_vectors (replicate 16 stored.vector) inside.split) refl
 
-pub more-vectors : (modes : List (List SubMode)) (vectors : List (List MotionVector)) (more : List MotionVector) (all : List Stored) → All (IsInside (length modes) (length vectors)) all → map (stored_with modes (vectors ++ more ∷ [])) all ≡ map (stored_with modes vectors) all
-more-vectors modes vectors more all inside = map-same (stored_with modes (vectors ++ more ∷ [])) (stored_with modes vectors) (IsInside (length modes) (length vectors)) all (more-vectors-one modes vectors more) inside
+pub more-vectors : (modes : List (List SubMode)) (vectors : List (List MotionVector)) (more : List MotionVector) (all : List Stored) → All (IsInside modes vectors) all → map (stored_with modes (vectors ++ more ∷ [])) all ≡ map (stored_with modes vectors) all
+more-vectors modes vectors more all inside = map-same (stored_with modes (vectors ++ more ∷ [])) (stored_with modes vectors) (IsInside modes vectors) all (more-vectors-one modes vectors more) inside
 
 pub stored-segments : (modes : List (List SubMode)) (vectors : List (List MotionVector)) (all : List Stored) → map {A = MbMode} (λ macroblock. macroblock.segment) (map (stored_with modes vectors) all) ≡ map (λ stored. stored.segment) all
 stored-segments modes vectors [] = refl

@@ -1,5 +1,5 @@
 -- The records of a frame as they are stored: modes of sub blocks and vectors of split macroblocks are in lists of their own.
-use Rattle.std.specs.Prelude.{◌≡◌, ◌<◌, ℕ, Bool, true, false, Option, Some, None, List, replicate, slice_index_or, if◌then◌else◌}
+use Rattle.std.specs.Prelude.{◌≡◌, ◌<◌, Bool, true, false, Option, Some, None, List, length, replicate, slice_index_or, if◌then◌else◌}
 use Rattle.intra_predict.specs.declared.modes.SubMode.{SubMode}
 use Rattle.intra_predict.specs.declared.modes.WholeMode.{WholeMode}
 use Rattle.intra_predict.specs.declared.modes.WholeMode.TheVariants.{Dc}
@@ -31,10 +31,11 @@ stored_with sub_modes vectors stored = record {
   vectors = if is_split_mode stored.y_mode then slice_index_or vectors stored.side no_vectors else replicate 16 stored.vector;
 }
 
--- the lists, of so many entries, have what it needs
-pub record IsInside (sub_modes vectors : ℕ) (stored : Stored) : Type 0 where
-  pub modes : has_sub_modes stored.y_mode ≡ true → stored.side < sub_modes
-  pub split : is_split_mode stored.y_mode ≡ true → stored.side < vectors
+-- the lists have what it needs, and its own vector is that of its last luma block
+pub record IsInside (sub_modes : List (List SubMode)) (vectors : List (List MotionVector)) (stored : Stored) : Type 0 where
+  pub modes : has_sub_modes stored.y_mode ≡ true → stored.side < length sub_modes
+  pub split : is_split_mode stored.y_mode ≡ true → stored.side < length vectors
+  pub last : vector_of (stored_with sub_modes vectors stored) ≡ stored.vector
 
 -- the record that is read where it is stored
 unfoldable pub mode_of : Record → MbMode
@@ -43,6 +44,10 @@ mode_of r = stored_with r.lists.now.sub_modes.items r.lists.now.vectors.items r.
 -- a macroblock next to another one, if it is inside the frame
 abbrev pub neighbour_of : Neighbour → Option MbMode
 neighbour_of n = if n.is_inside then Some (stored_with n.lists.now.sub_modes.items n.lists.now.vectors.items n.stored) else None
+
+-- its own vector is that of its last luma block
+abbrev pub HasLastVector : Neighbour → Type 0
+HasLastVector n = vector_of (stored_with n.lists.now.sub_modes.items n.lists.now.vectors.items n.stored) ≡ n.stored.vector
 
 -- a record of this mode whose luma blocks all have this vector
 abbrev pub moved_by : YMode → MotionVector → MbMode

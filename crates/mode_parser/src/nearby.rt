@@ -5,7 +5,7 @@ ghost use Rattle.std.specs.Prelude.{◌≡◌, ◌<◌, ◌≤◌, All};
 ghost use Rattle.std.specs.Option.{option_copied};
 ghost use Rattle.vp8_tables.specs.Bounds.{IsWithin};
 ghost use Rattle.mode_parser.specs.NearVectors.{clamped_component, clamped, best_in, near_in, near_of};
-ghost use Rattle.mode_parser.specs.RecordList.{as_moved, moved_mode, neighbour_of};
+ghost use Rattle.mode_parser.specs.RecordList.{HasLastVector, as_moved, moved_mode, neighbour_of};
 ghost use Rattle.mode_parser.specs.Candidates.{near_by, AreLight};
 
 use crate::neighbours::{Weighted, neighbours_of};
@@ -128,7 +128,7 @@ impl Candidates {
 }
 
 /// The candidates of a macroblock whose neighbours are `above`, `left` and `above_left` and which is
-/// predicted from `reference` (RFC 6386, section 16.3). A neighbour outside the frame is `None`.
+/// predicted from `reference` (RFC 6386, section 16.3).
 #[inline(always)]
 pub(crate) fn candidates_of(
     above: Moved,
@@ -171,6 +171,9 @@ pub(crate) fn candidates_beside(
     reference: Reference,
     biases: SignBiases,
 ) -> Candidates
+    requires above { HasLastVector above.now }
+    requires left { HasLastVector left.now }
+    requires above_left { HasLastVector above_left.now }
     ensures value { (place : MbPosition) → near_by place result ≡ near_of (neighbour_of above.now) (neighbour_of left.now) (neighbour_of above_left.now) reference biases place }
     ensures light { AreLight result }
 {

@@ -1,16 +1,17 @@
 //! The indices of macroblocks in raster order, and the records next to one.
 
 ghost use Rattle.std.specs.Prelude.{◌≡◌, ◌<◌, ◌≤◌, ◌+◌, ℕ, length};
-ghost use Rattle.mode_parser.specs.RecordList.{neighbour_of};
+ghost use Rattle.mode_parser.specs.RecordList.{HasLastVector, neighbour_of};
 ghost use Rattle.mode_parser.specs.FrameModes.{record_above, record_left, record_above_left, place_of};
 
 use crate::nearby::MbPosition;
 use crate::record_list::{Neighbour, Records};
 
-/// The record above the index after these; `None` outside the frame.
+/// The record above the index after these, or the outside of the frame.
 #[inline]
 pub(crate) fn record_above(records: &Records, columns: usize) -> Neighbour<'_>
-    ensures { neighbour_of result ≡ record_above records.now columns (length records.now) }
+    ensures value { neighbour_of result ≡ record_above records.now columns (length records.now) }
+    ensures last { HasLastVector result }
 {
     let number = records.len();
     if number < columns {
@@ -20,11 +21,12 @@ pub(crate) fn record_above(records: &Records, columns: usize) -> Neighbour<'_>
     }
 }
 
-/// The record to the left of `place`, the index after these; `None` outside the frame.
+/// The record to the left of `place`, the index after these, or the outside of the frame.
 #[inline]
 pub(crate) fn record_left(records: &Records, place: MbPosition) -> Neighbour<'_>
     requires { place ≡ place_of place.columns place.rows (length records.now) }
-    ensures { neighbour_of result ≡ record_left records.now place.columns (length records.now) }
+    ensures value { neighbour_of result ≡ record_left records.now place.columns (length records.now) }
+    ensures last { HasLastVector result }
 {
     if place.column == 0 {
         records.outside()
@@ -33,11 +35,12 @@ pub(crate) fn record_left(records: &Records, place: MbPosition) -> Neighbour<'_>
     }
 }
 
-/// The record above and to the left of `place`, the index after these; `None` outside the frame.
+/// The record above and to the left of `place`, the index after these, or the outside of the frame.
 #[inline]
 pub(crate) fn record_above_left(records: &Records, place: MbPosition) -> Neighbour<'_>
     requires { place ≡ place_of place.columns place.rows (length records.now) }
-    ensures { neighbour_of result ≡ record_above_left records.now place.columns (length records.now) }
+    ensures value { neighbour_of result ≡ record_above_left records.now place.columns (length records.now) }
+    ensures last { HasLastVector result }
 {
     let number = records.len();
     if number < place.columns || place.column == 0 {

@@ -9,7 +9,7 @@ ghost use Rattle.mode_parser.specs.Records.{no_sub_modes, no_vectors};
 ghost use Rattle.mode_parser.specs.NearVectors.{is_split_mode};
 ghost use Rattle.mode_parser.specs.SplitModes.{is_split};
 ghost use Rattle.mode_parser.specs.Vectors.{zero_vector};
-ghost use Rattle.mode_parser.specs.RecordList.{as_moved, mode_of, moved_mode, neighbour_of, stored_with};
+ghost use Rattle.mode_parser.specs.RecordList.{HasLastVector, as_moved, mode_of, moved_mode, neighbour_of, stored_with};
 ghost use Rattle.mode_parser.specs.declared.records.VectorMode.TheVariants.{Split};
 ghost use Rattle.mode_parser.specs.declared.records.YMode.TheVariants.{Whole, B, Inter};
 
@@ -28,7 +28,7 @@ pub(crate) struct Stored {
     pub(crate) is_skipped: bool,
     pub(crate) y_mode: YMode,
     pub(crate) uv_mode: WholeMode,
-    /// The vector of all its luma blocks, unless it is split.
+    /// The vector of all its luma blocks; if it is split, of the last one.
     pub(crate) vector: Vector,
     /// The index of its modes of sub blocks, or of its vectors, if it has a list of them.
     pub(crate) side: usize,
@@ -209,12 +209,13 @@ impl<'a> Neighbour<'a> {
     /// The part of it on which near vectors depend.
     #[inline(always)]
     pub(crate) fn moved(&self) -> Moved
+        requires { HasLastVector self.now }
         ensures { moved_mode result ≡ as_moved (neighbour_of self.now) }
     {
         Moved {
             is_inside: self.is_inside,
             y_mode: self.stored.y_mode,
-            vector: vector_in(self.lists, self.stored, 15),
+            vector: self.stored.vector,
         }
     }
 
@@ -256,7 +257,7 @@ pub struct Records {
 }
 
 impl Model for Records {
-    ghost use Rattle.std.specs.Prelude.{List, length, map, All};
+    ghost use Rattle.std.specs.Prelude.{List, map, All};
     ghost use Rattle.mode_parser.specs.declared.records.MbMode.{MbMode};
     ghost use Rattle.mode_parser.specs.RecordList.{IsInside, stored_with};
 
@@ -264,7 +265,7 @@ impl Model for Records {
 
     ghost view = { λ r. map (stored_with r.lists.sub_modes.items r.lists.vectors.items) r.stored.items };
 
-    ghost invariant = { λ r. All (IsInside (length r.lists.sub_modes.items) (length r.lists.vectors.items)) r.stored.items };
+    ghost invariant = { λ r. All (IsInside r.lists.sub_modes.items r.lists.vectors.items) r.stored.items };
 }
 
 /// The first fields of a record, which are read before its modes.
@@ -331,7 +332,8 @@ impl Records {
     /// The record at index `n` as that of a neighbour, which is outside if there are not so many.
     #[inline]
     pub(crate) fn neighbour(&self, n: usize) -> Neighbour<'_>
-        ensures { neighbour_of result ≡ slice_get self.now n }
+        ensures value { neighbour_of result ≡ slice_get self.now n }
+        ensures last { HasLastVector result }
     {
         if n >= self.len() {
             return self.outside();
@@ -346,7 +348,8 @@ impl Records {
     /// A macroblock outside the frame.
     #[inline]
     pub(crate) fn outside(&self) -> Neighbour<'_>
-        ensures { neighbour_of result ≡ None }
+        ensures value { neighbour_of result ≡ None }
+        ensures last { HasLastVector result }
     {
         let stored = Stored {
             segment: 0,
@@ -447,7 +450,7 @@ impl Records {
             is_skipped: start.is_skipped,
             y_mode: YMode::Inter(reference, VectorMode::Split),
             uv_mode: WholeMode::Dc,
-            vector: Vector::ZERO,
+            vector: vectors[15],
             side,
         })?;
         Ok(())
