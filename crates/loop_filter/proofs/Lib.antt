@@ -1,6 +1,7 @@
 pub mod Places
 pub mod Folds
 pub mod EdgeFold
+pub mod ChangedRows
 pub mod LaneLemmas
 pub mod Loaded
 pub mod OneLine

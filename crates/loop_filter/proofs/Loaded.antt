@@ -91,13 +91,6 @@ loaded_column s start stride i l e0 e1 e2 e3 e4 e5 e6 e7 =
     same_line l (line_in s (start + i) stride) e0 (e1 ∙ ap (slice_index s) (turned_sum stride)) (e2 ∙ ap (slice_index s) (turned_sum (2 * stride))) (e3 ∙ ap (slice_index s) (turned_sum (3 * stride)))
     (e4 ∙ ap (slice_index s) (turned_sum (4 * stride))) (e5 ∙ ap (slice_index s) (turned_sum (5 * stride))) (e6 ∙ ap (slice_index s) (turned_sum (6 * stride))) (e7 ∙ ap (slice_index s) (turned_sum (7 * stride)))
 
--- eight rows that are stored
-pub eight_stores : (s : List ℕ) (start stride : ℕ) (row : ℕ → List ℕ) (s1 s2 s3 s4 s5 s6 s7 s8 : List ℕ)
-    → s1 ≡ put_chunk start s (row 0) → s2 ≡ put_chunk (start + stride) s1 (row 1) → s3 ≡ put_chunk (start + 2 * stride) s2 (row 2) → s4 ≡ put_chunk (start + 3 * stride) s3 (row 3)
-    → s5 ≡ put_chunk (start + 4 * stride) s4 (row 4) → s6 ≡ put_chunk (start + 5 * stride) s5 (row 5) → s7 ≡ put_chunk (start + 6 * stride) s6 (row 6) → s8 ≡ put_chunk (start + 7 * stride) s7 (row 7)
-    → s8 ≡ rows_put s start stride row 8
-eight_stores s start stride row s1 s2 s3 s4 s5 s6 s7 s8 e1 e2 e3 e4 e5 e6 e7 e8 = rw (e8, e7, e6, e5, e4, e3, e2, e1) (eight_rows s start stride row)
-
 -- a lane of a vector is a sample of a line
 pub lane_of_vector : (t : Taps) (i k : ℕ) → k < 8 → slice_index (vector t k) i ≡ slice_index (samples_of (line_at t i)) k
 lane_of_vector t i k less = below_eight (λ k. slice_index (vector t k) i ≡ slice_index (samples_of (line_at t i)) k) refl refl refl refl refl refl refl refl k less

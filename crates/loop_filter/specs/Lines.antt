@@ -113,3 +113,9 @@ abbrev pub filtered_line : EdgeFilter → EdgeLimits → Line → Line
 filtered_line Simple limits l = simple_line limits.edge l
 filtered_line Inner limits l = inner_line limits l
 filtered_line Macroblock limits l = macroblock_line limits l
+
+-- how many samples on each side of its edge a filter can change
+abbrev pub reach : EdgeFilter → ℕ
+reach Simple = 1
+reach Inner = 2
+reach Macroblock = 3

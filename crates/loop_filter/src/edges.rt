@@ -1,7 +1,7 @@
 //! Edges of sixteen lines, in luma.
 
-ghost use Rattle.std.specs.Prelude.{◌≡◌, ℕ, ◌+◌, ◌*◌, ◌<◌, ◌≤◌, length};
-ghost use Rattle.loop_filter.specs.Lines.{filtered_line};
+ghost use Rattle.std.specs.Prelude.{◌≡◌, ℕ, ◌+◌, ◌-◌, ◌*◌, ◌<◌, ◌≤◌, length};
+ghost use Rattle.loop_filter.specs.Lines.{filtered_line, reach};
 ghost use Rattle.loop_filter.specs.Edges.{line_in, lines_filtered};
 ghost use Rattle.loop_filter.specs.Lanes.{line_at, vector, vectors, row_of, rows_put};
 
@@ -28,21 +28,33 @@ pub fn load_rows(samples: &[u8], start: usize, stride: usize) -> Taps
     }
 }
 
-/// Stores sixteen columns of eight samples, in rows `stride` samples apart.
+/// Stores those rows of sixteen columns that a filter can change, in rows `stride` samples apart.
 #[inline(always)]
-pub fn store_rows(taps: Taps, samples: &mut [u8], start: usize, stride: usize)
+pub fn store_rows(filter: EdgeFilter, taps: Taps, samples: &mut [u8], start: usize, stride: usize)
     requires room { start + 7 * stride + 16 ≤ length samples.old }
-    ensures value { samples.new ≡ rows_put samples.old start stride (vector taps) 8 }
-    ensures whole { (k : ℕ) → k < 8 → length (vector taps k) ≡ 16 }
+    ensures value { samples.new ≡ rows_put samples.old (start + (4 - reach filter) * stride) stride (λ k. vector taps (4 - reach filter + k)) (2 * reach filter) }
+    ensures whole { (k : ℕ) → k < 2 * reach filter → length (vector taps (4 - reach filter + k)) ≡ 16 }
 {
-    store(samples, start, taps.p3);
-    store(samples, start + stride, taps.p2);
-    store(samples, start + 2 * stride, taps.p1);
-    store(samples, start + 3 * stride, taps.p0);
-    store(samples, start + 4 * stride, taps.q0);
-    store(samples, start + 5 * stride, taps.q1);
-    store(samples, start + 6 * stride, taps.q2);
-    store(samples, start + 7 * stride, taps.q3);
+    match filter {
+        EdgeFilter::Simple => {
+            store(samples, start + 3 * stride, taps.p0);
+            store(samples, start + 4 * stride, taps.q0);
+        }
+        EdgeFilter::Inner => {
+            store(samples, start + 2 * stride, taps.p1);
+            store(samples, start + 3 * stride, taps.p0);
+            store(samples, start + 4 * stride, taps.q0);
+            store(samples, start + 5 * stride, taps.q1);
+        }
+        EdgeFilter::Macroblock => {
+            store(samples, start + stride, taps.p2);
+            store(samples, start + 2 * stride, taps.p1);
+            store(samples, start + 3 * stride, taps.p0);
+            store(samples, start + 4 * stride, taps.q0);
+            store(samples, start + 5 * stride, taps.q1);
+            store(samples, start + 6 * stride, taps.q2);
+        }
+    }
 }
 
 /// Loads sixteen rows of eight samples, each `stride` samples after the one before it.
@@ -85,7 +97,7 @@ pub fn filter_rows(
 {
     let taps = load_rows(samples, start, stride);
     let changed = filter_sixteen(filter, limits, taps);
-    store_rows(changed, samples, start, stride);
+    store_rows(filter, changed, samples, start, stride);
 }
 
 /// Filters the 16 rows across an edge between columns.

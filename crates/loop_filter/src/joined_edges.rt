@@ -42,8 +42,8 @@ pub fn filter_joined_rows(
     let luma = edges::load_rows(y, at.luma, at.luma_stride);
     let chroma = pairs::load_rows(u, v, at.chroma, at.chroma_stride);
     let (luma, chroma) = filter_both(filter, limits, luma, chroma);
-    edges::store_rows(luma, y, at.luma, at.luma_stride);
-    pairs::store_rows(chroma, u, v, at.chroma, at.chroma_stride);
+    edges::store_rows(filter, luma, y, at.luma, at.luma_stride);
+    pairs::store_rows(filter, chroma, u, v, at.chroma, at.chroma_stride);
 }
 
 /// Filters the rows across an edge between columns: 16 in luma and 8 in each chroma plane.

@@ -1,12 +1,14 @@
 //! Lines of the two chroma planes, eight of each: in vectors those of one plane are followed by those
 //! of the other.
 
-ghost use Rattle.std.specs.Prelude.{◌≡◌, ℕ, ◌+◌, ◌*◌, ◌<◌, ◌≤◌, length, slice_index};
+ghost use Rattle.std.specs.Prelude.{◌≡◌, ℕ, ◌+◌, ◌-◌, ◌*◌, ◌<◌, ◌≤◌, length, slice_index};
 ghost use Rattle.std.specs.Simd.Lanes.{put_chunk};
+ghost use Rattle.loop_filter.specs.Lines.{reach};
 ghost use Rattle.loop_filter.specs.Edges.{line_in};
 ghost use Rattle.loop_filter.specs.Lanes.{line_at, vector, vectors, row_of, eight_from, rows_put};
 
 use crate::columns::{load_lines, row_pairs, store_lines};
+use crate::edge_limits::EdgeFilter;
 use crate::taps::Taps;
 use std::simd::prelude::*;
 use std::simd::{u8x8, u8x16};
@@ -65,22 +67,42 @@ pub fn load_rows(u: &[u8], v: &[u8], start: usize, stride: usize) -> Taps
     }
 }
 
-/// Stores eight columns of eight samples into each plane, in rows `stride` samples apart.
+/// Stores those rows of eight columns in each plane that a filter can change, in rows `stride`
+/// samples apart.
 #[inline(always)]
-pub fn store_rows(taps: Taps, u: &mut [u8], v: &mut [u8], start: usize, stride: usize)
+pub fn store_rows(
+    filter: EdgeFilter,
+    taps: Taps,
+    u: &mut [u8],
+    v: &mut [u8],
+    start: usize,
+    stride: usize,
+)
     requires room_u { start + 7 * stride + 8 ≤ length u.old }
     requires room_v { start + 7 * stride + 8 ≤ length v.old }
-    ensures u { u.new ≡ rows_put u.old start stride (λ k. eight_from 0 (vector taps k)) 8 }
-    ensures v { v.new ≡ rows_put v.old start stride (λ k. eight_from 8 (vector taps k)) 8 }
+    ensures u { u.new ≡ rows_put u.old (start + (4 - reach filter) * stride) stride (λ k. eight_from 0 (vector taps (4 - reach filter + k))) (2 * reach filter) }
+    ensures v { v.new ≡ rows_put v.old (start + (4 - reach filter) * stride) stride (λ k. eight_from 8 (vector taps (4 - reach filter + k))) (2 * reach filter) }
 {
-    store_both(u, v, start, taps.p3);
-    store_both(u, v, start + stride, taps.p2);
-    store_both(u, v, start + 2 * stride, taps.p1);
-    store_both(u, v, start + 3 * stride, taps.p0);
-    store_both(u, v, start + 4 * stride, taps.q0);
-    store_both(u, v, start + 5 * stride, taps.q1);
-    store_both(u, v, start + 6 * stride, taps.q2);
-    store_both(u, v, start + 7 * stride, taps.q3);
+    match filter {
+        EdgeFilter::Simple => {
+            store_both(u, v, start + 3 * stride, taps.p0);
+            store_both(u, v, start + 4 * stride, taps.q0);
+        }
+        EdgeFilter::Inner => {
+            store_both(u, v, start + 2 * stride, taps.p1);
+            store_both(u, v, start + 3 * stride, taps.p0);
+            store_both(u, v, start + 4 * stride, taps.q0);
+            store_both(u, v, start + 5 * stride, taps.q1);
+        }
+        EdgeFilter::Macroblock => {
+            store_both(u, v, start + stride, taps.p2);
+            store_both(u, v, start + 2 * stride, taps.p1);
+            store_both(u, v, start + 3 * stride, taps.p0);
+            store_both(u, v, start + 4 * stride, taps.q0);
+            store_both(u, v, start + 5 * stride, taps.q1);
+            store_both(u, v, start + 6 * stride, taps.q2);
+        }
+    }
 }
 
 /// Loads eight rows of eight samples from each plane, each `stride` samples after the one before it.

@@ -1,15 +1,15 @@
-use Rattle.std.proofs.Common.{◌≡◌, length}
 use Rattle.loop_filter.specs.Lanes.{vector}
-use Rattle.loop_filter.proofs.Loaded.{eight_stores}
-use Rattle.loop_filter.proofs.Transposed.{below_eight}
+use Rattle.loop_filter.proofs.ChangedRows.{two_stores, four_stores, six_stores}
 use Rattle.loop_filter.proofs.edges.store_rows.Goals as goal
 
-pub returns-clause-value : goal.returns-clause-value
-returns-clause-value c =
-    eight_stores c.args.samples.now c.args.start c.args.stride (vector c.args.taps) _ _ _ _ _ _ _ _
-    c.store.ensures.value c.store-2.ensures.value c.store-3.ensures.value c.store-4.ensures.value c.store-5.ensures.value c.store-6.ensures.value c.store-7.ensures.value c.store-8.ensures.value
+pub returns-in-Simple-clause-value : goal.returns-in-Simple-clause-value
+returns-in-Simple-clause-value c = rw c.in-Simple.is (two_stores c.args.samples.now c.args.start c.args.stride (vector c.args.taps) _ _ c.store.ensures.value c.store-in-Simple.ensures.value)
 
-pub returns-clause-whole : goal.returns-clause-whole
-returns-clause-whole c =
-    below_eight (λ k. length (vector c.args.taps k) ≡ 16)
-    c.store.ensures.whole c.store-2.ensures.whole c.store-3.ensures.whole c.store-4.ensures.whole c.store-5.ensures.whole c.store-6.ensures.whole c.store-7.ensures.whole c.store-8.ensures.whole
+pub returns-in-Inner-clause-value : goal.returns-in-Inner-clause-value
+returns-in-Inner-clause-value c =
+    rw c.in-Inner.is (four_stores c.args.samples.now c.args.start c.args.stride (vector c.args.taps) _ _ _ _ c.store-in-Inner.ensures.value c.store-in-Inner-2.ensures.value c.store-in-Inner-3.ensures.value c.store-in-Inner-4.ensures.value)
+
+pub returns-in-Macroblock-clause-value : goal.returns-in-Macroblock-clause-value
+returns-in-Macroblock-clause-value c =
+    rw c.in-Macroblock.is
+    (six_stores c.args.samples.now c.args.start c.args.stride (vector c.args.taps) _ _ _ _ _ _ c.store-in-Macroblock.ensures.value c.store-in-Macroblock-2.ensures.value c.store-in-Macroblock-3.ensures.value c.store-in-Macroblock-4.ensures.value c.store-in-Macroblock-5.ensures.value c.store-in-Macroblock-6.ensures.value)

@@ -2,7 +2,8 @@ use Rattle.std.specs.Prelude.{slice_index}
 use Rattle.std.proofs.Common.{◌+◌, refl, ap, ◌∙◌, arith}
 use Rattle.loop_filter.specs.Lines.{filtered_line}
 use Rattle.loop_filter.specs.Lanes.{eight_from, vector}
-use Rattle.loop_filter.proofs.EdgeFold.{samples_of, rows_edge}
+use Rattle.loop_filter.proofs.ChangedRows.{changed_rows}
+use Rattle.loop_filter.proofs.EdgeFold.{samples_of}
 use Rattle.loop_filter.proofs.Loaded.{lane_of_vector, lane_of_first, lane_of_second}
 use Rattle.loop_filter.proofs.joined_edges.filter_joined_rows.Goals as goal
 
@@ -11,7 +12,7 @@ returns-clause-y c =
     let f = filtered_line c.args.filter c.args.limits in
     let t = c.filter_both.result.0 in
     c.store_rows.ensures.value
-    ∙ rows_edge f c.args.y.now c.args.at.luma c.args.at.luma_stride 16 (vector t) c.requires.wide.0 c.store_rows.ensures.whole
+    ∙ changed_rows c.args.filter c.args.limits c.args.y.now c.args.at.luma c.args.at.luma_stride 16 (vector t) c.requires.wide.0 c.requires.room_y c.store_rows.ensures.whole
     (λ i k less below. lane_of_vector t i k below ∙ ap (λ l. slice_index (samples_of l) k) (c.filter_both.ensures.a i less ∙ ap f (c.load_rows-luma.ensures i less)))
 
 pub returns-clause-u : goal.returns-clause-u
@@ -19,7 +20,7 @@ returns-clause-u c =
     let f = filtered_line c.args.filter c.args.limits in
     let t = c.filter_both.result.1 in
     c.store_rows-2.ensures.u
-    ∙ rows_edge f c.args.u.now c.args.at.chroma c.args.at.chroma_stride 8 (λ k. eight_from 0 (vector t k)) c.requires.wide.1 (λ k less. refl)
+    ∙ changed_rows c.args.filter c.args.limits c.args.u.now c.args.at.chroma c.args.at.chroma_stride 8 (λ k. eight_from 0 (vector t k)) c.requires.wide.1 c.requires.room_u (λ k less. refl)
     (λ i k less below. lane_of_first t i k less below ∙ ap (λ l. slice_index (samples_of l) k) (c.filter_both.ensures.b i (omega arith) ∙ ap f (c.load_rows-chroma.ensures.u i less)))
 
 pub returns-clause-v : goal.returns-clause-v
@@ -27,5 +28,5 @@ returns-clause-v c =
     let f = filtered_line c.args.filter c.args.limits in
     let t = c.filter_both.result.1 in
     c.store_rows-2.ensures.v
-    ∙ rows_edge f c.args.v.now c.args.at.chroma c.args.at.chroma_stride 8 (λ k. eight_from 8 (vector t k)) c.requires.wide.1 (λ k less. refl)
+    ∙ changed_rows c.args.filter c.args.limits c.args.v.now c.args.at.chroma c.args.at.chroma_stride 8 (λ k. eight_from 8 (vector t k)) c.requires.wide.1 c.requires.room_v (λ k less. refl)
     (λ i k less below. lane_of_second t i k less below ∙ ap (λ l. slice_index (samples_of l) k) (c.filter_both.ensures.b (8 + i) (omega arith) ∙ ap f (c.load_rows-chroma.ensures.v i less)))
