@@ -1,7 +1,7 @@
 -- The rows across an edge that its filter can change: the others are in the samples as they are.
 use Rattle.std.specs.Prelude.{slice_index}
 use Rattle.std.specs.Simd.Lanes.{put_chunk}
-use Rattle.std.proofs.Common.{◌≡◌, ◌⊎◌, inl, inr, ℕ, zero, suc, ◌+◌, ◌-◌, ◌*◌, ◌<◌, ◌≤◌, Bool, true, false, cond, ℤ, List, [], ◌∷◌, length, map, refl, ap, sym, ◌∙◌, arith}
+use Rattle.std.proofs.Common.{◌≡◌, ◌⊎◌, inl, inr, ℕ, zero, suc, ◌+◌, ◌-◌, ◌*◌, ◌<◌, ◌≤◌, Bool, true, false, cond, ℤ, List, [], ◌∷◌, length, map, refl, ap, sym, subst, ◌∙◌, arith}
 use Rattle.std.specs.List.{range_with_len}
 use Rattle.std.proofs.Math.Nat.{mul-le-mul_right}
 use Rattle.std.proofs.lemmas.Grind.{same_number_lists}
@@ -13,7 +13,8 @@ use Rattle.loop_filter.specs.declared.edge_limits.EdgeFilter.TheVariants.{Simple
 use Rattle.loop_filter.specs.Lines.{Line, is_small_step, is_filtered, has_high_edge_variance, shortfall, adjusted, outer_adjusted, smoothed, simple_line, inner_line, macroblock_line, filtered_line, reach}
 use Rattle.loop_filter.specs.Edges.{line_in, lines_filtered}
 use Rattle.loop_filter.specs.Lanes.{rows_put}
-use Rattle.loop_filter.proofs.EdgeFold.{samples_of, rows_edge}
+use Rattle.loop_filter.proofs.EdgeFold.{samples_of, same_line, rows_edge}
+use Rattle.loop_filter.proofs.OwnLines.{own-lines, columns-apart}
 use Rattle.loop_filter.proofs.RowsPut.{put_none, same_rows, rows_put_other, rows_put_on, earlier_row}
 use Rattle.loop_filter.proofs.Transposed.{below_eight}
 
@@ -206,3 +207,20 @@ module _ (s : List ℕ) (start stride : ℕ) (row : ℕ → List ℕ) where
   six_stores s1 s2 s3 s4 s5 s6 e1 e2 e3 e4 e5 e6 =
       let three : s3 ≡ rows_put s (start + 1 * stride) stride (λ k. row (1 + k)) 3 = stored_more s start stride row 1 2 _ s2 s3 refl (stored_more s start stride row 1 1 _ s1 s2 refl (stored_more s start stride row 1 0 _ s s1 (omega arith) refl e1) e2) e3 in
       stored_more s start stride row 1 5 _ s5 s6 refl (stored_more s start stride row 1 4 _ s4 s5 refl (stored_more s start stride row 1 3 _ s3 s4 refl three e4) e5) e6
+
+-- the lines of an edge after its filter
+pub column_after : (f : Line → Line) (s : List ℕ) (start stride count i : ℕ) → 1 ≤ stride → count ≤ stride → i < count → start + i + 7 * stride < length s
+    → f (line_in s (start + i) stride) ≡ line_in (lines_filtered f start 1 stride s count) (start + i) stride
+column_after f s start stride count i some wide less inside =
+    let place : start + i * 1 ≡ start + i = omega arith in
+    let lines = own-lines f start 1 stride count s some (columns-apart count start stride wide) in
+    sym (subst (λ (p : ℕ). line_in (lines_filtered f start 1 stride s count) p stride ≡ f (line_in s p stride)) place (lines.lines i less (omega (arith, inside))))
+
+-- and the columns across the next edge, of which the upper half is in vectors
+pub next_column : (s : List ℕ) (start stride i : ℕ) (above l : Line) → above ≡ line_in s (start + i) stride → l.p3 ≡ above.q0 → l.p2 ≡ above.q1 → l.p1 ≡ above.q2 → l.p0 ≡ above.q3
+    → l.q0 ≡ slice_index s (start + 8 * stride + i) → l.q1 ≡ slice_index s (start + 9 * stride + i) → l.q2 ≡ slice_index s (start + 10 * stride + i) → l.q3 ≡ slice_index s (start + 11 * stride + i)
+    → l ≡ line_in s (start + 4 * stride + i) stride
+next_column s start stride i above l is e0 e1 e2 e3 e4 e5 e6 e7 =
+    let at : (m n : ℕ) → m ≡ n → slice_index s m ≡ slice_index s n = λ (m n : ℕ) (same : m ≡ n). ap (slice_index s) same in
+    same_line l (line_in s (start + 4 * stride + i) stride) (e0 ∙ ap (λ (l : Line). l.q0) is ∙ at _ _ (omega arith)) (e1 ∙ ap (λ (l : Line). l.q1) is ∙ at _ _ (omega arith)) (e2 ∙ ap (λ (l : Line). l.q2) is ∙ at _ _ (omega arith)) (e3 ∙ ap (λ (l : Line). l.q3) is ∙ at _ _ (omega arith))
+    (e4 ∙ at _ _ (omega arith)) (e5 ∙ at _ _ (omega arith)) (e6 ∙ at _ _ (omega arith)) (e7 ∙ at _ _ (omega arith))

@@ -2,14 +2,13 @@
 
 ghost use Rattle.std.specs.Prelude.{◌≡◌, ◌+◌, ◌*◌, ◌<◌, ◌≤◌, false, length};
 ghost use Rattle.loop_filter.specs.Lines.{inner_line, macroblock_line};
-ghost use Rattle.loop_filter.specs.Blocks.{IsInside, HasSmallLimits, luma, chroma, row_edge, left_edge, inner_columns, top_edge, inner_rows, block_filtered};
+ghost use Rattle.loop_filter.specs.Blocks.{IsInside, HasSmallLimits, luma, chroma, left_edge, inner_columns, top_edge, inner_rows, block_filtered};
 ghost use Rattle.loop_filter.specs.Macroblocks.{chroma_block};
 
 use crate::blocks::{Block, inner_limits, outer_limits};
 use crate::columns_inner::filter_inner_columns;
 use crate::edge_limits::{EdgeFilter, EdgeLimits};
-use crate::edges::filter_rows;
-use crate::joined_edges::{Starts, filter_joined_columns, filter_joined_rows};
+use crate::joined_edges::{Starts, filter_inner_rows, filter_joined_columns, filter_joined_rows};
 use crate::strengths::Strength;
 
 /// The position of a macroblock's blocks among the samples of the planes.
@@ -105,21 +104,7 @@ fn filter_top(limits: EdgeLimits, y: &mut [u8], u: &mut [u8], v: &mut [u8], at: 
     }
 }
 
-/// Filters the edge before row `y` of the block in luma.
-#[tactic(auto, unfolding(crate::specs::Blocks::row_edge))]
-#[inline]
-fn filter_row(limits: EdgeLimits, samples: &mut [u8], block: Block, y: usize)
-    requires limit { limits.edge < 255 }
-    requires wide { 16 ≤ block.stride }
-    requires above { 4 ≤ y }
-    requires room { block.start + y * block.stride + 3 * block.stride + 16 ≤ length samples.old }
-    ensures { samples.new ≡ row_edge (inner_line limits) 16 block y samples.old }
-{
-    let start = block.start + y * block.stride - 4 * block.stride;
-    filter_rows(EdgeFilter::Inner, limits, samples, start, block.stride);
-}
-
-/// Filters the horizontal edges inside the blocks: the first of luma with those of chroma.
+/// Filters the horizontal edges inside the blocks.
 #[tactic(auto, unfolding(crate::specs::Blocks::inner_rows, crate::specs::Blocks::row_edge))]
 #[inline]
 fn filter_rows_inside(
@@ -139,9 +124,7 @@ fn filter_rows_inside(
     ensures v { v.new ≡ inner_rows (inner_line limits) chroma has_inner_edges (chroma_block at) v.old }
 {
     if has_inner_edges {
-        filter_joined_rows(EdgeFilter::Inner, limits, y, u, v, starts(at));
-        filter_row(limits, y, at.luma, 8);
-        filter_row(limits, y, at.luma, 12);
+        filter_inner_rows(limits, y, u, v, starts(at));
     }
 }
 

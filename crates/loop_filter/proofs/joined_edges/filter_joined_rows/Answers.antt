@@ -1,8 +1,9 @@
 use Rattle.std.specs.Prelude.{slice_index}
-use Rattle.std.proofs.Common.{◌+◌, refl, ap, ◌∙◌, arith}
+use Rattle.std.proofs.Common.{ℕ, ◌+◌, List, refl, ap, sym, ◌∙◌, arith}
 use Rattle.loop_filter.specs.Lines.{filtered_line}
+use Rattle.loop_filter.specs.Edges.{line_in}
 use Rattle.loop_filter.specs.Lanes.{eight_from, vector}
-use Rattle.loop_filter.proofs.ChangedRows.{changed_rows}
+use Rattle.loop_filter.proofs.ChangedRows.{changed_rows, column_after}
 use Rattle.loop_filter.proofs.EdgeFold.{samples_of}
 use Rattle.loop_filter.proofs.Loaded.{lane_of_vector, lane_of_first, lane_of_second}
 use Rattle.loop_filter.proofs.joined_edges.filter_joined_rows.Goals as goal
@@ -30,3 +31,14 @@ returns-clause-v c =
     c.store_rows-2.ensures.v
     ∙ changed_rows c.args.filter c.args.limits c.args.v.now c.args.at.chroma c.args.at.chroma_stride 8 (λ k. eight_from 8 (vector t k)) c.requires.wide.1 c.requires.room_v (λ k less. refl)
     (λ i k less below. lane_of_second t i k less below ∙ ap (λ l. slice_index (samples_of l) k) (c.filter_both.ensures.b (8 + i) (omega arith) ∙ ap f (c.load_rows-chroma.ensures.v i less)))
+
+pub returns-clause-lines : goal.returns-clause-lines
+returns-clause-lines c = λ i less.
+    let f = filtered_line c.args.filter c.args.limits in
+    let s = c.args.y.now in
+    let start = c.args.at.luma in
+    let stride = c.args.at.luma_stride in
+    c.filter_both.ensures.a i less
+    ∙ ap f (c.load_rows-luma.ensures i less)
+    ∙ column_after f s start stride 16 i (omega (arith, c.requires.wide.0)) c.requires.wide.0 less (omega (arith, c.requires.wide.0, c.requires.room_y))
+    ∙ ap (λ (l : List ℕ). line_in l (start + i) stride) (sym (returns-clause-y c))
