@@ -5,6 +5,7 @@ ghost use Rattle.std.specs.Option.{option_copied};
 ghost use Rattle.inter_predict.specs.InterSample.{inter_sample};
 ghost use Rattle.vp8_tables.specs.Bounds.{IsWithin};
 ghost use Rattle.mode_parser.specs.ChromaVectors.{group_vector};
+ghost use Rattle.mode_parser.specs.RecordList.{mode_of};
 ghost use Rattle.mode_parser.specs.SplitModes.{is_split};
 ghost use Rattle.mode_parser.specs.Vectors.{zero_vector};
 ghost use Rattle.pixel_planes.specs.Layout.{bordered_side};
@@ -19,16 +20,16 @@ use crate::corners::{MacroblockCorner, MacroblockPlace};
 use crate::residuals::{Blocks, add_to_square};
 use inter_predict::{Kind, Source, block_in, pair_in};
 use intra_predict::{BlockSize, Corner};
-use mode_parser::{Vector, VectorMode, chroma_vector};
+use mode_parser::{Record, Vector, VectorMode, chroma_vector};
 use pixel_planes::{Picture, Plane, Planes};
 
 /// How a macroblock is predicted from a reference: the version of the frame, which determines the
-/// filters, the mode of the macroblock and its vectors.
+/// filters, the mode of the macroblock's vectors, and its record, which has them.
 #[derive(Clone, Copy)]
 pub(crate) struct Motion<'a> {
     pub(crate) version: u8,
     pub(crate) mode: VectorMode,
-    pub(crate) vectors: &'a [Vector; 16],
+    pub(crate) macroblock: &'a Record<'a>,
 }
 
 /// How the chroma of a macroblock is predicted: its motion, and the vector of all its chroma if it is
@@ -176,6 +177,16 @@ fn eighths(vectors: &[Vector; 16], n: usize) -> (i32, i32)
     (2 * vector.x(), 2 * vector.y())
 }
 
+/// The vector of a macroblock's last luma block, in eighths of a luma sample.
+#[inline]
+fn last_eighths(macroblock: &Record) -> (i32, i32)
+    ensures x { result.0 ≡ pos 2 *ℤ (slice_index_or (mode_of macroblock.now).vectors 15 zero_vector).x }
+    ensures y { result.1 ≡ pos 2 *ℤ (slice_index_or (mode_of macroblock.now).vectors 15 zero_vector).y }
+{
+    let vector = macroblock.vector(15);
+    (2 * vector.x(), 2 * vector.y())
+}
+
 /// Whether two vectors are the same.
 #[inline]
 fn are_same(a: (i32, i32), b: (i32, i32)) -> bool
@@ -232,23 +243,24 @@ fn luma_samples(
     from: &Plane,
     kind: Kind,
     mode: VectorMode,
-    vectors: &[Vector; 16],
+    macroblock: &Record,
     samples: &mut [u8],
     corner: MacroblockCorner,
 )
     requires small { (corner.across ≤ 16512) × (16 * corner.my + 16 ≤ 16384) }
     requires column { 16 * corner.mx + 16 ≤ corner.across }
     requires room { (16 * corner.my + 16) * corner.across ≤ length samples.old }
-    ensures { IsPlaced (from_corner (16 * corner.mx) (16 * corner.my) (luma_sample kind from.now.shown corner.mx corner.my (block_vector mode vectors.now))) corner.across 16 (16 * corner.mx) (16 * corner.my) samples.old samples.new }
+    ensures { IsPlaced (from_corner (16 * corner.mx) (16 * corner.my) (luma_sample kind from.now.shown corner.mx corner.my (block_vector mode (mode_of macroblock.now).vectors))) corner.across 16 (16 * corner.mx) (16 * corner.my) samples.old samples.new }
 {
     if is_split(mode) {
-        predict_quarter(from, kind, vectors, 0, samples, corner);
-        predict_quarter(from, kind, vectors, 1, samples, corner);
-        predict_quarter(from, kind, vectors, 2, samples, corner);
-        predict_quarter(from, kind, vectors, 3, samples, corner);
+        let vectors = macroblock.vectors();
+        predict_quarter(from, kind, &vectors, 0, samples, corner);
+        predict_quarter(from, kind, &vectors, 1, samples, corner);
+        predict_quarter(from, kind, &vectors, 2, samples, corner);
+        predict_quarter(from, kind, &vectors, 3, samples, corner);
         return;
     }
-    let vector = eighths(vectors, 15);
+    let vector = last_eighths(macroblock);
     let (column, row) = (16 * corner.mx, 16 * corner.my);
     let across = corner.across;
     let corner = Corner {
@@ -304,10 +316,10 @@ fn group_vector(mode: VectorMode, vectors: &[Vector; 16], group: usize, version:
 /// The vector that all chroma of a macroblock goes by which is not split: its four groups have the
 /// same.
 #[inline]
-fn whole_vector(mode: VectorMode, vectors: &[Vector; 16], version: u8) -> (i32, i32)
-    ensures { IsWholeVector version mode vectors.now result }
+fn whole_vector(mode: VectorMode, macroblock: &Record, version: u8) -> (i32, i32)
+    ensures { IsWholeVector version mode (mode_of macroblock.now).vectors result }
 {
-    let vector = block_vector(mode, vectors, 15);
+    let vector = macroblock.vector(15);
     let (x, y) = (vector.x(), vector.y());
     let (x, y) = (sum_of(x, x, x, x), sum_of(y, y, y, y));
     (chroma_vector(x, version), chroma_vector(y, version))
@@ -322,16 +334,16 @@ fn chroma_samples(
     samples: &mut [u8],
     corner: MacroblockCorner,
 )
-    requires whole { IsWholeVector motion.version motion.mode motion.vectors.now whole }
+    requires whole { IsWholeVector motion.version motion.mode (mode_of motion.macroblock.now).vectors whole }
     requires small { (corner.across ≤ 16512) × (8 * corner.my + 8 ≤ 16384) }
     requires column { 8 * corner.mx + 8 ≤ corner.across }
     requires room { (8 * corner.my + 8) * corner.across ≤ length samples.old }
-    ensures { IsPlaced (from_corner (8 * corner.mx) (8 * corner.my) (chroma_sample motion.entry.version from.now.shown corner.mx corner.my (block_vector motion.entry.mode motion.entry.vectors.now))) corner.across 8 (8 * corner.mx) (8 * corner.my) samples.old samples.new }
+    ensures { IsPlaced (from_corner (8 * corner.mx) (8 * corner.my) (chroma_sample motion.entry.version from.now.shown corner.mx corner.my (block_vector motion.entry.mode (mode_of motion.entry.macroblock.now).vectors))) corner.across 8 (8 * corner.mx) (8 * corner.my) samples.old samples.new }
 {
     let Motion {
         version,
         mode,
-        vectors,
+        macroblock,
     } = motion;
     let kind = kind_of(version);
     let (column, row) = (8 * corner.mx, 8 * corner.my);
@@ -342,10 +354,11 @@ fn chroma_samples(
         row,
     };
     if is_split(mode) {
-        let first = group_vector(mode, vectors, 0, version);
-        let second = group_vector(mode, vectors, 1, version);
-        let third = group_vector(mode, vectors, 2, version);
-        let fourth = group_vector(mode, vectors, 3, version);
+        let vectors = macroblock.vectors();
+        let first = group_vector(mode, &vectors, 0, version);
+        let second = group_vector(mode, &vectors, 1, version);
+        let third = group_vector(mode, &vectors, 2, version);
+        let fourth = group_vector(mode, &vectors, 3, version);
         let vectors = FourVectors {
             first,
             second,
@@ -366,14 +379,14 @@ fn whole_chroma_samples(
     cr: &mut [u8],
     corner: MacroblockCorner,
 )
-    requires whole { IsWholeVector chroma.motion.version chroma.motion.mode chroma.motion.vectors.now chroma.whole }
+    requires whole { IsWholeVector chroma.motion.version chroma.motion.mode (mode_of chroma.motion.macroblock.now).vectors chroma.whole }
     requires one { is_split chroma.motion.mode ≡ false }
     requires small { (corner.across ≤ 16512) × (8 * corner.my + 8 ≤ 16384) }
     requires column { 8 * corner.mx + 8 ≤ corner.across }
     requires cb_room { (8 * corner.my + 8) * corner.across ≤ length cb.old }
     requires cr_room { (8 * corner.my + 8) * corner.across ≤ length cr.old }
-    ensures cb { IsPlaced (from_corner (8 * corner.mx) (8 * corner.my) (chroma_sample chroma.entry.motion.version from.entry.cb.now.shown corner.mx corner.my (block_vector chroma.entry.motion.mode chroma.entry.motion.vectors.now))) corner.across 8 (8 * corner.mx) (8 * corner.my) cb.old cb.new }
-    ensures cr { IsPlaced (from_corner (8 * corner.mx) (8 * corner.my) (chroma_sample chroma.entry.motion.version from.entry.cr.now.shown corner.mx corner.my (block_vector chroma.entry.motion.mode chroma.entry.motion.vectors.now))) corner.across 8 (8 * corner.mx) (8 * corner.my) cr.old cr.new }
+    ensures cb { IsPlaced (from_corner (8 * corner.mx) (8 * corner.my) (chroma_sample chroma.entry.motion.version from.entry.cb.now.shown corner.mx corner.my (block_vector chroma.entry.motion.mode (mode_of chroma.entry.motion.macroblock.now).vectors))) corner.across 8 (8 * corner.mx) (8 * corner.my) cb.old cb.new }
+    ensures cr { IsPlaced (from_corner (8 * corner.mx) (8 * corner.my) (chroma_sample chroma.entry.motion.version from.entry.cr.now.shown corner.mx corner.my (block_vector chroma.entry.motion.mode (mode_of chroma.entry.motion.macroblock.now).vectors))) corner.across 8 (8 * corner.mx) (8 * corner.my) cr.old cr.new }
 {
     let kind = kind_of(chroma.motion.version);
     let (column, row) = (8 * corner.mx, 8 * corner.my);
@@ -395,7 +408,7 @@ fn predict_luma(
     residual: Option<&Blocks>,
 )
     requires { HoldsSquare plane.old.shown (16 * place.mx) (16 * place.my) 16 }
-    ensures value { plane.new.shown ≡ with_block plane.old.shown (16 * place.mx) (16 * place.my) 16 (restored 16 0 (option_copied residual.entry) (luma_sample (kind_of motion.entry.version) from.now.shown place.mx place.my (block_vector motion.entry.mode motion.entry.vectors.now))) }
+    ensures value { plane.new.shown ≡ with_block plane.old.shown (16 * place.mx) (16 * place.my) 16 (restored 16 0 (option_copied residual.entry) (luma_sample (kind_of motion.entry.version) from.now.shown place.mx place.my (block_vector motion.entry.mode (mode_of motion.entry.macroblock.now).vectors))) }
     ensures sides { SameSides plane.old.shown plane.new.shown }
 {
     let across = plane.stride();
@@ -403,7 +416,7 @@ fn predict_luma(
     let kind = kind_of(motion.version);
     let MacroblockPlace { mx, my } = place;
     let corner = MacroblockCorner { across, mx, my };
-    luma_samples(from, kind, motion.mode, motion.vectors, samples, corner);
+    luma_samples(from, kind, motion.mode, motion.macroblock, samples, corner);
     let corner = Corner {
         across,
         column: 16 * mx,
@@ -422,10 +435,10 @@ fn predict_chroma(
     residual: Option<&Blocks>,
     first: usize,
 )
-    requires whole { IsWholeVector chroma.motion.version chroma.motion.mode chroma.motion.vectors.now chroma.whole }
+    requires whole { IsWholeVector chroma.motion.version chroma.motion.mode (mode_of chroma.motion.macroblock.now).vectors chroma.whole }
     requires first { first + 4 ≤ 24 }
     requires within { HoldsSquare plane.old.shown (8 * place.mx) (8 * place.my) 8 }
-    ensures value { plane.new.shown ≡ with_block plane.old.shown (8 * place.mx) (8 * place.my) 8 (restored 8 first (option_copied residual.entry) (chroma_sample chroma.entry.motion.version from.now.shown place.mx place.my (block_vector chroma.entry.motion.mode chroma.entry.motion.vectors.now))) }
+    ensures value { plane.new.shown ≡ with_block plane.old.shown (8 * place.mx) (8 * place.my) 8 (restored 8 first (option_copied residual.entry) (chroma_sample chroma.entry.motion.version from.now.shown place.mx place.my (block_vector chroma.entry.motion.mode (mode_of chroma.entry.motion.macroblock.now).vectors))) }
     ensures sides { SameSides plane.old.shown plane.new.shown }
 {
     let across = plane.stride();
@@ -452,13 +465,13 @@ fn predict_whole_chroma(
     chroma: ChromaMotion,
     residual: Option<&Blocks>,
 )
-    requires whole { IsWholeVector chroma.motion.version chroma.motion.mode chroma.motion.vectors.now chroma.whole }
+    requires whole { IsWholeVector chroma.motion.version chroma.motion.mode (mode_of chroma.motion.macroblock.now).vectors chroma.whole }
     requires one { is_split chroma.motion.mode ≡ false }
     requires cb_within { HoldsSquare cb.old.shown (8 * place.mx) (8 * place.my) 8 }
     requires cr_within { HoldsSquare cr.old.shown (8 * place.mx) (8 * place.my) 8 }
     requires strides { bordered_side cb.old.shown.width cb.old.border ≡ bordered_side cr.old.shown.width cr.old.border }
-    ensures cb { cb.new.shown ≡ with_block cb.old.shown (8 * place.mx) (8 * place.my) 8 (restored 8 16 (option_copied residual.entry) (chroma_sample chroma.entry.motion.version from.entry.cb.now.shown place.mx place.my (block_vector chroma.entry.motion.mode chroma.entry.motion.vectors.now))) }
-    ensures cr { cr.new.shown ≡ with_block cr.old.shown (8 * place.mx) (8 * place.my) 8 (restored 8 20 (option_copied residual.entry) (chroma_sample chroma.entry.motion.version from.entry.cr.now.shown place.mx place.my (block_vector chroma.entry.motion.mode chroma.entry.motion.vectors.now))) }
+    ensures cb { cb.new.shown ≡ with_block cb.old.shown (8 * place.mx) (8 * place.my) 8 (restored 8 16 (option_copied residual.entry) (chroma_sample chroma.entry.motion.version from.entry.cb.now.shown place.mx place.my (block_vector chroma.entry.motion.mode (mode_of chroma.entry.motion.macroblock.now).vectors))) }
+    ensures cr { cr.new.shown ≡ with_block cr.old.shown (8 * place.mx) (8 * place.my) 8 (restored 8 20 (option_copied residual.entry) (chroma_sample chroma.entry.motion.version from.entry.cr.now.shown place.mx place.my (block_vector chroma.entry.motion.mode (mode_of chroma.entry.motion.macroblock.now).vectors))) }
     ensures cb_sides { SameSides cb.old.shown cb.new.shown }
     ensures cr_sides { SameSides cr.old.shown cr.new.shown }
 {
@@ -487,12 +500,12 @@ pub(crate) fn predict_inter(
     residual: Option<&Blocks>,
 )
     requires { HoldsMacroblock (shown_of planes.old) place.mx place.my }
-    ensures value { shown_of planes.new ≡ inter_macroblock motion.entry.version from.now (shown_of planes.old) place.mx place.my motion.entry.mode motion.entry.vectors.now (option_copied residual.entry) }
+    ensures value { shown_of planes.new ≡ inter_macroblock motion.entry.version from.now (shown_of planes.old) place.mx place.my motion.entry.mode (mode_of motion.entry.macroblock.now).vectors (option_copied residual.entry) }
     ensures sides { SameShape (shown_of planes.old) (shown_of planes.new) }
 {
     let luma = from.luma();
     predict_luma(&mut planes.luma, luma, place, motion, residual);
-    let whole = whole_vector(motion.mode, motion.vectors, motion.version);
+    let whole = whole_vector(motion.mode, motion.macroblock, motion.version);
     let chroma = ChromaMotion { motion, whole };
     let cb = from.cb();
     let cr = from.cr();

@@ -311,11 +311,10 @@ fn predict_referred(
     match sources.references {
         Some(references) => {
             let from = references.picture(referred.reference);
-            let vectors = mode.vectors();
             let motion = Motion {
                 version: sources.version,
                 mode: referred.vector_mode,
-                vectors: &vectors,
+                macroblock: mode,
             };
             predict_inter(planes, from, place, motion, residual);
         }

@@ -1,5 +1,6 @@
 use Rattle.std.specs.Option.{option_copied}
 use Rattle.std.proofs.Common.{ℕ, ◌*◌, List, arith}
+use Rattle.mode_parser.specs.RecordList.{mode_of}
 use Rattle.pixel_planes.specs.Layout.{bordered_side}
 use Rattle.pixel_planes.specs.Samples.{Samples}
 use Rattle.reference_frames.specs.InterPrediction.{block_vector, chroma_sample}
@@ -28,7 +29,7 @@ returns-clause-value c =
     let y : ℕ = 8 * c.args.place.my in
     let rows : List ℕ = c.rows_mut-samples.result.now in
     let written : List ℕ = c.add_to_square.new.samples in
-    let sample : ℕ → ℕ → ℕ = chroma_sample c.args.chroma.motion.version c.args.from.now.shown c.args.place.mx c.args.place.my (block_vector c.args.chroma.motion.mode c.args.chroma.motion.vectors.now) in
+    let sample : ℕ → ℕ → ℕ = chroma_sample c.args.chroma.motion.version c.args.from.now.shown c.args.place.mx c.args.place.my (block_vector c.args.chroma.motion.mode (mode_of c.args.chroma.motion.macroblock.now).vectors) in
     let whole : ℕ → ℕ → ℕ = restored 8 c.args.first (option_copied c.args.residual) sample in
     let predicted = rw c.stride-across.ensures.value at c.chroma_samples.ensures in
     let added = rw c.stride-across.ensures.value at c.add_to_square.ensures in
