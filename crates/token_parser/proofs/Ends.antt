@@ -42,21 +42,18 @@ end_from (suc more) probs kind place context after_zero coefficients r =
     let at_zero : Reading (List ℤ × ℕ) = tokens_from more probs kind (place + 1) 0 true coefficients in
     by_token (λ q. place ≤ q.0.1) (t.0 == end_of_block) (t.0 == 0) (give (coefficients, place)) at_zero (sized more probs kind place t.0 coefficients) t.1 (same_end place) (later 0 true coefficients t.1) (later _ _ _ _)
 
-two_ends : (place end : ℕ) → 0 < place → place + 1 ≤ end → end ≤ 1 → ⊥
-two_ends place end some least few = omega arith
+never_before : (place end : ℕ) → place + 1 ≤ end → end ≤ place → ⊥
+never_before place end more few = omega arith
 
--- a block that ends by index 1 has no token from there on
-same_by_end : (more : ℕ) (probs : List ℕ) (kind place context : ℕ) (after_zero : Bool) (coefficients : List ℤ) (r : Reader) → 0 < place → (tokens_from more probs kind place context after_zero coefficients r).0.1 ≤ 1 → (tokens_from more probs kind place context after_zero coefficients r).0.0 ≡ coefficients
+-- a block that ends by an index has no token from there on
+pub same_by_end : (more : ℕ) (probs : List ℕ) (kind place context : ℕ) (after_zero : Bool) (coefficients : List ℤ) (r : Reader) → (tokens_from more probs kind place context after_zero coefficients r).0.1 ≤ place → (tokens_from more probs kind place context after_zero coefficients r).0.0 ≡ coefficients
 unfolding tokens_from
-same_by_end zero probs kind place context after_zero coefficients r some = λ few. refl
-same_by_end (suc more) probs kind place context after_zero coefficients r some =
-    let never : (context : ℕ) (after_zero : Bool) (xs : List ℤ) (r : Reader) → (tokens_from more probs kind (place + 1) context after_zero xs r).0.1 ≤ 1 → (tokens_from more probs kind (place + 1) context after_zero xs r).0.0 ≡ coefficients = λ context after_zero xs r few. absurd (two_ends place _ some (end_from more probs kind (place + 1) context after_zero xs r) few) in
+same_by_end zero probs kind place context after_zero coefficients r = λ few. refl
+same_by_end (suc more) probs kind place context after_zero coefficients r =
+    let never : (context : ℕ) (after_zero : Bool) (xs : List ℤ) (r : Reader) → (tokens_from more probs kind (place + 1) context after_zero xs r).0.1 ≤ place → (tokens_from more probs kind (place + 1) context after_zero xs r).0.0 ≡ coefficients = λ context after_zero xs r few. absurd (never_before place _ (end_from more probs kind (place + 1) context after_zero xs r) few) in
     let t : ℕ × Reader = token (nodes_at probs kind place context) after_zero r in
     let at_zero : Reading (List ℤ × ℕ) = tokens_from more probs kind (place + 1) 0 true coefficients in
-    by_token (λ q. q.0.1 ≤ 1 → q.0.0 ≡ coefficients) (t.0 == end_of_block) (t.0 == 0) (give (coefficients, place)) at_zero (sized more probs kind place t.0 coefficients) t.1 (λ few. refl) (never 0 true coefficients t.1) (never _ _ _ _)
-
-some : 0 < 1
-some = omega arith
+    by_token (λ q. q.0.1 ≤ place → q.0.0 ≡ coefficients) (t.0 == end_of_block) (t.0 == 0) (give (coefficients, place)) at_zero (sized more probs kind place t.0 coefficients) t.1 (λ few. refl) (never 0 true coefficients t.1) (never _ _ _ _)
 
 first_alone : (v : ℤ) (xs : List ℤ) → xs ≡ v ∷ replicate 15 (pos 0) → IsFirstAlone xs
 first_alone v xs is = rw is refl
@@ -65,7 +62,7 @@ first_alone v xs is = rw is refl
 by_first : (more : ℕ) (probs : List ℕ) (kind context : ℕ) (r : Reader) → (tokens_from (suc more) probs kind 0 context false (replicate 16 (pos 0)) r).0.1 ≤ 1 → IsFirstAlone (tokens_from (suc more) probs kind 0 context false (replicate 16 (pos 0)) r).0.0
 unfolding tokens_from
 by_first more probs kind context r =
-    let later : (v : ℤ) (context : ℕ) (after_zero : Bool) (r : Reader) → (tokens_from more probs kind 1 context after_zero (v ∷ replicate 15 (pos 0)) r).0.1 ≤ 1 → IsFirstAlone (tokens_from more probs kind 1 context after_zero (v ∷ replicate 15 (pos 0)) r).0.0 = λ v context after_zero r few. first_alone v _ (same_by_end more probs kind 1 context after_zero (v ∷ replicate 15 (pos 0)) r some few) in
+    let later : (v : ℤ) (context : ℕ) (after_zero : Bool) (r : Reader) → (tokens_from more probs kind 1 context after_zero (v ∷ replicate 15 (pos 0)) r).0.1 ≤ 1 → IsFirstAlone (tokens_from more probs kind 1 context after_zero (v ∷ replicate 15 (pos 0)) r).0.0 = λ v context after_zero r few. first_alone v _ (same_by_end more probs kind 1 context after_zero (v ∷ replicate 15 (pos 0)) r few) in
     let t : ℕ × Reader = token (nodes_at probs kind 0 context) false r in
     let size : ℕ × Reader = size_of t.0 t.1 in
     let value : ℤ × Reader = signed_size size.0 size.1 in
@@ -74,18 +71,18 @@ by_first more probs kind context r =
 
 pub block_end : (first : ℕ) (probs : List ℕ) (kind context : ℕ) (coefficients : List ℤ) (r : Reader) → first ≤ 1 → coefficients ≡ replicate 16 (pos 0) → (tokens_from (16 - first) probs kind first context false coefficients r).0.1 ≤ 1 → IsFirstAlone (tokens_from (16 - first) probs kind first context false coefficients r).0.0
 block_end zero probs kind context coefficients r small none = rw none (by_first 15 probs kind context r)
-block_end (suc zero) probs kind context coefficients r small none = rw none (λ few. first_alone (pos 0) _ (same_by_end 15 probs kind 1 _ _ _ _ some few))
+block_end (suc zero) probs kind context coefficients r small none = rw none (λ few. first_alone (pos 0) _ (same_by_end 15 probs kind 1 _ _ _ _ few))
 block_end (suc (suc n)) probs kind context coefficients r small none = absurd (omega arith)
 
 -- blocks have numbers of their own
 index_after : (has_y2 : Bool) (k : ℕ) → 0 < k → k < 25 → (place_of has_y2 k).index ≡ k - 1
 index_after has_y2 k some below = grind (arith, nat_tests)
 
-index_apart : (has_y2 : Bool) (k n : ℕ) → k < n → n < 25 → (place_of has_y2 n).index ≢ (place_of has_y2 k).index
+pub index_apart : (has_y2 : Bool) (k n : ℕ) → k < n → n < 25 → (place_of has_y2 n).index ≢ (place_of has_y2 k).index
 index_apart has_y2 zero n less below = λ same. let at = index_after has_y2 n less below in omega (arith, at, same)
 index_apart has_y2 (suc k) n less below = λ same. let at = index_after has_y2 n (omega arith) below in let before = index_after has_y2 (suc k) (omega arith) (omega arith) in omega (arith, at, before, same)
 
-index_small : (has_y2 : Bool) (k : ℕ) → k < 25 → (place_of has_y2 k).index < 25
+pub index_small : (has_y2 : Bool) (k : ℕ) → k < 25 → (place_of has_y2 k).index < 25
 index_small has_y2 zero below = omega arith
 index_small has_y2 (suc k) below = let at = index_after has_y2 (suc k) (omega arith) below in omega (arith, at)
 

@@ -9,3 +9,4 @@ pub mod BlockSteps
 pub mod TokenLaws
 pub mod ChainLemmas
 pub mod Ends
+pub mod Fresh

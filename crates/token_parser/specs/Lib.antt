@@ -4,4 +4,5 @@ pub mod Tokens
 pub mod Blocks
 pub mod BlockRows
 pub mod Ends
+pub mod Stale
 pub mod Worked

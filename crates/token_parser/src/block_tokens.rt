@@ -1,6 +1,6 @@
 //! The tokens of one block.
 
-ghost use Rattle.std.specs.Prelude.{◌≡◌, ◌-◌, ◌<◌, ◌≤◌, false, true};
+ghost use Rattle.std.specs.Prelude.{◌≡◌, ◌-◌, ◌<◌, ◌≤◌, false, true, nat_lt, pos, replicate, if◌then◌else◌};
 ghost use Rattle.token_parser.specs.Tokens.{signed_size, tokens_from};
 
 use crate::places::{ZIGZAG, nodes_at};
@@ -106,6 +106,34 @@ pub(crate) fn read_tokens(
     ensures most { result ≤ 16 }
 {
     if reader.bit(nodes_at(probs, kind, first, flags)[0]) {
+        let mut local = reader.copied();
+        let end = read_rest(&mut local, probs, kind, first, flags, coefficients);
+        *reader = local;
+        end
+    } else {
+        first
+    }
+}
+
+/// The same for a block that holds the coefficients of another: they are cleared before its first
+/// token, and unchanged if it has none.
+#[inline(always)]
+pub(crate) fn read_fresh_tokens(
+    reader: &mut Decoder,
+    probs: &[u8; 1056],
+    kind: usize,
+    first: usize,
+    flags: usize,
+    coefficients: &mut [i16; 16],
+) -> usize
+    requires kind { kind < 4 }
+    requires first { first < 16 }
+    requires context { flags < 3 }
+    ensures value { tokens_from (16 - first) probs.now kind first flags false (replicate 16 (pos 0)) reader.old ≡ ((if nat_lt first result then coefficients.new else replicate 16 (pos 0), result), reader.new) }
+    ensures most { result ≤ 16 }
+{
+    if reader.bit(nodes_at(probs, kind, first, flags)[0]) {
+        *coefficients = [0; 16];
         let mut local = reader.copied();
         let end = read_rest(&mut local, probs, kind, first, flags, coefficients);
         *reader = local;

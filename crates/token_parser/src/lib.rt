@@ -9,5 +9,5 @@ mod places;
 mod sizes;
 mod tokens;
 
-pub use macroblocks::{read_macroblock, skip_macroblock};
+pub use macroblocks::{read_macroblock, read_next_macroblock, skip_macroblock};
 pub use tokens::Tokens;

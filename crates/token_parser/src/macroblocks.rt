@@ -1,12 +1,13 @@
 //! The blocks of a macroblock, in the order of their tokens.
 
-ghost use Rattle.std.specs.Prelude.{◌≡◌, ◌<◌};
+ghost use Rattle.std.specs.Prelude.{◌≡◌, ◌≢◌, ℕ, ◌+◌, ◌<◌, Bool, true, replicate, slice_index_or};
 ghost use Rattle.bool_coder.specs.Reader.{Reader};
 ghost use Rattle.token_parser.specs.Blocks.{IsInside, block, first_blocks, macroblock, no_flags, skipped, no_tokens, cleared, first_position, has_tokens};
 ghost use Rattle.token_parser.specs.BlockRows.{IsRowInside, luma_row, row};
+ghost use Rattle.token_parser.specs.Stale.{without_stale, seen};
 
 use crate::block_position::BlockPosition;
-use crate::block_tokens::read_tokens;
+use crate::block_tokens::{read_fresh_tokens, read_tokens};
 use crate::tokens::Tokens;
 use bool_coder::Decoder;
 
@@ -62,16 +63,26 @@ fn first_position(has_y2: bool, index: usize) -> usize
     if has_y2 && index < 16 { 1 } else { 0 }
 }
 
-/// One block.
+/// One block. If `clears`, it is cleared before its first token.
 #[inline(always)]
-#[tactic(auto, unfolding(crate::specs::Blocks::block))]
-fn read_block(reader: &mut Decoder, probs: &[u8; 1056], at: BlockPosition, tokens: &mut Tokens)
+fn read_block(
+    reader: &mut Decoder,
+    probs: &[u8; 1056],
+    at: BlockPosition,
+    clears: bool,
+    tokens: &mut Tokens,
+)
     requires { IsInside at }
-    ensures { block probs.now at tokens.old reader.old ≡ (tokens.new, reader.new) }
+    ensures value { (has_y2 : Bool) → first_position has_y2 at.index ≡ at.first → (clears ≡ true → slice_index_or tokens.old.ends at.index 0 ≡ 0) → block probs.now at (seen clears has_y2 tokens.old) reader.old ≡ (seen clears has_y2 tokens.new, reader.new) }
+    ensures others { (k : ℕ) → k ≢ at.index → slice_index_or tokens.new.ends k 0 ≡ slice_index_or tokens.old.ends k 0 }
 {
     let flags = tokens.left[at.left] as usize + tokens.above[at.above] as usize;
     let coefficients = &mut tokens.coefficients[at.index];
-    let end = read_tokens(reader, probs, at.kind, at.first, flags, coefficients);
+    let end = if clears {
+        read_fresh_tokens(reader, probs, at.kind, at.first, flags, coefficients)
+    } else {
+        read_tokens(reader, probs, at.kind, at.first, flags, coefficients)
+    };
     let has_token = end > at.first;
     tokens.above[at.above] = has_token;
     tokens.left[at.left] = has_token;
@@ -85,10 +96,11 @@ fn read_row(
     probs: &[u8; 1056],
     at: BlockPosition,
     count: usize,
+    clears: bool,
     tokens: &mut Tokens,
 )
     requires { IsRowInside count at }
-    ensures { row count probs.now at tokens.old reader.old ≡ (tokens.new, reader.new) }
+    ensures { (has_y2 : Bool) → ((n : ℕ) → n < count → first_position has_y2 (at.index + n) ≡ at.first) → (clears ≡ true → (n : ℕ) → n < count → slice_index_or tokens.old.ends (at.index + n) 0 ≡ 0) → row count probs.now at (seen clears has_y2 tokens.old) reader.old ≡ (seen clears has_y2 tokens.new, reader.new) }
 {
     for n in 0..count {
         let here = BlockPosition {
@@ -96,7 +108,7 @@ fn read_row(
             above: at.above + n,
             ..at
         };
-        read_block(reader, probs, here, tokens);
+        read_block(reader, probs, here, clears, tokens);
     }
 }
 
@@ -117,18 +129,30 @@ fn luma_row(has_y2: bool, y: usize) -> BlockPosition
 
 /// The 16 blocks of luma, which follow Y2.
 #[inline(always)]
-fn read_luma(reader: &mut Decoder, probs: &[u8; 1056], has_y2: bool, tokens: &mut Tokens)
-    ensures { (before : Tokens) (r : Reader) → first_blocks 1 probs.now has_y2 before r ≡ (tokens.old, reader.old) → first_blocks 17 probs.now has_y2 before r ≡ (tokens.new, reader.new) }
+fn read_luma(
+    reader: &mut Decoder,
+    probs: &[u8; 1056],
+    has_y2: bool,
+    clears: bool,
+    tokens: &mut Tokens,
+)
+    ensures { (before : Tokens) (r : Reader) → (clears ≡ true → before.ends ≡ replicate 25 0) → first_blocks 1 probs.now has_y2 before r ≡ (seen clears has_y2 tokens.old, reader.old) → first_blocks 17 probs.now has_y2 before r ≡ (seen clears has_y2 tokens.new, reader.new) }
 {
     for y in 0..4usize {
-        read_row(reader, probs, luma_row(has_y2, y), 4, tokens);
+        read_row(reader, probs, luma_row(has_y2, y), 4, clears, tokens);
     }
 }
 
 /// The 4 blocks of U and the 4 of V, which follow luma.
 #[inline(always)]
-fn read_chroma(reader: &mut Decoder, probs: &[u8; 1056], has_y2: bool, tokens: &mut Tokens)
-    ensures { (before : Tokens) (r : Reader) → first_blocks 17 probs.now has_y2 before r ≡ (tokens.old, reader.old) → first_blocks 25 probs.now has_y2 before r ≡ (tokens.new, reader.new) }
+fn read_chroma(
+    reader: &mut Decoder,
+    probs: &[u8; 1056],
+    has_y2: bool,
+    clears: bool,
+    tokens: &mut Tokens,
+)
+    ensures { (before : Tokens) (r : Reader) → (clears ≡ true → before.ends ≡ replicate 25 0) → first_blocks 17 probs.now has_y2 before r ≡ (seen clears has_y2 tokens.old, reader.old) → first_blocks 25 probs.now has_y2 before r ≡ (seen clears has_y2 tokens.new, reader.new) }
 {
     for y in 0..4usize {
         let at = BlockPosition {
@@ -138,8 +162,29 @@ fn read_chroma(reader: &mut Decoder, probs: &[u8; 1056], has_y2: bool, tokens: &
             above: 4 + y / 2 * 2,
             left: 4 + y,
         };
-        read_row(reader, probs, at, 2, tokens);
+        read_row(reader, probs, at, 2, clears, tokens);
     }
+}
+
+/// All blocks. If `clears`, each is cleared before its first token; all ends were 0 before.
+#[inline(always)]
+fn read_blocks(
+    decoder: &mut Decoder,
+    probs: &[u8; 1056],
+    has_y2: bool,
+    clears: bool,
+    tokens: &mut Tokens,
+)
+    requires { clears ≡ true → tokens.old.ends ≡ replicate 25 0 }
+    ensures { macroblock probs.now has_y2 (seen clears has_y2 tokens.old) decoder.old ≡ (seen clears has_y2 tokens.new, decoder.new) }
+{
+    let mut reader = decoder.copied();
+    if has_y2 {
+        read_block(&mut reader, probs, Y2, clears, tokens);
+    }
+    read_luma(&mut reader, probs, has_y2, clears, tokens);
+    read_chroma(&mut reader, probs, has_y2, clears, tokens);
+    *decoder = reader;
 }
 
 /// Reads the tokens of a macroblock: of Y2 if it has one, of 16 blocks of luma, 4 of U and 4 of V
@@ -157,13 +202,23 @@ pub fn read_macroblock(
 )
     ensures { macroblock probabilities.now has_y2 tokens.old decoder.old ≡ (tokens.new, decoder.new) }
 {
-    let mut reader = decoder.copied();
-    if has_y2 {
-        read_block(&mut reader, probabilities, Y2, tokens);
-    }
-    read_luma(&mut reader, probabilities, has_y2, tokens);
-    read_chroma(&mut reader, probabilities, has_y2, tokens);
-    *decoder = reader;
+    read_blocks(decoder, probabilities, has_y2, false, tokens);
+}
+
+/// The same over the tokens of another macroblock, whose coefficients and ends do not count. Blocks
+/// without a token have no coefficients, and the ones that `tokens` holds for them are stale: a block
+/// has a token if its end is past the index of its first, which is 1 for luma after Y2 and otherwise 0.
+#[inline(never)]
+pub fn read_next_macroblock(
+    decoder: &mut Decoder,
+    probabilities: &[u8; 1056],
+    has_y2: bool,
+    tokens: &mut Tokens,
+)
+    ensures { macroblock probabilities.now has_y2 (cleared tokens.old) decoder.old ≡ (without_stale has_y2 tokens.new, decoder.new) }
+{
+    tokens.ends = [0; 25];
+    read_blocks(decoder, probabilities, has_y2, true, tokens);
 }
 
 /// The flags of a macroblock without tokens.
