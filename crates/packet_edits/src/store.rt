@@ -273,7 +273,7 @@ impl Store {
         let entry = self.entries.get(i);
         Ok(Packet {
             stamp: entry.stamp,
-            bytes: Bytes::from_slice(alloc, entry.bytes.as_slice())?,
+            bytes: entry.bytes.share(alloc)?,
         })
     }
 

@@ -2,3 +2,4 @@ pub mod Reading
 pub mod Ivf
 pub mod Y4m
 pub mod Texts
+pub mod Parts

@@ -1,12 +1,15 @@
 // Reads IVF files.
-ghost use Rattle.std.specs.Prelude.{◌≡◌, IfOk, IfErr, drop};
-ghost use Rattle.stream_files.specs.Ivf.{HasHeader, IvfAnswers, IvfRefuses, body, head_of};
+ghost use Rattle.std.specs.Prelude.{◌≡◌, IfOk, IfErr};
+ghost use Rattle.std.specs.Rc.{rc_slice_items};
+ghost use Rattle.stream_files.specs.Ivf.{HasHeader, IvfAnswers, IvfRefuses, head_of, header_length};
 ghost use Rattle.stream_files.specs.Ivf.{ivf_fault_word};
 
+use super::file_bytes::FileBytes;
 use super::packets::Packets;
 use super::records;
 use byteorder::{ByteOrder, LittleEndian};
 use std::alloc::Global;
+use std::rc::RcSlice;
 use thiserror::Error;
 
 /// Why bytes are not the text of an IVF file, in the order of the checks.
@@ -76,11 +79,11 @@ pub const EMPTY: [u8; 32] = [
     0, 0, 0, 0, 0, 0, 0, 0, 0,
 ];
 
-/// The head of a file, and the bytes after its header.
-fn read_head(bytes: &[u8]) -> Result<(Head, &[u8]), IvfFault>
+/// The head of a file, and the length of its header.
+fn read_head(bytes: &[u8]) -> Result<(Head, usize), IvfFault>
     ensures header { IfOk result (λ found. HasHeader bytes.now) }
     ensures head { IfOk result (λ found. found.0 ≡ head_of bytes.now) }
-    ensures body { IfOk result (λ found. found.1.now ≡ body bytes.now) }
+    ensures length { IfOk result (λ found. found.1 ≡ header_length bytes.now) }
     ensures refused { IfErr result (IvfRefuses bytes.now) }
 {
     if bytes.len() < FIELDS {
@@ -102,7 +105,26 @@ fn read_head(bytes: &[u8]) -> Result<(Head, &[u8]), IvfFault>
         rate: LittleEndian::read_u32(&bytes[16..]),
         scale: LittleEndian::read_u32(&bytes[20..]),
     };
-    Ok((head, &bytes[length..]))
+    Ok((head, length))
+}
+
+/// Reads an IVF file as [`ivf_read`] does, from bytes that are borrowed or shared: the packets of shared bytes are not copied.
+pub fn ivf_read_from<B: FileBytes>(alloc: Global, file: &B) -> Result<Ivf, IvfFault>
+    ensures { IvfAnswers (B.bytes file.now) result }
+{
+    let bytes = file.whole();
+    let (head, start) = read_head(bytes)?;
+    let Some(count) = records::count_records(&bytes[start..]) else {
+        return Err(IvfFault::TooMany);
+    };
+    let Ok((packets, end)) = records::read_records(alloc, file, start, count) else {
+        return Err(IvfFault::NoMemory);
+    };
+    Ok(Ivf {
+        head,
+        packets,
+        spare: (bytes.len() - end) as u64,
+    })
 }
 
 /// Reads an IVF file.
@@ -113,16 +135,13 @@ fn read_head(bytes: &[u8]) -> Result<(Head, &[u8]), IvfFault>
 pub fn ivf_read(alloc: Global, bytes: &[u8]) -> Result<Ivf, IvfFault>
     ensures { IvfAnswers bytes.now result }
 {
-    let (head, text) = read_head(bytes)?;
-    let Some(count) = records::count_records(text) else {
-        return Err(IvfFault::TooMany);
-    };
-    let Ok((packets, rest)) = records::read_records(alloc, text, count) else {
-        return Err(IvfFault::NoMemory);
-    };
-    Ok(Ivf {
-        head,
-        packets,
-        spare: rest.len() as u64,
-    })
+    ivf_read_from(alloc, &bytes)
+}
+
+/// Reads an IVF file as [`ivf_read`] does, without a copy of its packets' bytes: each packet has a part of `file`, whose
+/// bytes stay in memory as long as `file` or one of the packets.
+pub fn ivf_share(alloc: Global, file: &RcSlice<u8>) -> Result<Ivf, IvfFault>
+    ensures { IvfAnswers (rc_slice_items file.now) result }
+{
+    ivf_read_from(alloc, file)
 }

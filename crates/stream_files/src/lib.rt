@@ -2,15 +2,18 @@
 //! limit.
 #![tactic(auto)]
 
+mod file_bytes;
 mod ivf;
 mod ivf_writing;
 pub mod laws;
 mod packets;
+mod parts;
 mod reading;
 mod records;
 mod y4m;
 
-pub use ivf::{EMPTY, Head, Ivf, IvfFault, ivf_read};
+pub use file_bytes::FileBytes;
+pub use ivf::{EMPTY, Head, Ivf, IvfFault, ivf_read, ivf_read_from, ivf_share};
 pub use ivf_writing::{ivf_packet, ivf_padded_packet, ivf_start};
 pub use packets::{Bytes, MAX_PACKETS, Packet, Packets};
 pub use reading::{ReadFault, read_all};

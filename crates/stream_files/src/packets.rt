@@ -1,26 +1,32 @@
 // Packets and their bytes as values.
-ghost use Rattle.std.specs.Prelude.{◌≡◌, IfOk, length, slice_get};
+ghost use Rattle.std.specs.Prelude.{◌≡◌, ◌+◌, ◌≤◌, IfOk, drop, length, slice_get, take};
 ghost use Rattle.std.specs.Option.{option_copied};
+ghost use Rattle.std.specs.Rc.{rc_slice_items};
 
+use super::parts::{Part, Place};
 use pixel_planes::NoMemory;
 use std::alloc::Global;
+use std::fmt::{self, Debug, Formatter, Write};
 use std::marker::Model;
+use std::rc::RcSlice;
 
 /// The most packets that a file may have.
 pub const MAX_PACKETS: usize = 1_048_576;
 
-/// A packet's bytes, in memory of their own. A contract sees them as a list of bytes.
-#[derive(Debug, Drop)]
+/// A packet's bytes: in memory of their own, or a part of a file that other packets share. A contract sees
+/// them as a list of bytes.
+#[derive(Drop)]
 pub struct Bytes {
-    bytes: Vec<u8>,
+    place: Place,
 }
 
 impl Model for Bytes {
     ghost use Rattle.std.specs.Prelude.{List, ℕ};
+    ghost use Rattle.stream_files.specs.Parts.{bytes_at};
 
     ghost Value = { List ℕ };
 
-    ghost view = { λ b. b.bytes.items };
+    ghost view = { λ b. bytes_at b.place };
 }
 
 impl Bytes {
@@ -28,30 +34,57 @@ impl Bytes {
     pub fn new(bytes: Vec<u8>) -> Self
         ensures { result ≡ bytes.items }
     {
-        Bytes { bytes }
+        Bytes {
+            place: Place::Own(bytes),
+        }
     }
 
     /// A copy of some bytes.
     pub fn from_slice(alloc: Global, bytes: &[u8]) -> Result<Self, NoMemory>
         ensures { IfOk result (λ copy. copy ≡ bytes.now) }
     {
+        Ok(Bytes::new(Vec::from_slice(alloc, bytes)?))
+    }
+
+    /// The `size` bytes of a shared file from index `start` on, without a copy. `NoMemory` if the file has too
+    /// many owners.
+    pub(crate) fn part(file: &RcSlice<u8>, start: usize, size: usize) -> Result<Self, NoMemory>
+        requires { start + size ≤ length (rc_slice_items file.now) }
+        ensures { IfOk result (λ part. part ≡ take size (drop start (rc_slice_items file.now))) }
+    {
         Ok(Bytes {
-            bytes: Vec::from_slice(alloc, bytes)?,
+            place: Place::Shared(Part::new(file, start, size)?),
         })
+    }
+
+    /// The same bytes again: without a copy if they are a part of a shared file.
+    pub fn share(&self, alloc: Global) -> Result<Self, NoMemory>
+        ensures { IfOk result (λ same. same ≡ self.now) }
+    {
+        match &self.place {
+            Place::Own(bytes) => Bytes::from_slice(alloc, bytes.as_slice()),
+            Place::Shared(part) => Ok(Bytes {
+                place: Place::Shared(part.share()?),
+            }),
+        }
     }
 
     /// The bytes as a slice.
     pub fn as_slice(&self) -> &[u8]
         ensures { result.now ≡ self.now }
     {
-        self.bytes.as_slice()
+        match &self.place {
+            Place::Own(bytes) => bytes.as_slice(),
+            Place::Shared(part) => part.as_slice(),
+        }
     }
+}
 
-    /// The bytes as a list.
-    pub fn into_vec(self) -> Vec<u8>
-        ensures { result.items ≡ self }
-    {
-        self.bytes
+impl Debug for Bytes {
+    fn fmt<W: Write>(&self, f: &mut Formatter<W>) -> fmt::Result {
+        f.debug_struct("Bytes")
+            .field("bytes", &self.as_slice())
+            .finish()
     }
 }
 

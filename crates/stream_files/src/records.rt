@@ -1,10 +1,11 @@
 // The records of an IVF file.
-ghost use Rattle.std.specs.Prelude.{◌≡◌, ◌≤◌, List, length, IfOk, IfNone, IfSome};
+ghost use Rattle.std.specs.Prelude.{◌≡◌, ◌+◌, ◌≤◌, List, drop, length, IfOk, IfNone, IfSome};
+ghost use Rattle.byteorder.specs.Endian.{little_number};
 ghost use Rattle.stream_files.specs.Ivf.{HasRecord, HasTooMany, IsRecordCount, Records};
-ghost use Rattle.stream_files.specs.Ivf.{after_first, first_packet};
 ghost use Rattle.stream_files.specs.declared.packets.Packet.{Packet};
 
-use super::packets::{Bytes, MAX_PACKETS, Packet, Packets};
+use super::file_bytes::FileBytes;
+use super::packets::{MAX_PACKETS, Packet, Packets};
 use byteorder::{ByteOrder, LittleEndian};
 use pixel_planes::NoMemory;
 use std::alloc::Global;
@@ -12,37 +13,30 @@ use std::alloc::Global;
 /// The number of bytes before a record's packet: its size and its time stamp.
 const RECORD_HEAD: usize = 12;
 
-/// A whole record at the front of a text, and the bytes after it.
+/// The head of a whole record: its packet's time stamp and size in bytes.
 #[derive(Clone, Copy)]
-struct Record<'a> {
+struct Record {
     stamp: u64,
-    bytes: &'a [u8],
-    following: &'a [u8],
+    size: usize,
 }
 
-/// The record at the front, or `None` if there is no whole one.
-fn first_record(text: &[u8]) -> Option<Record<'_>>
+/// The head of the record at the front, or `None` if there is no whole one.
+fn first_record(text: &[u8]) -> Option<Record>
     ensures none { IfNone result (¬ HasRecord text.now) }
     ensures whole { IfSome result (λ first. HasRecord text.now) }
-    ensures packet { IfSome result (λ first.
-        record { stamp = first.stamp; bytes = first.bytes.now } ≡ first_packet text.now) }
-    ensures following { IfSome result (λ first. first.following.now ≡ after_first text.now) }
+    ensures stamp { IfSome result (λ first. first.stamp ≡ little_number 8 (drop 4 text.now)) }
+    ensures size { IfSome result (λ first. first.size ≡ little_number 4 text.now) }
+    ensures inside { IfSome result (λ first. 12 + first.size ≤ length text.now) }
 {
     if text.len() < RECORD_HEAD {
         return None;
     }
     let size = LittleEndian::read_u32(text) as usize;
-    let stamp = LittleEndian::read_u64(&text[4..]);
-    let rest = &text[RECORD_HEAD..];
-    if rest.len() < size {
+    if text.len() - RECORD_HEAD < size {
         return None;
     }
-    let (bytes, following) = rest.split_at(size);
-    Some(Record {
-        stamp,
-        bytes,
-        following,
-    })
+    let stamp = LittleEndian::read_u64(&text[4..]);
+    Some(Record { stamp, size })
 }
 
 /// The number of whole records at the front, or `None` if there are more than `MAX_PACKETS`.
@@ -58,29 +52,34 @@ pub(crate) fn count_records(text: &[u8]) -> Option<usize>
             return None;
         }
         count += 1;
-        rest = record.following;
+        rest = &rest[RECORD_HEAD..][record.size..];
     }
     Some(count)
 }
 
-/// The packets of the whole records at the front, with room for `count` from the start, and the bytes
-/// after them.
-pub(crate) fn read_records(
+/// The packets of the whole records of a file from index `start` on, with room for `count` from the start,
+/// and the index after them.
+pub(crate) fn read_records<B: FileBytes>(
     alloc: Global,
-    text: &[u8],
+    file: &B,
+    start: usize,
     count: usize,
-) -> Result<(Packets, &[u8]), NoMemory>
-    ensures records { IfOk result (λ found. Records text.now found.0 found.1.now) }
-    ensures over { IfOk result (λ found. ¬ HasRecord found.1.now) }
+) -> Result<(Packets, usize), NoMemory>
+    requires { start ≤ length (B.bytes file.now) }
+    ensures records { IfOk result (λ found. Records (drop start (B.bytes file.now)) found.0 (drop found.1 (B.bytes file.now))) }
+    ensures over { IfOk result (λ found. ¬ HasRecord (drop found.1 (B.bytes file.now))) }
+    ensures end { IfOk result (λ found. found.1 ≤ length (B.bytes file.now)) }
 {
+    let bytes = file.whole();
     let mut packets = Vec::with_capacity(alloc, count)?;
-    let mut rest = text;
-    while let Some(record) = first_record(rest) {
+    let mut at = start;
+    while let Some(record) = first_record(&bytes[at..]) {
+        at += RECORD_HEAD;
         packets.push(Packet {
             stamp: record.stamp,
-            bytes: Bytes::from_slice(alloc, record.bytes)?,
+            bytes: file.part(alloc, at, record.size)?,
         })?;
-        rest = record.following;
+        at += record.size;
     }
-    Ok((Packets::new(packets), rest))
+    Ok((Packets::new(packets), at))
 }

@@ -1,13 +1,14 @@
 ghost use Rattle.std.specs.Prelude.{◌≤◌};
 
-use pixel_planes::{Picture, Plane, Planes};
+use pixel_planes::{NoMemory, Picture, Plane, Planes};
 use std::alloc::{AllocError, Global};
 use std::io::{self, ErrorKind, Read};
 use std::process::Abort;
+use std::rc::RcSlice;
 use std::test::Fail;
 use stream_files::{
-    EMPTY, Head, Ivf, IvfFault, MAX_PACKETS, ReadFault, WriteFault, ivf_packet, ivf_read,
-    ivf_start, read_all, y4m_frame, y4m_header,
+    Bytes, EMPTY, Head, Ivf, IvfFault, MAX_PACKETS, ReadFault, WriteFault, ivf_packet, ivf_read,
+    ivf_share, ivf_start, read_all, y4m_frame, y4m_header,
 };
 
 /// A reader that returns one byte a call, as long as it has one, and an error at a later call.
@@ -120,6 +121,68 @@ fn reads_two_packets_and_reports_the_rest(rt: HostRuntime) -> Result<(), Fail> {
     assert!(rt; has_packet(&file, 0, 4_294_967_297, &[10, 11, 12]));
     assert!(rt; has_packet(&file, 1, 5, &[]));
     Ok(())
+}
+
+/// The packets of a file that is read from shared bytes, which the caller lets go.
+fn shared_packets(alloc: Global, bytes: &[u8]) -> Result<Ivf, IvfFault> {
+    let file = RcSlice::from_slice(alloc, bytes).map_err(|_| IvfFault::NoMemory)?;
+    ivf_share(alloc, &file)
+}
+
+/// Whether two files have the same heads, packets and numbers of trailing bytes.
+fn is_same_file(file: &Ivf, other: &Ivf) -> bool {
+    let same = file.head == other.head && file.spare == other.spare;
+    let packets = file.packets.as_slice();
+    let others = other.packets.as_slice();
+    same && packets.len() == others.len()
+        && packets.iter().zip(others).all(|(packet, other)| {
+            packet.stamp == other.stamp && packet.bytes.as_slice() == other.bytes.as_slice()
+        })
+}
+
+// A file with two packets, one of them without bytes, and a cut record, from its whole text and from each beginning of it.
+#[test]
+fn shared_packets_are_those_that_are_copied(rt: HostRuntime) -> Result<(), Fail> {
+    for length in 34..=67 {
+        let shared = shared_packets(rt.alloc(), &FILE[..length])?;
+        let copied = ivf_read(rt.alloc(), &FILE[..length])?;
+        assert!(rt; is_same_file(&shared, &copied), "{length}");
+    }
+    let shared = shared_packets(rt.alloc(), &FILE)?;
+    assert!(rt; has_sizes(&shared, HEAD, 2, 6));
+    assert!(rt; has_packet(&shared, 0, 4_294_967_297, &[10, 11, 12]));
+    assert!(rt; has_packet(&shared, 1, 5, &[]));
+    Ok(())
+}
+
+/// The first packet's bytes again, from a file that is let go.
+fn first_shared(alloc: Global, file: Ivf) -> Result<Bytes, NoMemory> {
+    match file.packets.get(0) {
+        Some(packet) => packet.bytes.share(alloc),
+        None => Err(NoMemory),
+    }
+}
+
+#[test]
+fn bytes_outlast_their_file(rt: HostRuntime) -> Result<(), Fail> {
+    for file in [
+        shared_packets(rt.alloc(), &FILE)?,
+        ivf_read(rt.alloc(), &FILE)?,
+    ] {
+        let bytes = first_shared(rt.alloc(), file)?;
+        assert_eq!(rt; bytes.as_slice(), [10, 11, 12].as_slice());
+        let text = format!(in rt.alloc(); "{bytes:?}")?;
+        assert_eq!(rt; text.as_str(), "Bytes { bytes: [10, 11, 12] }");
+    }
+    Ok(())
+}
+
+#[test]
+fn shared_bytes_are_refused_alike(rt: HostRuntime) {
+    let short = shared_packets(rt.alloc(), &FILE[..33]);
+    assert!(rt; short.err() == Some(IvfFault::HeaderLength));
+    let empty = shared_packets(rt.alloc(), &[]);
+    assert!(rt; empty.err() == Some(IvfFault::Header));
 }
 
 const EMPTY_HEAD: Head = Head {

@@ -1,6 +1,6 @@
 use Rattle.std.proofs.Common.{[], ◌∷◌, ◌++◌, refl, arith, length-append}
 use Rattle.stream_files.specs.Ivf.{first_packet, after_first}
-use Rattle.stream_files.proofs.Walks.{records_more}
+use Rattle.stream_files.proofs.Walks.{records_more, after_size}
 use Rattle.stream_files.proofs.records.count_records.Goals as goal
 
 pub returns-then-count-eq-MAX_PACKETS-clause-none : goal.returns-then-count-eq-MAX_PACKETS-clause-none
@@ -18,7 +18,7 @@ loop-record-preserved c =
     let met = c.loop-record.invariant in
     let packet = first_packet c.loop-record.rest.now in record {
       packets = met.packets ++ packet ∷ [];
-      so_far = records_more _ met.packets _ packet _ met.so_far c.in-Some.ensures.whole refl c.in-Some.ensures.following;
+      so_far = records_more _ met.packets _ packet _ met.so_far c.in-Some.ensures.whole refl (after_size _ _ c.in-Some.ensures.size);
       counted = omega (arith, length-append met.packets (packet ∷ []), met.counted);
       few = omega arith;
     }

@@ -8,4 +8,4 @@ invariant_of-self c =
     let es = c.self.inside.entries in
     let within : c.args.at < length es = search (rules, arith) in
     whole_remove es c.remove-2.new.self c.self.inside.next_id c.self.inside.marks c.mark.new.marks c.self.inside.index c.remove.new.self c.self.invariant c.args.at within c.remove-2.ensures.items
-    (c.mark.ensures ∙ ap (marked_at c.args.at) c.remove-3.ensures) c.remove.ensures
+    (c.mark.ensures ∙ ap (marked_at c.args.at) c.remove-4.ensures) c.remove.ensures
