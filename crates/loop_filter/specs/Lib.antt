@@ -8,3 +8,4 @@ pub mod Frames
 pub mod Macroblocks
 pub mod Laws
 pub mod Lanes
+pub mod Columns

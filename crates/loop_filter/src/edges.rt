@@ -1,7 +1,7 @@
 //! Edges of sixteen lines, in luma.
 
 ghost use Rattle.std.specs.Prelude.{◌≡◌, ℕ, ◌+◌, ◌-◌, ◌*◌, ◌<◌, ◌≤◌, length};
-ghost use Rattle.loop_filter.specs.Lines.{filtered_line, inner_line, reach};
+ghost use Rattle.loop_filter.specs.Lines.{filtered_line, reach};
 ghost use Rattle.loop_filter.specs.Edges.{line_in, lines_filtered};
 ghost use Rattle.loop_filter.specs.Lanes.{line_at, vector, vectors, row_of, rows_put};
 
@@ -105,7 +105,7 @@ pub fn filter_rows(
 ///
 /// The columns of `above` begin at `start`.
 #[inline(always)]
-fn load_next_rows(above: Taps, samples: &[u8], start: usize, stride: usize) -> Taps
+pub fn load_next_rows(above: Taps, samples: &[u8], start: usize, stride: usize) -> Taps
     requires room { start + 11 * stride + 16 ≤ length samples.now }
     requires above { (i : ℕ) → i < 16 → line_at above i ≡ line_in samples.now (start + i) stride }
     ensures { (i : ℕ) → i < 16 → line_at result i ≡ line_in samples.now (start + 4 * stride + i) stride }
@@ -120,37 +120,6 @@ fn load_next_rows(above: Taps, samples: &[u8], start: usize, stride: usize) -> T
         q2: load(samples, start + 10 * stride),
         q3: load(samples, start + 11 * stride),
     }
-}
-
-/// Filters the 16 columns across an inner edge four rows below another one: `above` holds the
-/// columns across that one, after its filter. Returns the columns across this edge, after its filter.
-///
-/// The columns of `above` begin at `start`.
-#[inline(always)]
-pub fn filter_next_rows(
-    limits: EdgeLimits,
-    above: Taps,
-    samples: &mut [u8],
-    start: usize,
-    stride: usize,
-) -> Taps
-    requires limit { limits.edge < 255 }
-    requires wide { 16 ≤ stride }
-    requires room { start + 11 * stride + 16 ≤ length samples.old }
-    requires above { (i : ℕ) → i < 16 → line_at above i ≡ line_in samples.old (start + i) stride }
-    ensures samples { samples.new ≡ lines_filtered (inner_line limits) (start + 4 * stride) 1 stride samples.old 16 }
-    ensures lines { (i : ℕ) → i < 16 → line_at result i ≡ line_in samples.new (start + 4 * stride + i) stride }
-{
-    let taps = load_next_rows(above, samples, start, stride);
-    let changed = filter_sixteen(EdgeFilter::Inner, limits, taps);
-    store_rows(
-        EdgeFilter::Inner,
-        changed,
-        samples,
-        start + 4 * stride,
-        stride,
-    );
-    changed
 }
 
 /// Filters the 16 rows across an edge between columns.

@@ -1,12 +1,11 @@
 //! Edges of all three planes, filtered together: sixteen lines of luma and eight of each chroma plane.
 
-ghost use Rattle.std.specs.Prelude.{◌≡◌, ℕ, ◌+◌, ◌*◌, ◌<◌, ◌≤◌, length};
-ghost use Rattle.loop_filter.specs.Lines.{filtered_line, inner_line};
-ghost use Rattle.loop_filter.specs.Edges.{line_in, lines_filtered};
-ghost use Rattle.loop_filter.specs.Lanes.{line_at};
+ghost use Rattle.std.specs.Prelude.{◌≡◌, ◌+◌, ◌*◌, ◌<◌, ◌≤◌, length};
+ghost use Rattle.loop_filter.specs.Lines.{filtered_line};
+ghost use Rattle.loop_filter.specs.Edges.{lines_filtered};
+ghost use Rattle.loop_filter.specs.Columns.{HoldColumns};
 
 use crate::edge_limits::{EdgeFilter, EdgeLimits};
-use crate::edges::filter_next_rows;
 use crate::taps::{Taps, filter_both};
 use crate::{edges, pairs};
 
@@ -20,8 +19,16 @@ pub struct Starts {
     pub chroma_stride: usize,
 }
 
+/// Lines across an edge of all three planes: sixteen of luma, and eight of the plane `u` followed by
+/// eight of the plane `v`.
+#[derive(Clone, Copy)]
+pub struct JoinedTaps {
+    pub luma: Taps,
+    pub chroma: Taps,
+}
+
 /// Filters the columns across an edge between rows: 16 in luma and 8 in each chroma plane. Returns
-/// those of luma, after the filter.
+/// them, after the filter.
 ///
 /// The first column of each plane begins four rows above the edge.
 #[inline(always)]
@@ -32,7 +39,7 @@ pub fn filter_joined_rows(
     u: &mut [u8],
     v: &mut [u8],
     at: Starts,
-) -> Taps
+) -> JoinedTaps
     requires limit { limits.edge < 255 }
     requires wide { (16 ≤ at.luma_stride) × (8 ≤ at.chroma_stride) }
     requires room_y { at.luma + 7 * at.luma_stride + 16 ≤ length y.old }
@@ -41,36 +48,14 @@ pub fn filter_joined_rows(
     ensures y { y.new ≡ lines_filtered (filtered_line filter limits) at.luma 1 at.luma_stride y.old 16 }
     ensures u { u.new ≡ lines_filtered (filtered_line filter limits) at.chroma 1 at.chroma_stride u.old 8 }
     ensures v { v.new ≡ lines_filtered (filtered_line filter limits) at.chroma 1 at.chroma_stride v.old 8 }
-    ensures lines { (i : ℕ) → i < 16 → line_at result i ≡ line_in y.new (at.luma + i) at.luma_stride }
+    ensures lines { HoldColumns result at y.new u.new v.new }
 {
     let luma = edges::load_rows(y, at.luma, at.luma_stride);
     let chroma = pairs::load_rows(u, v, at.chroma, at.chroma_stride);
     let (luma, chroma) = filter_both(filter, limits, luma, chroma);
     edges::store_rows(filter, luma, y, at.luma, at.luma_stride);
     pairs::store_rows(filter, chroma, u, v, at.chroma, at.chroma_stride);
-    luma
-}
-
-/// Filters the columns across the edges between rows inside a macroblock: 16 columns of luma across
-/// three edges, from top to bottom, and 8 of each chroma plane across one.
-///
-/// The blocks begin at the starts. The rows of luma between two edges stay in vectors from one edge
-/// to the next.
-#[inline]
-pub fn filter_inner_rows(limits: EdgeLimits, y: &mut [u8], u: &mut [u8], v: &mut [u8], at: Starts)
-    requires limit { limits.edge < 255 }
-    requires wide { (16 ≤ at.luma_stride) × (8 ≤ at.chroma_stride) }
-    requires room_y { at.luma + 15 * at.luma_stride + 16 ≤ length y.old }
-    requires room_u { at.chroma + 7 * at.chroma_stride + 8 ≤ length u.old }
-    requires room_v { at.chroma + 7 * at.chroma_stride + 8 ≤ length v.old }
-    ensures y { y.new ≡ lines_filtered (inner_line limits) (at.luma + 8 * at.luma_stride) 1 at.luma_stride (lines_filtered (inner_line limits) (at.luma + 4 * at.luma_stride) 1 at.luma_stride (lines_filtered (inner_line limits) at.luma 1 at.luma_stride y.old 16) 16) 16 }
-    ensures u { u.new ≡ lines_filtered (inner_line limits) at.chroma 1 at.chroma_stride u.old 8 }
-    ensures v { v.new ≡ lines_filtered (inner_line limits) at.chroma 1 at.chroma_stride v.old 8 }
-{
-    let first = filter_joined_rows(EdgeFilter::Inner, limits, y, u, v, at);
-    let second = filter_next_rows(limits, first, y, at.luma, at.luma_stride);
-    let below = at.luma + 4 * at.luma_stride;
-    filter_next_rows(limits, second, y, below, at.luma_stride);
+    JoinedTaps { luma, chroma }
 }
 
 /// Filters the rows across an edge between columns: 16 in luma and 8 in each chroma plane.

@@ -15,6 +15,7 @@ pub mod laws;
 mod levels;
 mod macroblocks;
 mod pairs;
+mod rows_inner;
 mod strengths;
 mod taps;
 

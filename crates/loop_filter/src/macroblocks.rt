@@ -1,14 +1,15 @@
 //! A macroblock's blocks in all three planes, by the normal filter (RFC 6386, section 15.3).
 
-ghost use Rattle.std.specs.Prelude.{◌≡◌, ◌+◌, ◌*◌, ◌<◌, ◌≤◌, false, length};
+ghost use Rattle.std.specs.Prelude.{◌≡◌, ◌+◌, ◌-◌, ◌*◌, ◌<◌, ◌≤◌, false, length};
 ghost use Rattle.loop_filter.specs.Lines.{inner_line, macroblock_line};
-ghost use Rattle.loop_filter.specs.Blocks.{IsInside, HasSmallLimits, luma, chroma, left_edge, inner_columns, top_edge, inner_rows, block_filtered};
+ghost use Rattle.loop_filter.specs.Blocks.{IsInside, HasSmallLimits, outer_limits, inner_limits, luma, chroma, left_edge, inner_columns, top_edge, inner_rows, block_filtered};
 ghost use Rattle.loop_filter.specs.Macroblocks.{chroma_block};
 
 use crate::blocks::{Block, inner_limits, outer_limits};
 use crate::columns_inner::filter_inner_columns;
 use crate::edge_limits::{EdgeFilter, EdgeLimits};
-use crate::joined_edges::{Starts, filter_inner_rows, filter_joined_columns, filter_joined_rows};
+use crate::joined_edges::{Starts, filter_joined_columns, filter_joined_rows};
+use crate::rows_inner::{filter_inner_rows, filter_top_and_inner_rows};
 use crate::strengths::Strength;
 
 /// The position of a macroblock's blocks among the samples of the planes.
@@ -82,6 +83,21 @@ fn filter_columns_inside(
     }
 }
 
+/// Where the columns across the top edges of the blocks begin: four rows above them.
+#[inline]
+fn starts_above(at: Macroblock) -> Starts
+    requires luma { 4 * at.luma.stride ≤ at.luma.start }
+    requires chroma { 4 * at.chroma_stride ≤ at.chroma }
+    ensures luma { (result.luma ≡ at.luma.start - 4 * at.luma.stride) × (result.luma_stride ≡ at.luma.stride) }
+    ensures chroma { (result.chroma ≡ at.chroma - 4 * at.chroma_stride) × (result.chroma_stride ≡ at.chroma_stride) }
+{
+    Starts {
+        luma: at.luma.start - 4 * at.luma.stride,
+        chroma: at.chroma - 4 * at.chroma_stride,
+        ..starts(at)
+    }
+}
+
 /// Filters the top edges of the blocks.
 #[tactic(auto, unfolding(crate::specs::Blocks::top_edge, crate::specs::Blocks::row_edge))]
 #[inline]
@@ -95,12 +111,7 @@ fn filter_top(limits: EdgeLimits, y: &mut [u8], u: &mut [u8], v: &mut [u8], at: 
     ensures v { v.new ≡ top_edge (macroblock_line limits) 8 (chroma_block at) v.old }
 {
     if !at.luma.is_topmost {
-        let starts = Starts {
-            luma: at.luma.start - 4 * at.luma.stride,
-            chroma: at.chroma - 4 * at.chroma_stride,
-            ..starts(at)
-        };
-        filter_joined_rows(EdgeFilter::Macroblock, limits, y, u, v, starts);
+        filter_joined_rows(EdgeFilter::Macroblock, limits, y, u, v, starts_above(at));
     }
 }
 
@@ -128,6 +139,28 @@ fn filter_rows_inside(
     }
 }
 
+/// Filters the top edges of the blocks, and the horizontal edges inside them.
+#[tactic(auto, unfolding(crate::specs::Blocks::top_edge, crate::specs::Blocks::inner_rows, crate::specs::Blocks::row_edge))]
+#[inline]
+fn filter_between_rows(strength: Strength, y: &mut [u8], u: &mut [u8], v: &mut [u8], at: Macroblock)
+    requires small { HasSmallLimits strength }
+    requires inside_y { IsInside 16 at.luma (length y.old) }
+    requires inside_u { IsInside 8 (chroma_block at) (length u.old) }
+    requires inside_v { IsInside 8 (chroma_block at) (length v.old) }
+    ensures y { y.new ≡ inner_rows (inner_line (inner_limits strength.limits)) luma strength.has_inner_edges at.luma (top_edge (macroblock_line (outer_limits strength.limits)) 16 at.luma y.old) }
+    ensures u { u.new ≡ inner_rows (inner_line (inner_limits strength.limits)) chroma strength.has_inner_edges (chroma_block at) (top_edge (macroblock_line (outer_limits strength.limits)) 8 (chroma_block at) u.old) }
+    ensures v { v.new ≡ inner_rows (inner_line (inner_limits strength.limits)) chroma strength.has_inner_edges (chroma_block at) (top_edge (macroblock_line (outer_limits strength.limits)) 8 (chroma_block at) v.old) }
+{
+    let outer = outer_limits(strength.limits);
+    let inner = inner_limits(strength.limits);
+    if strength.has_inner_edges && !at.luma.is_topmost {
+        filter_top_and_inner_rows(outer, inner, y, u, v, starts_above(at));
+    } else {
+        filter_top(outer, y, u, v, at);
+        filter_rows_inside(inner, strength.has_inner_edges, y, u, v, at);
+    }
+}
+
 /// Filters a macroblock's blocks.
 #[inline]
 pub(crate) fn filter_macroblock(
@@ -150,6 +183,5 @@ pub(crate) fn filter_macroblock(
     let has_inner_edges = strength.has_inner_edges;
     filter_left(outer, y, u, v, at);
     filter_columns_inside(inner, has_inner_edges, y, u, v, at);
-    filter_top(outer, y, u, v, at);
-    filter_rows_inside(inner, has_inner_edges, y, u, v, at);
+    filter_between_rows(strength, y, u, v, at);
 }

@@ -67,6 +67,31 @@ pub fn load_rows(u: &[u8], v: &[u8], start: usize, stride: usize) -> Taps
     }
 }
 
+/// Loads the eight columns of each plane across an edge four rows below another one: `above` holds
+/// the columns across that one, whose lower four rows are the upper four of these.
+///
+/// The columns of `above` begin at `start`.
+#[inline(always)]
+pub fn load_next_rows(above: Taps, u: &[u8], v: &[u8], start: usize, stride: usize) -> Taps
+    requires room_u { start + 11 * stride + 8 ≤ length u.now }
+    requires room_v { start + 11 * stride + 8 ≤ length v.now }
+    requires above_u { (i : ℕ) → i < 8 → line_at above i ≡ line_in u.now (start + i) stride }
+    requires above_v { (i : ℕ) → i < 8 → line_at above (8 + i) ≡ line_in v.now (start + i) stride }
+    ensures u { (i : ℕ) → i < 8 → line_at result i ≡ line_in u.now (start + 4 * stride + i) stride }
+    ensures v { (i : ℕ) → i < 8 → line_at result (8 + i) ≡ line_in v.now (start + 4 * stride + i) stride }
+{
+    Taps {
+        p3: above.q0,
+        p2: above.q1,
+        p1: above.q2,
+        p0: above.q3,
+        q0: load_both(u, v, start + 8 * stride),
+        q1: load_both(u, v, start + 9 * stride),
+        q2: load_both(u, v, start + 10 * stride),
+        q3: load_both(u, v, start + 11 * stride),
+    }
+}
+
 /// Stores those rows of eight columns in each plane that a filter can change, in rows `stride`
 /// samples apart.
 #[inline(always)]

@@ -33,12 +33,23 @@ returns-clause-v c =
     (λ i k less below. lane_of_second t i k less below ∙ ap (λ l. slice_index (samples_of l) k) (c.filter_both.ensures.b (8 + i) (omega arith) ∙ ap f (c.load_rows-chroma.ensures.v i less)))
 
 pub returns-clause-lines : goal.returns-clause-lines
-returns-clause-lines c = λ i less.
+returns-clause-lines c =
     let f = filtered_line c.args.filter c.args.limits in
-    let s = c.args.y.now in
     let start = c.args.at.luma in
     let stride = c.args.at.luma_stride in
-    c.filter_both.ensures.a i less
-    ∙ ap f (c.load_rows-luma.ensures i less)
-    ∙ column_after f s start stride 16 i (omega (arith, c.requires.wide.0)) c.requires.wide.0 less (omega (arith, c.requires.wide.0, c.requires.room_y))
-    ∙ ap (λ (l : List ℕ). line_in l (start + i) stride) (sym (returns-clause-y c))
+    let chroma_start = c.args.at.chroma in
+    let chroma_stride = c.args.at.chroma_stride in
+    record {
+      luma = λ i less.
+          c.filter_both.ensures.a i less ∙ ap f (c.load_rows-luma.ensures i less)
+          ∙ column_after f c.args.y.now start stride 16 i (omega (arith, c.requires.wide.0)) c.requires.wide.0 less (omega (arith, c.requires.wide.0, c.requires.room_y))
+          ∙ ap (λ (l : List ℕ). line_in l (start + i) stride) (sym (returns-clause-y c));
+      chroma_u = λ i less.
+          c.filter_both.ensures.b i (omega arith) ∙ ap f (c.load_rows-chroma.ensures.u i less)
+          ∙ column_after f c.args.u.now chroma_start chroma_stride 8 i (omega (arith, c.requires.wide.1)) c.requires.wide.1 less (omega (arith, c.requires.wide.1, c.requires.room_u))
+          ∙ ap (λ (l : List ℕ). line_in l (chroma_start + i) chroma_stride) (sym (returns-clause-u c));
+      chroma_v = λ i less.
+          c.filter_both.ensures.b (8 + i) (omega arith) ∙ ap f (c.load_rows-chroma.ensures.v i less)
+          ∙ column_after f c.args.v.now chroma_start chroma_stride 8 i (omega (arith, c.requires.wide.1)) c.requires.wide.1 less (omega (arith, c.requires.wide.1, c.requires.room_v))
+          ∙ ap (λ (l : List ℕ). line_in l (chroma_start + i) chroma_stride) (sym (returns-clause-v c));
+    }

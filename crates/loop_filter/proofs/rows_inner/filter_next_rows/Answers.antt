@@ -7,7 +7,7 @@ use Rattle.loop_filter.specs.declared.edge_limits.EdgeFilter.TheVariants.{Inner}
 use Rattle.loop_filter.proofs.ChangedRows.{changed_rows, column_after}
 use Rattle.loop_filter.proofs.EdgeFold.{samples_of}
 use Rattle.loop_filter.proofs.Loaded.{lane_of_vector}
-use Rattle.loop_filter.proofs.edges.filter_next_rows.Goals as goal
+use Rattle.loop_filter.proofs.rows_inner.filter_next_rows.Goals as goal
 
 pub returns-clause-samples : goal.returns-clause-samples
 returns-clause-samples c =
