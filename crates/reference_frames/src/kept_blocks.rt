@@ -1,8 +1,9 @@
 //! The residual of a macroblock, as it is kept between its tokens and its samples (RFC 6386,
 //! sections 13 and 14).
 
-ghost use Rattle.std.specs.Prelude.{◌≡◌, ℕ, ◌+◌, ◌*◌, ◌<◌, ◌≤◌, [], ◌∷◌, length, replicate, pos, ◌*ℤ◌, if◌then◌else◌, IfSome, None, Some, slice_index_or};
+ghost use Rattle.std.specs.Prelude.{◌≡◌, ℕ, ◌+◌, ◌*◌, ◌<◌, ◌≤◌, [], ◌∷◌, length, replicate, pos, ◌*ℤ◌, false, nat_lt, if◌then◌else◌, IfSome, None, Some, slice_index_or};
 ghost use Rattle.token_parser.specs.Ends.{EndsHold, IsFirstAlone};
+ghost use Rattle.token_parser.specs.Stale.{own_coefficients, without_stale};
 ghost use Rattle.transforms.specs.Factors.{factors_of};
 ghost use Rattle.transforms.specs.Residuals.{IsAdded, pair_residual};
 ghost use Rattle.transforms.specs.Transforms.{inverse_dct, reduced};
@@ -15,7 +16,7 @@ use bool_coder::Decoder;
 use frame_header::Header;
 use mode_parser::{Record, YMode};
 use std::marker::Model;
-use token_parser::{Tokens, read_macroblock, skip_macroblock};
+use token_parser::{Tokens, read_next_macroblock, skip_macroblock};
 use transforms::{
     Factors, dct_add, dct_add_first, dct_add_two, dequantise, dequantise_others, factors, wht,
     wht_first,
@@ -59,55 +60,54 @@ fn product(coefficient: i16, factor: i16) -> i16
     coefficient.wrapping_mul(factor)
 }
 
-/// The same by the index after the last token of the block: one that ends at index 1 or before has at most its
-/// first coefficient.
+/// The same by the index after the last token of the block: one that ends at index 1 or before has at
+/// most its first coefficient, and one without a token has none, whatever is kept for it.
 #[inline(always)]
 fn y2_results_by(factors: Factors, end: u8, coefficients: &[i16; 16]) -> [i16; 16]
-    requires { end ≤ 1 → IsFirstAlone coefficients.now }
-    ensures { result ≡ y2_results factors coefficients.now }
+    requires { end ≤ 1 → IsFirstAlone (if nat_lt 0 end then coefficients.now else replicate 16 (pos 0)) }
+    ensures { result ≡ y2_results factors (if nat_lt 0 end then coefficients.now else replicate 16 (pos 0)) }
 {
     if end > 1 {
         return y2_results(factors, coefficients);
+    }
+    if end == 0 {
+        return [0; 16];
     }
     let first = product(coefficients[0], factors.y2_dc);
     wht_first(first)
 }
 
-/// Writes the first coefficients of the blocks from `start` to before `end`, dequantised.
+/// Writes the first coefficients of the blocks from `start` to before `end`, dequantised. A block
+/// without a token has none, whatever is kept for it.
 #[inline(always)]
-fn write_firsts(
-    coefficients: &[[i16; 16]; 25],
-    start: usize,
-    end: usize,
-    dc: i16,
-    firsts: &mut [i16; 24],
-)
+fn write_firsts(tokens: &Tokens, start: usize, end: usize, dc: i16, firsts: &mut [i16; 24])
     requires { (start ≤ end) × (end ≤ 24) }
-    ensures inside { (k : ℕ) → start ≤ k → k < end → slice_index_or firsts.new k (pos 0) ≡ reduced (slice_index_or (slice_index_or coefficients.now k []) 0 (pos 0) *ℤ dc) }
+    ensures inside { (k : ℕ) → start ≤ k → k < end → slice_index_or firsts.new k (pos 0) ≡ reduced (slice_index_or (own_coefficients false tokens.now k) 0 (pos 0) *ℤ dc) }
     ensures before { (k : ℕ) → k < start → slice_index_or firsts.new k (pos 0) ≡ slice_index_or firsts.old k (pos 0) }
 {
     for k in start..end {
-        firsts[k] = coefficients[k][0].wrapping_mul(dc);
+        firsts[k] = if tokens.ends[k] > 0 {
+            tokens.coefficients[k][0].wrapping_mul(dc)
+        } else {
+            0
+        };
     }
 }
 
-/// The first coefficients of the blocks that have samples: of luma the results of Y2, if there is
-/// one, and otherwise their own, dequantised (RFC 6386, sections 14.1 and 14.3).
-#[inline]
-fn first_coefficients(factors: Factors, has_y2: bool, tokens: &Tokens) -> [i16; 24]
-    requires { EndsHold tokens.now }
-    ensures { (k : ℕ) → k < 24 → slice_index_or result k (pos 0) ≡ slice_index_or (block_of factors (firsts_of factors has_y2 tokens.now.coefficients) tokens.now.coefficients k) 0 (pos 0) }
+/// Writes the first coefficients of the blocks that have samples: of luma the results of Y2, if there
+/// is one, and otherwise their own, dequantised (RFC 6386, sections 14.1 and 14.3).
+#[inline(always)]
+fn write_first_coefficients(factors: Factors, has_y2: bool, tokens: &Tokens, firsts: &mut [i16; 24])
+    requires { EndsHold (without_stale has_y2 tokens.now) }
+    ensures { (k : ℕ) → k < 24 → slice_index_or firsts.new k (pos 0) ≡ slice_index_or (block_of factors (firsts_of factors has_y2 (without_stale has_y2 tokens.now).coefficients) (without_stale has_y2 tokens.now).coefficients k) 0 (pos 0) }
 {
-    let coefficients = &tokens.coefficients;
-    let mut firsts = [0; 24];
     if has_y2 {
-        let results = y2_results_by(factors, tokens.ends[24], &coefficients[24]);
+        let results = y2_results_by(factors, tokens.ends[24], &tokens.coefficients[24]);
         firsts[..16].copy_from_slice(&results);
     } else {
-        write_firsts(coefficients, 0, 16, factors.y_dc, &mut firsts);
+        write_firsts(tokens, 0, 16, factors.y_dc, firsts);
     }
-    write_firsts(coefficients, 16, 24, factors.uv_dc, &mut firsts);
-    firsts
+    write_firsts(tokens, 16, 24, factors.uv_dc, firsts);
 }
 
 /// The factors of a segment among those of the frame.
@@ -149,7 +149,8 @@ fn flags_of(tokens: &Tokens, has_tokens: bool) -> Flags
 /// is dequantised where it is added to its samples, if it has more than a first coefficient.
 #[derive(Drop)]
 pub struct Blocks {
-    /// The coefficients as they were read, and where each block ends.
+    /// The coefficients as they were read, and where each block ends. Those of a block without a token are
+    /// of a macroblock before.
     tokens: Tokens,
     /// The first coefficients, dequantised, or results of Y2.
     firsts: [i16; 24],
@@ -205,13 +206,11 @@ impl Blocks {
             skip_macroblock(has_y2, &mut self.tokens);
             return flags_of(&self.tokens, false);
         }
-        self.tokens.clear();
         let probabilities = &header.context.probabilities.coefficients;
-        read_macroblock(reader, probabilities, has_y2, &mut self.tokens);
+        read_next_macroblock(reader, probabilities, has_y2, &mut self.tokens);
         let factors = factors_in(all, header, mode.segment());
-        let firsts = first_coefficients(factors, has_y2, &self.tokens);
+        write_first_coefficients(factors, has_y2, &self.tokens, &mut self.firsts);
         self.factors = factors;
-        self.firsts = firsts;
         flags_of(&self.tokens, self.tokens.has_tokens(has_y2))
     }
 

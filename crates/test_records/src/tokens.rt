@@ -1,7 +1,7 @@
 use bool_coder::{Decoder, Encoder};
 use std::alloc::{AllocError, Global};
 use std::test::Fail;
-use token_parser::{Tokens, read_macroblock, skip_macroblock};
+use token_parser::{Tokens, read_macroblock, read_next_macroblock, skip_macroblock};
 
 /// The bits of each token from the root of the tree, and the node of each bit: 0 to 4, the six
 /// categories, the end of a block (RFC 6386, section 13.2).
@@ -227,14 +227,13 @@ fn order_text(alloc: Global) -> Result<Vec<u8>, AllocError> {
     encoder.finish()
 }
 
-#[test]
-fn blocks_come_in_order(rt: HostRuntime) -> Result<(), Fail> {
-    let text = order_text(rt.alloc())?;
-    let mut decoder = Decoder::new(&text);
-    let mut tokens = Tokens::new();
+/// The flags that `order_text` is written for.
+fn set_order_flags(tokens: &mut Tokens) {
     tokens.above = [false, false, false, false, true, false, false, false, true];
     tokens.left = [false, false, false, false, false, false, true, true, true];
-    read_macroblock(&mut decoder, &counted_probabilities(), true, &mut tokens);
+}
+
+fn expected_order() -> Tokens {
     let mut expected = Tokens::new();
     expected.coefficients[24][15] = -1;
     expected.coefficients[19][1] = 1091;
@@ -243,7 +242,17 @@ fn blocks_come_in_order(rt: HostRuntime) -> Result<(), Fail> {
     ];
     expected.above = [false, false, false, false, false, true, false, false, true];
     expected.left = [false, false, false, false, false, true, false, false, true];
-    assert_eq!(rt; tokens, expected);
+    expected
+}
+
+#[test]
+fn blocks_come_in_order(rt: HostRuntime) -> Result<(), Fail> {
+    let text = order_text(rt.alloc())?;
+    let mut decoder = Decoder::new(&text);
+    let mut tokens = Tokens::new();
+    set_order_flags(&mut tokens);
+    read_macroblock(&mut decoder, &counted_probabilities(), true, &mut tokens);
+    assert_eq!(rt; tokens, expected_order());
     skip_macroblock(false, &mut tokens);
     assert_eq!(rt;
         tokens.above,
@@ -252,6 +261,46 @@ fn blocks_come_in_order(rt: HostRuntime) -> Result<(), Fail> {
     skip_macroblock(true, &mut tokens);
     tokens.clear();
     assert_eq!(rt; tokens, Tokens::new());
+    Ok(())
+}
+
+/// The tokens without what is kept of other macroblocks: a block without a token has no coefficient.
+fn own_tokens(tokens: &Tokens, has_y2: bool) -> Tokens {
+    let mut own = *tokens;
+    for (k, coefficients) in own.coefficients.iter_mut().enumerate() {
+        let first = if has_y2 && k < 16 { 1 } else { 0 };
+        if k < 25 && tokens.ends[k] <= first {
+            *coefficients = [0; 16];
+        }
+    }
+    own
+}
+
+// Each macroblock is read over the tokens of the one before, and the first over blocks that are full.
+#[test]
+fn old_coefficients_do_not_count(rt: HostRuntime) -> Result<(), Fail> {
+    let order = order_text(rt.alloc())?;
+    let mut tokens = Tokens::new();
+    tokens.coefficients = [[9; 16]; 25];
+    tokens.ends = [16; 25];
+    set_order_flags(&mut tokens);
+    let mut decoder = Decoder::new(&order);
+    read_next_macroblock(&mut decoder, &counted_probabilities(), true, &mut tokens);
+    assert_eq!(rt; own_tokens(&tokens, true), expected_order());
+    for has_y2 in [true, false, true] {
+        let text = sizes_text(rt.alloc(), has_y2)?;
+        (tokens.above, tokens.left) = ([false; 9], [false; 9]);
+        let mut decoder = Decoder::new(&text);
+        read_next_macroblock(&mut decoder, &counted_probabilities(), has_y2, &mut tokens);
+        assert!(rt;
+            own_tokens(&tokens, has_y2) == expected_sizes(has_y2),
+            "{has_y2}"
+        );
+    }
+    set_order_flags(&mut tokens);
+    let mut decoder = Decoder::new(&order);
+    read_next_macroblock(&mut decoder, &counted_probabilities(), true, &mut tokens);
+    assert_eq!(rt; own_tokens(&tokens, true), expected_order());
     Ok(())
 }
 

@@ -12,7 +12,7 @@ use Rattle.bool_coder.specs.Reading.{give}
 use Rattle.token_parser.specs.Tokens.{tokens_from}
 use Rattle.token_parser.specs.declared.tokens.Tokens.{Tokens}
 use Rattle.token_parser.specs.declared.block_position.BlockPosition.{BlockPosition}
-use Rattle.token_parser.specs.Blocks.{block, cleared, first_blocks, first_position, has_tokens, place_of}
+use Rattle.token_parser.specs.Blocks.{block, cleared, first_blocks, first_position, place_of}
 use Rattle.token_parser.specs.BlockRows.{right_of}
 use Rattle.token_parser.specs.Stale.{own_coefficients, seen, without_stale}
 use Rattle.token_parser.proofs.Ends.{index_apart, index_small, same_by_end}
@@ -137,11 +137,3 @@ own_more has_y2 tokens k less more =
 pub own_ends : (has_y2 : Bool) (tokens : Tokens) → (without_stale has_y2 tokens).ends ≡ tokens.ends
 unfolding without_stale
 own_ends has_y2 tokens = refl
-
-pub own_flags : (has_y2 : Bool) (tokens : Tokens) → ((without_stale has_y2 tokens).above ≡ tokens.above) × ((without_stale has_y2 tokens).left ≡ tokens.left)
-unfolding without_stale
-own_flags has_y2 tokens = (refl, refl)
-
-pub own_tokens : (has_y2 : Bool) (tokens : Tokens) → has_tokens has_y2 (without_stale has_y2 tokens) ≡ has_tokens has_y2 tokens
-unfolding without_stale has_tokens
-own_tokens has_y2 tokens = refl
