@@ -5,8 +5,7 @@ use Rattle.indexmap.specs.IndexMap.{insert_entry}
 use Rattle.state_cache.specs.declared.outcomes.Kept.{Kept}
 use Rattle.state_cache.specs.declared.outcomes.PacketKey.{PacketKey}
 use Rattle.state_cache.specs.declared.savings.Saving.{Saving}
-use Rattle.state_cache.specs.declared.savings.Savings.{Savings}
-use Rattle.state_cache.specs.Evictions.{Evicts}
+use Rattle.state_cache.specs.Evictions.{Evicts, SavingsValue}
 use Rattle.state_cache.specs.ProofsOnly.{IsWithout}
 use Rattle.state_cache.specs.Views.{Drops, same_key}
 use Rattle.state_cache.proofs.Entries.{drops_none, with_entry}
@@ -68,7 +67,7 @@ pub record IsEvicted (es : List Stored) (k : PacketKey) (v : Kept) (capacity : �
   pub room_number : length es + one_missing (lookup (same_key k) es) ≤ capacity → length left ≡ length es + one_missing (lookup (same_key k) es)
   pub room_others : length es + one_missing (lookup (same_key k) es) ≤ capacity → (q : PacketKey) → lookup (same_key q) left ≡ with_entry es k v q
 
-module _ (s : Savings) (es put : List Stored) (k : PacketKey) (v : Kept) (capacity : ℕ) (few : length es ≤ capacity) (i : IsInserted es k v put) where
+module _ (s : SavingsValue) (es put : List Stored) (k : PacketKey) (v : Kept) (capacity : ℕ) (few : length es ≤ capacity) (i : IsInserted es k v put) where
   put_is : (q : PacketKey) → lookup (same_key q) put ≡ with_entry es k v q
   put_is q = i.found q ∙ ap (λ (b : Bool). cond b (Some v) (lookup (same_key q) es)) (same_key_equiv.symm k q)
 
@@ -84,7 +83,7 @@ module _ (s : Savings) (es put : List Stored) (k : PacketKey) (v : Kept) (capaci
       let none = missing_found (lookup (same_key k) es) found in omega (arith, number, none, few)
 
   low : (n : ℕ) → Evicts s es capacity k (Some n) → n < length es
-  low n e = taken_low (length es) s.list.items n e.2.saving e.2.is_there
+  low n e = taken_low (length es) s.list n e.2.saving e.2.is_there
 
   -- the victim is one of the entries
   pub victim_within : (victim : Option ℕ) → Evicts s es capacity k victim → IfSome victim (λ (n : ℕ). n < length put)

@@ -1,8 +1,9 @@
 -- The search for the outcome that saves least over its age.
-use Rattle.std.proofs.Common.{◌≡◌, ℕ, zero, suc, ◌+◌, ◌*◌, ◌<◌, ◌≤◌, ◌⊎◌, inl, inr, List, [], ◌∷◌, Some, length, slice_get, slice_index_or, refl, sym, ap, subst, ◌∙◌, arith, mul-lt-mul_of_pos_right, mul-le-mul_right, mul_right_comm, lt_of_mul-lt-mul_right}
+use Rattle.std.proofs.Common.{◌≡◌, ℕ, zero, suc, ◌+◌, ◌-◌, ◌*◌, ◌<◌, ◌≤◌, ◌⊎◌, inl, inr, List, [], ◌∷◌, Some, drop, length, map, replicate, slice_get, slice_range, take, slice_index_or, refl, sym, ap, subst, ◌∙◌, arith, mul-lt-mul_of_pos_right, mul-le-mul_right, mul_right_comm, lt_of_mul-lt-mul_right}
 use Rattle.state_cache.specs.declared.savings.Saving.{Saving}
-use Rattle.state_cache.specs.Evictions.{IsVictim, SavesLess, age, saved}
-use Rattle.state_cache.proofs.Runs.{same_or_not}
+use Rattle.state_cache.specs.Evictions.{IsVictim, SavesLess, age, last_use, saved}
+use Rattle.state_cache.specs.ProofsOnly.{NoneIsLess, Searched}
+use Rattle.state_cache.proofs.Runs.{same_or_not, up_to_or_behind}
 
 -- if x / a is less than p / b, and o / c is not, then x / a is less than o / c
 less_across : (x a p b o c : ℕ) → 0 < c → x * b < p * a → (o * b < p * c → ⊥) → x * c < o * a
@@ -21,15 +22,6 @@ age_some uses s = omega arith
 
 pub same_saving : (ss : List Saving) (p q : ℕ) (x y : Saving) → slice_get ss p ≡ Some x → slice_get ss q ≡ Some y → p ≡ q → x ≡ y
 same_saving ss p q x y h k e = let there : slice_get ss q ≡ Some x = ap (slice_get ss) (sym e) ∙ h in cc
-
--- the search so far: of the savings before an index
-pub record Searched (ss : List Saving) (uses at victim saves old : ℕ) : Type 0 where
-  pub saving : Saving
-  pub is_there : slice_get ss victim ≡ Some saving
-  pub least : (n : ℕ) (other : Saving) → n < at → slice_get ss n ≡ Some other → SavesLess uses other saving → ⊥
-  pub first : (n : ℕ) (other : Saving) → n < victim → slice_get ss n ≡ Some other → SavesLess uses saving other
-  pub saved_is : saves ≡ saved saving
-  pub age_is : old ≡ age uses saving
 
 module _ (ss : List Saving) (uses : ℕ) where
   pub first_searched : (x : Saving) (saves old : ℕ) → slice_get ss 0 ≡ Some x → saves ≡ saved x → old ≡ age uses x → Searched ss uses 0 0 saves old
@@ -117,3 +109,53 @@ victim_found ss uses at victim saves old s all = record {
   least = λ n other here lower. let inside = past_end ss n other here in s.least n other (omega (arith, inside, all)) here lower;
   first = s.first;
 }
+
+get_dropped : {A : Type 0} (xs : List A) (n i m : ℕ) → m ≡ n + i → slice_get (drop n xs) i ≡ slice_get xs m
+get_dropped xs zero i m h = let same : i ≡ m = omega (arith, h) in ap (slice_get xs) same
+get_dropped [] (suc n) i zero h = refl
+get_dropped [] (suc n) i (suc m) h = refl
+get_dropped (x ∷ xs) (suc n) i zero h = absurd (omega (arith, h))
+get_dropped (x ∷ xs) (suc n) i (suc m) h = get_dropped xs n i m (omega (arith, h))
+
+get_taken : {A : Type 0} (xs : List A) (n i : ℕ) → i < n → slice_get (take n xs) i ≡ slice_get xs i
+get_taken xs zero i low = absurd (omega (arith, low))
+get_taken [] (suc n) i low = refl
+get_taken (x ∷ xs) (suc n) zero low = refl
+get_taken (x ∷ xs) (suc n) (suc i) low = get_taken xs n i (omega (arith, low))
+
+get_mapped : (f : Saving → ℕ) (ss : List Saving) (n : ℕ) (x : Saving) → slice_get ss n ≡ Some x → slice_get (map f ss) n ≡ Some (f x)
+get_mapped f [] n x h = cc
+get_mapped f (s ∷ ss) zero x h = let is : s ≡ x = cc in ap (λ (y : Saving). Some (f y)) is
+get_mapped f (s ∷ ss) (suc n) x h = get_mapped f ss n x h
+
+-- the part of a list from one index up to another
+get_between : (f : Saving → ℕ) (ss : List Saving) (from to n : ℕ) (x : Saving) → from ≤ n → n < to → slice_get ss n ≡ Some x → slice_get (slice_range (map f ss) from to) (n - from) ≡ Some (f x)
+get_between f ss from to n x after low h =
+    get_taken (drop from (map f ss)) (to - from) (n - from) (omega (arith, after, low))
+    ∙ get_dropped (map f ss) from (n - from) n (omega (arith, after))
+    ∙ get_mapped f ss n x h
+
+module _ (ss : List Saving) (uses at victim saves old : ℕ) (s : Searched ss uses at victim saves old) (end : ℕ) (none : NoneIsLess (slice_range (map saved ss) at end) (slice_range (map last_use ss) at end) uses saves old) where
+  in_numbers : (other : Saving) → SavesLess uses other s.saving → saved other * old < saves * age uses other
+  in_numbers other h =
+      subst (λ (o : ℕ). saved other * o < saves * age uses other) (sym s.age_is) (subst (λ (v : ℕ). saved other * age uses s.saving < v * age uses other) (sym s.saved_is) h)
+
+  skipped_case : (n : ℕ) (other : Saving) → n < end → slice_get ss n ≡ Some other → SavesLess uses other s.saving → (at ≤ n) ⊎ (n < at) → ⊥
+  skipped_case n other low here less (inr before) = s.least n other before here less
+  skipped_case n other low here less (inl after) =
+      none (n - at) (saved other) (last_use other) (get_between saved ss at end n other after low here) (get_between last_use ss at end n other after low here) (in_numbers other less)
+
+  -- a part in which none is worth less is skipped
+  pub skipped_searched : Searched ss uses end victim saves old
+  skipped_searched = record {
+    saving = s.saving;
+    is_there = s.is_there;
+    least = λ n other low here less. skipped_case n other low here less (up_to_or_behind at n);
+    first = s.first;
+    saved_is = s.saved_is;
+    age_is = s.age_is;
+  }
+
+pub replicate_mapped : (f : Saving → ℕ) (n : ℕ) (x : Saving) → replicate n (f x) ≡ map f (replicate n x)
+replicate_mapped f zero x = refl
+replicate_mapped f (suc n) x = ap (λ ys. f x ∷ ys) (replicate_mapped f n x)

@@ -4,13 +4,21 @@ use Rattle.std.specs.Map.{lookup}
 use Rattle.state_cache.specs.declared.outcomes.Kept.{Kept}
 use Rattle.state_cache.specs.declared.outcomes.PacketKey.{PacketKey}
 use Rattle.state_cache.specs.declared.savings.Saving.{Saving}
-use Rattle.state_cache.specs.declared.savings.Savings.{Savings}
 use Rattle.state_cache.specs.Views.{same_key}
+
+-- what each cached outcome saves, in the order of the outcomes, and the number of uses of the cache
+pub record SavingsValue : Type 0 where
+  pub list : List Saving
+  pub uses : ℕ
 
 -- the steps that an outcome saves if each packet is asked for once: without it, each packet from its own up to the next cached
 -- one is as many steps further away as the outcome is after the one cached before it
 abbrev pub saved : Saving → ℕ
 saved saving = saving.before * saving.after
+
+-- the number of uses of the cache once an outcome was last used
+abbrev pub last_use : Saving → ℕ
+last_use saving = saving.used
 
 -- the age of an outcome: 1, and the number of uses of the cache since it was last used, as far as 32 bits go
 abbrev pub age : ℕ → Saving → ℕ
@@ -28,7 +36,7 @@ pub record IsVictim (savings : List Saving) (uses victim : ℕ) : Type 0 where
   pub first : (n : ℕ) (other : Saving) → n < victim → slice_get savings n ≡ Some other → SavesLess uses saving other
 
 -- for a new key: none goes if an outcome is cached for it or there is room, else the victim
-abbrev pub Evicts : Savings → List (PacketKey × Kept) → ℕ → PacketKey → Option ℕ → Type 0
+abbrev pub Evicts : SavingsValue → List (PacketKey × Kept) → ℕ → PacketKey → Option ℕ → Type 0
 Evicts savings entries capacity key None = (length entries < capacity) ⊎ IsSome (lookup (same_key key) entries)
 Evicts savings entries capacity key (Some victim) =
-    (length entries ≡ capacity) × (lookup (same_key key) entries ≡ None) × IsVictim (take (length entries) savings.list.items) savings.uses victim
+    (length entries ≡ capacity) × (lookup (same_key key) entries ≡ None) × IsVictim (take (length entries) savings.list) savings.uses victim

@@ -1,5 +1,5 @@
 -- For proofs only: what the contracts of private functions cite. No public contract depends on this file.
-use Rattle.std.specs.Prelude.{◌≡◌, ℕ, zero, suc, ◌+◌, ◌<◌, ◌≤◌, ◌⊎◌, true, false, cond, List, ◌∷◌, length, slice_get, Option, Some, None, IsSome, Result, Ok, Err}
+use Rattle.std.specs.Prelude.{◌≡◌, ℕ, zero, suc, ◌+◌, ◌-◌, ◌*◌, ◌^◌, ◌<◌, ◌≤◌, ◌⊎◌, min, true, false, cond, List, ◌∷◌, length, slice_get, Option, Some, None, IsSome, Result, Ok, Err}
 use Rattle.std.specs.Map.{lookup}
 use Rattle.vp8_tables.specs.Tables.{TableEntries}
 use Rattle.frame_header.specs.declared.cause.Cause.{Cause}
@@ -15,6 +15,8 @@ use Rattle.state_cache.specs.declared.outcomes.ReachFault.{ReachFault}
 use Rattle.state_cache.specs.declared.outcomes.ReachFault.TheVariants.{Refused, NoMemory}
 use Rattle.state_cache.specs.Costs.{AreUnsettled, HasRoom, IsIdOf, IsOneRun, IsSettled}
 use Rattle.state_cache.specs.Decoding.{outcomes}
+use Rattle.state_cache.specs.declared.savings.Saving.{Saving}
+use Rattle.state_cache.specs.Evictions.{SavesLess, age, saved}
 use Rattle.state_cache.specs.Reaching.{CacheValue, IsNext, state_from, view_of}
 use Rattle.state_cache.specs.Views.{MarkedPacket, View, cached_at, key_at, marked_packets, outcome_at, same_key, step_result}
 
@@ -80,3 +82,17 @@ pub record Advances (tables : TableEntries) (source : ℕ) (old : StoreValue) (b
       → (cached_at (marked_packets new) (view_of source after) p ≡ true) ⊎ ((further ≤ p) × (IsSettled tables (marked_packets new) (view_of source after) place p → ⊥))
   pub fewer : HasRoom source old.list before next place → (places : List ℕ) → AreUnsettled tables (marked_packets old) (view_of source before) next place places
       → (rest : List ℕ) × (places ≡ next ∷ rest) × AreUnsettled tables (marked_packets new) (view_of source after) further place rest
+
+-- the search for the victim so far: of the savings before an index
+pub record Searched (ss : List Saving) (uses at victim saves old : ℕ) : Type 0 where
+  pub saving : Saving
+  pub is_there : slice_get ss victim ≡ Some saving
+  pub least : (n : ℕ) (other : Saving) → n < at → slice_get ss n ≡ Some other → SavesLess uses other saving → ⊥
+  pub first : (n : ℕ) (other : Saving) → n < victim → slice_get ss n ≡ Some other → SavesLess uses saving other
+  pub saved_is : saves ≡ saved saving
+  pub age_is : old ≡ age uses saving
+
+-- none of those that save so many steps and were last used so long ago is worth less
+abbrev pub NoneIsLess : List ℕ → List ℕ → ℕ → ℕ → ℕ → Type 0
+NoneIsLess steps used uses saves old =
+    (n step last : ℕ) → slice_get steps n ≡ Some step → slice_get used n ≡ Some last → step * old < saves * (min (uses - last) (2 ^ 32 - 2) + 1) → ⊥

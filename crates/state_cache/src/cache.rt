@@ -1,4 +1,4 @@
-ghost use Rattle.std.specs.Prelude.{◌≡◌, ◌+◌, ◌-◌, ◌^◌, ◌<◌, ◌≤◌, ◌&&◌, ℕ, [], cond, length, nat_eq, not, IfErr, IfOk, IfSome, IsSome, None, OnErr, OnOk, Result, Some, false, is_ok, is_some, min, option_copied, option_map, true, vec_len};
+ghost use Rattle.std.specs.Prelude.{◌≡◌, ◌+◌, ◌-◌, ◌^◌, ◌<◌, ◌≤◌, ◌&&◌, ℕ, [], cond, length, nat_eq, not, IfErr, IfOk, IfSome, IsSome, None, OnErr, OnOk, Result, Some, false, is_ok, is_some, min, option_copied, option_map, true};
 ghost use Rattle.std.specs.Map.{lookup};
 ghost use Rattle.frame_header.specs.declared.cause.Cause.{Cause};
 ghost use Rattle.packet_edits.specs.Nearest.{IsLast};
@@ -37,14 +37,14 @@ pub struct Cache {
 }
 
 impl Model for Cache {
-    ghost use Rattle.std.specs.Prelude.{◌<◌, ◌≤◌, length, vec_len};
+    ghost use Rattle.std.specs.Prelude.{◌<◌, ◌≤◌, length};
     ghost use Rattle.state_cache.specs.Reaching.{CacheValue};
 
     ghost Value = { CacheValue };
 
     ghost view = { λ c. record { entries = c.kept.entries; capacity = c.capacity; decoded = c.steps } };
 
-    ghost invariant = { λ c. (length c.kept.entries ≤ c.capacity) × (0 < c.capacity) × (c.capacity < vec_len c.savings.list) };
+    ghost invariant = { λ c. (length c.kept.entries ≤ c.capacity) × (0 < c.capacity) × (c.capacity < length c.savings.list) };
 }
 
 impl Cache {
@@ -359,7 +359,7 @@ fn victim_of(
 ) -> Option<usize>
     requires few { length kept.now.entries ≤ capacity }
     requires some { 0 < capacity }
-    requires savings { capacity < vec_len savings.now.list }
+    requires savings { capacity < length savings.now.list }
     ensures { Evicts savings.now kept.now.entries capacity key result }
 {
     if kept.contains_key(&key) || kept.len() < capacity {
@@ -376,7 +376,7 @@ fn evict(
 ) -> Option<Kept>
     requires { IfSome victim (λ index. index < length kept.old.entries) }
     ensures without { IsWithout victim kept.old.entries kept.new.entries }
-    ensures savings { vec_len savings.new.list ≡ vec_len savings.old.list }
+    ensures savings { length savings.new.list ≡ length savings.old.list }
 {
     let victim = victim?;
     let (_, outcome) = kept.swap_remove_index(victim)?;
@@ -392,7 +392,7 @@ fn remove(
 ) -> Option<Kept>
     ensures without { (other : PacketKey) → lookup (same_key other) kept.new.entries ≡ cond (same_key key other) None (lookup (same_key other) kept.old.entries) }
     ensures fewer { length kept.new.entries ≤ length kept.old.entries }
-    ensures savings { vec_len savings.new.list ≡ vec_len savings.old.list }
+    ensures savings { length savings.new.list ≡ length savings.old.list }
 {
     let (index, _, outcome) = kept.swap_remove_full(&key)?;
     savings.swap_remove(index, kept.len());

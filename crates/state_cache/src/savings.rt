@@ -1,15 +1,20 @@
 //! What each cached outcome saves: from this the one that a full cache drops is chosen.
-ghost use Rattle.std.specs.Prelude.{◌≡◌, ◌↔◌, ◌+◌, ◌-◌, ◌*◌, ◌^◌, ◌<◌, ◌≤◌, ℕ, IfOk, IfSome, IsSome, IsTrue, length, min, slice_get, take, vec_len};
-ghost use Rattle.state_cache.specs.Evictions.{IsVictim, age, saved};
+ghost use Rattle.std.specs.Prelude.{◌≡◌, ◌↔◌, ◌+◌, ◌-◌, ◌*◌, ◌^◌, ◌<◌, ◌≤◌, ℕ, IfOk, IfSome, IsSome, IsTrue, false, length, map, min, slice_get, slice_set, take};
+ghost use Rattle.state_cache.specs.Evictions.{IsVictim, age, last_use, saved};
+ghost use Rattle.state_cache.specs.ProofsOnly.{NoneIsLess, Searched};
 
 use pixel_planes::NoMemory;
 use std::alloc::Global;
+use std::marker::Model;
 
 /// The index of no outcome.
 const NONE: u16 = u16::MAX;
 
 /// The greatest age, less 1.
 const MOST_USES: u64 = u32::MAX as u64 - 1;
+
+/// How many outcomes are compared at a time.
+const GROUP: usize = 32;
 
 /// What one cached outcome saves. It counts packets as they were when they were decoded: an edit
 /// leaves the numbers as they are, and then they are estimates.
@@ -44,11 +49,28 @@ impl Saving {
         ensures saved { result.saved ≡ saved self.now }
         ensures age { result.age ≡ age uses self.now }
     {
-        let since = uses.saturating_sub(self.used);
-        Worth {
-            saved: self.before as u32 * self.after as u32,
-            age: since.min(MOST_USES) as u32 + 1,
-        }
+        worth_of(self.steps(), self.used, uses)
+    }
+
+    /// The steps that it saves.
+    #[inline]
+    fn steps(&self) -> u32
+        ensures { result ≡ saved self.now }
+    {
+        self.before as u32 * self.after as u32
+    }
+}
+
+/// What an outcome that saves so many steps and was last used so long ago is worth.
+#[inline]
+fn worth_of(steps: u32, used: u64, uses: u64) -> Worth
+    ensures saved { result.saved ≡ steps }
+    ensures age { result.age ≡ min (uses - used) (2 ^ 32 - 2) + 1 }
+{
+    let since = uses.saturating_sub(used);
+    Worth {
+        saved: steps,
+        age: since.min(MOST_USES) as u32 + 1,
     }
 }
 
@@ -74,46 +96,77 @@ impl Worth {
 #[derive(Drop)]
 pub(crate) struct Savings {
     list: Vec<Saving>,
+    // The steps that each one saves and its last use, apart from the rest, so that many are compared at a time.
+    steps: Vec<u32>,
+    used: Vec<u64>,
     uses: u64,
+}
+
+impl Model for Savings {
+    ghost use Rattle.std.specs.Prelude.{◌≡◌, map};
+    ghost use Rattle.state_cache.specs.Evictions.{SavingsValue, last_use, saved};
+
+    ghost Value = { SavingsValue };
+
+    ghost view = { λ s. record { list = s.list.items; uses = s.uses } };
+
+    ghost invariant = { λ s. (s.steps.items ≡ map saved s.list.items) × (s.used.items ≡ map last_use s.list.items) };
 }
 
 impl Savings {
     /// For so many outcomes, of which none is cached yet. `NoMemory` if memory was refused.
     pub fn new(alloc: Global, len: usize) -> Result<Savings, NoMemory>
-        ensures { IfOk result (λ savings. vec_len savings.list ≡ len) }
+        ensures { IfOk result (λ savings. length savings.list ≡ len) }
     {
         let list = vec![in alloc; ALONE; len]?;
-        Ok(Savings { list, uses: 0 })
+        let steps = vec![in alloc; 1u32; len]?;
+        let used = vec![in alloc; 0u64; len]?;
+        Ok(Savings {
+            list,
+            steps,
+            used,
+            uses: 0,
+        })
     }
 
     /// The index of the outcome of least worth among the first `len`, the first among equals; none
     /// if `len` is 0.
     pub fn least(&self, len: usize) -> Option<usize>
-        requires { len ≤ vec_len self.now.list }
-        ensures victim { IfSome result (IsVictim (take len self.now.list.items) self.now.uses) }
+        requires { len ≤ length self.now.list }
+        ensures victim { IfSome result (IsVictim (take len self.now.list) self.now.uses) }
         ensures some { 0 < len → IsSome result }
     {
-        least_of(&self.list[..len], self.uses)
+        least_of(
+            &self.list[..len],
+            &self.steps[..len],
+            &self.used[..len],
+            self.uses,
+        )
     }
 
     /// Counts a use of the outcome at `index`.
     #[inline]
     pub fn touch(&mut self, index: usize)
-        ensures len { vec_len self.new.list ≡ vec_len self.old.list }
-        ensures youngest { IfSome (slice_get self.new.list.items index) (λ saving. age self.new.uses saving ≡ 1) }
-        ensures others { (n : ℕ) → (n ≡ index → ⊥) → slice_get self.new.list.items n ≡ slice_get self.old.list.items n }
+        ensures len { length self.new.list ≡ length self.old.list }
+        ensures youngest { IfSome (slice_get self.new.list index) (λ saving. age self.new.uses saving ≡ 1) }
+        ensures others { (n : ℕ) → (n ≡ index → ⊥) → slice_get self.new.list n ≡ slice_get self.old.list n }
         ensures counted { self.new.uses ≡ min (self.old.uses + 1) (2 ^ 64 - 1) }
     {
         let uses = self.uses.saturating_add(1);
         self.uses = uses;
-        if let Some(saving) = self.list.get_mut(index) {
-            saving.used = uses;
-        }
+        let saving = self.saving_at(index);
+        self.put(
+            index,
+            Saving {
+                used: uses,
+                ..saving
+            },
+        );
     }
 
     /// Counts a use of the outcome from which a packet is stepped, if there is one.
     pub fn touch_any(&mut self, index: Option<usize>)
-        ensures { vec_len self.new.list ≡ vec_len self.old.list }
+        ensures { length self.new.list ≡ length self.old.list }
     {
         if let Some(index) = index {
             self.touch(index);
@@ -123,7 +176,7 @@ impl Savings {
     /// Notes that an outcome was cached at `index`. It was stepped from the outcome at `from`, or from
     /// none.
     pub fn cached(&mut self, index: usize, from: Option<usize>)
-        ensures { vec_len self.new.list ≡ vec_len self.old.list }
+        ensures { length self.new.list ≡ length self.old.list }
     {
         self.unlink(index);
         let saving = match from {
@@ -138,7 +191,7 @@ impl Savings {
 
     /// Notes that the outcome at `index` was dropped, and that the one at `last` moved there.
     pub fn swap_remove(&mut self, index: usize, last: usize)
-        ensures { vec_len self.new.list ≡ vec_len self.old.list }
+        ensures { length self.new.list ≡ length self.old.list }
     {
         self.unlink(index);
         let moved = self.saving_at(last);
@@ -173,7 +226,7 @@ impl Savings {
     /// Takes the outcome at `index` out of its run: the ones before and after it are next to each
     /// other then, at the sum of their distances.
     fn unlink(&mut self, index: usize)
-        ensures { vec_len self.new.list ≡ vec_len self.old.list }
+        ensures { length self.new.list ≡ length self.old.list }
     {
         let saving = self.saving_at(index);
         let distance = saving.before.saturating_add(saving.after);
@@ -183,50 +236,106 @@ impl Savings {
 
     /// Sets what the outcome at `index` saves, if the index exists.
     fn put(&mut self, index: usize, new: Saving)
-        ensures { vec_len self.new.list ≡ vec_len self.old.list }
+        ensures { self.new ≡ record self.old { list = slice_set self.old.list index new } }
     {
-        if let Some(saving) = self.list.get_mut(index) {
-            *saving = new;
+        if index < self.list.len() {
+            self.list[index] = new;
+            self.steps[index] = new.steps();
+            self.used[index] = new.used;
         }
     }
 
     /// Sets the outcome after the one at `index`, if there is one, and how many packets it is after it.
     fn set_next(&mut self, index: u16, next: u16, after: u16)
-        ensures { vec_len self.new.list ≡ vec_len self.old.list }
+        ensures { length self.new.list ≡ length self.old.list }
     {
-        if let Some(saving) = self.list.get_mut(index as usize) {
-            saving.next = next;
-            saving.after = after;
-        }
+        let saving = self.saving_at(index as usize);
+        self.put(
+            index as usize,
+            Saving {
+                next,
+                after,
+                ..saving
+            },
+        );
     }
 
     /// Sets the outcome before the one at `index`, if there is one, and how many packets it is before it.
     fn set_previous(&mut self, index: u16, previous: u16, before: u16)
-        ensures { vec_len self.new.list ≡ vec_len self.old.list }
+        ensures { length self.new.list ≡ length self.old.list }
     {
-        if let Some(saving) = self.list.get_mut(index as usize) {
-            saving.previous = previous;
-            saving.before = before;
-        }
+        let saving = self.saving_at(index as usize);
+        self.put(
+            index as usize,
+            Saving {
+                previous,
+                before,
+                ..saving
+            },
+        );
     }
 }
 
+/// The least worth so far, and its index.
+#[derive(Clone, Copy)]
+struct Least {
+    victim: usize,
+    worth: Worth,
+}
+
 /// The index of the least worth after this number of uses, the first among equals; none if there is
-/// none.
-fn least_of(savings: &[Saving], uses: u64) -> Option<usize>
+/// none. `steps` and `used` are those of the savings.
+fn least_of(savings: &[Saving], steps: &[u32], used: &[u64], uses: u64) -> Option<usize>
+    requires steps { steps.now ≡ map saved savings.now }
+    requires used { used.now ≡ map last_use savings.now }
     ensures victim { IfSome result (IsVictim savings.now uses) }
     ensures some { 0 < length savings.now → IsSome result }
 {
-    let mut least = savings.first()?.worth(uses);
-    let mut victim = 0;
-    for (index, saving) in savings.iter().enumerate() {
-        let worth = saving.worth(uses);
-        if worth.is_less(least) {
-            least = worth;
-            victim = index;
+    let mut least = Least {
+        victim: 0,
+        worth: savings.first()?.worth(uses),
+    };
+    let mut at = 0;
+    while at < savings.len() {
+        let end = savings.len().min(at + GROUP);
+        if is_any_less(&steps[at..end], &used[at..end], uses, least.worth) {
+            least = least_in(savings, uses, at, end, least);
+        }
+        at = end;
+    }
+    Some(least.victim)
+}
+
+/// Whether any of these is worth less.
+#[inline]
+fn is_any_less(steps: &[u32], used: &[u64], uses: u64, least: Worth) -> bool
+    requires { length used.now ≡ length steps.now }
+    ensures { result ≡ false → NoneIsLess steps.now used.now uses least.saved least.age }
+{
+    let mut any = false;
+    for index in 0..steps.len() {
+        any |= worth_of(steps[index], used[index], uses).is_less(least);
+    }
+    any
+}
+
+/// The least worth of the savings before `end`, from that of those before `at`.
+fn least_in(savings: &[Saving], uses: u64, at: usize, end: usize, least: Least) -> Least
+    requires within { (at ≤ end) × (end ≤ length savings.now) }
+    requires searched { Searched savings.now uses at least.victim least.worth.saved least.worth.age }
+    ensures { Searched savings.now uses end result.victim result.worth.saved result.worth.age }
+{
+    let mut least = least;
+    for index in at..end {
+        let worth = savings[index].worth(uses);
+        if worth.is_less(least.worth) {
+            least = Least {
+                victim: index,
+                worth,
+            };
         }
     }
-    Some(victim)
+    least
 }
 
 /// An index as it is stored.

@@ -1,5 +1,9 @@
-use Rattle.state_cache.proofs.Least.{Searched}
+use Rattle.std.proofs.Common.{length, ◌-◌, ◌≤◌}
+use Rattle.state_cache.specs.ProofsOnly.{Searched}
 use Rattle.state_cache.proofs.savings.least_of.Given as goal
 
-abbrev pub invariant-loop-index : goal.invariant-loop-index
-invariant-loop-index l = Searched l.savings l.uses l.index l.victim l.least.saved l.least.age
+abbrev pub invariant-loop-at : goal.invariant-loop-at
+invariant-loop-at l = (l.at ≤ length l.savings) × Searched l.savings l.uses l.at l.least.victim l.least.worth.saved l.least.worth.age
+
+abbrev pub decreases-loop-at : goal.decreases-loop-at
+decreases-loop-at l = length l.savings - l.at
