@@ -30,3 +30,4 @@ pub mod Decided
 pub mod Evicted
 pub mod Least
 pub mod Victims
+pub mod LastUses

@@ -166,7 +166,8 @@ impl Savings {
 
     /// Counts a use of the outcome from which a packet is stepped, if there is one.
     pub fn touch_any(&mut self, index: Option<usize>)
-        ensures { length self.new.list ≡ length self.old.list }
+        ensures len { length self.new.list ≡ length self.old.list }
+        ensures youngest { IfSome index (λ index. IfSome (slice_get self.new.list index) (λ saving. age self.new.uses saving ≡ 1)) }
     {
         if let Some(index) = index {
             self.touch(index);
@@ -176,7 +177,9 @@ impl Savings {
     /// Notes that an outcome was cached at `index`. It was stepped from the outcome at `from`, or from
     /// none.
     pub fn cached(&mut self, index: usize, from: Option<usize>)
-        ensures { length self.new.list ≡ length self.old.list }
+        ensures len { length self.new.list ≡ length self.old.list }
+        ensures youngest { IfSome (slice_get self.new.list index) (λ saving. age self.new.uses saving ≡ 1) }
+        ensures others { (n : ℕ) → (n ≡ index → ⊥) → slice_get (map last_use self.new.list) n ≡ slice_get (map last_use self.old.list) n }
     {
         self.unlink(index);
         let saving = match from {
@@ -191,7 +194,9 @@ impl Savings {
 
     /// Notes that the outcome at `index` was dropped, and that the one at `last` moved there.
     pub fn swap_remove(&mut self, index: usize, last: usize)
-        ensures { length self.new.list ≡ length self.old.list }
+        ensures len { length self.new.list ≡ length self.old.list }
+        ensures moved { (index ≡ last → ⊥) → index < length self.old.list → last < length self.old.list → slice_get (map last_use self.new.list) index ≡ slice_get (map last_use self.old.list) last }
+        ensures others { (n : ℕ) → (n ≡ index → ⊥) → (n ≡ last → ⊥) → slice_get (map last_use self.new.list) n ≡ slice_get (map last_use self.old.list) n }
     {
         self.unlink(index);
         let moved = self.saving_at(last);
@@ -204,7 +209,9 @@ impl Savings {
     }
 
     /// What the outcome at `index` saves.
-    fn saving_at(&self, index: usize) -> Saving {
+    fn saving_at(&self, index: usize) -> Saving
+        ensures { IfSome (slice_get self.now.list index) (λ saving. saving ≡ result) }
+    {
         match self.list.get(index) {
             Some(saving) => *saving,
             None => ALONE,
@@ -226,7 +233,8 @@ impl Savings {
     /// Takes the outcome at `index` out of its run: the ones before and after it are next to each
     /// other then, at the sum of their distances.
     fn unlink(&mut self, index: usize)
-        ensures { length self.new.list ≡ length self.old.list }
+        ensures len { length self.new.list ≡ length self.old.list }
+        ensures uses { map last_use self.new.list ≡ map last_use self.old.list }
     {
         let saving = self.saving_at(index);
         let distance = saving.before.saturating_add(saving.after);
@@ -247,7 +255,8 @@ impl Savings {
 
     /// Sets the outcome after the one at `index`, if there is one, and how many packets it is after it.
     fn set_next(&mut self, index: u16, next: u16, after: u16)
-        ensures { length self.new.list ≡ length self.old.list }
+        ensures len { length self.new.list ≡ length self.old.list }
+        ensures uses { map last_use self.new.list ≡ map last_use self.old.list }
     {
         let saving = self.saving_at(index as usize);
         self.put(
@@ -262,7 +271,8 @@ impl Savings {
 
     /// Sets the outcome before the one at `index`, if there is one, and how many packets it is before it.
     fn set_previous(&mut self, index: u16, previous: u16, before: u16)
-        ensures { length self.new.list ≡ length self.old.list }
+        ensures len { length self.new.list ≡ length self.old.list }
+        ensures uses { map last_use self.new.list ≡ map last_use self.old.list }
     {
         let saving = self.saving_at(index as usize);
         self.put(

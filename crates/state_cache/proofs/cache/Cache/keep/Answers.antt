@@ -71,7 +71,7 @@ invariant_of-self c =
     let put = inserted c.self.inside.kept.entries c.insert_full.new.self.entries c.args.key c.args.new c.in-Ok.replaced c.in-Ok.ensures.updates.0 c.in-Ok.ensures.old c.in-Ok.ensures.len c.in-Ok.ensures.entries in
     let after = evicted c.touch_any.new.self es c.insert_full.new.self.entries k c.args.new c.self.inside.capacity c.self.invariant.0 put c.evict-evicted.new.kept.entries c.victim_of-victim.result c.victim_of-victim.ensures c.evict-evicted.ensures.without in
     let wide = c.self.invariant.2 in
-    let touched = c.touch_any.ensures in
-    let cached = c.cached.ensures in
+    let touched = c.touch_any.ensures.len in
+    let cached = c.cached.ensures.len in
     let dropped = c.evict-evicted.ensures.savings in
     (after.bounded, c.self.invariant.1, omega (arith, wide, touched, cached, dropped))
