@@ -1,12 +1,11 @@
 -- Files that are read from the bytes of sources.
-use Rattle.std.proofs.Common.{◌≡◌, ℕ, zero, suc, ◌+◌, ◌<◌, ◌≤◌, List, [], ◌∷◌, ◌++◌, Some, length, slice_get, take, refl, sym, ap, subst, ◌∙◌, arith}
-use Rattle.std.specs.Borrow.{Bor}
+use Rattle.std.proofs.Common.{◌≡◌, ℕ, zero, suc, ◌+◌, ◌<◌, ◌≤◌, List, [], ◌∷◌, ◌++◌, Some, length, map, slice_get, take, refl, sym, ap, subst, ◌∙◌, arith}
 use Rattle.std.proofs.lemmas.List.{map_more}
 use Rattle.std.specs.Prelude.{slice_index_or}
 use Rattle.stream_files.specs.declared.ivf.Ivf.{Ivf}
 use Rattle.stream_files.specs.declared.ivf.IvfFault.{IvfFault}
 use Rattle.stream_files.specs.Ivf.{IsIvf, IvfRefuses}
-use Rattle.frame_session.specs.Answers.{AreIvfs, SourceRefuses, texts_of}
+use Rattle.frame_session.specs.Answers.{AreIvfs, SourceRefuses}
 
 -- one more file
 pub are_more : (texts : List (List ℕ)) (files : List Ivf) (bytes : List ℕ) (file : Ivf) → AreIvfs texts files → IsIvf bytes file → AreIvfs (texts ++ bytes ∷ []) (files ++ file ∷ [])
@@ -30,38 +29,40 @@ are_few (t ∷ texts) [] are k other h = absurd are
 are_few (t ∷ texts) (f ∷ files) are zero other h = are.0.few
 are_few (t ∷ texts) (f ∷ files) are (suc k) other h = are_few texts files are.1 k other (omega (arith, h))
 
--- the bytes of a source
-text_at : (sources : List (Bor (List ℕ))) (n : ℕ) (d : Bor (List ℕ)) → n < length sources → slice_get (texts_of sources) n ≡ Some (slice_index_or sources n d).now
-text_at [] n d h = absurd (omega (arith, h))
-text_at (s ∷ sources) zero d h = refl
-text_at (s ∷ sources) (suc n) d h = text_at sources n d (omega (arith, h))
+module _ {X : Type 0} (bytes_of : X → List ℕ) where
+  -- the bytes of a source
+  text_at : (sources : List X) (n : ℕ) (d : X) → n < length sources → slice_get (map bytes_of sources) n ≡ Some (bytes_of (slice_index_or sources n d))
+  text_at [] n d h = absurd (omega (arith, h))
+  text_at (s ∷ sources) zero d h = refl
+  text_at (s ∷ sources) (suc n) d h = text_at sources n d (omega (arith, h))
 
-take_texts : (sources : List (Bor (List ℕ))) (n : ℕ) → texts_of (take n sources) ≡ take n (texts_of sources)
-take_texts [] zero = refl
-take_texts [] (suc n) = refl
-take_texts (s ∷ sources) zero = refl
-take_texts (s ∷ sources) (suc n) = ap (λ (l : List (List ℕ)). s.now ∷ l) (take_texts sources n)
+  take_texts : (sources : List X) (n : ℕ) → map bytes_of (take n sources) ≡ take n (map bytes_of sources)
+  take_texts [] zero = refl
+  take_texts [] (suc n) = refl
+  take_texts (s ∷ sources) zero = refl
+  take_texts (s ∷ sources) (suc n) = ap (λ (l : List (List ℕ)). bytes_of s ∷ l) (take_texts sources n)
 
-as_many : (sources : List (Bor (List ℕ))) (n : ℕ) → n < length sources → length (texts_of (take n sources)) ≡ n
-as_many [] n h = absurd (omega (arith, h))
-as_many (s ∷ sources) zero h = refl
-as_many (s ∷ sources) (suc n) h = ap suc (as_many sources n (omega (arith, h)))
+  as_many : (sources : List X) (n : ℕ) → n < length sources → length (map bytes_of (take n sources)) ≡ n
+  as_many [] n h = absurd (omega (arith, h))
+  as_many (s ∷ sources) zero h = refl
+  as_many (s ∷ sources) (suc n) h = ap suc (as_many sources n (omega (arith, h)))
 
--- an error of a source, after files of the sources before it
-pub refused_at : (sources : List (Bor (List ℕ))) (n source : ℕ) (d : Bor (List ℕ)) (files : List Ivf) (fault : IvfFault) → n < length sources → source ≡ length files → AreIvfs (texts_of (take n sources)) files → IvfRefuses (slice_index_or sources n d).now fault → SourceRefuses (texts_of sources) source fault
-refused_at sources n source d files fault within is are refuses =
-    let here : source ≡ n = is ∙ are_as_many (texts_of (take n sources)) files are ∙ as_many sources n within in
-    record {
-      bytes = (slice_index_or sources n d).now;
-      is_its = ap (slice_get (texts_of sources)) here ∙ text_at sources n d within;
-      refuses = refuses;
-      files = files;
-      earlier = subst (λ (k : ℕ). AreIvfs (take k (texts_of sources)) files) (sym here) (subst (λ (texts : List (List ℕ)). AreIvfs texts files) (take_texts sources n) are);
-    }
+  -- an error of a source, after files of the sources before it
+  pub refused_at : (sources : List X) (n source : ℕ) (d : X) (files : List Ivf) (fault : IvfFault) → n < length sources → d ≡ slice_index_or sources n d → source ≡ length files → AreIvfs (map bytes_of (take n sources)) files → IvfRefuses (bytes_of d) fault → SourceRefuses (map bytes_of sources) source fault
+  refused_at sources n source d files fault within here_is is are refuses =
+      let here : source ≡ n = is ∙ are_as_many (map bytes_of (take n sources)) files are ∙ as_many sources n within in
+      record {
+        bytes = bytes_of d;
+        is_its = ap (slice_get (map bytes_of sources)) here ∙ text_at sources n d within ∙ ap (λ (x : X). Some (bytes_of x)) (sym here_is);
+        refuses = refuses;
+        files = files;
+        earlier = subst (λ (k : ℕ). AreIvfs (take k (map bytes_of sources)) files) (sym here) (subst (λ (texts : List (List ℕ)). AreIvfs texts files) (take_texts sources n) are);
+      }
 
--- one more source
-pub read_more : (sources : List (Bor (List ℕ))) (n : ℕ) (d : Bor (List ℕ)) (files more : List Ivf) (file : Ivf) → n < length sources → AreIvfs (texts_of (take n sources)) files → IsIvf (slice_index_or sources n d).now file → more ≡ files ++ file ∷ [] → AreIvfs (texts_of (take (n + 1) sources)) more
-read_more sources n d files more file within are is pushed =
-    let texts : texts_of (take (n + 1) sources) ≡ texts_of (take n sources) ++ (slice_index_or sources n d).now ∷ [] = map_more (λ (s : Bor (List ℕ)). s.now) sources n d within in
-    subst (λ (l : List Ivf). AreIvfs (texts_of (take (n + 1) sources)) l) (sym pushed)
-    (subst (λ (ts : List (List ℕ)). AreIvfs ts (files ++ file ∷ [])) (sym texts) (are_more (texts_of (take n sources)) files (slice_index_or sources n d).now file are is))
+  -- one more source
+  pub read_more : (sources : List X) (n : ℕ) (d : X) (files more : List Ivf) (file : Ivf) → n < length sources → d ≡ slice_index_or sources n d → AreIvfs (map bytes_of (take n sources)) files → IsIvf (bytes_of d) file → more ≡ files ++ file ∷ [] → AreIvfs (map bytes_of (take (n + 1) sources)) more
+  read_more sources n d files more file within here_is are is pushed =
+      let texts : map bytes_of (take (n + 1) sources) ≡ map bytes_of (take n sources) ++ bytes_of d ∷ [] =
+      map_more bytes_of sources n d within ∙ ap (λ (x : X). map bytes_of (take n sources) ++ bytes_of x ∷ []) (sym here_is) in
+      subst (λ (l : List Ivf). AreIvfs (map bytes_of (take (n + 1) sources)) l) (sym pushed)
+      (subst (λ (ts : List (List ℕ)). AreIvfs ts (files ++ file ∷ [])) (sym texts) (are_more (map bytes_of (take n sources)) files (bytes_of d) file are is))

@@ -1,5 +1,5 @@
 // Answers requests as they come.
-ghost use Rattle.std.specs.Prelude.{◌≡◌, ◌≤◌, ◌+◌, ◌++◌, ℕ, List, [], IfOk, IfErr, OnOk, false, if◌then◌else◌, length};
+ghost use Rattle.std.specs.Prelude.{◌≡◌, ◌≤◌, ◌+◌, ◌++◌, ℕ, List, [], IfOk, IfErr, OnOk, false, if◌then◌else◌, length, map};
 ghost use Rattle.std.specs.Io.KnownBytes.{Consumes};
 ghost use Rattle.std.specs.Str.Lines.{strip_carriage_return};
 ghost use Rattle.frame_session.specs.Answers.{texts_of};
@@ -14,7 +14,7 @@ use crate::settings::Settings;
 use request_lines::{Beginning, Line, read_line, without_carriage_return};
 use std::alloc::Global;
 use std::io::{self, BufRead, ErrorKind, Write};
-use stream_files::IvfFault;
+use stream_files::{FileBytes, IvfFault};
 use text_words::length_before;
 use thiserror::Error;
 use vp8_tables::Tables;
@@ -249,6 +249,32 @@ fn serve_live<I: BufRead, F: Write, P: Write, V: Observer>(
     Err(LiveFault::Endless)
 }
 
+/// Runs requests as `run_live_observed` does, over bytes that are borrowed or shared: the packets of shared bytes are not copied.
+pub fn run_live_over<B: FileBytes, I: BufRead, F: Write, P: Write, V: Observer>(
+    alloc: Global,
+    settings: Settings,
+    ivfs: &[B],
+    input: &mut I,
+    frames: &mut F,
+    replies: &mut P,
+    observer: &mut V,
+) -> Result<Session, LiveFault>
+    requires capacity { (1 ≤ settings.capacity) × (settings.capacity ≤ 4096) }
+    requires sources { (1 ≤ length ivfs.now) × (length ivfs.now ≤ 8) }
+    ensures means { IfOk result (λ session. LiveMeans settings.tables (map B.bytes ivfs.now) (I.remaining input.old) (I.remaining input.new) (F.contents frames.old) (F.contents frames.new) (P.contents replies.old) (P.contents replies.new) session.now) }
+    ensures capacity { IfOk result (λ session. session.cache.capacity ≡ settings.capacity) }
+    ensures stops { IfErr result (LiveStops settings.tables (map B.bytes ivfs.now) (I.remaining input.old) (I.remaining input.new) (F.contents frames.old) (F.contents frames.new) (P.contents replies.old) (P.contents replies.new)) }
+{
+    let Settings { tables, capacity } = settings;
+    let files = read_sources(alloc, ivfs)?;
+    let mut session = match Session::new(alloc, tables, capacity, files) {
+        Ok(session) => session,
+        Err(_) => return Err(LiveFault::NoMemory),
+    };
+    serve_live(alloc, &mut session, input, frames, replies, observer)?;
+    Ok(session)
+}
+
 /// Runs requests as `run_live` does, and calls an observer after the reply to each line is written and flushed.
 pub fn run_live_observed<I: BufRead, F: Write, P: Write, V: Observer>(
     alloc: Global,
@@ -265,14 +291,7 @@ pub fn run_live_observed<I: BufRead, F: Write, P: Write, V: Observer>(
     ensures capacity { IfOk result (λ session. session.cache.capacity ≡ settings.capacity) }
     ensures stops { IfErr result (LiveStops settings.tables (texts_of ivfs.now) (I.remaining input.old) (I.remaining input.new) (F.contents frames.old) (F.contents frames.new) (P.contents replies.old) (P.contents replies.new)) }
 {
-    let Settings { tables, capacity } = settings;
-    let files = read_sources(alloc, ivfs)?;
-    let mut session = match Session::new(alloc, tables, capacity, files) {
-        Ok(session) => session,
-        Err(_) => return Err(LiveFault::NoMemory),
-    };
-    serve_live(alloc, &mut session, input, frames, replies, observer)?;
-    Ok(session)
+    run_live_over(alloc, settings, ivfs, input, frames, replies, observer)
 }
 
 /// Runs requests over IVF files, 1 to 8, as `run` does, but answers each line of `input` when its newline is read:

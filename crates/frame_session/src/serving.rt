@@ -1,4 +1,4 @@
-ghost use Rattle.std.specs.Prelude.{◌≡◌, ◌⊎◌, ℕ, ◌≤◌, ◌++◌, IfOk, OnOk, IfErr, OnErr, Result, length};
+ghost use Rattle.std.specs.Prelude.{◌≡◌, ◌⊎◌, ℕ, ◌≤◌, ◌++◌, IfOk, OnOk, IfErr, OnErr, Result, length, map};
 ghost use Rattle.std.specs.Io.KnownBytes.{Appends, Keeps};
 ghost use Rattle.stream_files.specs.Y4m.{frame_text};
 ghost use Rattle.frame_session.specs.declared.refusal.Refusal.{Refusal};
@@ -17,7 +17,9 @@ use pixel_planes::Picture;
 use request_lines::{Line, next_line, read_line};
 use std::alloc::Global;
 use std::io::Write;
-use stream_files::{Head, Ivf, IvfFault, WriteFault, ivf_read, y4m_frame, y4m_header};
+use stream_files::{
+    FileBytes, Head, Ivf, IvfFault, WriteFault, ivf_read_from, y4m_frame, y4m_header,
+};
 use thiserror::Error;
 use vp8_tables::Tables;
 
@@ -237,14 +239,14 @@ pub(crate) fn serve_all<F: Write, P: Write, V: Observer>(
 ///
 /// `RunFault::Ivf` with the first source whose bytes are not an IVF file, or for whose packets there is no
 /// memory.
-pub(crate) fn read_sources(alloc: Global, ivfs: &[&[u8]]) -> Result<Vec<Ivf>, RunFault>
-    ensures are { IfOk result (λ files. AreIvfs (texts_of ivfs.now) files.items) }
-    ensures refused { IfErr result (IsSourceRefused (texts_of ivfs.now)) }
+pub(crate) fn read_sources<B: FileBytes>(alloc: Global, ivfs: &[B]) -> Result<Vec<Ivf>, RunFault>
+    ensures are { IfOk result (λ files. AreIvfs (map B.bytes ivfs.now) files.items) }
+    ensures refused { IfErr result (IsSourceRefused (map B.bytes ivfs.now)) }
 {
     let mut files = Vec::new(alloc);
     for bytes in ivfs {
         let source = files.len();
-        let file = match ivf_read(alloc, bytes) {
+        let file = match ivf_read_from(alloc, bytes) {
             Ok(file) => file,
             Err(fault) => return Err(RunFault::Ivf { source, fault }),
         };
@@ -258,11 +260,11 @@ pub(crate) fn read_sources(alloc: Global, ivfs: &[&[u8]]) -> Result<Vec<Ivf>, Ru
     Ok(files)
 }
 
-/// Runs a request list as `run` does, and calls an observer after the reply to each line is written.
-pub fn run_observed<F: Write, P: Write, V: Observer>(
+/// Runs a request list as `run_observed` does, over bytes that are borrowed or shared: the packets of shared bytes are not copied.
+pub fn run_over<B: FileBytes, F: Write, P: Write, V: Observer>(
     alloc: Global,
     settings: Settings,
-    ivfs: &[&[u8]],
+    ivfs: &[B],
     requests: &[u8],
     frames: &mut F,
     replies: &mut P,
@@ -270,9 +272,9 @@ pub fn run_observed<F: Write, P: Write, V: Observer>(
 ) -> Result<Session, RunFault>
     requires capacity { (1 ≤ settings.capacity) × (settings.capacity ≤ 4096) }
     requires sources { (1 ≤ length ivfs.now) × (length ivfs.now ≤ 8) }
-    ensures means { IfOk result (λ session. Means settings.tables (texts_of ivfs.now) requests.now (F.contents frames.old) (F.contents frames.new) (P.contents replies.old) (P.contents replies.new) session.now) }
+    ensures means { IfOk result (λ session. Means settings.tables (map B.bytes ivfs.now) requests.now (F.contents frames.old) (F.contents frames.new) (P.contents replies.old) (P.contents replies.new) session.now) }
     ensures capacity { IfOk result (λ session. session.cache.capacity ≡ settings.capacity) }
-    ensures stops { IfErr result (RunStops settings.tables (texts_of ivfs.now) requests.now (F.contents frames.old) (F.contents frames.new) (P.contents replies.old) (P.contents replies.new)) }
+    ensures stops { IfErr result (RunStops settings.tables (map B.bytes ivfs.now) requests.now (F.contents frames.old) (F.contents frames.new) (P.contents replies.old) (P.contents replies.new)) }
 {
     let Settings { tables, capacity } = settings;
     let files = read_sources(alloc, ivfs)?;
@@ -291,6 +293,25 @@ pub fn run_observed<F: Write, P: Write, V: Observer>(
         Ok(()) => Ok(session),
         Err(_) => Err(RunFault::Write),
     }
+}
+
+/// Runs a request list as `run` does, and calls an observer after the reply to each line is written.
+pub fn run_observed<F: Write, P: Write, V: Observer>(
+    alloc: Global,
+    settings: Settings,
+    ivfs: &[&[u8]],
+    requests: &[u8],
+    frames: &mut F,
+    replies: &mut P,
+    observer: &mut V,
+) -> Result<Session, RunFault>
+    requires capacity { (1 ≤ settings.capacity) × (settings.capacity ≤ 4096) }
+    requires sources { (1 ≤ length ivfs.now) × (length ivfs.now ≤ 8) }
+    ensures means { IfOk result (λ session. Means settings.tables (texts_of ivfs.now) requests.now (F.contents frames.old) (F.contents frames.new) (P.contents replies.old) (P.contents replies.new) session.now) }
+    ensures capacity { IfOk result (λ session. session.cache.capacity ≡ settings.capacity) }
+    ensures stops { IfErr result (RunStops settings.tables (texts_of ivfs.now) requests.now (F.contents frames.old) (F.contents frames.new) (P.contents replies.old) (P.contents replies.new)) }
+{
+    run_over(alloc, settings, ivfs, requests, frames, replies, observer)
 }
 
 /// Runs a request list over IVF files, 1 to 8: one source for each, numbered from 0.

@@ -13,7 +13,7 @@ use crate::fault::Fault;
 use std::alloc::Global;
 use std::io::{self, ErrorKind, Write};
 use stream_facts::first_key_size;
-use stream_files::{IvfFault, ivf_read};
+use stream_files::{FileBytes, IvfFault, ivf_read_from};
 
 /// The number of samples around a plane at each side.
 const BORDER: u64 = 32;
@@ -83,16 +83,41 @@ fn states_of(capacity: Capacity, size: Option<(u16, u16)>) -> u16
 }
 
 /// The size of the first key packet of a file that has one. `None` too if the bytes are not an IVF file; `NoMemory`.
-fn key_size_in(alloc: Global, stream: &[u8]) -> Result<Option<(u16, u16)>, Fault<'static>>
-    ensures size { IfOk result (λ size. (file : Ivf) → IsIvf stream.now file → size ≡ first_key_size file.packets) }
+fn key_size_in<B: FileBytes>(
+    alloc: Global,
+    stream: &B,
+) -> Result<Option<(u16, u16)>, Fault<'static>>
+    ensures size { IfOk result (λ size. (file : Ivf) → IsIvf (B.bytes stream.now) file → size ≡ first_key_size file.packets) }
     ensures fault { IfErr result (λ fault. fault ≡ Fault.NoMemory) }
 {
-    match ivf_read(alloc, stream) {
+    match ivf_read_from(alloc, stream) {
         Ok(file) => Ok(first_key_size(file.packets.as_slice())),
         Err(fault) => match fault {
             IvfFault::NoMemory => Err(Fault::NoMemory),
             _ => Ok(None),
         },
+    }
+}
+
+/// The number of states of a capacity if IN has these bytes, borrowed or shared. IN is read for it if the capacity is a number of bytes.
+///
+/// `NoMemory` if out of memory for the packets of IN.
+pub fn states_from<B: FileBytes>(
+    alloc: Global,
+    capacity: Capacity,
+    stream: &B,
+) -> Result<u16, Fault<'static>>
+    requires { IsGiven capacity }
+    ensures states { IfOk result (AreStates capacity (B.bytes stream.now)) }
+    ensures range { IfOk result (λ states. (1 ≤ states) × (states ≤ 4096)) }
+    ensures fault { IfErr result (λ fault. fault ≡ Fault.NoMemory) }
+{
+    match capacity {
+        Capacity::States(states) => Ok(states),
+        Capacity::Bytes(bytes) => {
+            let size = key_size_in(alloc, stream)?;
+            Ok(states_in(bytes, size))
+        }
     }
 }
 
@@ -105,13 +130,7 @@ pub fn states_over(alloc: Global, capacity: Capacity, stream: &[u8]) -> Result<u
     ensures range { IfOk result (λ states. (1 ≤ states) × (states ≤ 4096)) }
     ensures fault { IfErr result (λ fault. fault ≡ Fault.NoMemory) }
 {
-    match capacity {
-        Capacity::States(states) => Ok(states),
-        Capacity::Bytes(bytes) => {
-            let size = key_size_in(alloc, stream)?;
-            Ok(states_in(bytes, size))
-        }
-    }
+    states_from(alloc, capacity, &stream)
 }
 
 /// Reports what a state takes, if as many steps were decoded as states are cached.
@@ -133,6 +152,26 @@ fn write_cache<E: Write>(
     }
 }
 
+/// Reports what a cached state takes after a run that made as many decoding steps as states are cached, if IN has these bytes,
+/// borrowed or shared.
+///
+/// An error of `errors`, or out of memory for the packets of IN.
+pub fn report_cache_from<B: FileBytes, E: Write>(
+    alloc: Global,
+    capacity: Capacity,
+    stream: &B,
+    decoded: u64,
+    errors: &mut E,
+) -> io::Result<()>
+    requires { IsGiven capacity }
+    ensures { OnOk result ((file : Ivf) → IsIvf (B.bytes stream.now) file → Appends (E.contents errors.old) (E.contents errors.new) (cache_text (states_of capacity (first_key_size file.packets)) (first_key_size file.packets) decoded)) }
+{
+    let Ok(size) = key_size_in(alloc, stream) else {
+        return Err(ErrorKind::OutOfMemory.into());
+    };
+    write_cache(states_of(capacity, size), size, decoded, errors)
+}
+
 /// Reports what a cached state takes after a run that made as many decoding steps as states are cached, if IN has these bytes.
 ///
 /// An error of `errors`, or out of memory for the packets of IN.
@@ -146,8 +185,5 @@ pub fn report_cache<E: Write>(
     requires { IsGiven capacity }
     ensures { OnOk result ((file : Ivf) → IsIvf stream.now file → Appends (E.contents errors.old) (E.contents errors.new) (cache_text (states_of capacity (first_key_size file.packets)) (first_key_size file.packets) decoded)) }
 {
-    let Ok(size) = key_size_in(alloc, stream) else {
-        return Err(ErrorKind::OutOfMemory.into());
-    };
-    write_cache(states_of(capacity, size), size, decoded, errors)
+    report_cache_from(alloc, capacity, &stream, decoded, errors)
 }

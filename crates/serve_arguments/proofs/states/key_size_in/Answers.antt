@@ -5,10 +5,10 @@ use Rattle.stream_facts.specs.Facts.{first_key_size}
 use Rattle.serve_arguments.proofs.states.key_size_in.Goals as goal
 
 pub returns-in-Ok-clause-size : goal.returns-in-Ok-clause-size
-returns-in-Ok-clause-size c = λ file is.
-    let same = one_file c.args.stream.now c.in-Ok.file file c.in-Ok.ensures is in
+returns-in-Ok-clause-size g c = λ file is.
+    let same = one_file _ c.in-Ok.file file c.in-Ok.ensures is in
     c.first_key_size.ensures ∙ ap first_key_size c.as_slice.ensures ∙ ap (λ (f : Ivf). first_key_size f.packets) same
 
 -- bytes that are refused otherwise than out of memory are not a file
 pub returns-in_default-clause-size : goal.returns-in_default-clause-size
-returns-in_default-clause-size c = λ file is. absurd (c.in_default.not-NoMemory (file_refused c.args.stream.now file c.in-Err.fault is c.in-Err.ensures))
+returns-in_default-clause-size g c = λ file is. absurd (c.in_default.not-NoMemory (file_refused _ file c.in-Err.fault is c.in-Err.ensures))
