@@ -382,7 +382,11 @@ fn explain_unsaved<E: Write>(
 }
 
 /// Explains the trailing bytes of sources, which the arguments name.
-fn explain_spare<E: Write>(words: Words<'_>, sources: &[RcSlice<u8>], errors: &mut E) -> io::Result<()> {
+fn explain_spare<E: Write>(
+    words: Words<'_>,
+    sources: &[RcSlice<u8>],
+    errors: &mut E,
+) -> io::Result<()> {
     for (source, bytes) in sources.iter().enumerate() {
         if let Some(cut) = cut_record(bytes.as_slice()) {
             write_cut(path_of(words, source), bytes.len(), cut, errors)?;
