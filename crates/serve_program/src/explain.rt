@@ -12,6 +12,7 @@ use serve_arguments::{Fault, Words, parse};
 use std::convert::AsStr;
 use std::fs::{self, File};
 use std::io::{self, Read, Write};
+use std::rc::RcSlice;
 use std::rt::Files;
 use std::str;
 use stream_files::{IvfFault, read_all};
@@ -353,7 +354,7 @@ fn explain_unsaved_file<E: Write>(path: &str, why: Unsaved, errors: &mut E) -> i
 /// that are not saved.
 pub fn explain_end<E: Write>(
     words: Words<'_>,
-    sources: &[&[u8]],
+    sources: &[RcSlice<u8>],
     messages: &mut Messages<'_, E>,
 ) -> io::Result<()> {
     explain_spare(words, sources, messages.errors)?;
@@ -381,9 +382,13 @@ fn explain_unsaved<E: Write>(
 }
 
 /// Explains the trailing bytes of sources, which the arguments name.
-fn explain_spare<E: Write>(words: Words<'_>, sources: &[&[u8]], errors: &mut E) -> io::Result<()> {
+fn explain_spare<E: Write>(
+    words: Words<'_>,
+    sources: &[RcSlice<u8>],
+    errors: &mut E,
+) -> io::Result<()> {
     for (source, bytes) in sources.iter().enumerate() {
-        if let Some(cut) = cut_record(bytes) {
+        if let Some(cut) = cut_record(bytes.as_slice()) {
             write_cut(path_of(words, source), bytes.len(), cut, errors)?;
         }
     }

@@ -1,6 +1,6 @@
 // Requests that are answered as they come.
 ghost use Rattle.std.specs.Prelude.{◌≡◌, ◌≤◌, ◌⊎◌, IfErr, IfOk, is_some, length, map, option_map};
-ghost use Rattle.frame_session.specs.Answers.{texts_of};
+ghost use Rattle.std.specs.Rc.{rc_slice_items};
 ghost use Rattle.serve_arguments.specs.CachedStates.{AreStates};
 ghost use Rattle.serve_arguments.specs.Capacities.{IsGiven};
 ghost use Rattle.serve_arguments.specs.CommandLines.{source_names};
@@ -8,14 +8,15 @@ ghost use Rattle.serve_program.specs.Endings.{AreLiveReplied, IsLiveEnded, IsLiv
 
 use crate::messages::Messages;
 use crate::program::{BYTES_AT_ONCE, finish, taken_by};
-use crate::runs::{live_fault, settings_over, slices_of};
+use crate::runs::{live_fault, settings_over, shared};
 use crate::saving::{abandon_save, begin_save};
-use frame_session::{LiveFault, Session, Settings, run_live_observed};
+use frame_session::{LiveFault, Session, Settings, run_live_over};
 use output_files::Counted;
 use program_parts::NO_FILE;
 use serve_arguments::{Accepted, Fault, FilesRead, read_files};
 use std::fs::File;
 use std::io::{self, BufRead, BufReader, BufWriter, Read, Write};
+use std::rc::RcSlice;
 use std::rt::Files;
 use stream_files::EMPTY;
 
@@ -23,7 +24,7 @@ use stream_files::EMPTY;
 fn run_to_path<R: Files + AllocGlobal, I: BufRead, P: Write, E: Write>(
     rt: &R,
     settings: Settings,
-    sources: &[&[u8]],
+    sources: &[RcSlice<u8>],
     requests: &mut I,
     path: &str,
     replies: &mut P,
@@ -31,13 +32,13 @@ fn run_to_path<R: Files + AllocGlobal, I: BufRead, P: Write, E: Write>(
 ) -> Result<Session, LiveFault>
     requires capacity { (1 ≤ settings.capacity) × (settings.capacity ≤ 4096) }
     requires sources { (1 ≤ length sources.now) × (length sources.now ≤ 8) }
-    ensures replied { IfOk result (λ session. IsLiveReplied settings.tables (texts_of sources.now) (I.remaining requests.old) (P.contents replies.old) (P.contents replies.new) session.now) }
+    ensures replied { IfOk result (λ session. IsLiveReplied settings.tables (map rc_slice_items sources.now) (I.remaining requests.old) (P.contents replies.old) (P.contents replies.new) session.now) }
     ensures capacity { IfOk result (λ session. session.cache.capacity ≡ settings.capacity) }
-    ensures fault { IfErr result (IsLiveFault settings.tables (texts_of sources.now) (I.remaining requests.old) (P.contents replies.old) (P.contents replies.new)) }
+    ensures fault { IfErr result (IsLiveFault settings.tables (map rc_slice_items sources.now) (I.remaining requests.old) (P.contents replies.old) (P.contents replies.new)) }
 {
     let alloc = rt.alloc();
     if path == NO_FILE {
-        return run_live_observed(
+        return run_live_over(
             alloc,
             settings,
             sources,
@@ -57,7 +58,7 @@ fn run_to_path<R: Files + AllocGlobal, I: BufRead, P: Write, E: Write>(
     let mut frames = BufWriter::with_capacity(alloc, BYTES_AT_ONCE, Counted::new(file)).map_err(
         |_| LiveFault::NoMemory,
     )?;
-    let answered = run_live_observed(
+    let answered = run_live_over(
         alloc,
         settings,
         sources,
@@ -76,7 +77,7 @@ fn run_to_path<R: Files + AllocGlobal, I: BufRead, P: Write, E: Write>(
 fn run_over<R: Files + AllocGlobal, I: Read, P: Write, E: Write>(
     rt: &R,
     settings: Settings,
-    sources: &[&[u8]],
+    sources: &[RcSlice<u8>],
     reader: &mut I,
     path: &str,
     replies: &mut P,
@@ -84,9 +85,9 @@ fn run_over<R: Files + AllocGlobal, I: Read, P: Write, E: Write>(
 ) -> Result<Session, LiveFault>
     requires capacity { (1 ≤ settings.capacity) × (settings.capacity ≤ 4096) }
     requires sources { (1 ≤ length sources.now) × (length sources.now ≤ 8) }
-    ensures replied { IfOk result (λ session. IsLiveReplied settings.tables (texts_of sources.now) (I.remaining reader.old) (P.contents replies.old) (P.contents replies.new) session.now) }
+    ensures replied { IfOk result (λ session. IsLiveReplied settings.tables (map rc_slice_items sources.now) (I.remaining reader.old) (P.contents replies.old) (P.contents replies.new) session.now) }
     ensures capacity { IfOk result (λ session. session.cache.capacity ≡ settings.capacity) }
-    ensures fault { IfErr result (IsLiveFault settings.tables (texts_of sources.now) (I.remaining reader.old) (P.contents replies.old) (P.contents replies.new)) }
+    ensures fault { IfErr result (IsLiveFault settings.tables (map rc_slice_items sources.now) (I.remaining reader.old) (P.contents replies.old) (P.contents replies.new)) }
 {
     let mut requests = BufReader::new(rt.alloc(), reader).map_err(|_| LiveFault::NoMemory)?;
     run_to_path(
@@ -106,16 +107,16 @@ fn run_requests<'a, R: Files + AllocGlobal, I: Read, P: Write, E: Write>(
     rt: &R,
     line: &Accepted<'a>,
     settings: Settings,
-    sources: &[&[u8]],
+    sources: &[RcSlice<u8>],
     input: &mut I,
     replies: &mut P,
     messages: &mut Messages<'_, E>,
 ) -> Result<Session, Fault<'a>>
     requires capacity { (1 ≤ settings.capacity) × (settings.capacity ≤ 4096) }
     requires sources { (1 ≤ length sources.now) × (length sources.now ≤ 8) }
-    ensures replied { IfOk result (λ session. AreLiveReplied line.now.words.requests.now (I.remaining input.old) (P.contents replies.old) (P.contents replies.new) session.now settings.tables (texts_of sources.now)) }
+    ensures replied { IfOk result (λ session. AreLiveReplied line.now.words.requests.now (I.remaining input.old) (P.contents replies.old) (P.contents replies.new) session.now settings.tables (map rc_slice_items sources.now)) }
     ensures capacity { IfOk result (λ session. session.cache.capacity ≡ settings.capacity) }
-    ensures refused { IfErr result (IsLiveRefused settings.tables (texts_of sources.now) line.now.words.requests.now (I.remaining input.old) (P.contents replies.old) (P.contents replies.new)) }
+    ensures refused { IfErr result (IsLiveRefused settings.tables (map rc_slice_items sources.now) line.now.words.requests.now (I.remaining input.old) (P.contents replies.old) (P.contents replies.new)) }
 {
     let path = line.words.requests;
     let frames = line.words.frames;
@@ -150,21 +151,21 @@ fn answer_files<'a, R: Files + AllocGlobal, I: Read, O: Write, E: Write>(
     ensures refused { IfErr result (λ fault. IsLiveRefused files.tables (map (λ bytes. bytes.items) files.sources.items) line.now.words.requests.now (I.remaining input.old) (O.contents output.old) (O.contents output.new) fault ⊎ IsSaveFault fault) }
 {
     let FilesRead { tables, sources } = files;
-    let slices = slices_of(rt.alloc(), sources.as_slice())?;
-    let settings = settings_over(rt.alloc(), tables, line.capacity, slices.as_slice())?;
+    let sources = shared(rt.alloc(), sources)?;
+    let settings = settings_over(rt.alloc(), tables, line.capacity, sources.as_slice())?;
     let target = begin_save(rt, line.words, messages)?;
     let answered = run_requests(
         rt,
         line,
         settings,
-        slices.as_slice(),
+        sources.as_slice(),
         input,
         output,
         messages,
     );
     match answered {
         Ok(session) => {
-            finish(rt, &session, line, slices.as_slice(), target, messages)?;
+            finish(rt, &session, line, sources.as_slice(), target, messages)?;
             Ok(session)
         }
         Err(fault) => {

@@ -2,6 +2,7 @@
 ghost use Rattle.std.specs.Prelude.{◌≡◌, ◌≤◌, ℕ, [], IfOk, IfErr, List, None, OnOk, Option, is_some, length, map, option_map};
 ghost use Rattle.std.specs.Io.Buffered.{writer_buffer};
 ghost use Rattle.std.specs.Io.KnownBytes.{Appends};
+ghost use Rattle.std.specs.Rc.{rc_slice_items};
 ghost use Rattle.frame_session.specs.Answers.{Means, texts_of};
 ghost use Rattle.serve_arguments.specs.CachedStates.{AreStates};
 ghost use Rattle.serve_arguments.specs.Capacities.{IsGiven};
@@ -12,23 +13,51 @@ ghost use Rattle.serve_program.specs.Endings.{AreReplied, IsEnded, IsRefused, Is
 use crate::explain::{explain_end, explain_fault, is_asked};
 use crate::live::answer_live;
 use crate::messages::Messages;
-use crate::runs::{run_fault, settings_over, slices_of, stream_in};
+use crate::runs::{run_fault, settings_over, shared};
 use crate::saving::{begin_save, finish_save};
-use frame_session::{Observer, Session, Settings, run_observed};
+use frame_session::{Observer, Session, Settings, run_over};
 use output_files::{Counted, Taken, Target};
 use program_parts::{NO_FILE, exit_status, help_or_mistake};
 use serve_arguments::{
-    Accepted, Fault, FilesRead, Inputs, check_places, parse, read_inputs, report_cache,
+    Accepted, Fault, FilesRead, Inputs, check_places, parse, read_inputs, report_cache_from,
 };
 use std::alloc::Global;
 use std::convert::AsStr;
 use std::fs::File;
 use std::io::{self, BufWriter, Read, Write};
+use std::rc::RcSlice;
 use std::rt::Files;
-use stream_files::EMPTY;
+use stream_files::{EMPTY, FileBytes};
 
 /// The number of bytes of frames or packets that are buffered.
 pub const BYTES_AT_ONCE: usize = 65_536;
+
+/// Runs the requests as `run_to` does, over bytes that are borrowed or shared: the packets of shared bytes are not copied.
+pub fn run_files<B: FileBytes, F: Write, P: Write, V: Observer>(
+    alloc: Global,
+    settings: Settings,
+    sources: &[B],
+    requests: &[u8],
+    frames: &mut F,
+    replies: &mut P,
+    observer: &mut V,
+) -> Result<Session, Fault<'static>>
+    requires capacity { (1 ≤ settings.capacity) × (settings.capacity ≤ 4096) }
+    requires sources { (1 ≤ length sources.now) × (length sources.now ≤ 8) }
+    ensures answered { IfOk result (λ session. Means settings.tables (map B.bytes sources.now) requests.now (F.contents frames.old) (F.contents frames.new) (P.contents replies.old) (P.contents replies.new) session.now) }
+    ensures capacity { IfOk result (λ session. session.cache.capacity ≡ settings.capacity) }
+    ensures refused { IfErr result (IsRefused (map B.bytes sources.now) (F.contents frames.old) (F.contents frames.new) (P.contents replies.old) (P.contents replies.new)) }
+{
+    let session = match run_over(
+        alloc, settings, sources, requests, frames, replies, observer,
+    ) {
+        Ok(session) => session,
+        Err(fault) => return Err(run_fault(fault)),
+    };
+    frames.flush().map_err(|_| Fault::CannotWrite)?;
+    replies.flush().map_err(|_| Fault::CannotWrite)?;
+    Ok(session)
+}
 
 /// Runs the requests over the files of the sources, 1 to 8, and flushes both writers. Returns the session after the last
 /// request.
@@ -47,22 +76,16 @@ pub fn run_to<F: Write, P: Write, V: Observer>(
     ensures capacity { IfOk result (λ session. session.cache.capacity ≡ settings.capacity) }
     ensures refused { IfErr result (IsRefused (texts_of sources.now) (F.contents frames.old) (F.contents frames.new) (P.contents replies.old) (P.contents replies.new)) }
 {
-    let session = match run_observed(
+    run_files(
         alloc, settings, sources, requests, frames, replies, observer,
-    ) {
-        Ok(session) => session,
-        Err(fault) => return Err(run_fault(fault)),
-    };
-    frames.flush().map_err(|_| Fault::CannotWrite)?;
-    replies.flush().map_err(|_| Fault::CannotWrite)?;
-    Ok(session)
+    )
 }
 
 /// Runs the requests with frames that go to the file at `path`, which is created now, or nowhere.
 fn run_to_path<R: Files + AllocGlobal, P: Write, E: Write>(
     rt: &R,
     settings: Settings,
-    sources: &[&[u8]],
+    sources: &[RcSlice<u8>],
     requests: &[u8],
     path: &str,
     replies: &mut P,
@@ -70,13 +93,13 @@ fn run_to_path<R: Files + AllocGlobal, P: Write, E: Write>(
 ) -> Result<Session, Fault<'static>>
     requires capacity { (1 ≤ settings.capacity) × (settings.capacity ≤ 4096) }
     requires sources { (1 ≤ length sources.now) × (length sources.now ≤ 8) }
-    ensures replied { IfOk result (λ session. IsReplied settings.tables (texts_of sources.now) requests.now (P.contents replies.old) (P.contents replies.new) session.now) }
+    ensures replied { IfOk result (λ session. IsReplied settings.tables (map rc_slice_items sources.now) requests.now (P.contents replies.old) (P.contents replies.new) session.now) }
     ensures capacity { IfOk result (λ session. session.cache.capacity ≡ settings.capacity) }
-    ensures refused { IfErr result (IsRefused (texts_of sources.now) None None (P.contents replies.old) (P.contents replies.new)) }
+    ensures refused { IfErr result (IsRefused (map rc_slice_items sources.now) None None (P.contents replies.old) (P.contents replies.new)) }
 {
     let alloc = rt.alloc();
     if path == NO_FILE {
-        return run_to(
+        return run_files(
             alloc,
             settings,
             sources,
@@ -93,7 +116,7 @@ fn run_to_path<R: Files + AllocGlobal, P: Write, E: Write>(
     let mut frames = BufWriter::with_capacity(alloc, BYTES_AT_ONCE, Counted::new(file)).map_err(
         |_| Fault::NoMemory,
     )?;
-    let answered = run_to(
+    let answered = run_files(
         alloc,
         settings,
         sources,
@@ -131,7 +154,7 @@ fn end<E: Write>(
     alloc: Global,
     session: &Session,
     line: &Accepted<'_>,
-    sources: &[&[u8]],
+    sources: &[RcSlice<u8>],
     messages: &mut Messages<'_, E>,
 )
     requires { IsGiven line.now.capacity }
@@ -139,9 +162,10 @@ fn end<E: Write>(
     let _ = report_spare(session, messages.errors);
     if messages.explains {
         let _ = explain_end(line.words, sources, messages);
-        let stream = stream_in(sources);
-        let decoded = session.decoded();
-        let _ = report_cache(alloc, line.capacity, stream, decoded, messages.errors);
+        if let Some(stream) = sources.first() {
+            let decoded = session.decoded();
+            let _ = report_cache_from(alloc, line.capacity, stream, decoded, messages.errors);
+        }
     }
 }
 
@@ -150,7 +174,7 @@ pub fn finish<R: Files + AllocGlobal, E: Write>(
     rt: &R,
     session: &Session,
     line: &Accepted<'_>,
-    sources: &[&[u8]],
+    sources: &[RcSlice<u8>],
     target: Option<Target<'_, R>>,
     messages: &mut Messages<'_, E>,
 ) -> Result<(), Fault<'static>>
@@ -181,19 +205,19 @@ fn answer_inputs<R: Files + AllocGlobal, O: Write, E: Write>(
 {
     let Inputs { files, requests } = inputs;
     let FilesRead { tables, sources } = files;
-    let slices = slices_of(rt.alloc(), sources.as_slice())?;
-    let settings = settings_over(rt.alloc(), tables, line.capacity, slices.as_slice())?;
+    let sources = shared(rt.alloc(), sources)?;
+    let settings = settings_over(rt.alloc(), tables, line.capacity, sources.as_slice())?;
     let session = run_to_path(
         rt,
         settings,
-        slices.as_slice(),
+        sources.as_slice(),
         requests.as_slice(),
         line.words.frames,
         output,
         messages,
     )?;
     let target = begin_save(rt, line.words, messages)?;
-    finish(rt, &session, line, slices.as_slice(), target, messages)?;
+    finish(rt, &session, line, sources.as_slice(), target, messages)?;
     Ok(session)
 }
 

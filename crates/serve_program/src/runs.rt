@@ -1,34 +1,45 @@
 // What a run takes, and what its error is to the user.
 ghost use Rattle.std.specs.Prelude.{◌≡◌, ◌≤◌, IfErr, IfOk, map};
-ghost use Rattle.frame_session.specs.Answers.{texts_of};
+ghost use Rattle.std.specs.Rc.{rc_slice_items};
 ghost use Rattle.serve_arguments.specs.CachedStates.{AreStates};
 ghost use Rattle.serve_arguments.specs.Capacities.{IsGiven};
 ghost use Rattle.serve_program.specs.Endings.{fault_by_live, fault_by_run, stream_in};
 
 use frame_session::{LiveFault, RunFault, Settings};
-use serve_arguments::{Capacity, Fault, states_over};
+use serve_arguments::{Capacity, Fault, states_from, states_over};
 use std::alloc::Global;
+use std::rc::RcSlice;
 use vp8_tables::Tables;
 
-/// The bytes of each of these.
-pub fn slices_of(alloc: Global, all: &[Vec<u8>]) -> Result<Vec<&[u8]>, Fault<'static>>
-    ensures slices { IfOk result (λ slices. texts_of slices.items ≡ map (λ bytes. bytes.items) all.now) }
+/// The bytes of each of these, to be shared.
+pub fn shared(alloc: Global, all: Vec<Vec<u8>>) -> Result<Vec<RcSlice<u8>>, Fault<'static>>
+    ensures shared { IfOk result (λ files. map rc_slice_items files.items ≡ map (λ bytes. bytes.items) all.items) }
     ensures fault { IfErr result (λ fault. fault ≡ Fault.NoMemory) }
 {
-    let mut slices = Vec::new(alloc);
+    let mut files = Vec::new(alloc);
     for bytes in all {
-        slices.push(bytes.as_slice()).map_err(|_| Fault::NoMemory)?;
+        let file = RcSlice::from_vec(bytes).map_err(|_| Fault::NoMemory)?;
+        files.push(file).map_err(|_| Fault::NoMemory)?;
     }
-    Ok(slices)
+    Ok(files)
 }
 
-/// The bytes of IN, which is source 0.
-pub fn stream_in<'a>(sources: &[&'a [u8]]) -> &'a [u8]
-    ensures { result.now ≡ stream_in (texts_of sources.now) }
+/// The number of states of a capacity for these sources, of which source 0 is IN.
+///
+/// `NoMemory` if out of memory for the packets of IN.
+fn states_for(
+    alloc: Global,
+    capacity: Capacity,
+    sources: &[RcSlice<u8>],
+) -> Result<u16, Fault<'static>>
+    requires { IsGiven capacity }
+    ensures states { IfOk result (AreStates capacity (stream_in (map rc_slice_items sources.now))) }
+    ensures range { IfOk result (λ states. (1 ≤ states) × (states ≤ 4096)) }
+    ensures fault { IfErr result (λ fault. fault ≡ Fault.NoMemory) }
 {
     match sources.first() {
-        Some(stream) => stream,
-        None => &[],
+        Some(stream) => states_from(alloc, capacity, stream),
+        None => states_over(alloc, capacity, &[]),
     }
 }
 
@@ -39,15 +50,15 @@ pub fn settings_over(
     alloc: Global,
     tables: Tables,
     capacity: Capacity,
-    sources: &[&[u8]],
+    sources: &[RcSlice<u8>],
 ) -> Result<Settings, Fault<'static>>
     requires { IsGiven capacity }
     ensures tables { IfOk result (λ settings. settings.tables ≡ tables) }
-    ensures states { IfOk result (λ settings. AreStates capacity (stream_in (texts_of sources.now)) settings.capacity) }
+    ensures states { IfOk result (λ settings. AreStates capacity (stream_in (map rc_slice_items sources.now)) settings.capacity) }
     ensures range { IfOk result (λ settings. (1 ≤ settings.capacity) × (settings.capacity ≤ 4096)) }
     ensures fault { IfErr result (λ fault. fault ≡ Fault.NoMemory) }
 {
-    let capacity = states_over(alloc, capacity, stream_in(sources))?;
+    let capacity = states_for(alloc, capacity, sources)?;
     Ok(Settings { tables, capacity })
 }
 

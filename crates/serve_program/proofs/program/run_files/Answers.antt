@@ -1,0 +1,9 @@
+use Rattle.std.proofs.Common.{map}
+use Rattle.serve_program.proofs.Flushed.{flushed}
+use Rattle.serve_program.proofs.program.run_files.Goals as goal
+
+pub returns-clause-answered : goal.returns-clause-answered
+returns-clause-answered g c =
+    let f = g.F.Write.contents in
+    let r = g.P.Write.contents in
+    flushed c.args.settings.tables (map g.B.FileBytes.bytes c.args.sources.now) c.args.requests.now (f c.args.frames.now) (f c.run_over.new.frames) (f c.flush.new.self) (r c.args.replies.now) (r c.run_over.new.replies) (r c.flush-2.new.self) c.in-Ok.session.now c.in-Ok.ensures.means c.flush.ensures.bytes c.flush-2.ensures.bytes
