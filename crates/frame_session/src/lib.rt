@@ -15,11 +15,11 @@ mod session;
 mod settings;
 mod size;
 
-pub use live::{LiveFault, run_live, run_live_observed, run_live_over};
+pub use live::{LiveFault, run_live, run_live_over};
 pub use observer::{Observer, Unobserved};
 pub use refusal::Refusal;
 pub use request_lines::Edit;
-pub use serving::{RunFault, run, run_observed, run_over};
+pub use serving::{RunFault, run, run_over};
 pub use session::Session;
 pub use settings::Settings;
 pub use size::Size;

@@ -249,7 +249,8 @@ fn serve_live<I: BufRead, F: Write, P: Write, V: Observer>(
     Err(LiveFault::Endless)
 }
 
-/// Runs requests as `run_live_observed` does, over bytes that are borrowed or shared: the packets of shared bytes are not copied.
+/// Runs requests as `run_live` does, over bytes that are borrowed or shared, and calls an observer after the reply to each line is
+/// written and flushed. The packets of shared bytes are not copied.
 pub fn run_live_over<B: FileBytes, I: BufRead, F: Write, P: Write, V: Observer>(
     alloc: Global,
     settings: Settings,
@@ -273,25 +274,6 @@ pub fn run_live_over<B: FileBytes, I: BufRead, F: Write, P: Write, V: Observer>(
     };
     serve_live(alloc, &mut session, input, frames, replies, observer)?;
     Ok(session)
-}
-
-/// Runs requests as `run_live` does, and calls an observer after the reply to each line is written and flushed.
-pub fn run_live_observed<I: BufRead, F: Write, P: Write, V: Observer>(
-    alloc: Global,
-    settings: Settings,
-    ivfs: &[&[u8]],
-    input: &mut I,
-    frames: &mut F,
-    replies: &mut P,
-    observer: &mut V,
-) -> Result<Session, LiveFault>
-    requires capacity { (1 ≤ settings.capacity) × (settings.capacity ≤ 4096) }
-    requires sources { (1 ≤ length ivfs.now) × (length ivfs.now ≤ 8) }
-    ensures means { IfOk result (λ session. LiveMeans settings.tables (texts_of ivfs.now) (I.remaining input.old) (I.remaining input.new) (F.contents frames.old) (F.contents frames.new) (P.contents replies.old) (P.contents replies.new) session.now) }
-    ensures capacity { IfOk result (λ session. session.cache.capacity ≡ settings.capacity) }
-    ensures stops { IfErr result (LiveStops settings.tables (texts_of ivfs.now) (I.remaining input.old) (I.remaining input.new) (F.contents frames.old) (F.contents frames.new) (P.contents replies.old) (P.contents replies.new)) }
-{
-    run_live_over(alloc, settings, ivfs, input, frames, replies, observer)
 }
 
 /// Runs requests over IVF files, 1 to 8, as `run` does, but answers each line of `input` when its newline is read:
@@ -320,7 +302,7 @@ pub fn run_live<I: BufRead, F: Write, P: Write>(
     ensures capacity { IfOk result (λ session. session.cache.capacity ≡ settings.capacity) }
     ensures stops { IfErr result (LiveStops settings.tables (texts_of ivfs.now) (I.remaining input.old) (I.remaining input.new) (F.contents frames.old) (F.contents frames.new) (P.contents replies.old) (P.contents replies.new)) }
 {
-    run_live_observed(
+    run_live_over(
         alloc,
         settings,
         ivfs,

@@ -260,7 +260,8 @@ pub(crate) fn read_sources<B: FileBytes>(alloc: Global, ivfs: &[B]) -> Result<Ve
     Ok(files)
 }
 
-/// Runs a request list as `run_observed` does, over bytes that are borrowed or shared: the packets of shared bytes are not copied.
+/// Runs a request list as `run` does, over bytes that are borrowed or shared, and calls an observer after the reply to each line is
+/// written. The packets of shared bytes are not copied.
 pub fn run_over<B: FileBytes, F: Write, P: Write, V: Observer>(
     alloc: Global,
     settings: Settings,
@@ -295,25 +296,6 @@ pub fn run_over<B: FileBytes, F: Write, P: Write, V: Observer>(
     }
 }
 
-/// Runs a request list as `run` does, and calls an observer after the reply to each line is written.
-pub fn run_observed<F: Write, P: Write, V: Observer>(
-    alloc: Global,
-    settings: Settings,
-    ivfs: &[&[u8]],
-    requests: &[u8],
-    frames: &mut F,
-    replies: &mut P,
-    observer: &mut V,
-) -> Result<Session, RunFault>
-    requires capacity { (1 ≤ settings.capacity) × (settings.capacity ≤ 4096) }
-    requires sources { (1 ≤ length ivfs.now) × (length ivfs.now ≤ 8) }
-    ensures means { IfOk result (λ session. Means settings.tables (texts_of ivfs.now) requests.now (F.contents frames.old) (F.contents frames.new) (P.contents replies.old) (P.contents replies.new) session.now) }
-    ensures capacity { IfOk result (λ session. session.cache.capacity ≡ settings.capacity) }
-    ensures stops { IfErr result (RunStops settings.tables (texts_of ivfs.now) requests.now (F.contents frames.old) (F.contents frames.new) (P.contents replies.old) (P.contents replies.new)) }
-{
-    run_over(alloc, settings, ivfs, requests, frames, replies, observer)
-}
-
 /// Runs a request list over IVF files, 1 to 8: one source for each, numbered from 0.
 ///
 /// `capacity`, 1 to 4,096, is the most decoded states that are cached. Served frames go to
@@ -340,7 +322,7 @@ pub fn run<F: Write, P: Write>(
     ensures stops { IfErr result (RunStops tables (texts_of ivfs.now) requests.now (F.contents frames.old) (F.contents frames.new) (P.contents replies.old) (P.contents replies.new)) }
 {
     let settings = Settings { tables, capacity };
-    run_observed(
+    run_over(
         alloc,
         settings,
         ivfs,

@@ -1,6 +1,7 @@
 // Everything that the program writes for the bytes of a file.
 ghost use Rattle.std.specs.Prelude.{◌≡◌, ◌≤◌, [], IfErr, IfOk, OnOk};
 ghost use Rattle.std.specs.Io.Buffered.{writer_buffer, writer_contents};
+ghost use Rattle.std.specs.Rc.{rc_slice_items};
 ghost use Rattle.list_program.specs.Answers.{IsAnswered, IsAnswerFault};
 
 use crate::checking::{Checking, check_to};
@@ -11,6 +12,7 @@ use crate::listing::list_to;
 use crate::objects::objects_to;
 use std::alloc::Global;
 use std::io::{BufWriter, Write};
+use std::rc::RcSlice;
 use stream_checks::Progress;
 use vp8_tables::Tables;
 
@@ -34,13 +36,13 @@ fn write_output<O: Write, E: Write, G: Progress>(
     alloc: Global,
     output: Output,
     tables: &Tables,
-    bytes: &[u8],
+    bytes: &RcSlice<u8>,
     w: &mut O,
     errors: &mut E,
     progress: &mut G,
 ) -> Result<u8, Fault<'static>>
-    ensures answered { IfOk result (λ status. IsAnswered output tables.now bytes.now status (O.contents w.old) (O.contents w.new)) }
-    ensures fault { IfErr result (IsAnswerFault output tables.now bytes.now (O.contents w.old) (O.contents w.new)) }
+    ensures answered { IfOk result (λ status. IsAnswered output tables.now (rc_slice_items bytes.now) status (O.contents w.old) (O.contents w.new)) }
+    ensures fault { IfErr result (IsAnswerFault output tables.now (rc_slice_items bytes.now) (O.contents w.old) (O.contents w.new)) }
     ensures status { IfOk result (λ status. status ≤ 1) }
 {
     match output {
@@ -72,14 +74,14 @@ pub fn answer_to<W: Write + Drop, E: Write, G: Progress>(
     alloc: Global,
     output: Output,
     tables: &Tables,
-    bytes: &[u8],
+    bytes: &RcSlice<u8>,
     w: &mut BufWriter<W>,
     errors: &mut E,
     progress: &mut G,
 ) -> Result<u8, Fault<'static>>
-    ensures answered { IfOk result (λ status. IsAnswered output tables.now bytes.now status (writer_contents W.contents w.old) (writer_contents W.contents w.new)) }
+    ensures answered { IfOk result (λ status. IsAnswered output tables.now (rc_slice_items bytes.now) status (writer_contents W.contents w.old) (writer_contents W.contents w.new)) }
     ensures flushed { OnOk result (writer_buffer w.new ≡ []) }
-    ensures fault { IfErr result (IsAnswerFault output tables.now bytes.now (writer_contents W.contents w.old) (writer_contents W.contents w.new)) }
+    ensures fault { IfErr result (IsAnswerFault output tables.now (rc_slice_items bytes.now) (writer_contents W.contents w.old) (writer_contents W.contents w.new)) }
     ensures status { IfOk result (λ status. status ≤ 1) }
 {
     let status = write_output(alloc, output, tables, bytes, w, errors, progress)?;

@@ -1,12 +1,14 @@
 // The findings of an IVF file.
 ghost use Rattle.std.specs.Prelude.{◌≡◌, ◌≤◌, IfErr, IfOk};
+ghost use Rattle.std.specs.Rc.{rc_slice_items};
 ghost use Rattle.list_program.specs.CheckedFiles.{IsCheckedFault, IsFileChecked, status_of};
 
 use crate::fault::Fault;
 use std::alloc::Global;
 use std::io::Write;
+use std::rc::RcSlice;
 use stream_checks::{CheckFault, Form, Progress, Tally, check};
-use stream_files::ivf_read;
+use stream_files::ivf_share;
 use vp8_tables::Tables;
 
 /// How a file is checked.
@@ -37,19 +39,27 @@ pub fn check_to<O: Write, G: Progress>(
     alloc: Global,
     checking: Checking,
     tables: &Tables,
-    bytes: &[u8],
+    bytes: &RcSlice<u8>,
     output: &mut O,
     progress: &mut G,
 ) -> Result<u8, Fault<'static>>
-    ensures checked { IfOk result (λ status. IsFileChecked checking.form checking.is_strict tables.now bytes.now status (O.contents output.old) (O.contents output.new)) }
-    ensures fault { IfErr result (IsCheckedFault checking.form tables.now bytes.now (O.contents output.old) (O.contents output.new)) }
+    ensures checked { IfOk result (λ status. IsFileChecked checking.form checking.is_strict tables.now (rc_slice_items bytes.now) status (O.contents output.old) (O.contents output.new)) }
+    ensures fault { IfErr result (IsCheckedFault checking.form tables.now (rc_slice_items bytes.now) (O.contents output.old) (O.contents output.new)) }
     ensures status { IfOk result (λ status. status ≤ 1) }
 {
-    let file = match ivf_read(alloc, bytes) {
+    let file = match ivf_share(alloc, bytes) {
         Ok(file) => file,
         Err(fault) => return Err(Fault::Input(fault)),
     };
-    let tally = match check(output, alloc, checking.form, tables, bytes, &file, progress) {
+    let tally = match check(
+        output,
+        alloc,
+        checking.form,
+        tables,
+        bytes.as_slice(),
+        &file,
+        progress,
+    ) {
         Ok(tally) => tally,
         Err(CheckFault::Write) => return Err(Fault::CannotWrite),
         Err(CheckFault::NoMemory) => return Err(Fault::NoMemory),

@@ -1,12 +1,14 @@
 // The macroblocks of packets of an IVF file, or their headers.
 ghost use Rattle.std.specs.Prelude.{◌≤◌, IfErr, IfOk, OnOk};
+ghost use Rattle.std.specs.Rc.{rc_slice_items};
 ghost use Rattle.list_program.specs.Details.{IsAbsent, IsDetailFault, IsDetailed, IsWanted};
 
 use crate::fault::Fault;
 use macroblock_lists::{Form, ListFault, Wanted, What, write_list};
 use std::alloc::Global;
 use std::io::Write;
-use stream_files::ivf_read;
+use std::rc::RcSlice;
+use stream_files::ivf_share;
 use vp8_tables::Tables;
 
 /// What is asked for of which packets.
@@ -67,13 +69,13 @@ pub fn details_to<O: Write>(
     alloc: Global,
     asked: Asked,
     tables: &Tables,
-    bytes: &[u8],
+    bytes: &RcSlice<u8>,
     output: &mut O,
 ) -> Result<(), Fault<'static>>
-    ensures detailed { OnOk result (IsDetailed asked tables.now bytes.now (O.contents output.old) (O.contents output.new)) }
-    ensures fault { IfErr result (IsDetailFault asked bytes.now (O.contents output.old) (O.contents output.new)) }
+    ensures detailed { OnOk result (IsDetailed asked tables.now (rc_slice_items bytes.now) (O.contents output.old) (O.contents output.new)) }
+    ensures fault { IfErr result (IsDetailFault asked (rc_slice_items bytes.now) (O.contents output.old) (O.contents output.new)) }
 {
-    let file = match ivf_read(alloc, bytes) {
+    let file = match ivf_share(alloc, bytes) {
         Ok(file) => file,
         Err(fault) => return Err(Fault::Input(fault)),
     };

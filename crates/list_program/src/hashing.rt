@@ -1,13 +1,15 @@
 // The MD5 of each frame of an IVF file.
 ghost use Rattle.std.specs.Prelude.{◌≡◌, ◌≤◌, IfErr, IfOk};
+ghost use Rattle.std.specs.Rc.{rc_slice_items};
 ghost use Rattle.list_program.specs.HashedFiles.{IsFileHashed, IsFileHashFault, hash_status};
 
 use crate::fault::Fault;
 use std::alloc::Global;
 use std::io::Write;
+use std::rc::RcSlice;
 use stream_checks::{HashFault, Progress, write_hashes};
 use stream_facts::{has_refused, write_refusals};
-use stream_files::ivf_read;
+use stream_files::ivf_share;
 use vp8_tables::Tables;
 
 fn hash_status(is_refused: bool) -> u8
@@ -23,16 +25,16 @@ fn hash_status(is_refused: bool) -> u8
 pub fn hash_to<O: Write, E: Write, G: Progress>(
     alloc: Global,
     tables: &Tables,
-    bytes: &[u8],
+    bytes: &RcSlice<u8>,
     output: &mut O,
     errors: &mut E,
     progress: &mut G,
 ) -> Result<u8, Fault<'static>>
-    ensures hashed { IfOk result (λ status. IsFileHashed tables.now bytes.now status (O.contents output.old) (O.contents output.new)) }
-    ensures fault { IfErr result (IsFileHashFault tables.now bytes.now (O.contents output.old) (O.contents output.new)) }
+    ensures hashed { IfOk result (λ status. IsFileHashed tables.now (rc_slice_items bytes.now) status (O.contents output.old) (O.contents output.new)) }
+    ensures fault { IfErr result (IsFileHashFault tables.now (rc_slice_items bytes.now) (O.contents output.old) (O.contents output.new)) }
     ensures status { IfOk result (λ status. status ≤ 1) }
 {
-    let file = match ivf_read(alloc, bytes) {
+    let file = match ivf_share(alloc, bytes) {
         Ok(file) => file,
         Err(fault) => return Err(Fault::Input(fault)),
     };
@@ -44,6 +46,6 @@ pub fn hash_to<O: Write, E: Write, G: Progress>(
     let Ok(()) = output.flush() else {
         return Err(Fault::CannotWrite);
     };
-    let _ = write_refusals(errors, bytes, &file);
-    Ok(hash_status(has_refused(bytes, &file)))
+    let _ = write_refusals(errors, bytes.as_slice(), &file);
+    Ok(hash_status(has_refused(bytes.as_slice(), &file)))
 }

@@ -8,6 +8,7 @@ use crate::fault::Fault;
 use program_parts::{format_of, help_or_mistake, read_input, read_tables, tell, write_format};
 use std::convert::AsStr;
 use std::io::{BufWriter, Read, Write};
+use std::rc::RcSlice;
 use std::rt::Files;
 use stream_checks::Progress;
 use stream_files::IvfFault;
@@ -44,9 +45,11 @@ fn answer_given<'a, R: Files + AllocGlobal, I: Read, O: Write + Drop, E: Write, 
     };
     let tables = read_tables(rt, given.tables)?;
     let bytes = read_input(rt, given.stream, input)?;
-    let bytes = bytes.as_slice();
-    match answer_to(rt.alloc(), kind, &tables, bytes, output, errors, progress) {
-        Err(Fault::Input(fault)) => Ok(tell_input(given.stream, bytes, fault, errors)),
+    let bytes = RcSlice::from_vec(bytes).map_err(|_| Fault::NoMemory)?;
+    match answer_to(rt.alloc(), kind, &tables, &bytes, output, errors, progress) {
+        Err(Fault::Input(fault)) => {
+            Ok(tell_input(given.stream, bytes.as_slice(), fault, errors))
+        }
         answer => answer,
     }
 }

@@ -1,4 +1,4 @@
-//! The planes of a dropped picture, whose memory is used again.
+//! The planes of dropped pictures, whose memory is used again.
 
 ghost use Rattle.std.specs.Prelude.{◌≡◌, ◌*◌, ◌<◌, ◌≤◌, ◌↔◌, IfOk, IfSome, IsTrue};
 ghost use Rattle.pixel_planes.specs.Samples.{IsWhole, uniform};
@@ -11,13 +11,15 @@ use crate::planes::Plane;
 use std::alloc::Global;
 use std::marker::Model;
 
-/// The planes of a dropped picture, or none. The next picture of the same size is made in their
-/// memory, without the allocations and the page faults of fresh planes.
+/// The planes of two dropped pictures, of one, or none. The next pictures of the same size are made
+/// in their memory, without the allocations and the page faults of fresh planes.
 ///
-/// No contract sees which planes they are: nothing that is made of them depends on it.
+/// A frame that replaces a reference leaves two pictures that nobody needs, and another frame leaves
+/// none. No contract sees which planes they are: nothing that is made of them depends on it.
 #[derive(Debug, Drop)]
 pub struct Recycled {
-    planes: Option<Planes>,
+    latest: Option<Planes>,
+    earlier: Option<Planes>,
 }
 
 impl Model for Recycled {
@@ -29,20 +31,40 @@ impl Model for Recycled {
 impl Recycled {
     /// No planes.
     pub fn new() -> Recycled {
-        Recycled { planes: None }
+        Recycled {
+            latest: None,
+            earlier: None,
+        }
     }
 
-    /// Drops a picture. If no other picture shares its planes, they are the recycled ones from now on.
+    /// Drops a picture. If no other picture shares its planes, they are recycled ones from now on, and
+    /// so are those that were the latest before.
     pub fn put(&mut self, picture: Picture) {
         if let Some(planes) = picture.into_planes() {
-            self.planes = Some(planes);
+            self.earlier = self.latest.replace(planes);
         }
+    }
+
+    /// Takes the latest planes of this many macroblocks each way. If those have another size, all
+    /// recycled planes are dropped.
+    fn take(&mut self, columns: usize, rows: usize) -> Option<Planes>
+        requires { (columns ≤ 1024) × (rows ≤ 1024) }
+        ensures luma { IfSome result (λ planes. HasBlocks planes.luma.shown 16 columns rows) }
+        ensures cb { IfSome result (λ planes. HasBlocks planes.cb.shown 8 columns rows) }
+        ensures cr { IfSome result (λ planes. HasBlocks planes.cr.shown 8 columns rows) }
+    {
+        let planes = with_size(self.latest.take(), columns, rows);
+        let earlier = self.earlier.take();
+        if planes.is_some() {
+            self.latest = earlier;
+        }
+        planes
     }
 
     /// Makes the planes of a picture of `columns` by `rows` macroblocks, 1 to 1,024 each way. What
     /// their samples are is not known: they are to be written before they are read.
     ///
-    /// They are the recycled planes if these have that size, which takes no memory. Recycled planes of
+    /// They are recycled planes if there are any of that size, which takes no memory. Recycled planes of
     /// another size are dropped first. `NoMemory` if the block of a plane is refused.
     pub fn make_planes(
         &mut self,
@@ -54,7 +76,7 @@ impl Recycled {
         requires high { (0 < rows) × (rows ≤ 1024) }
         ensures { IfOk result (λ planes. AreWhole columns rows (shown_of planes)) }
     {
-        match with_size(self.planes.take(), columns, rows) {
+        match self.take(columns, rows) {
             Some(mut planes) => {
                 give_up_samples(&mut planes);
                 Ok(planes)
@@ -74,7 +96,7 @@ impl Recycled {
         requires high { (0 < rows) × (rows ≤ 1024) }
         ensures { IfOk result (λ planes. shown_of planes ≡ zero_planes columns rows) }
     {
-        match with_size(self.planes.take(), columns, rows) {
+        match self.take(columns, rows) {
             Some(mut planes) => {
                 clear(&mut planes);
                 Ok(planes)

@@ -133,17 +133,17 @@ impl<'a> FrameTokens<'a> {
         let mut reader = self.readers[partition].copied();
         let above = self.above[mx];
         let left = if mx == 0 { [false; 9] } else { self.left };
-        let before = Flags {
+        let mut flags = Flags {
             above,
             left,
             has_tokens: false,
         };
-        let after = self.blocks.read(&mut reader, header, factors, mode, before);
-        let (above, left) = (after.above, after.left);
+        self.blocks
+            .read(&mut reader, header, factors, mode, &mut flags);
         self.readers[partition] = reader;
-        self.above[mx] = above;
-        self.left = left;
-        self.has_tokens = after.has_tokens;
+        self.above[mx] = flags.above;
+        self.left = flags.left;
+        self.has_tokens = flags.has_tokens;
     }
 
     /// The residual of the macroblock that was read last, of which this is the record. A skipped

@@ -132,17 +132,15 @@ pub struct Flags {
     pub has_tokens: bool,
 }
 
-/// The flags after a macroblock.
-#[inline]
-fn flags_of(tokens: &Tokens, has_tokens: bool) -> Flags
-    ensures { result ≡ record { above = tokens.now.above; left = tokens.now.left; has_tokens = has_tokens } }
+/// Writes the flags after a macroblock, each by itself: the whole struct would be read back wider than
+/// its parts were written, for which a processor waits.
+#[inline(always)]
+fn write_flags(tokens: &Tokens, has_tokens: bool, flags: &mut Flags)
+    ensures { flags.new ≡ record { above = tokens.now.above; left = tokens.now.left; has_tokens = has_tokens } }
 {
-    let (above, left) = (tokens.above, tokens.left);
-    Flags {
-        above,
-        left,
-        has_tokens,
-    }
+    flags.above = tokens.above;
+    flags.left = tokens.left;
+    flags.has_tokens = has_tokens;
 }
 
 /// The residual of a macroblock: 16 blocks of luma, 4 of U and 4 of V, each in raster order. A block
@@ -183,35 +181,35 @@ impl Blocks {
         }
     }
 
-    /// Reads the tokens of a macroblock after its flags, and keeps its residual, for which `all` are the
-    /// factors of the frame's segments. Returns its own flags. If it is skipped, nothing is read.
+    /// Reads the tokens of a macroblock after its flags, which become its own, and keeps its residual,
+    /// for which `all` are the factors of the frame's segments. If it is skipped, nothing is read.
     pub fn read(
         &mut self,
         reader: &mut Decoder,
         header: &Header,
         all: &[Factors; 4],
         mode: &Record,
-        flags: Flags,
-    ) -> Flags
+        flags: &mut Flags,
+    )
         requires { all.now ≡ frame_factors header.now }
-        ensures reader { reader.new ≡ (tokens_by header.now.context.probabilities.coefficients (mode_of mode.now) flags reader.old).1 }
-        ensures flags { result ≡ flags_with (mode_of mode.now) (tokens_by header.now.context.probabilities.coefficients (mode_of mode.now) flags reader.old).0 }
-        ensures residual { (if (mode_of mode.now).is_skipped then None else Some self.new) ≡ residual_with (factors_of header.now (mode_of mode.now).segment) (mode_of mode.now) (tokens_by header.now.context.probabilities.coefficients (mode_of mode.now) flags reader.old).0 }
+        ensures reader { reader.new ≡ (tokens_by header.now.context.probabilities.coefficients (mode_of mode.now) flags.old reader.old).1 }
+        ensures flags { flags.new ≡ flags_with (mode_of mode.now) (tokens_by header.now.context.probabilities.coefficients (mode_of mode.now) flags.old reader.old).0 }
+        ensures residual { (if (mode_of mode.now).is_skipped then None else Some self.new) ≡ residual_with (factors_of header.now (mode_of mode.now).segment) (mode_of mode.now) (tokens_by header.now.context.probabilities.coefficients (mode_of mode.now) flags.old reader.old).0 }
     {
         let has_y2 = has_y2(mode.y_mode());
-        let (above, left) = (flags.above, flags.left);
-        self.tokens.above = above;
-        self.tokens.left = left;
+        self.tokens.above = flags.above;
+        self.tokens.left = flags.left;
         if mode.is_skipped() {
             skip_macroblock(has_y2, &mut self.tokens);
-            return flags_of(&self.tokens, false);
+            write_flags(&self.tokens, false, flags);
+            return;
         }
         let probabilities = &header.context.probabilities.coefficients;
         read_next_macroblock(reader, probabilities, has_y2, &mut self.tokens);
         let factors = factors_in(all, header, mode.segment());
         write_first_coefficients(factors, has_y2, &self.tokens, &mut self.firsts);
         self.factors = factors;
-        flags_of(&self.tokens, self.tokens.has_tokens(has_y2))
+        write_flags(&self.tokens, self.tokens.has_tokens(has_y2), flags);
     }
 
     /// Block `k`, dequantised.

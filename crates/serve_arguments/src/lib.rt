@@ -18,5 +18,5 @@ pub use fault::Fault;
 pub use files::{Argument, SameFile};
 pub use inputs::{FilesRead, Inputs, read_files, read_inputs};
 pub use located::{Located, check_clashes, check_places};
-pub use states::{report_cache, report_cache_from, states_from, states_over};
+pub use states::{report_cache, states_over};
 pub use words::{Accepted, Words};

@@ -102,7 +102,7 @@ fn key_size_in<B: FileBytes>(
 /// The number of states of a capacity if IN has these bytes, borrowed or shared. IN is read for it if the capacity is a number of bytes.
 ///
 /// `NoMemory` if out of memory for the packets of IN.
-pub fn states_from<B: FileBytes>(
+pub fn states_over<B: FileBytes>(
     alloc: Global,
     capacity: Capacity,
     stream: &B,
@@ -119,18 +119,6 @@ pub fn states_from<B: FileBytes>(
             Ok(states_in(bytes, size))
         }
     }
-}
-
-/// The number of states of a capacity if IN has these bytes. IN is read for it if the capacity is a number of bytes.
-///
-/// `NoMemory` if out of memory for the packets of IN.
-pub fn states_over(alloc: Global, capacity: Capacity, stream: &[u8]) -> Result<u16, Fault<'static>>
-    requires { IsGiven capacity }
-    ensures states { IfOk result (AreStates capacity stream.now) }
-    ensures range { IfOk result (λ states. (1 ≤ states) × (states ≤ 4096)) }
-    ensures fault { IfErr result (λ fault. fault ≡ Fault.NoMemory) }
-{
-    states_from(alloc, capacity, &stream)
 }
 
 /// Reports what a state takes, if as many steps were decoded as states are cached.
@@ -156,7 +144,7 @@ fn write_cache<E: Write>(
 /// borrowed or shared.
 ///
 /// An error of `errors`, or out of memory for the packets of IN.
-pub fn report_cache_from<B: FileBytes, E: Write>(
+pub fn report_cache<B: FileBytes, E: Write>(
     alloc: Global,
     capacity: Capacity,
     stream: &B,
@@ -170,20 +158,4 @@ pub fn report_cache_from<B: FileBytes, E: Write>(
         return Err(ErrorKind::OutOfMemory.into());
     };
     write_cache(states_of(capacity, size), size, decoded, errors)
-}
-
-/// Reports what a cached state takes after a run that made as many decoding steps as states are cached, if IN has these bytes.
-///
-/// An error of `errors`, or out of memory for the packets of IN.
-pub fn report_cache<E: Write>(
-    alloc: Global,
-    capacity: Capacity,
-    stream: &[u8],
-    decoded: u64,
-    errors: &mut E,
-) -> io::Result<()>
-    requires { IsGiven capacity }
-    ensures { OnOk result ((file : Ivf) → IsIvf stream.now file → Appends (E.contents errors.old) (E.contents errors.new) (cache_text (states_of capacity (first_key_size file.packets)) (first_key_size file.packets) decoded)) }
-{
-    report_cache_from(alloc, capacity, &stream, decoded, errors)
 }

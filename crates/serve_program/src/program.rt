@@ -3,7 +3,7 @@ ghost use Rattle.std.specs.Prelude.{◌≡◌, ◌≤◌, ℕ, [], IfOk, IfErr, 
 ghost use Rattle.std.specs.Io.Buffered.{writer_buffer};
 ghost use Rattle.std.specs.Io.KnownBytes.{Appends};
 ghost use Rattle.std.specs.Rc.{rc_slice_items};
-ghost use Rattle.frame_session.specs.Answers.{Means, texts_of};
+ghost use Rattle.frame_session.specs.Answers.{Means};
 ghost use Rattle.serve_arguments.specs.CachedStates.{AreStates};
 ghost use Rattle.serve_arguments.specs.Capacities.{IsGiven};
 ghost use Rattle.serve_arguments.specs.CommandLines.{source_names};
@@ -19,7 +19,7 @@ use frame_session::{Observer, Session, Settings, run_over};
 use output_files::{Counted, Taken, Target};
 use program_parts::{NO_FILE, exit_status, help_or_mistake};
 use serve_arguments::{
-    Accepted, Fault, FilesRead, Inputs, check_places, parse, read_inputs, report_cache_from,
+    Accepted, Fault, FilesRead, Inputs, check_places, parse, read_inputs, report_cache,
 };
 use std::alloc::Global;
 use std::convert::AsStr;
@@ -32,8 +32,9 @@ use stream_files::{EMPTY, FileBytes};
 /// The number of bytes of frames or packets that are buffered.
 pub const BYTES_AT_ONCE: usize = 65_536;
 
-/// Runs the requests as `run_to` does, over bytes that are borrowed or shared: the packets of shared bytes are not copied.
-pub fn run_files<B: FileBytes, F: Write, P: Write, V: Observer>(
+/// Runs the requests over the files of the sources, 1 to 8, whose bytes are borrowed or shared, and flushes both writers. The packets of
+/// shared bytes are not copied. Returns the session after the last request.
+pub fn run_to<B: FileBytes, F: Write, P: Write, V: Observer>(
     alloc: Global,
     settings: Settings,
     sources: &[B],
@@ -59,28 +60,6 @@ pub fn run_files<B: FileBytes, F: Write, P: Write, V: Observer>(
     Ok(session)
 }
 
-/// Runs the requests over the files of the sources, 1 to 8, and flushes both writers. Returns the session after the last
-/// request.
-pub fn run_to<F: Write, P: Write, V: Observer>(
-    alloc: Global,
-    settings: Settings,
-    sources: &[&[u8]],
-    requests: &[u8],
-    frames: &mut F,
-    replies: &mut P,
-    observer: &mut V,
-) -> Result<Session, Fault<'static>>
-    requires capacity { (1 ≤ settings.capacity) × (settings.capacity ≤ 4096) }
-    requires sources { (1 ≤ length sources.now) × (length sources.now ≤ 8) }
-    ensures answered { IfOk result (λ session. Means settings.tables (texts_of sources.now) requests.now (F.contents frames.old) (F.contents frames.new) (P.contents replies.old) (P.contents replies.new) session.now) }
-    ensures capacity { IfOk result (λ session. session.cache.capacity ≡ settings.capacity) }
-    ensures refused { IfErr result (IsRefused (texts_of sources.now) (F.contents frames.old) (F.contents frames.new) (P.contents replies.old) (P.contents replies.new)) }
-{
-    run_files(
-        alloc, settings, sources, requests, frames, replies, observer,
-    )
-}
-
 /// Runs the requests with frames that go to the file at `path`, which is created now, or nowhere.
 fn run_to_path<R: Files + AllocGlobal, P: Write, E: Write>(
     rt: &R,
@@ -99,7 +78,7 @@ fn run_to_path<R: Files + AllocGlobal, P: Write, E: Write>(
 {
     let alloc = rt.alloc();
     if path == NO_FILE {
-        return run_files(
+        return run_to(
             alloc,
             settings,
             sources,
@@ -116,7 +95,7 @@ fn run_to_path<R: Files + AllocGlobal, P: Write, E: Write>(
     let mut frames = BufWriter::with_capacity(alloc, BYTES_AT_ONCE, Counted::new(file)).map_err(
         |_| Fault::NoMemory,
     )?;
-    let answered = run_files(
+    let answered = run_to(
         alloc,
         settings,
         sources,
@@ -164,7 +143,7 @@ fn end<E: Write>(
         let _ = explain_end(line.words, sources, messages);
         if let Some(stream) = sources.first() {
             let decoded = session.decoded();
-            let _ = report_cache_from(alloc, line.capacity, stream, decoded, messages.errors);
+            let _ = report_cache(alloc, line.capacity, stream, decoded, messages.errors);
         }
     }
 }

@@ -6,7 +6,7 @@ ghost use Rattle.serve_arguments.specs.Capacities.{IsGiven};
 ghost use Rattle.serve_program.specs.Endings.{fault_by_live, fault_by_run, stream_in};
 
 use frame_session::{LiveFault, RunFault, Settings};
-use serve_arguments::{Capacity, Fault, states_from, states_over};
+use serve_arguments::{Capacity, Fault, states_over};
 use std::alloc::Global;
 use std::rc::RcSlice;
 use vp8_tables::Tables;
@@ -38,8 +38,8 @@ fn states_for(
     ensures fault { IfErr result (λ fault. fault ≡ Fault.NoMemory) }
 {
     match sources.first() {
-        Some(stream) => states_from(alloc, capacity, stream),
-        None => states_over(alloc, capacity, &[]),
+        Some(stream) => states_over(alloc, capacity, stream),
+        None => states_over(alloc, capacity, &b"".as_slice()),
     }
 }
 

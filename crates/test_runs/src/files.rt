@@ -1,7 +1,8 @@
-use frame_session::{RunFault, run};
+use frame_session::{RunFault, Settings, Unobserved, run};
 use std::alloc::{AllocError, Global};
 use std::io::{self, ErrorKind, Write};
 use std::process::Abort;
+use std::rc::RcSlice;
 use std::test::Fail;
 use stream_files::IvfFault;
 use test_fixtures::{INTER, KEY, ivf_of, run_over};
@@ -62,6 +63,34 @@ fn files_that_are_none(rt: HostRuntime) -> Result<(), Fail> {
         assert_eq!(rt; ran.spare, Err(RunFault::Ivf { source: 0, fault }));
         assert!(rt; ran.replies.is_empty());
     }
+    Ok(())
+}
+
+// A run whose packets share the bytes of their file writes what one does whose packets are copies.
+#[test]
+fn shared_bytes(rt: HostRuntime) -> Result<(), Fail> {
+    let requests = b"frame 1\ndelete 0\ncount\nframe 0\n";
+    let file = ivf_of(rt.alloc(), &[KEY, INTER, KEY])?;
+    let copied = run_over(rt.alloc(), file.as_slice(), requests);
+    let settings = Settings {
+        tables: Tables::flat(),
+        capacity: 8,
+    };
+    let mut frames = Vec::new(rt.alloc());
+    let mut replies = Vec::new(rt.alloc());
+    let ran = frame_session::run_over(
+        rt.alloc(),
+        settings,
+        &[RcSlice::from_vec(file)?],
+        requests,
+        &mut frames,
+        &mut replies,
+        &mut Unobserved {},
+    );
+    assert!(rt; ran.is_ok());
+    assert_eq!(rt; frames.len(), 36 + 390);
+    assert!(rt; frames == copied.frames);
+    assert!(rt; replies == copied.replies);
     Ok(())
 }
 

@@ -5,19 +5,21 @@ pub returns-in-Err-NoMemory-clause-fault : goal.returns-in-Err-NoMemory-clause-f
 returns-in-Err-NoMemory-clause-fault g c = record {
   file = c.in-Ok.file;
   read = c.in-Ok.ensures;
-  begun = rw c.in-Err-NoMemory.field-0-is at c.in-Err-NoMemory.ensures.early;
+  begun = rw c.as_slice.ensures.value at (rw c.in-Err-NoMemory.field-0-is at c.in-Err-NoMemory.ensures.early);
 }
 
 pub returns-clause-checked : goal.returns-clause-checked
-returns-clause-checked g c = record {
-  file = c.in-Ok.file;
-  read = c.in-Ok.ensures;
-  tally = c.in-Ok-check.tally;
-  checked = record {
-    step = c.in-Ok-check.ensures.checked.step;
-    median = c.in-Ok-check.ensures.checked.median;
-    written = Appends-kept _ _ _ _ c.in-Ok-check.ensures.checked.written c.in-Ok-flush.ensures.bytes;
-    counted = c.in-Ok-check.ensures.checked.counted;
-  };
-  counted = c.status_of.ensures.value;
-}
+returns-clause-checked g c =
+    let checked = rw c.as_slice.ensures.value at c.in-Ok-check.ensures.checked in
+    record {
+      file = c.in-Ok.file;
+      read = c.in-Ok.ensures;
+      tally = c.in-Ok-check.tally;
+      checked = record {
+        step = checked.step;
+        median = checked.median;
+        written = Appends-kept _ _ _ _ checked.written c.in-Ok-flush.ensures.bytes;
+        counted = checked.counted;
+      };
+      counted = c.status_of.ensures.value;
+    }

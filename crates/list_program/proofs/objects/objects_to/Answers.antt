@@ -5,5 +5,5 @@ pub returns-clause-listed : goal.returns-clause-listed
 returns-clause-listed g c = record {
   file = c.in-Ok.file;
   read = c.in-Ok.ensures;
-  listed = Appends-kept _ _ _ _ c.in-Ok-write_objects.ensures c.in-Ok-flush.ensures.bytes;
+  listed = Appends-kept _ _ _ _ (rw c.as_slice.ensures.value at c.in-Ok-write_objects.ensures) c.in-Ok-flush.ensures.bytes;
 }

@@ -1,6 +1,6 @@
 use Rattle.std.proofs.Common.{map}
 use Rattle.serve_program.proofs.Flushed.{flushed}
-use Rattle.serve_program.proofs.program.run_files.Goals as goal
+use Rattle.serve_program.proofs.program.run_to.Goals as goal
 
 pub returns-clause-answered : goal.returns-clause-answered
 returns-clause-answered g c =
