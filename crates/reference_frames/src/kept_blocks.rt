@@ -132,8 +132,7 @@ pub struct Flags {
     pub has_tokens: bool,
 }
 
-/// Writes the flags after a macroblock, each by itself: the whole struct would be read back wider than
-/// its parts were written, for which a processor waits.
+/// Writes the flags after a macroblock, each by itself: a struct that is returned would be copied.
 #[inline(always)]
 fn write_flags(tokens: &Tokens, has_tokens: bool, flags: &mut Flags)
     ensures { flags.new ≡ record { above = tokens.now.above; left = tokens.now.left; has_tokens = has_tokens } }

@@ -83,8 +83,8 @@ impl State {
         })
     }
 
-    /// Drops the state. Planes of its references that no other picture shares become the recycled
-    /// ones.
+    /// Drops the state. Planes of its references that no other picture shares are recycled, of at most
+    /// two pictures.
     pub fn drop_into(self, recycled: &mut Recycled) {
         let State {
             context: _,

@@ -90,7 +90,10 @@ fn shared_bytes(rt: HostRuntime) -> Result<(), Fail> {
     assert!(rt; ran.is_ok());
     assert_eq!(rt; frames.len(), 36 + 390);
     assert!(rt; frames == copied.frames);
-    assert!(rt; replies == copied.replies);
+    assert_eq!(rt;
+        replies.as_slice(),
+        b"served 1\nok 2\npackets 2 frames 2\nrefused packet 0 NoKeyFrame\n".as_slice()
+    );
     Ok(())
 }
 
