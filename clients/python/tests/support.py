@@ -22,6 +22,9 @@ for name in ("vp8serve", "vp8list"):
     if built.is_file():
         os.environ.setdefault(name.upper(), str(built))
 
+# A shell's job in the background ignores Ctrl-C, and so would what it starts; the tests send it.
+signal.signal(signal.SIGINT, signal.default_int_handler)
+
 CLIP = TOP / "examples/mandelbrot.ivf"
 DATA = TOP / "crates/gate_clips/data"
 SMALL = DATA / "small.ivf"
@@ -123,10 +126,27 @@ def frames_of(stream, numbers, *lines_before):
     return [rest[start + 6 : start + size] for start in range(0, len(rest), size)]
 
 
+def start_python(*words, **options):
+    """A process of Python, which finds the client."""
+    env = dict(os.environ, PYTHONPATH=str(TOP / "clients/python"), **options.pop("env", {}))
+    return subprocess.Popen([sys.executable, *map(str, words)], env=env, **options)
+
+
 def start(*words, **options):
     """A process of the command wokureti."""
-    env = dict(os.environ, PYTHONPATH=str(TOP / "clients/python"), **options.pop("env", {}))
-    return subprocess.Popen([sys.executable, "-m", "wokureti", *map(str, words)], env=env, **options)
+    return start_python("-m", "wokureti", *words, **options)
+
+
+def start_unwaking(*words, **options):
+    """The same. A line of its standard input is a Ctrl-C that came right before the main thread began to wait: the handler is called when
+    the wait is over, and the signal does not end the wait."""
+    code = "; ".join((
+        "import _thread, sys, threading",
+        "from wokureti import commands",
+        "threading.Thread(target=lambda: (sys.stdin.readline(), _thread.interrupt_main()), daemon=True).start()",
+        "sys.exit(commands.main(sys.argv[1:]))",
+    ))  # fmt: skip
+    return start_python("-c", code, *words, stdin=subprocess.PIPE, **options)
 
 
 def command(*words, given=b"", **options):

@@ -8,7 +8,7 @@ import threading
 import time
 import unittest
 
-from support import DATA, ODD, SLOW, SMALL, Case, command, packets_of, start, whole_text, write_packets
+from support import DATA, ODD, SLOW, SMALL, Case, command, packets_of, start, start_unwaking, whole_text, write_packets
 from wokureti import Session, programs
 
 SCENES = DATA / "scene-cuts.ivf"
@@ -196,19 +196,33 @@ class Failures(Case):
         for pid in pids.read_text().split():
             self.assertGone(int(pid))
 
-    def test_an_interrupt(self):
+    def interrupt(self, start, interrupt):
+        """Starts cat, and interrupts it while a part is decoded."""
         env = program_that(self.room, 'echo $$ >> "$PIDS"; case "$2" in */1.list) sleep 30;; esac; exec "$real" "$@"')
         pids = self.room / "pids"
         env["PIDS"], env["TMPDIR"] = str(pids), str(self.room / "tmp")
         (self.room / "tmp").mkdir()
         process = start("cat", SCENES, self.out, "--jobs", 2, stderr=subprocess.PIPE, env=env)
+        self.addCleanup(process.kill)
         while not pids.exists() or len(pids.read_text().split()) < 3:
             time.sleep(0.02)
-        process.send_signal(signal.SIGINT)
         with self.within(5):
+            interrupt(process)
             self.assertEqual(process.wait(10 * SLOW), 130)
         self.assertEqual((process.stderr.read(), self.out.read_bytes(), os.listdir(self.room / "tmp")), (b"", b"old", []))
         process.stderr.close()
+
+    def test_an_interrupt(self):
+        self.interrupt(start, lambda process: process.send_signal(signal.SIGINT))
+
+    def test_an_interrupt_right_before_the_main_thread_waits(self):
+        def interrupt(process):
+            # Meanwhile the main thread begins to wait.
+            time.sleep(0.5 * SLOW)
+            process.stdin.write(b"\n")
+            process.stdin.close()
+
+        self.interrupt(start_unwaking, interrupt)
 
 
 class Progress(Case):

@@ -15,7 +15,7 @@ import unittest
 import zlib
 from unittest import mock
 
-from support import DATA, ODD, SLOW, SMALL, Case, is_alive, packets_of, process_of, start, whole_text, write_packets
+from support import DATA, ODD, SLOW, SMALL, Case, is_alive, packets_of, process_of, start, start_unwaking, whole_text, write_packets
 from test_edits import edit
 from wokureti import Refused, Script, Session, web
 from wokureti.live import Live
@@ -689,6 +689,17 @@ class TheCommand(Case):
             self.assertFalse(is_alive(children[0]))
         self.assertEqual((room / "list").read_text(), "delete 3\ndelete 3\n")
         self.assertEqual(packets_of(room / "out.ivf"), packets_of(SMALL)[:3] + packets_of(SMALL)[5:])
+
+    def test_an_interrupt_right_before_the_main_thread_waits(self):
+        for words in (("serve", SMALL), ("open", SMALL, "--no-browser", "--edits", self.folder() / "list")):
+            process = start_unwaking(*words, stdout=subprocess.PIPE, stderr=subprocess.PIPE)
+            self.addCleanup(process.kill)
+            self.assertIn(b"http://127.0.0.1:", process.stdout.readline())
+            # Meanwhile the main thread begins to wait.
+            time.sleep(0.5 * SLOW)
+            with self.within(5):
+                process.communicate(b"\n", timeout=10 * SLOW)
+            self.assertEqual(process.returncode, 0)
 
     def test_it_does_not_start(self):
         from support import command

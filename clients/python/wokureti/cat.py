@@ -9,7 +9,7 @@ import subprocess
 import tempfile
 import threading
 
-from . import checks, files, parts, programs
+from . import checks, files, parts, programs, waits
 from .errors import Ended
 from .progress import Progress
 
@@ -80,7 +80,7 @@ class Here:
             for number in range(len(self.plan)):
                 with self.ready:
                     while number not in self.done and not self.error:
-                        self.ready.wait()
+                        self.ready.wait(waits.LONGEST)
                     if number not in self.done:
                         raise self.error
                 yield number

@@ -5,6 +5,7 @@ import signal
 import sys
 import threading
 
+from . import waits
 from .live import Live
 from .routes import Routes
 from .web import Server
@@ -33,7 +34,7 @@ def serve_with(live, port, routes, announce):
         thread.start()
         announce(f"{server.origin}/{token}/")
         while thread.is_alive():
-            thread.join(3600)
+            thread.join(waits.LONGEST)
     except KeyboardInterrupt:
         pass
     finally:
