@@ -29,6 +29,13 @@ no_product ac = let none : pos 0 *ℤ ac ≡ pos 0 = omega (arith, ints) in rw n
 alone : (coefficients : List ℤ) (first ac : ℤ) → IsFirstAlone coefficients → with_others coefficients first ac ≡ first ∷ replicate 15 (pos 0)
 alone coefficients first ac is = rw (is, no_product ac) refl
 
+-- and neither has a block whose others are multiplied by 0
+no_factor : (coefficient : ℤ) → reduced (coefficient *ℤ pos 0) ≡ pos 0
+no_factor coefficient = let none : coefficient *ℤ pos 0 ≡ pos 0 = omega (arith, ints) in rw none (int_wrap_fits w16 (pos 0) (record { sfits = lit< tt }))
+
+pub without_others : (coefficients : List ℤ) (first : ℤ) → with_others coefficients first (pos 0) ≡ first ∷ replicate 15 (pos 0)
+without_others coefficients first = simp no_factor refl
+
 -- Y2 with no coefficient after its first
 pub y2_alone : (factors : Factors) (coefficients : List ℤ) → IsFirstAlone coefficients → inverse_wht (reduced (slice_index_or coefficients 0 (pos 0) *ℤ factors.y2_dc) ∷ replicate 15 (pos 0)) ≡ y2_results factors coefficients
 unfolding y2_results block_with

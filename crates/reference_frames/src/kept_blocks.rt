@@ -211,24 +211,20 @@ impl Blocks {
         write_flags(&self.tokens, self.tokens.has_tokens(has_y2), flags);
     }
 
-    /// Block `k`, dequantised.
+    /// Block `k`, dequantised. If it has only its first coefficient, what is kept for the others is
+    /// multiplied by 0: zeros would be written in parts, and read back wider at once.
     #[inline(always)]
     fn dequantised(&self, k: usize) -> [i16; 16]
         requires { k < 24 }
         ensures { result ≡ slice_index_or self.now k [] }
     {
-        let first = self.firsts[k];
-        if self.tokens.ends[k] > 1 {
-            let ac = if k < 16 {
-                self.factors.y_ac
-            } else {
-                self.factors.uv_ac
-            };
-            return dequantise_others(&self.tokens.coefficients[k], first, ac);
-        }
-        let mut block = [0; 16];
-        block[0] = first;
-        block
+        let factor = if k < 16 {
+            self.factors.y_ac
+        } else {
+            self.factors.uv_ac
+        };
+        let ac = if self.tokens.ends[k] > 1 { factor } else { 0 };
+        dequantise_others(&self.tokens.coefficients[k], self.firsts[k], ac)
     }
 
     /// Adds the residual of block `k` to its 4 by 4 samples at the start of `samples`, in rows
