@@ -130,7 +130,7 @@ impl<'a> FrameTokens<'a> {
         ensures residual { kept_residual self.new (mode_of mode.now) ≡ residual_with (factors_of header.now (mode_of mode.now).segment) (mode_of mode.now) (tokens_at header.now.context.probabilities.coefficients (state_of self.old) mx my (mode_of mode.now)).0 }
     {
         let partition = partition_of(my, self.readers.len());
-        let mut reader = self.readers[partition].copied();
+        let reader = &mut self.readers[partition];
         let above = self.above[mx];
         let left = if mx == 0 { [false; 9] } else { self.left };
         let mut flags = Flags {
@@ -138,9 +138,7 @@ impl<'a> FrameTokens<'a> {
             left,
             has_tokens: false,
         };
-        self.blocks
-            .read(&mut reader, header, factors, mode, &mut flags);
-        self.readers[partition] = reader;
+        self.blocks.read(reader, header, factors, mode, &mut flags);
         self.above[mx] = flags.above;
         self.left = flags.left;
         self.has_tokens = flags.has_tokens;
