@@ -40,7 +40,8 @@ def run(path, folder):
     programs = f"{TOP}/bin"
     path_of_programs = f"{folder}/bin:{programs}:{os.environ['PATH']}"
     env = dict(os.environ, PATH=path_of_programs, PYTHONPATH=str(TOP / "clients/python"), PYTHONDONTWRITEBYTECODE="1")
-    ran = subprocess.run(["bash", "-c", script], cwd=folder, env=env, capture_output=True, text=True, stdin=subprocess.DEVNULL)
+    # Most of it is the page, which is open for 8 s.
+    ran = subprocess.run(["bash", "-c", script], cwd=folder, env=env, capture_output=True, text=True, stdin=subprocess.DEVNULL, timeout=300)
     outputs = ran.stdout.split("--end--\n")
     for (command, wanted), output in zip(commands, outputs):
         lines = output.splitlines()
@@ -57,6 +58,9 @@ def run(path, folder):
 
 
 def main():
+    missing = [name for name in ("vp8serve", "vp8list", "wokureti") if not (TOP / "bin" / name).is_file()]
+    if missing:
+        sys.exit(f"{TOP}/bin has no {' and no '.join(missing)}: run ./build.py first")
     paths = [pathlib.Path(name) for name in sys.argv[1:]] or [TOP / "docs/cookbook.md"]
     wrong = 0
     for path in paths:
