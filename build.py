@@ -1,90 +1,80 @@
 #!/usr/bin/env python3
-"""Builds vp8serve and vp8list: build.py [--cpu x86-64-v2|x86-64-v3]
+"""Proves and builds vp8serve and vp8list: build.py [--cpu x86-64-v2|x86-64-v3] [--ready | --verify | --dist]
 
-It proves the crates that the two programs need, builds both, and puts them into bin/, next to bin/wokureti, which starts the Python
-client. It works on a copy of these crates outside the checkout, so it can be interrupted: what was proved by then is kept. If nothing
-has changed since the last time, it does nothing. Python 3.9 and its standard library suffice.
+Without an option it proves the crates that the two programs need, builds both for this processor, and puts them into bin/, next to
+bin/wokureti, which starts the Python client. It works on a copy of these crates outside the checkout, so it can be interrupted: what was
+proved by then is kept. If nothing has changed since the last time, it does nothing.
+
+  --ready   puts the programs of dist/ into bin/, if no newer ones are there, and says which ones bin/ has; only without dist/ it builds.
+            Its messages name SCRIPT, which called it
+  --verify  builds both programs for both processors, and compares them with those of dist/ byte for byte, if dist/ is of these sources.
+            With --built they are taken from crates/, where `rt ci` has proved them
+  --dist    the same, and packs them with the client into a new dist/, if VERSION is new
+
+Python 3.9 and its standard library suffice for --ready; the others need the Rattle kit, the last two gcc and the C library's libc.a too.
 """
 
+import argparse
+import contextlib
+import datetime
 import fcntl
 import hashlib
 import os
 import pathlib
-import re
 import shutil
 import subprocess
 import sys
-import time
+import tempfile
 
-TOP = pathlib.Path(__file__).resolve().parent
+sys.dont_write_bytecode = True
+from release import proving, wheel  # noqa: E402
+from release.sources import CPUS, DIST, PROGRAMS, TOP, Failed, digest, kit, needed, read_names, sum_of, version, write_names  # noqa: E402
+
 BIN = TOP / "bin"
-PROGRAMS = ("vp8serve", "vp8list")
-CPUS = ("x86-64-v2", "x86-64-v3")
-# What a crate's check and its program read.
-PARTS = ("src", "specs", "proofs", "args", "stdin", "stdout", "status", "data")
+STAMP = BIN / ".built"
 WOKURETI = """#!/bin/sh
 # Starts the Python client of this checkout: wokureti --help
-here=$(cd "$(dirname "$0")" && pwd)
+here=$(dirname "$(readlink -f "$0")")
 PATH="$here:$PATH" PYTHONPATH="$here/../clients/python${PYTHONPATH:+:$PYTHONPATH}" exec python3 -m wokureti "$@"
 """
 
 
-class Failed(Exception):
-    """Why nothing was built, as a sentence."""
+class Speaker:
+    """The script that a message names: the one that was called."""
+
+    name = "build.py"
 
 
 def say(text):
-    print(f"build.py: {text}", file=sys.stderr, flush=True)
+    print(f"{Speaker.name}: {text}", file=sys.stderr, flush=True)
 
 
-def elapsed(since):
-    minutes, seconds = divmod(int(time.monotonic() - since), 60)
-    return f"{minutes} min {seconds} s"
+def processor(given):
+    """The processor to build for: the one that was asked for, or v3 if this machine has it."""
+    if given:
+        if given not in CPUS:
+            raise Failed(f"the processor is {given}, but must be {' or '.join(CPUS)}")
+        return given
+    flags = pathlib.Path("/proc/cpuinfo").read_text(encoding="ascii", errors="replace").split()
+    return CPUS[all(word in flags for word in ("avx2", "bmi1", "bmi2", "f16c", "fma", "abm", "movbe"))]
 
 
-def needed():
-    """The lines of crates.txt for the programs and the crates below them."""
-    lines = {}
-    for line in (TOP / "crates.txt").read_text().splitlines():
-        if ":" in line and not line.startswith("#"):
-            lines[line.split(":")[0].split()[0]] = line
-    wanted, left = [], list(PROGRAMS)
-    while left:
-        name = left.pop()
-        if name in lines and name not in wanted:
-            wanted.append(name)
-            left += lines[name].split(":")[1].split()
-    return {name: lines[name] for name in lines if name in wanted}
+def in_bin():
+    """What is known of the programs in bin/: their sources, processor, version and origin; nothing if one is missing."""
+    is_whole = all((BIN / name).is_file() for name in (*PROGRAMS, "wokureti"))
+    return read_names(STAMP) if is_whole else {}
 
 
-def files_of(crate):
-    for part in PARTS:
-        path = TOP / "crates" / crate / part
-        if path.is_dir():
-            yield from sorted(file for file in path.rglob("*") if file.is_file())
-        elif path.is_file():
-            yield path
-
-
-def digest(crates, cpu):
-    """A text that changes with each file that the programs are built from."""
-    found = hashlib.sha256("\n".join([cpu, *crates.values()]).encode())
-    for crate in crates:
-        for path in files_of(crate):
-            found.update(f"{path.relative_to(TOP)}\0".encode() + hashlib.sha256(path.read_bytes()).digest())
-    return found.hexdigest()
-
-
-def is_built(stamp):
-    marks = BIN / ".built"
-    return all((BIN / name).is_file() for name in (*PROGRAMS, "wokureti")) and marks.is_file() and marks.read_text() == stamp
-
-
-def kit():
-    """The line of the kit that docs/proofs.md names."""
-    text = " ".join((TOP / "docs/proofs.md").read_text().split())
-    found = re.search(r"rattle-kit-\S+ logic [0-9a-f]+", text)
-    return found.group(0) if found else ""
+def place(files, cpu, names):
+    """Puts the programs into bin/, each whole: `files` has the bytes of each by its name."""
+    BIN.mkdir(exist_ok=True)
+    STAMP.unlink(missing_ok=True)
+    for name, data in [*files.items(), ("wokureti", WOKURETI.encode())]:
+        fresh = BIN / f".{name}.{os.getpid()}"
+        fresh.write_bytes(data)
+        fresh.chmod(0o755)
+        fresh.replace(BIN / name)
+    write_names({**names, "processor": cpu}, STAMP)
 
 
 def check_kit():
@@ -95,134 +85,172 @@ def check_kit():
         raise Failed(f"this repository is proved with {kit()}, but rt is of {shown or 'a kit that does not say which'}")
 
 
-def copy_files(crates, room):
-    """Makes the copy of the crates equal to the checkout; what rt kept in out/ stays."""
-    for old in (room / "crates").iterdir():
-        if old.name not in crates:
-            shutil.rmtree(old)
-    for crate in crates:
-        wanted = {path.relative_to(TOP): path for path in files_of(crate)}
-        there = room / "crates" / crate
-        for part in PARTS:
-            files = [there / part] if (there / part).is_file() else (there / part).rglob("*")
-            for path in [file for file in files if file.is_file() and file.relative_to(room) not in wanted]:
-                path.unlink()
-        for name, path in wanted.items():
-            target = room / name
-            if not target.is_file() or target.read_bytes() != path.read_bytes():
-                target.parent.mkdir(parents=True, exist_ok=True)
-                shutil.copyfile(path, target)
-    (room / "crates.txt").write_text("\n".join(crates.values()) + "\n")
-    shutil.copyfile(TOP / "HANDLES", room / "HANDLES")
-
-
-def jobs():
-    """How many crates to prove at a time: one for each processor and for each 4 GB of memory."""
-    processors = len(os.sched_getaffinity(0))
-    with open("/proc/meminfo", encoding="ascii") as file:
-        memory = next((int(line.split()[1]) for line in file if line.startswith("MemAvailable")), 0)
-    return max(1, min(processors, memory // 4_000_000))
-
-
-def run(words, folder, log, each_line):
-    """Runs a command, its lines to the log and to `each_line`. It ends with this program."""
-    with subprocess.Popen(words, cwd=folder, stdin=subprocess.DEVNULL, stdout=subprocess.PIPE, stderr=subprocess.STDOUT, text=True, errors="replace") as ran:
-        try:
-            for line in ran.stdout:
-                log.write(line)
-                log.flush()
-                each_line(line.rstrip("\n"))
-        except BaseException:
-            ran.terminate()
-            raise
-    if ran.returncode != 0:
-        raise Failed(f"{' '.join(words[:2])} ended with status {ran.returncode}")
-
-
-def prove(crates, room, log):
-    done = []
-    since = time.monotonic()
-
-    def progress(line):
-        if line.startswith("== ") and line != "== summary":
-            done.append(line[3:])
-            say(f"proved {line[3:]} ({len(done)} of {len(crates)}, {elapsed(since)})")
-
-    say(f"proving {len(crates)} crates, {jobs()} at a time: allow 40 minutes on 4 idle processors. rt first reads all sources.")
-    run(["rt", "all", "check", "--jobs", str(jobs())], room, log, progress)
-
-
-def link(room, log, cpu):
-    for name in PROGRAMS:
-        say(f"building {name} for {cpu}")
-        words = ["rt", "run", "--cpu", cpu] + ([] if name == "vp8serve" else ["--", "--version"])
-        run(words, room / "crates" / name, log, lambda line: None)
-        fresh = BIN / f".{name}.new"
-        shutil.copyfile(room / "crates" / name / "out" / name, fresh)
-        fresh.chmod(0o755)
-        fresh.replace(BIN / name)
-
-
+@contextlib.contextmanager
 def room_of():
-    """The folder of this checkout's copy."""
+    """The folder of this checkout's copy, for one build at a time."""
     cache = pathlib.Path(os.environ.get("XDG_CACHE_HOME") or pathlib.Path.home() / ".cache")
     room = cache / "wokureti" / hashlib.sha256(str(TOP).encode()).hexdigest()[:16]
-    (room / "crates").mkdir(parents=True, exist_ok=True)
-    return room
-
-
-def build(cpu):
-    crates = needed()
-    if is_built(digest(crates, cpu)):
-        return
-    check_kit()
-    BIN.mkdir(exist_ok=True)
-    room = room_of()
+    room.mkdir(parents=True, exist_ok=True)
     with open(room / "lock", "w", encoding="ascii") as lock:
         try:
             fcntl.flock(lock, fcntl.LOCK_EX | fcntl.LOCK_NB)
         except BlockingIOError:
             say("another build of this checkout runs; waiting for it")
             fcntl.flock(lock, fcntl.LOCK_EX)
-        stamp = digest(crates, cpu)
-        if is_built(stamp):
+        yield room
+
+
+def is_built(sources, cpu):
+    there = in_bin()
+    return (there.get("sources"), there.get("processor"), there.get("origin")) == (sources, cpu, "here")
+
+
+def build(cpu):
+    """Proves and builds the programs of the current sources, and puts them into bin/."""
+    crates = needed()
+    if is_built(digest(crates), cpu):
+        return
+    check_kit()
+    BIN.mkdir(exist_ok=True)
+    with room_of() as room:
+        sources = digest(crates)
+        if is_built(sources, cpu):
             return
-        copy_files(crates, room)
-        path = room / "build.log"
-        say(f"rt's output goes to {path}")
-        try:
-            with open(path, "w", encoding="utf-8") as log:
-                prove(crates, room, log)
-                link(room, log, cpu)
-        except Failed as failed:
-            with open(path, encoding="utf-8", errors="replace") as log:
-                last = log.readlines()[-20:]
-            raise Failed("".join(last) + f"nothing was built: {failed}") from None
-        (BIN / "wokureti").write_text(WOKURETI)
-        (BIN / "wokureti").chmod(0o755)
-        (BIN / ".built").write_text(stamp)
+        objects = proving.build(crates, room, (cpu,), say)
+        files = {name: objects[name, cpu].with_suffix("").read_bytes() for name in PROGRAMS}
+        place(files, cpu, {"sources": sources, "version": version(), "date": today(), "origin": "here"})
     say(f'built {", ".join(PROGRAMS)} and wokureti in {BIN}. To call them by name: export PATH="{BIN}:$PATH"')
 
 
-def cpu_of(words):
-    """The processor to build for: as asked for, or v3 if this machine has it."""
-    if words[:1] == ["--cpu"] and len(words) == 2:
-        words = words[1:]
-    elif words:
-        raise Failed(__doc__.splitlines()[0])
+def today():
+    return datetime.datetime.now(datetime.timezone.utc).date().isoformat()
+
+
+def ready(cpu):
+    """Makes sure that bin/ has programs, and says which ones."""
+    there, dist, sources = in_bin(), read_names(), digest(needed())
+    if there.get("sources") != sources or there.get("processor") != cpu:
+        if not dist and not there:
+            return build(cpu)
+        is_newer = dist and dist["sources"] == sources
+        if is_newer or not there or (there["origin"] == "dist" and (there["version"], there["processor"]) != (dist.get("version"), cpu)):
+            files = {name: wheel.program(dist["version"], name, cpu) for name in PROGRAMS}
+            there = {"sources": dist["sources"], "version": dist["version"], "date": dist["date"], "origin": "dist"}
+            place(files, cpu, there)
+    how = "as it was proved and built on" if there["origin"] == "dist" else "as it was proved and built here on"
+    line = f"wokureti {there['version']} {how} {there['date']}"
+    if there["sources"] == sources:
+        say(f"{line} (./build.py proves and builds it anew)" if there["origin"] == "dist" else line)
     else:
-        words = [os.environ.get("WOKURETI_CPU", "")]
-    if words[0]:
-        if words[0] not in CPUS:
-            raise Failed(f"the processor is {words[0]}, but must be {' or '.join(CPUS)}")
-        return words[0]
-    flags = pathlib.Path("/proc/cpuinfo").read_text(encoding="ascii", errors="replace").split()
-    return CPUS[all(word in flags for word in ("avx2", "bmi2", "fma"))]
+        say(f"{line}; the sources were changed since: ./build.py proves and builds them" + ("" if shutil.which("rt") else ", which needs the Rattle kit"))
+    return None
+
+
+def link_all(objects, folder):
+    """Links each object file to the program that is shipped."""
+    from release import linked
+
+    made = {}
+    for (name, cpu), path in objects.items():
+        made[name, cpu] = folder / f"{name}-{cpu}"
+        linked.link(path, made[name, cpu])
+    return made
+
+
+@contextlib.contextmanager
+def objects_of(is_proved):
+    """The object files of both programs for both processors, as the proofs build them, and a folder for what is linked of them."""
+    if is_proved:
+        with tempfile.TemporaryDirectory() as folder:
+            yield proving.build_in(TOP / "crates", CPUS, say), pathlib.Path(folder)
+    else:
+        with room_of() as room:
+            yield proving.build(needed(), room, CPUS, say), room
+
+
+def names_of(sources, objects, programs):
+    """The lines of dist/SOURCES."""
+    from release import linked
+
+    names = {"version": version(), "date": today(), "sources": sources, "kit": kit(), "C library": linked.c_library()}
+    for name, cpu in objects:
+        names[f"object file of {name} for {cpu}"] = sum_of(objects[name, cpu])
+        names[f"program {name} for {cpu}"] = sum_of(programs[name, cpu])
+    return names
+
+
+def verify(is_proved):
+    """Compares dist/ with the programs of the current sources. Returns the exit status."""
+    from release import linked
+
+    dist, sources = read_names(), digest(needed())
+    if dist.get("version") != version():
+        raise Failed(f"VERSION is {version()}, and dist/ has {dist.get('version', 'nothing')}: ./build.py --dist makes a new one")
+    if dist["sources"] != sources:
+        say(f"dist/ is of an earlier state of version {dist['version']}: its sources are others, so nothing is compared")
+        return 0
+    for name in PROGRAMS:
+        for cpu in CPUS:
+            if hashlib.sha256(wheel.program(dist["version"], name, cpu)).hexdigest() != dist[f"program {name} for {cpu}"]:
+                raise Failed(f"the wheel's {name} for {cpu} is not the one of dist/SOURCES")
+    check_kit()
+    with objects_of(is_proved) as (objects, room):
+        for name, cpu in objects:
+            if sum_of(objects[name, cpu]) != dist[f"object file of {name} for {cpu}"]:
+                raise Failed(f"the object file of {name} for {cpu} is not the one of dist/")
+        if linked.c_library() != dist["C library"]:
+            say("the four object files are those of dist/, byte for byte; the programs are not linked again, since this machine's C library is another one")
+            return 0
+        programs = link_all(objects, room)
+        for name, cpu in programs:
+            if programs[name, cpu].read_bytes() != wheel.program(dist["version"], name, cpu):
+                raise Failed(f"{name} for {cpu} is not the one of dist/")
+    say("the four programs of dist/ are, byte for byte, what the proved sources build")
+    return 0
+
+
+def make_dist(is_proved):
+    """Writes a new dist/."""
+    from release import linked, manuals
+
+    dist = read_names()
+    if dist.get("version") == version():
+        raise Failed(f"dist/ has version {version()} already: one dist/ a version; change VERSION first")
+    if linked.c_library() is None:
+        raise Failed("the programs are linked with gcc and the C library's libc.a: install gcc and libc6-dev")
+    check_kit()
+    with objects_of(is_proved) as (objects, room):
+        sources = digest(needed())
+        programs = link_all(objects, room)
+        names = names_of(sources, objects, programs)
+        texts = {name: subprocess.run([programs[name, CPUS[0]], "--help"], capture_output=True, text=True, check=True).stdout for name in PROGRAMS}
+        fresh = DIST.with_name(".dist")
+        shutil.rmtree(fresh, ignore_errors=True)
+        fresh.mkdir()
+        wheel.write(fresh / wheel.name_of(version()), version(), today(), programs, manuals.files(texts, version(), today()))
+        write_names(names, fresh / "SOURCES")
+        shutil.rmtree(DIST, ignore_errors=True)
+        fresh.rename(DIST)
+    say(f"wrote {DIST / wheel.name_of(version())}")
+    return 0
 
 
 def main():
+    parser = argparse.ArgumentParser(description=__doc__, formatter_class=argparse.RawDescriptionHelpFormatter)
+    parser.add_argument("--cpu", default=os.environ.get("WOKURETI_CPU", ""), metavar="NAME", help="x86-64-v2 or x86-64-v3; also the variable WOKURETI_CPU")
+    parser.add_argument("--built", action="store_true", help="with --verify and --dist: rt ci has proved the crates here")
+    what = parser.add_mutually_exclusive_group()
+    what.add_argument("--ready", nargs="?", const="build.py", metavar="SCRIPT")
+    what.add_argument("--verify", action="store_true")
+    what.add_argument("--dist", action="store_true")
+    given = parser.parse_args()
     try:
-        build(cpu_of(sys.argv[1:]))
+        if given.verify:
+            return verify(given.built)
+        if given.dist:
+            return make_dist(given.built)
+        Speaker.name = given.ready or Speaker.name
+        (ready if given.ready else build)(processor(given.cpu))
     except Failed as failed:
         say(failed)
         return 1

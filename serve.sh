@@ -1,10 +1,21 @@
 #!/bin/sh
-# Serves a stream with the program of this repository: serve.sh [IN] [REQUESTS] [OUT], as in vp8serve --help.
-# It builds the programs first, if that was not done since the last change: see build.py. WOKURETI_CPU=x86-64-v2
-# or x86-64-v3 names the processor to build for.
+# Serves a stream with the programs of this repository: serve.sh [IN] [REQUESTS] [OUT], as in vp8serve --help.
+# Ready programs are in dist/: it puts them into bin/, and says which ones it starts. ./build.py proves and builds them anew.
+# WOKURETI_CPU=x86-64-v2 or x86-64-v3 names the processor that they are for.
 set -eu
 top=$(cd "$(dirname "$0")" && pwd)
-python3 "$top/build.py"
+if ! python3 -c 'import sys; sys.exit(sys.version_info < (3, 9))' 2> /dev/null; then
+    echo "serve.sh: it needs Python 3.9 or later as python3" >&2
+    exit 1
+fi
+case "$(uname -s) $(uname -m)" in
+'Linux x86_64') ;;
+*)
+    echo "serve.sh: the programs are for Linux on x86-64" >&2
+    exit 1
+    ;;
+esac
+python3 "$top/build.py" --ready serve.sh
 status=0
 "$top/bin/vp8serve" "$@" || status=$?
 case "$status $* " in

@@ -1,8 +1,10 @@
 #!/usr/bin/env python3
-"""Runs build.py over three small crates with a false `rt`: interrupted, twice at the same time, in a folder with spaces in its path, where
-`bin` cannot be made, without `rt`, with another kit, and with a crate that fails.
+"""Runs build.py over four small crates with a false `rt`: interrupted, twice at the same time, in a folder with spaces in its path, where
+`bin` cannot be made, without `rt`, with another kit, and with a crate that fails; and `build.py --ready` over a false dist/.
 
-    compare/first_command.py
+    compare/first_command.py [--quiet]
+
+With --quiet it prints differences only.
 """
 
 import contextlib
@@ -15,25 +17,31 @@ import subprocess
 import sys
 import tempfile
 import time
+import zipfile
 
 TOP = pathlib.Path(__file__).resolve().parent.parent
 KIT = "rattle-kit-false logic 0123456789abcdef"
 NOBODY = 65534
 SECONDS = 60
 TOLD = {"runs": 0, "differences": 0}
-# It proves a crate of each folder of crates/, a second each, and keeps which ones are proved in out/; with a file `fails` it fails at `low`.
+# It proves a crate of each folder of crates/, $PAUSE seconds each, and keeps which ones are proved in out/; with a file `fails` it fails at `low`.
 FALSE_RT = """#!/bin/sh
 echo "$*" >> "$CALLS"
 case "$1" in
 version) cat "$KIT_FILE" ;;
 all)
-    for crate in low vp8serve vp8list; do
+    for crate in $(ls crates); do
         [ -e "$CALLS.fails" ] && { echo "low: a goal is open"; exit 1; }
         mkdir -p crates/$crate/out
         [ -e crates/$crate/out/proved ] || { sleep "$PAUSE"; echo "proved $crate" >> "$CALLS"; : > crates/$crate/out/proved; }
         echo "== $crate"
     done ;;
-run) mkdir -p out; printf '#!/bin/sh\\necho "$0"\\n' > "out/$(basename "$PWD")" ;;
+check)
+    crate=$(basename "$PWD")
+    [ -e "$CALLS.fails" ] && { echo "$crate: a goal is open"; exit 1; }
+    mkdir -p out
+    [ -e out/proved ] || { sleep "$PAUSE"; echo "proved $crate" >> "$CALLS"; : > out/proved; } ;;
+run) mkdir -p out; printf '#!/bin/sh\\necho "$0"\\n' > "out/$(basename "$PWD")"; : > "out/$(basename "$PWD").o"; echo "built $(basename "$PWD")" >> "$CALLS" ;;
 esac
 """
 
@@ -46,17 +54,19 @@ def differs(name, got, want):
 
 
 class Checkout:
-    """A checkout of three crates, a false `rt` and a cache folder of its own."""
+    """A checkout of four crates and one that no program needs, a false `rt` and a cache folder of its own."""
 
     def __init__(self, room, name):
         self.top, self.room = room / name, room
         self.calls = room / f"{name} calls"
         (self.top / "docs").mkdir(parents=True)
         shutil.copyfile(TOP / "build.py", self.top / "build.py")
-        (self.top / "crates.txt").write_text("# programs\nlow:\nvp8serve: low\nvp8list: low\nother: low\n")
+        shutil.copytree(TOP / "release", self.top / "release", ignore=shutil.ignore_patterns("__pycache__"))
+        (self.top / "VERSION").write_text("1.2.3\n")
+        (self.top / "crates.txt").write_text("# programs\nlow:\nreference_frames: low\nvp8serve: reference_frames\nvp8list: reference_frames\nother: low\n")
         (self.top / "HANDLES").write_text("Handles allowed: none.\n")
         (self.top / "docs/proofs.md").write_text(f"The kit is {KIT}.\n")
-        for crate in ("low", "vp8serve", "vp8list", "other"):
+        for crate in (*CRATES, "other"):
             (self.top / "crates" / crate / "src").mkdir(parents=True)
             (self.top / "crates" / crate / "src/lib.rt").write_text("// nothing\n")
         (room / "kit").write_text(f"{KIT}\n")
@@ -65,7 +75,7 @@ class Checkout:
         rt.write_text(FALSE_RT)
         rt.chmod(0o755)
 
-    def start(self, pause=0, path=None, python=sys.executable, **options):
+    def start(self, *options_of_it, pause=0, path=None, python=sys.executable, **options):
         environment = {
             "PATH": path or f"{self.room}/path:{os.environ['PATH']}",
             "XDG_CACHE_HOME": str(self.room / "cache of programs"),
@@ -74,18 +84,19 @@ class Checkout:
             "KIT_FILE": str(self.room / "kit"),
             "PAUSE": str(pause),
         }
-        words = [python, self.top / "build.py"]
+        words = [python, self.top / "build.py", *options_of_it]
         return subprocess.Popen(words, env=environment, stdout=subprocess.PIPE, stderr=subprocess.STDOUT, text=True, start_new_session=True, **options)
 
-    def run(self, **options):
-        started = self.start(**options)
+    def run(self, *options_of_it, **options):
+        started = self.start(*options_of_it, **options)
         text, _ = started.communicate(timeout=SECONDS)
         return started.returncode, text
 
     def proved(self):
-        """The crates that were proved, in order."""
+        """The crates that were proved, in order, and at the end the programs that were built, which are."""
         lines = self.calls.read_text().splitlines() if self.calls.exists() else []
-        return [line.split()[1] for line in lines if line.startswith("proved")]
+        proved = [line.split()[1] for line in lines if line.startswith("proved")]
+        return proved + sorted(line.split()[1] for line in lines if line.startswith("built"))
 
     def built(self):
         return sorted(path.name for path in (self.top / "bin").glob("[!.]*")) if (self.top / "bin").is_dir() else []
@@ -100,14 +111,17 @@ def await_proved(checkout, count):
 
 
 ALL = ["vp8list", "vp8serve", "wokureti"]
+CRATES = ["low", "reference_frames", "vp8list", "vp8serve"]
 
 
 def spaces(room):
     """A path with spaces; a second run does nothing; a change builds again; the programs run."""
     checkout = Checkout(room, "a checkout with spaces")
     status, text = checkout.run()
-    differs("built", (status, checkout.built(), checkout.proved()), (0, ALL, ["low", "vp8serve", "vp8list"]))
-    differs("lines of crates", [f"({n} of 3" in text for n in (1, 2, 3)], [True] * 3)
+    differs("built", (status, checkout.built(), checkout.proved()), (0, ALL, CRATES))
+    differs("lines of crates", [f"({n} of 4" in text for n in (1, 2, 3, 4)], [True] * 4)
+    names = dict(line.split(": ") for line in (checkout.top / "bin/.built").read_text().splitlines() if ": " in line and line[0] != "#")
+    differs("what is in bin", (names["version"], names["origin"]), ("1.2.3", "here"))
     shown = subprocess.run([checkout.top / "bin/vp8serve"], capture_output=True, text=True, timeout=SECONDS)
     differs("the program", shown.stdout.strip(), str(checkout.top / "bin/vp8serve"))
     differs("again", checkout.run(), (0, ""))
@@ -141,7 +155,7 @@ def twice(room):
     texts = [started.communicate(timeout=SECONDS)[0] for started in (first, second)]
     differs("both", (first.returncode, second.returncode, checkout.built()), (0, 0, ALL))
     differs("the second", texts[1], "build.py: another build of this checkout runs; waiting for it\n")
-    differs("proved once", (checkout.proved(), checkout.calls.read_text().count("all check")), (["low", "vp8serve", "vp8list"], 1))
+    differs("proved once", (checkout.proved(), checkout.calls.read_text().count("all check")), (CRATES, 1))
 
 
 def read_only(room):
@@ -178,12 +192,61 @@ def failing(room):
     differs("repaired", (checkout.run()[0], checkout.built()), (0, ALL))
 
 
+def false_dist(checkout, version, sources):
+    """A dist/ whose programs print its version."""
+    dist = checkout.top / "dist"
+    shutil.rmtree(dist, ignore_errors=True)
+    dist.mkdir()
+    (dist / "SOURCES").write_text(f"version: {version}\ndate: 2026-01-02\nsources: {sources}\n")
+    tags = "manylinux_2_17_x86_64.musllinux_1_1_x86_64"
+    with zipfile.ZipFile(dist / f"wokureti-{version}-py3-none-{tags}.whl", "w") as file:
+        for name in ("vp8serve", "vp8list"):
+            for cpu in ("v2", "v3"):
+                file.writestr(f"wokureti-{version}.data/data/lib/wokureti/{name}-x86-64-{cpu}", f"#!/bin/sh\necho {version} {cpu}\n")
+
+
+def printed(checkout):
+    return subprocess.run([checkout.top / "bin/vp8serve"], capture_output=True, text=True, timeout=SECONDS).stdout
+
+
+def ready(room):
+    """Ready programs: which ones bin/ gets, and what is said of them."""
+    checkout = Checkout(room, "ready")
+    said = "build.py: wokureti 1.2.3 as it was proved and built on 2026-01-02"
+    sums = f"import sys; sys.path.insert(0, {str(checkout.top)!r}); sys.dont_write_bytecode = True; from release.sources import digest, needed; print(digest(needed()))"
+    sources = subprocess.run([sys.executable, "-c", sums], capture_output=True, text=True, timeout=SECONDS).stdout.strip()
+    false_dist(checkout, "1.2.3", sources)
+    anew = f"{said} (./build.py proves and builds it anew)\n"
+    differs("ready", (checkout.run("--ready", "--cpu", "x86-64-v2", path="/nowhere"), printed(checkout)), ((0, anew), "1.2.3 v2\n"))
+    differs("ready again", checkout.run("--ready", "serve.sh", "--cpu", "x86-64-v2", path="/nowhere"), (0, anew.replace("build.py: ", "serve.sh: ")))
+    differs("another processor", (checkout.run("--ready", "--cpu", "x86-64-v3", path="/nowhere"), printed(checkout)), ((0, anew), "1.2.3 v3\n"))
+    differs("nothing proved", checkout.proved(), [])
+    (checkout.top / "crates/low/src/lib.rt").write_text("// changed\n")
+    changed = f"{said}; the sources were changed since: ./build.py proves and builds them"
+    differs("changed, with rt", checkout.run("--ready", "--cpu", "x86-64-v3"), (0, changed + "\n"))
+    differs("changed, without rt", checkout.run("--ready", "--cpu", "x86-64-v3", path="/nowhere"), (0, changed + ", which needs the Rattle kit\n"))
+    differs("built", (checkout.run("--cpu", "x86-64-v3")[0], printed(checkout)), (0, f"{checkout.top}/bin/vp8serve\n"))
+    status, text = checkout.run("--ready", "--cpu", "x86-64-v3")
+    differs("newer ones stay", (status, text.startswith("build.py: wokureti 1.2.3 as it was proved and built here on "), printed(checkout)), (0, True, f"{checkout.top}/bin/vp8serve\n"))
+    next(checkout.top.glob("dist/*.whl")).write_bytes(b"PK")
+    shutil.rmtree(checkout.top / "bin")
+    status, text = checkout.run("--ready", "--cpu", "x86-64-v3")
+    differs("a damaged wheel", (status, text.count("\n"), "cannot be read" in text), (1, 1, True))
+    (checkout.top / "VERSION").write_text("1.2.4\n")
+    differs("another version", checkout.run("--verify"), (1, "build.py: VERSION is 1.2.4, and dist/ has 1.2.3: ./build.py --dist makes a new one\n"))
+    (checkout.top / "VERSION").write_text("1.2.3\n")
+    earlier = "build.py: dist/ is of an earlier state of version 1.2.3: its sources are others, so nothing is compared\n"
+    differs("earlier sources", checkout.run("--verify"), (0, earlier))
+    differs("one dist a version", checkout.run("--dist"), (1, "build.py: dist/ has version 1.2.3 already: one dist/ a version; change VERSION first\n"))
+
+
 def main():
     with tempfile.TemporaryDirectory() as folder, contextlib.suppress(KeyboardInterrupt):
         os.chmod(folder, 0o755)
-        for part in (spaces, interrupted, twice, read_only, without_kit, failing):
+        for part in (spaces, interrupted, twice, read_only, without_kit, failing, ready):
             part(pathlib.Path(folder))
-    print(f"{TOLD['runs']} comparisons, {TOLD['differences']} differences")
+    if "--quiet" not in sys.argv:
+        print(f"{TOLD['runs']} comparisons, {TOLD['differences']} differences")
     return 1 if TOLD["differences"] else 0
 
 

@@ -29,6 +29,7 @@ def built(name):
 
 LIST = os.environ.get("VP8LIST") or built("vp8list")
 SERVE = os.environ.get("VP8SERVE") or built("vp8serve")
+VERSION = (TOP / "VERSION").read_text().strip()
 DATA = TOP / "crates/gate_checks/data"
 LARGE = TOP / "examples/large.ivf"
 STREAMS = [*sorted(DATA.glob("*.ivf")), TOP / "crates/vp8list/data/damaged.ivf", LARGE]
@@ -193,7 +194,7 @@ def check_errors():
 def check_help():
     status, text, errors = ran("--help")
     expect("--help", (status, errors, "--macroblocks" in text, "Exit status" in text), (0, "", True, True))
-    expect("--version", ran("--version"), (0, "vp8list 0.1.0\n", ""))
+    expect("--version", ran("--version"), (0, f"vp8list {VERSION}\n", ""))
 
 
 def main():

@@ -5,12 +5,12 @@ import os
 import sys
 import tempfile
 
-from . import cat, checks, convert, programs
+from . import __version__, cat, checks, convert, programs
 from .errors import Ended, Refused
 
 ABOUT = """\
 Shows, edits, repairs and compares VP8 streams with the programs vp8serve and vp8list. They are those of the variables VP8SERVE and
-VP8LIST, or on the PATH.
+VP8LIST, or installed with it, or on the PATH.
 """
 
 
@@ -257,6 +257,7 @@ def run_png(given):
 
 def parser_of():
     parser = argparse.ArgumentParser(prog="wokureti", description=ABOUT)
+    parser.add_argument("--version", action="version", version=f"wokureti {__version__}")
     commands = parser.add_subparsers(metavar="COMMAND", required=True)
     add_open(commands)
     add_serve(commands)

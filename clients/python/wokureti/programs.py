@@ -4,12 +4,21 @@ import os
 import pathlib
 import shutil
 
-TREE = pathlib.Path(__file__).resolve().parents[3]
+HERE = pathlib.Path(__file__).resolve()
+TREE = HERE.parents[3]
+
+
+def installed(name):
+    """The program that a wheel installed together with this package, if it did: below one folder are bin/, lib/wokureti/ and this package."""
+    for folder in HERE.parents:
+        if (folder / "lib/wokureti" / f"{name}-x86-64-v2").is_file() and (folder / "bin" / name).is_file():
+            return str(folder / "bin" / name)
+    return None
 
 
 def find(name):
-    """The path of a program: that of the variable VP8SERVE or VP8LIST, or found on the PATH, or built in this tree."""
-    found = os.environ.get(name.upper()) or shutil.which(name)
+    """The path of a program: that of the variable VP8SERVE or VP8LIST, or installed with this package, or found on the PATH, or built in this tree."""
+    found = os.environ.get(name.upper()) or installed(name) or shutil.which(name)
     if found:
         return found
     built = (TREE / "bin" / name, TREE / "crates" / name / "out" / name)

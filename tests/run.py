@@ -1,0 +1,188 @@
+#!/usr/bin/env python3
+"""Runs every test that needs no proof over the programs: ./test.sh starts it.
+
+The programs are those of the variables VP8SERVE and VP8LIST. It prints a line for each test when it ends, and `N passed, M failed` at the
+end; its exit status is 1 if one failed. Tests run side by side, as many as there are processors; each has a time limit.
+"""
+
+import concurrent.futures
+import hashlib
+import os
+import pathlib
+import signal
+import subprocess
+import sys
+import tempfile
+import threading
+import time
+from dataclasses import dataclass
+
+sys.dont_write_bytecode = True
+import rows  # noqa: E402
+
+HERE = pathlib.Path(__file__).resolve().parent
+TOP = HERE.parent
+CRATES = TOP / "crates"
+CLIENT = TOP / "clients/python/tests"
+SERVE, LIST = (os.environ[name] for name in ("VP8SERVE", "VP8LIST"))
+LIMIT = 900
+
+
+@dataclass
+class Result:
+    """What a test came to: what is wrong, what it could not run, and how long it took."""
+
+    name: str
+    wrong: list
+    skipped: list
+    seconds: float
+
+
+def ran(words, data=b"", folder=None, limit=LIMIT):
+    """Runs a program to its end, with all that it starts."""
+    with subprocess.Popen(list(map(str, words)), stdin=subprocess.PIPE, stdout=subprocess.PIPE, stderr=subprocess.STDOUT, cwd=folder, start_new_session=True) as process:
+        try:
+            output, _ = process.communicate(data, timeout=limit)
+        except subprocess.TimeoutExpired:
+            os.killpg(process.pid, signal.SIGKILL)
+            output, _ = process.communicate()
+            return -1, output + f"it took longer than {limit} seconds\n".encode()
+    return process.returncode, output
+
+
+def script(path, *words):
+    """A test that is a script of its own: it prints nothing and ends with 0 if all is well. A line `skipped: ..` names what it could not run."""
+
+    def test():
+        status, output = ran([sys.executable, TOP / path, *words])
+        lines = output.decode(errors="replace").splitlines()
+        skipped = [line for line in lines if line.startswith("skipped: ")]
+        wrong = [line for line in lines if not line.startswith("skipped: ")]
+        return wrong if status == 0 else [*wrong, f"status {status}"], skipped
+
+    return test
+
+
+def stored_run(name, program):
+    """The run that a program's crate stores: what it is given, and what it must print."""
+
+    def test():
+        crate = CRATES / name
+        texts = {part: (crate / part).read_bytes() if (crate / part).exists() else b"" for part in ("stdin", "stdout", "args", "status")}
+        status, output = ran([program, *texts["args"].decode().splitlines()], texts["stdin"], crate / "data" if (crate / "data").is_dir() else None, 60)
+        wanted = (int(texts["status"] or 0), texts["stdout"])
+        return ([] if (status, output) == wanted else [f"status {status}, {output[:300]!r}"]), []
+
+    return test
+
+
+def frames_of(paths, order):
+    """The MD5 of the frames of these clips, one after another, asked for in this order: their samples as one text."""
+    with tempfile.TemporaryDirectory() as folder:
+        out = pathlib.Path(folder, "out.y4m")
+        words = [SERVE, paths[0], "-", out, *(["--sources", ":".join(map(str, paths[1:]))] if paths[1:] else [])]
+        spliced = "script source 1; source 2; splice 0 1; splice 3 2\n" if paths[1:] else ""
+        status, output = ran(words, (spliced + "".join(f"frame {number}\n" for number in order)).encode(), limit=60)
+        if status != 0 or b"refused" in output:
+            return f"status {status}, {output[-200:]!r}"
+        data = out.read_bytes()
+    head, _, rest = data.partition(b"\n")
+    size = {word[:1]: int(word[1:]) for word in head.split()[1:3]}
+    width, height = size[b"W"], size[b"H"]
+    bytes_of_frame = len(b"FRAME\n") + width * height + 2 * ((width + 1) // 2) * ((height + 1) // 2)
+    pieces = {number: rest[place * bytes_of_frame + 6 : (place + 1) * bytes_of_frame] for place, number in enumerate(order)}
+    return hashlib.md5(b"".join(pieces[number] for number in sorted(pieces))).hexdigest()
+
+
+def clip(line):
+    """A clip in order and from its last frame back: the MD5 that vpxdec's frames have."""
+    *names, count, md5 = line.split()
+    paths, count = [CRATES / "gate_clips/data" / name for name in names], int(count)
+
+    def test():
+        orders = {"in order": range(count), "backwards": range(count - 1, -1, -1)}
+        found = {name: frames_of(paths, order) for name, order in orders.items()}
+        return [f"{name}: {got}, not {md5}" for name, got in found.items() if got != md5], []
+
+    return test
+
+
+def checks():
+    """Findings of streams whose damage is known."""
+    crate, wrong = CRATES / "gate_checks", []
+    names = (crate / "stdin").read_text().split()
+    wanted = (crate / "stdout").read_text().splitlines()
+    starts = [*(wanted.index(name) for name in names), len(wanted)]
+    for name, start, end in zip(names, starts, starts[1:]):
+        damage = int(wanted[end - 1].split()[1])
+        status, output = ran([LIST, crate / "data" / name, "--check"], limit=60)
+        if (status, output.decode().splitlines()) != (1 if damage else 0, wanted[start + 1 : end - 1]):
+            wrong.append(f"{name}: status {status}, {output.decode()!r:.300}")
+    return wrong, []
+
+
+def row(path):
+    def test():
+        read, wrong = rows.read(path), []
+        for name, is_live in (("batch", False), ("--live", True)):
+            with tempfile.TemporaryDirectory() as folder:
+                wrong += [f"{name}: {line}" for line in rows.differences(read, SERVE, pathlib.Path(folder), is_live)]
+        return wrong, []
+
+    return test
+
+
+def versions():
+    """All three commands have the version of this checkout."""
+    version = (TOP / "VERSION").read_text().strip()
+    words = {"vp8serve": [SERVE], "vp8list": [LIST], "wokureti": [sys.executable, "-m", "wokureti"]}
+    found = {name: ran([*command, "--version"], folder=TOP / "clients/python", limit=60) for name, command in words.items()}
+    return [f"{name}: {got!r}" for name, got in found.items() if got != (0, f"{name} {version}\n".encode())], []
+
+
+def growths():
+    program = CRATES / "gate_memory/out/gate_memory"
+    if not program.is_file():
+        return [], [f"skipped: compare/growths.py: {program.relative_to(TOP)} is built by `rt ci`"]
+    return script("compare/growths.py")()
+
+
+def all_tests():
+    """Each test by its name, those that take longest first."""
+    found = {f"clients/python/tests/{path.name}": script("clients/python/tests/run.py", path.stem) for path in sorted(CLIENT.glob("test_*.py"))}
+    found |= {f"tests/{path.name}": script(f"tests/{path.name}") for path in sorted(HERE.glob("test_*.py"))}
+    found |= {name: script(name) for name in ("conformance/records.py", "compare/options.py", "conformance/check")}
+    found["compare/first_command.py"] = script("compare/first_command.py", "--quiet")
+    found |= {"compare/growths.py": growths, "findings": checks, "versions": versions}
+    found |= {f"stored run of {name}": stored_run(name, program) for name, program in (("vp8serve", SERVE), ("vp8list", LIST))}
+    found |= {f"clip {' '.join(line.split()[:-2])}": clip(line) for line in (CRATES / "gate_clips/stdout").read_text().splitlines()}
+    return found | {f"row {path.stem}": row(path) for path in sorted(rows.ROWS.glob("*.row"))}
+
+
+def timed(name, test):
+    start = time.monotonic()
+    try:
+        wrong, skipped = test()
+    except Exception as error:  # A test that cannot be run has failed; the others go on.
+        wrong, skipped = [f"{type(error).__name__}: {error}"], []
+    return Result(name, wrong, skipped, time.monotonic() - start)
+
+
+def main(names):
+    tests = {name: test for name, test in all_tests().items() if not names or any(word in name for word in names)}
+    printing, failed, skipped = threading.Lock(), 0, []
+    with concurrent.futures.ThreadPoolExecutor(len(os.sched_getaffinity(0))) as pool:
+        for ended in concurrent.futures.as_completed([pool.submit(timed, name, test) for name, test in tests.items()]):
+            result = ended.result()
+            with printing:
+                print(f"{'FAILED' if result.wrong else 'ok    '} {result.name} ({result.seconds:.1f} s)", *result.wrong, sep="\n       ", flush=True)
+            failed += bool(result.wrong)
+            skipped += result.skipped
+    for line in skipped:
+        print(line)
+    print(f"{len(tests) - failed} passed, {failed} failed", flush=True)
+    return 1 if failed or not tests else 0
+
+
+if __name__ == "__main__":
+    sys.exit(main(sys.argv[1:]))
