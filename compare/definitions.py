@@ -1,11 +1,14 @@
 #!/usr/bin/env python3
-"""Counts the definitions that the headline stands on, and compares them with docs/definitions.md: definitions.py
+"""Counts the definitions that the headline stands on, and compares the documents with the sources: definitions.py [--quiet]
 
 The contract of `run` speaks of `Means` (frame_session, Answers). The files that it stands on are those whose definitions it uses, by
 the `use` lines, down to the lowest crate. The first part of docs/definitions.md must name each of them and no other, and each file that
-it names anywhere must exist.
+it names anywhere must exist. Each word in backquotes of definitions.md, proofs.md and architecture.md must be one of the sources, and the
+numbers of files, lines, crates, wrong bodies, clips and streams must be those that are counted here. With --quiet it prints what is wrong only. The gate
+runs it.
 """
 
+import functools
 import pathlib
 import re
 import sys
@@ -38,6 +41,65 @@ def named(text):
             yield from (path_of(crate.group(1), name) for name in re.findall(r"`([A-Z]\w*)`", part)) if crate else ()
 
 
+WORD = re.compile(r"[A-Za-z_][\w-]*")
+# Where the documents may take a word in backquotes from: the proved sources, and the scripts and clients around them.
+SOURCES = ("crates/*/src/**/*.rt", "crates/*/specs/*.antt", "crates/*/proofs/**/*.antt", "crates.txt")
+SCRIPTS = ("clients/**/*.py", "compare/**/*.py", "bench/*", "conformance/**/*.py", "release/*", "tests/*.py", "*.sh", "*.py", ".ci/run")
+FOLDERS = ("must-fail",)
+# What the documents say in figures: the document, the text around the figures, and what they are.
+FIGURES = (
+    ("README.md", r"reading order: ([\d,]+) files with\s+([\d,]+) lines of definitions", ("files", "code")),
+    ("README.md", r"([\d,]+) small streams", ("streams",)),
+    ("docs/definitions.md", r"these ([\d,]+) files, ([\d,]+) lines with comments and imports", ("files", "lines")),
+    ("docs/proofs.md", r"There are ([\d,]+) crates and ([\d,]+) wrong bodies", ("crates", "wrong bodies")),
+    ("docs/proofs.md", r"every frame of ([\d,]+) clips", ("clips",)),
+)
+
+
+@functools.lru_cache(maxsize=None)
+def words_of_sources():
+    found = {path.name for path in (TOP / "crates").iterdir()} | set(FOLDERS)
+    for pattern in (*SOURCES, *SCRIPTS):
+        for path in TOP.glob(pattern):
+            if path.is_file() and "out" not in path.parts:
+                found |= set(WORD.findall(path.read_text(encoding="utf-8", errors="replace")))
+    return found
+
+
+def unknown_names():
+    """The words in backquotes that no source has, each with its document."""
+    for document in ("docs/definitions.md", "docs/proofs.md", "docs/architecture.md"):
+        text = re.sub(r"(?m)^    .*$", "", (TOP / document).read_text(encoding="utf-8"))
+        for code in re.findall(r"`([^`\n]+)`", text):
+            for word in WORD.findall(code):
+                if word not in words_of_sources():
+                    yield f"{document}: there is no {word}, in `{code}`"
+
+
+def counted(lines, code, files):
+    """What the documents say in figures."""
+    return {
+        "files": files,
+        "lines": lines,
+        "code": code,
+        "crates": sum(1 for path in (TOP / "crates").iterdir() if (path / "src").is_dir()),
+        "wrong bodies": sum(1 for _ in (TOP / "crates").glob("*/must-fail/*.edit")),
+        "clips": len(list((TOP / "crates/gate_clips/data").glob("*.ivf"))),
+        "streams": len(list((TOP / "conformance/streams").rglob("*.ivf"))),
+    }
+
+
+def wrong_figures(facts):
+    for document, pattern, names in FIGURES:
+        found = re.findall(pattern, (TOP / document).read_text(encoding="utf-8"))
+        if not found:
+            yield f"{document}: no text as {pattern}"
+        for figures in found:
+            for figure, name in zip([figures] if isinstance(figures, str) else figures, names):
+                if int(figure.replace(",", "")) != facts[name]:
+                    yield f"{document}: {figure} {name}, and there are {facts[name]:,}"
+
+
 def main():
     headline, rest = (TOP / "docs/definitions.md").read_text().split("\n## The rest\n")
     listed = set(named(headline))
@@ -53,8 +115,11 @@ def main():
         print(f"{file.relative_to(TOP)} is named in the first part, but the headline does not stand on it")
     lines = [line for file in wanted for line in file.read_text().splitlines()]
     code = [line for line in lines if line.strip() and not line.startswith(("use ", "--"))]
-    print(f"{len(wanted)} files, {len(lines)} lines, {len(code)} of them without comments, imports and empty ones")
-    return 1 if gone or missing or more else 0
+    others = [*unknown_names(), *wrong_figures(counted(len(lines), len(code), len(wanted)))]
+    print(*others, sep="\n", end="\n" if others else "")
+    if "--quiet" not in sys.argv:
+        print(f"{len(wanted)} files, {len(lines)} lines, {len(code)} of them without comments, imports and empty ones")
+    return 1 if gone or missing or more or others else 0
 
 
 if __name__ == "__main__":

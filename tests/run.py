@@ -152,6 +152,7 @@ def all_tests():
     found = {f"clients/python/tests/{path.name}": script("clients/python/tests/run.py", path.stem) for path in sorted(CLIENT.glob("test_*.py"))}
     found |= {f"tests/{path.name}": script(f"tests/{path.name}") for path in sorted(HERE.glob("test_*.py"))}
     found |= {name: script(name) for name in ("conformance/records.py", "compare/options.py", "conformance/check")}
+    found["compare/definitions.py"] = script("compare/definitions.py", "--quiet")
     found["compare/first_command.py"] = script("compare/first_command.py", "--quiet")
     found |= {"compare/growths.py": growths, "findings": checks, "versions": versions}
     found |= {f"stored run of {name}": stored_run(name, program) for name, program in (("vp8serve", SERVE), ("vp8list", LIST))}
