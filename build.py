@@ -162,7 +162,7 @@ def objects_of(is_proved):
     """The object files of both programs for both processors, as the proofs build them, and a folder for what is linked of them."""
     if is_proved:
         with tempfile.TemporaryDirectory() as folder:
-            yield proving.build_in(TOP / "crates", CPUS, say), pathlib.Path(folder)
+            yield proving.build_in(needed(), pathlib.Path(folder), CPUS, say), pathlib.Path(folder)
     else:
         with room_of() as room:
             yield proving.build(needed(), room, CPUS, say), room

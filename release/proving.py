@@ -136,9 +136,7 @@ class Build:
 
     def whole(self, cpus):
         self.prove_common()
-        with concurrent.futures.ThreadPoolExecutor(len(PROGRAMS)) as pool:
-            made = list(pool.map(lambda program: self.build_one(program, cpus), PROGRAMS))
-        return {key: path for part in made for key, path in part.items()}
+        return side_by_side(lambda program: self.build_one(program, cpus))
 
 
 def build(crates, room, cpus, say):
@@ -154,13 +152,26 @@ def build(crates, room, cpus, say):
         work.log.close()
 
 
-def build_in(folder, cpus, say):
-    """The object files of the programs in a folder of crates that `rt ci` has proved: only the programs' own crates are proved again."""
-
-    def both(program):
-        with open(folder / program / "out/build.log", "w", encoding="utf-8") as log:
-            return {(program, cpu): compiled(folder / program, cpu, log) for cpu in cpus}
-
+def build_in(crates, room, cpus, say):
+    """Builds both programs over the libraries that `rt ci` has proved in this checkout: only the programs' own crates are proved again."""
     say(f"building {' and '.join(PROGRAMS)} for {' and '.join(cpus)}")
-    made = [both(program) for program in PROGRAMS]
+
+    def one(program):
+        folder, wanted = room / program, under(crates, program)
+        copy_files({name: crates[name] for name in crates if name in wanted}, folder)
+        take_libraries(wanted - {program}, TOP, folder)
+        with open(room / f"{program}.log", "w", encoding="utf-8") as log:
+            try:
+                return {(program, cpu): compiled(folder / "crates" / program, cpu, log) for cpu in cpus}
+            except Failed as failed:
+                text = (room / f"{program}.log").read_text(encoding="utf-8", errors="replace")
+                raise Failed(f"{text[-2000:]}nothing was built: {failed}") from None
+
+    return side_by_side(one)
+
+
+def side_by_side(one):
+    """Both programs at the same time, and what came of them in one map."""
+    with concurrent.futures.ThreadPoolExecutor(len(PROGRAMS)) as pool:
+        made = list(pool.map(one, PROGRAMS))
     return {key: path for part in made for key, path in part.items()}

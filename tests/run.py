@@ -1,10 +1,11 @@
 #!/usr/bin/env python3
 """Runs every test that needs no proof over the programs: ./test.sh starts it.
 
-The programs are those of the variables VP8SERVE and VP8LIST. It prints a line for each test when it ends, and `N passed, M failed` at the
-end; its exit status is 1 if one failed. Tests run side by side, as many as there are processors; each has a time limit.
+The programs are those of the variables VP8SERVE and VP8LIST. It prints a line for each test when it ends, and `N passed, M failed`
+at the end; its exit status is 1 if one failed. Tests run side by side, as many as there are processors; each has a time limit.
 """
 
+import collections
 import concurrent.futures
 import hashlib
 import os
@@ -13,7 +14,6 @@ import signal
 import subprocess
 import sys
 import tempfile
-import threading
 import time
 from dataclasses import dataclass
 
@@ -28,11 +28,16 @@ SERVE, LIST = (os.environ[name] for name in ("VP8SERVE", "VP8LIST"))
 LIMIT = 900
 
 
+class Skipped(Exception):
+    """Why a whole test cannot be run here."""
+
+
 @dataclass
 class Result:
-    """What a test came to: what is wrong, what it could not run, and how long it took."""
+    """What a test came to: `ok`, `FAILED` or `skipped`; what is wrong, what it could not run, and how long it took."""
 
     name: str
+    word: str
     wrong: list
     skipped: list
     seconds: float
@@ -143,7 +148,7 @@ def versions():
 def growths():
     program = CRATES / "gate_memory/out/gate_memory"
     if not program.is_file():
-        return [], [f"skipped: compare/growths.py: {program.relative_to(TOP)} is built by `rt ci`"]
+        raise Skipped(f"{program.relative_to(TOP)} is built by `rt ci`")
     return script("compare/growths.py")()
 
 
@@ -164,25 +169,26 @@ def timed(name, test):
     start = time.monotonic()
     try:
         wrong, skipped = test()
+        word = "FAILED" if wrong else "ok"
+    except Skipped as why:
+        word, wrong, skipped = "skipped", [], [f"skipped: {name}: {why}"]
     except Exception as error:  # A test that cannot be run has failed; the others go on.
-        wrong, skipped = [f"{type(error).__name__}: {error}"], []
-    return Result(name, wrong, skipped, time.monotonic() - start)
+        word, wrong, skipped = "FAILED", [f"{type(error).__name__}: {error}"], []
+    return Result(name, word, wrong, skipped, time.monotonic() - start)
 
 
 def main(names):
     tests = {name: test for name, test in all_tests().items() if not names or any(word in name for word in names)}
-    printing, failed, skipped = threading.Lock(), 0, []
+    counts, skipped = collections.Counter(), []
     with concurrent.futures.ThreadPoolExecutor(len(os.sched_getaffinity(0))) as pool:
         for ended in concurrent.futures.as_completed([pool.submit(timed, name, test) for name, test in tests.items()]):
             result = ended.result()
-            with printing:
-                print(f"{'FAILED' if result.wrong else 'ok    '} {result.name} ({result.seconds:.1f} s)", *result.wrong, sep="\n       ", flush=True)
-            failed += bool(result.wrong)
+            print(f"{result.word:7} {result.name} ({result.seconds:.1f} s)", *result.wrong, sep="\n        ", flush=True)
+            counts[result.word] += 1
             skipped += result.skipped
-    for line in skipped:
-        print(line)
-    print(f"{len(tests) - failed} passed, {failed} failed", flush=True)
-    return 1 if failed or not tests else 0
+    print(*skipped, sep="\n", end="\n" if skipped else "")
+    print(f"{counts['ok']} passed, {counts['FAILED']} failed" + (f", {counts['skipped']} skipped" if counts["skipped"] else ""), flush=True)
+    return 1 if counts["FAILED"] or not counts["ok"] else 0
 
 
 if __name__ == "__main__":
