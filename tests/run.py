@@ -24,7 +24,7 @@ HERE = pathlib.Path(__file__).resolve().parent
 TOP = HERE.parent
 CRATES = TOP / "crates"
 CLIENT = TOP / "clients/python/tests"
-SERVE, LIST = (os.environ[name] for name in ("VP8SERVE", "VP8LIST"))
+SERVE, LIST = (os.environ.get(name, "") for name in ("VP8SERVE", "VP8LIST"))
 LIMIT = 900
 
 
@@ -178,6 +178,9 @@ def timed(name, test):
 
 
 def main(names):
+    for path in (SERVE, LIST):
+        if not os.access(path, os.X_OK):
+            sys.exit(f"tests/run.py: the programs of VP8SERVE and VP8LIST are not there: {path or 'not set'}; ./test.sh names them")
     tests = {name: test for name, test in all_tests().items() if not names or any(word in name for word in names)}
     counts, skipped = collections.Counter(), []
     with concurrent.futures.ThreadPoolExecutor(len(os.sched_getaffinity(0))) as pool:
