@@ -45,6 +45,7 @@ def entries(version, programs, shared):
     file below share/."""
     for path, data in client_files():
         yield path, FILE, data
+    yield "wokureti/VERSION", FILE, f"{version}\n".encode()
     launcher = (TOP / "release/launcher.sh").read_bytes()
     for name in PROGRAMS:
         yield f"wokureti-{version}.data/scripts/{name}", PROGRAM, launcher

@@ -14,14 +14,13 @@
 Each call writes one request line to `vp8serve --live` and waits for its reply. docs/requests.md has the requests and refusals.
 """
 
-import pathlib as _pathlib
-
 from .edits import EditList
 from .errors import Ended, Refused
 from .frames import Frame
 from .scripts import Script
 from .session import Count, Session
+from .versions import version
 
-__version__ = _pathlib.Path(__file__).with_name("VERSION").read_text(encoding="ascii").strip()
+__version__ = version()
 
 __all__ = ["Count", "EditList", "Ended", "Frame", "Refused", "Script", "Session"]
