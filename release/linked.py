@@ -5,16 +5,10 @@ import pathlib
 import shutil
 import subprocess
 
-from .sources import Failed, sum_of
+from .sources import Failed, kit_folder, sum_of
 
 # What gcc links of the C library and of its own; a program's bytes depend on them.
 PARTS = ("crt1.o", "crti.o", "crtbeginT.o", "crtend.o", "crtn.o", "libc.a", "libgcc.a", "libgcc_eh.a")
-
-
-def kit_folder():
-    """The folder of the Rattle kit: `rt doc` prints its first page."""
-    shown = subprocess.run(["rt", "doc"], capture_output=True, text=True, check=True).stdout.strip()
-    return pathlib.Path(shown).parent
 
 
 def c_library():

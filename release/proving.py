@@ -4,9 +4,10 @@ import concurrent.futures
 import os
 import shutil
 import subprocess
+import sys
 import time
 
-from .sources import PARTS, PROGRAMS, TOP, Failed, below, files_of
+from .sources import PARTS, PROGRAMS, TOP, Failed, below, files_of, kit_folder
 
 # The crates above this one are few and large, and most of them stand in two chains, one for each program.
 NARROW = "reference_frames"
@@ -76,7 +77,7 @@ def run(words, folder, log, each_line=lambda line: None):
             ran.terminate()
             raise
     if ran.returncode != 0:
-        raise Failed(f"{' '.join(words[:2])} ended with status {ran.returncode}")
+        raise Failed(f"{' '.join(map(str, words[:2]))} ended with status {ran.returncode}")
 
 
 def compiled(crate, cpu, log):
@@ -162,6 +163,7 @@ def build_in(crates, room, cpus, say):
         take_libraries(wanted - {program}, TOP, folder)
         with open(room / f"{program}.log", "w", encoding="utf-8") as log:
             try:
+                run([sys.executable, TOP / "release/stamps.py", kit_folder() / "bin/rt", folder], folder, log)
                 return {(program, cpu): compiled(folder / "crates" / program, cpu, log) for cpu in cpus}
             except Failed as failed:
                 text = (room / f"{program}.log").read_text(encoding="utf-8", errors="replace")

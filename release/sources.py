@@ -3,6 +3,7 @@
 import hashlib
 import pathlib
 import re
+import subprocess
 
 TOP = pathlib.Path(__file__).resolve().parent.parent
 DIST = TOP / "dist"
@@ -68,6 +69,12 @@ def kit():
     text = " ".join((TOP / "docs/proofs.md").read_text().split())
     found = re.search(r"rattle-kit-\S+ logic [0-9a-f]+", text)
     return found.group(0) if found else ""
+
+
+def kit_folder():
+    """The folder of the Rattle kit: `rt doc` prints its first page."""
+    shown = subprocess.run(["rt", "doc"], capture_output=True, text=True, check=True).stdout.strip()
+    return pathlib.Path(shown).parent
 
 
 def sum_of(path):
