@@ -1,6 +1,5 @@
 -- Packets that differ in their first byte only.
-use Rattle.std.proofs.Common.{◌≡◌, ℕ, zero, suc, ◌+◌, ◌-◌, ◌*◌, ◌≤◌, List, [], ◌∷◌, length, map, take, drop, get_or, Option, Some, None, Result, Ok, Err, IfOk, refl, sym, ap, ◌∙◌, arith, nat_lt, add-zero, if◌then◌else◌}
-use Rattle.std.specs.Prelude.{slice_range}
+use Rattle.std.proofs.Common.{◌≡◌, ℕ, zero, suc, ◌+◌, ◌-◌, ◌*◌, ◌≤◌, List, [], ◌∷◌, length, take, drop, get_or, Option, Some, None, Err, IfOk, refl, sym, ap, ◌∙◌, arith, nat_lt, add-zero}
 use Rattle.std.specs.List.{position_from}
 use Rattle.std.proofs.lemmas.List.{drop-drop, get_or-drop}
 use Rattle.arrayvec.specs.ArrayVec.{ArrayVec}
@@ -8,7 +7,6 @@ use Rattle.bool_coder.specs.Reader.{Reader, started}
 use Rattle.frame_header.specs.Tags.{number_at, has_start_code, width_of, height_of}
 use Rattle.frame_header.specs.Places.{sizes_at, places_of, is_past, unless_past, token_ranges}
 use Rattle.frame_header.specs.Padding.{readers_of}
-use Rattle.frame_header.specs.declared.cause.Cause.{Cause}
 use Rattle.frame_header.specs.declared.cause.Cause.TheVariants.{TokenSizes}
 use Rattle.frame_header.specs.declared.places.Place.{Place}
 use Rattle.step_laws.proofs.Starts.{either_ok}

@@ -1,5 +1,5 @@
 -- The next header sets both sign biases, so those of the state before it are not read.
-use Rattle.std.proofs.Common.{◌≡◌, ℕ, ◌==◌, ◌≤◌, Bool, true, false, List, length, Option, Some, None, Result, Ok, Err, IfOk, refl, sym, ap, ◌∙◌, inl, inr, if◌then◌else◌}
+use Rattle.std.proofs.Common.{◌≡◌, ℕ, ◌==◌, Bool, true, false, List, length, Some, None, Result, Ok, Err, IfOk, refl, sym, ap, ◌∙◌, inl, inr, if◌then◌else◌}
 use Rattle.std.specs.Prelude.{slice_range}
 use Rattle.std.proofs.lemmas.Bool.{cases_Bool}
 use Rattle.arrayvec.specs.ArrayVec.{ArrayVec}
@@ -18,7 +18,7 @@ use Rattle.frame_header.specs.declared.header.Header.{Header}
 use Rattle.frame_header.specs.declared.places.Place.{Place}
 use Rattle.frame_header.proofs.KeyLemmas.{header_of-key}
 use Rattle.pixel_planes.specs.Pictures.{PictureSamples}
-use Rattle.reference_frames.specs.Steps.{decoded, decoded_by, state_before, step_of}
+use Rattle.reference_frames.specs.Steps.{decoded, decoded_by, step_of}
 use Rattle.reference_frames.specs.declared.states.State.{State}
 use Rattle.step_laws.specs.Holds.{context_unbiased, unbiased}
 use Rattle.step_laws.proofs.Starts.{IsStart, Start, key_of_start, starts}

@@ -1,6 +1,6 @@
 -- The state that a hold packet leaves, by its header.
-use Rattle.std.specs.Prelude.{Result, Ok, Err, replicate, nat_le, nat_lt, IsOkAnd}
-use Rattle.std.proofs.Common.{◌≡◌, ℕ, ◌+◌, ◌*◌, ◌/◌, ◌%◌, ◌<◌, ◌≤◌, ◌==◌, Bool, true, false, List, [], ◌∷◌, ◌++◌, Some, length, refl, ap, sym, subst, ◌∙◌, arith}
+use Rattle.std.specs.Prelude.{Result, Ok, replicate, nat_le, nat_lt, IsOkAnd}
+use Rattle.std.proofs.Common.{◌≡◌, ℕ, ◌+◌, ◌*◌, ◌/◌, ◌%◌, ◌≤◌, ◌==◌, Bool, true, false, List, [], ◌∷◌, ◌++◌, Some, length, refl, ap, subst, ◌∙◌, arith}
 use Rattle.std.specs.List.{All, list_all}
 use Rattle.std.proofs.lemmas.Bool.{and_parts, leb-true}
 use Rattle.std.proofs.lemmas.List.Elements.{All-nil, All-cons, All-append}
@@ -16,8 +16,8 @@ use Rattle.reference_frames.proofs.Tagged.{tagged_has_bytes}
 use Rattle.reference_frames.specs.Steps.{decoded, step_of}
 use Rattle.reference_frames.specs.declared.states.State.{State}
 use Rattle.packet_forge.specs.Pairs.{zeros, zeros_at, byte_pairs, skip_pairs, reference_pairs, vector_updates, hold_header, hold_macroblock, macroblock_pairs, hold_pairs, zero_vector_probability}
-use Rattle.packet_forge.specs.Packets.{tag_bytes, hold_of, hold_partition, hold_packet}
-use Rattle.packet_forge.specs.Laws.{AreUpdates, HasLast, HoldShowsLast}
+use Rattle.packet_forge.specs.Packets.{tag_bytes, hold_partition, hold_packet}
+use Rattle.packet_forge.specs.Laws.{AreUpdates, HoldShowsLast}
 use Rattle.packet_forge.proofs.Readings.{Reads, ReadsAll, reads_both, reads_text}
 use Rattle.packet_forge.proofs.ForgedHeaders.{shown_tag, tag_of-later}
 use Rattle.packet_forge.proofs.HoldHeaders.{hold_header_of, header_of-hold}

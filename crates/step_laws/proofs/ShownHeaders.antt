@@ -1,18 +1,15 @@
 -- The header of a packet with its show bit changed.
-use Rattle.std.proofs.Common.{◌≡◌, ℕ, ◌+◌, ◌-◌, ◌≤◌, ◌==◌, ◌&&◌, ◌||◌, Bool, true, false, not, List, length, Option, Some, None, Result, Ok, Err, IfOk, refl, sym, ap, ◌∙◌, arith, nat_lt, if◌then◌else◌}
+use Rattle.std.proofs.Common.{◌≡◌, ℕ, ◌-◌, ◌≤◌, ◌==◌, ◌&&◌, ◌||◌, Bool, true, false, not, List, length, Option, Some, None, Result, Ok, Err, IfOk, refl, ap, ◌∙◌, arith, nat_lt, if◌then◌else◌}
 use Rattle.std.specs.Prelude.{slice_range, is_none}
 use Rattle.std.specs.Option.{option_map, option_map_or}
 use Rattle.arrayvec.specs.ArrayVec.{ArrayVec}
 use Rattle.vp8_tables.specs.Tables.{TableEntries}
-use Rattle.bool_coder.specs.Reader.{started}
 use Rattle.frame_header.specs.Contexts.{first_context}
-use Rattle.frame_header.specs.Fields.{fields}
-use Rattle.frame_header.specs.Header.{◌>>=◌, first_end, header_after, header_in, header_of}
+use Rattle.frame_header.specs.Header.{◌>>=◌, first_end, header_after, header_of}
 use Rattle.frame_header.specs.Padding.{readers_of}
 use Rattle.frame_header.specs.Places.{token_ranges}
 use Rattle.frame_header.specs.Start.{key_start, later_start, tagged_start, start_of}
 use Rattle.frame_header.specs.Tags.{tag_of, has_key_tag, has_start_code, width_of, height_of}
-use Rattle.frame_header.specs.TrailingFields.{trailing_fields}
 use Rattle.frame_header.specs.declared.cause.Cause.{Cause}
 use Rattle.frame_header.specs.declared.cause.Cause.TheVariants.{ShortPacket, Version, StartCode, Size, NoKeyFrame}
 use Rattle.frame_header.specs.declared.context.Context.{Context}

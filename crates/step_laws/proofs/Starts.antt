@@ -1,10 +1,10 @@
 -- The start of a frame has the packet's tag, and its first partition follows that tag.
-use Rattle.std.proofs.Common.{◌≡◌, ℕ, ◌+◌, ◌-◌, ◌≤◌, ◌==◌, ◌&&◌, ◌||◌, Bool, true, false, not, List, [], length, Option, Some, None, Result, Ok, Err, IfOk, refl, sym, ap, subst, arith, nat_lt, if◌then◌else◌}
+use Rattle.std.proofs.Common.{◌≡◌, ℕ, ◌+◌, ◌-◌, ◌≤◌, ◌==◌, ◌&&◌, ◌||◌, Bool, true, false, not, List, [], length, Option, Some, None, Result, Ok, Err, IfOk, refl, ap, arith, nat_lt, if◌then◌else◌}
 use Rattle.std.specs.Prelude.{is_none}
 use Rattle.std.specs.Option.{option_map_or}
 use Rattle.frame_header.specs.Tags.{tag_of, has_key_tag, has_start_code, width_of, height_of}
 use Rattle.frame_header.specs.Start.{key_start, later_start, tagged_start, start_of}
-use Rattle.frame_header.specs.Header.{◌>>=◌, first_end}
+use Rattle.frame_header.specs.Header.{first_end}
 use Rattle.frame_header.specs.declared.cause.Cause.{Cause}
 use Rattle.frame_header.specs.declared.cause.Cause.TheVariants.{ShortPacket, Version, StartCode, Size, NoKeyFrame, FirstPartition}
 use Rattle.frame_header.specs.declared.context.Context.{Context}
