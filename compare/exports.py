@@ -1,0 +1,193 @@
+#!/usr/bin/env python3
+"""Packets that show the frames of random scripts again, by a plain model of lossless_cuts' definition.
+
+    compare/exports.py [--scripts N] [--seed S] [--ffmpeg] [FILE ..]
+
+Each script trims and splices one or two clips of one size, with repeated frames and frames in reverse order. Each clip is taken once as it is
+and once with packets of no bytes among its packets, as an encoder that drops frames writes them. The packets of a script are those of the
+definition: a lead of hidden packets from the packet after the last one, or from the last key packet, and then the frame's own packet, or a
+hold packet. vpxdec (and ffmpeg, with --ffmpeg) decode them. Their frames must be the frames that vp8serve serves for the script, byte for
+byte, and their number too.
+"""
+
+import argparse
+import json
+import os
+import random
+import subprocess
+import sys
+import tempfile
+
+from library.ivf import has_key_tag, is_shown
+from library.programs import VP8LIST, VP8SERVE, real_streams
+
+
+def run(words, text=None):
+    """Runs a program, and returns its output; a time limit of a minute."""
+    ran = subprocess.run([str(word) for word in words], input=text, stdout=subprocess.PIPE, stderr=subprocess.PIPE, timeout=60)
+    if ran.returncode:
+        raise SystemExit(f"{' '.join(map(str, words))}: status {ran.returncode}: {ran.stderr.decode(errors='replace')[-300:]}")
+    return ran.stdout
+
+
+class Clip:
+    """The packets of a file, and what vp8list says of each."""
+
+    def __init__(self, path):
+        self.path = path
+        with open(path, "rb") as file:
+            data = file.read()
+        self.head, self.packets, at = data[:32], [], int.from_bytes(data[6:8], "little")
+        while at + 12 <= len(data):
+            size = int.from_bytes(data[at : at + 4], "little")
+            self.packets.append(data[at + 12 : at + 12 + size])
+            at += 12 + size
+        self.facts = [json.loads(line) for line in run([VP8LIST, "--json", path]).splitlines()]
+        self.shown = [at for at, packet in enumerate(self.packets) if is_shown(packet)]
+        self.sizes = {it["size"] for it in self.facts if it["size"]}
+        self.size = min(self.sizes)
+
+    def key_place(self, at):
+        return next(k for k in range(at, -1, -1) if has_key_tag(self.packets[k]))
+
+    def leaves_last(self, at):
+        return not self.packets[at] or self.facts[at]["last"] == "new"
+
+
+def with_show_bit(packet, shown):
+    """The packet with bit 4 of its first byte set or cleared."""
+    if len(packet) < 3:
+        return packet
+    return bytes([packet[0] & ~16 | (16 if shown else 0)]) + packet[1:]
+
+
+def frame_packets(clip, before, target, held):
+    """The packets of a frame, after the frame before it: pairs of whether it is shown and its bytes."""
+    source, place = target
+    packet = clip.packets[place]
+    if before == target and clip.leaves_last(place):
+        return [(True, held)]
+    first = clip.key_place(place)
+    if before and before[0] == source and before[1] < place:
+        first = max(before[1] + 1, first)
+    lead = [(False, with_show_bit(it, False)) for it in clip.packets[first:place] if it]
+    return lead + [(True, packet or held)]
+
+
+def exported(clips, targets, held):
+    packets, before = [], None
+    for target in targets:
+        packets += frame_packets(clips[target[0]], before, target, held)
+        before = target
+    return packets
+
+
+def hold_packet(size, room):
+    """A hold packet, with the byte that libvpx wants in its last partition."""
+    width, height = size.split("x")
+    run([VP8SERVE, "-", "-", "-", "--save", f"{room}/hold.ivf"], f"blank 0 {width} {height}\nhold 1\n".encode())
+    return Clip(f"{room}/hold.ivf").packets[1] + b"\0"
+
+
+def ivf(head, packets):
+    """An IVF file; a hidden packet has the stamp of the next shown one."""
+    out, stamp = [head[:6] + (32).to_bytes(2, "little") + head[8:24] + len(packets).to_bytes(4, "little") + bytes(4)], 0
+    for shown, packet in packets:
+        out.append(len(packet).to_bytes(4, "little") + stamp.to_bytes(8, "little") + packet)
+        stamp += shown
+    return b"".join(out)
+
+
+def with_drops(dice, clip, path):
+    """The clip with packets of no bytes after some of its packets."""
+    packets = []
+    for packet in clip.packets:
+        packets += [packet] + [b""] * dice.choice([0, 0, 0, 1, 2])
+    with open(path, "wb") as file:
+        file.write(ivf(clip.head, [(True, it) for it in packets]))
+    return Clip(path)
+
+
+def random_script(dice, clips):
+    """A script, and the source and frame of each of its frames."""
+    nodes, frames = [], [[(0, n) for n in range(len(clips[0].shown))]]
+    if len(clips) > 1:
+        nodes.append("source 1")
+        frames.append([(1, n) for n in range(len(clips[1].shown))])
+    sources = len(frames)
+    parts = []
+    for _ in range(dice.randint(1, 6)):
+        clip = dice.randrange(sources)
+        first = dice.randrange(len(frames[clip]))
+        count = dice.choice([1, 1, 2, 3, 5, 9])
+        nodes.append(f"trim {clip} {first} {count}")
+        frames.append(frames[clip][first : first + count])
+        parts.append(len(frames) - 1)
+    if dice.random() < 0.5:
+        parts.append(dice.choice(parts))
+    whole = parts[0]
+    for part in parts[1:]:
+        if len(nodes) == 16:
+            break
+        nodes.append(f"splice {whole} {part}")
+        frames.append(frames[whole] + frames[part])
+        whole = len(frames) - 1
+    if whole != len(frames) - 1:
+        nodes.append(f"trim {whole} 0 4294967295")
+        frames.append(frames[whole])
+    return "; ".join(nodes), frames[-1]
+
+
+def served(clips, script, count, room):
+    """The frames that vp8serve serves."""
+    lines = [f"script {script}"] + [f"frame {n}" for n in range(count)]
+    more = ["--sources", ":".join(str(it.path) for it in clips[1:])] if len(clips) > 1 else []
+    replies = run([VP8SERVE, clips[0].path, "-", f"{room}/out.y4m", *more], "\n".join(lines).encode() + b"\n").decode().splitlines()
+    if replies[1:] != [f"served {n}" for n in range(count)]:
+        raise SystemExit(f"{clips[0].path}: {script}: {[it for it in replies if not it.startswith('served')][:3]}")
+    with open(f"{room}/out.y4m", "rb") as file:
+        data = file.read()
+    at = data.index(b"\n") + 1
+    width, height = map(int, clips[0].size.split("x"))
+    size = width * height + 2 * ((width + 1) // 2) * ((height + 1) // 2)
+    return b"".join(data[at + n * (size + 6) + 6 : at + (n + 1) * (size + 6)] for n in range(count)), size
+
+
+def main():
+    words = argparse.ArgumentParser(description=__doc__.splitlines()[0])
+    words.add_argument("clips", nargs="*", default=real_streams())
+    words.add_argument("--scripts", type=int, default=100)
+    words.add_argument("--seed", type=int, default=1)
+    words.add_argument("--ffmpeg", action="store_true")
+    args = words.parse_args()
+    dice, clips, wrong, frames, leads, written = random.Random(args.seed), [it for it in map(Clip, args.clips) if len(it.sizes) == 1], 0, 0, 0, 0
+    with tempfile.TemporaryDirectory() as room:
+        clips += [with_drops(dice, clip, f"{room}/drops-{number}.ivf") for number, clip in enumerate(clips)]
+        for number in range(args.scripts):
+            one = dice.choice(clips)
+            others = [it for it in clips if it.size == one.size and it is not one]
+            mine = [one] + ([dice.choice(others)] if others and dice.random() < 0.6 else [])
+            script, origins = random_script(dice, mine)
+            targets = [(source, mine[source].shown[n]) for source, n in origins]
+            packets = exported(mine, targets, hold_packet(one.size, room))
+            with open(f"{room}/export.ivf", "wb") as file:
+                file.write(ivf(one.head, packets))
+            want, size = served(mine, script, len(targets), room)
+            decoders = {"vpxdec": ["vpxdec", "--i420", "-o", f"{room}/vpxdec.yuv", f"{room}/export.ivf"]}
+            if args.ffmpeg:
+                decoders["ffmpeg"] = ["ffmpeg", "-v", "error", "-y", "-i", f"{room}/export.ivf", "-fps_mode", "passthrough", "-f", "rawvideo", "-pix_fmt", "yuv420p", f"{room}/ffmpeg.yuv"]
+            for name, line in decoders.items():
+                run(line)
+                with open(f"{room}/{name}.yuv", "rb") as file:
+                    got = file.read()
+                if got != want:
+                    wrong += 1
+                    first = next((n for n in range(len(targets)) if got[n * size : (n + 1) * size] != want[n * size : (n + 1) * size]), len(targets))
+                    print(f"script {number} of {[os.path.basename(it.path) for it in mine]}: {name}: {len(got) / size:g} of {len(targets)} frames, the first wrong one {first}: {script}")
+            frames, leads, written = frames + len(targets), leads + sum(not shown for shown, _ in packets), written + len(packets)
+    print(f"{args.scripts} scripts, {frames} frames, {written} packets, {leads} of them hidden: {wrong} wrong")
+    return 1 if wrong else 0
+
+
+if __name__ == "__main__":
+    sys.exit(main())

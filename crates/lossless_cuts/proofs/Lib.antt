@@ -1,0 +1,9 @@
+pub mod Views
+pub mod HiddenLeads
+pub mod Runs
+pub mod Keys
+pub mod Plays
+pub mod Leads
+pub mod Frames
+pub mod AllFrames
+pub mod Pushed

@@ -1,0 +1,58 @@
+-- The meaning of an export: what its packets show.
+use Rattle.std.specs.Prelude.{◌≡◌, ℕ, true, List, [], ◌∷◌, length, slice_get, Option, Some, option_and_then, Ok, IsOk}
+use Rattle.vp8_tables.specs.declared.tables.Tables.{Tables}
+use Rattle.frame_header.specs.Tags.{is_shown}
+use Rattle.pixel_planes.specs.Pictures.{IsWholePicture, PictureSamples}
+use Rattle.reference_frames.specs.declared.states.State.{State}
+use Rattle.packet_edits.specs.Shown.{shown_indexes}
+use Rattle.packet_forge.specs.Laws.{AreBytes}
+use Rattle.packet_forge.specs.Packets.{hold_of}
+use Rattle.state_cache.specs.Decoding.{Outcome, outcomes}
+use Rattle.lossless_cuts.specs.declared.targets.Target.{Target}
+use Rattle.lossless_cuts.specs.Plans.{stream_at, uses_hold}
+
+-- a picture is whole, and its samples are bytes
+pub record HasBytes (picture : PictureSamples) : Type 0 where
+  pub whole : IsWholePicture picture
+  pub luma : AreBytes picture.luma
+  pub cb : AreBytes picture.cb
+  pub cr : AreBytes picture.cr
+
+-- a hold packet of a frame's size can be forged
+abbrev pub IsForged : Tables → Target → Type 0
+IsForged tables target = (packet : List ℕ) × (hold_of tables target.width target.height ≡ Ok packet)
+
+-- and so it is for each frame that a hold packet shows
+abbrev pub AreForged : Tables → List (List (List ℕ)) → Option Target → List Target → Type 0
+AreForged tables streams before [] = Unit {0}
+AreForged tables streams before (target ∷ targets) =
+    (uses_hold (stream_at streams target.source) before target ≡ true → IsForged tables target) × AreForged tables streams (Some target) targets
+
+-- a frame's packet is shown, and decoding its source accepts it, with this picture
+pub record IsDecoded (tables : Tables) (packets : List (List ℕ)) (target : Target) (picture : PictureSamples) : Type 0 where
+  pub packet : List ℕ
+  pub here : slice_get packets target.place ≡ Some packet
+  pub shown : is_shown packet ≡ true
+  pub state : State
+  pub accepted : slice_get (outcomes tables packets) target.place ≡ Some (Ok (state, picture))
+  pub wide : picture.width ≡ target.width
+  pub high : picture.height ≡ target.height
+  pub bytes : HasBytes picture
+
+-- each frame is, with these pictures
+abbrev pub AreDecoded : Tables → List (List (List ℕ)) → List Target → List PictureSamples → Type 0
+AreDecoded tables streams [] [] = Unit {0}
+AreDecoded tables streams (target ∷ targets) (picture ∷ pictures) =
+    IsDecoded tables (stream_at streams target.source) target picture × AreDecoded tables streams targets pictures
+AreDecoded tables streams [] (picture ∷ pictures) = ⊥
+AreDecoded tables streams (target ∷ targets) [] = ⊥
+
+-- the outcome of shown packet n of a stream, if there is one
+abbrev pub outcome_shown : Tables → List (List ℕ) → ℕ → Option Outcome
+outcome_shown tables packets n = option_and_then (λ place. slice_get (outcomes tables packets) place) (slice_get (shown_indexes packets) n)
+
+-- a stream shows exactly these pictures: decoding refuses none of its packets, and each shown packet has its picture
+pub record ShowsExactly (tables : Tables) (packets : List (List ℕ)) (pictures : List PictureSamples) : Type 0 where
+  pub accepts : (place : ℕ) (outcome : Outcome) → slice_get (outcomes tables packets) place ≡ Some outcome → IsOk outcome
+  pub count : length (shown_indexes packets) ≡ length pictures
+  pub each : (n : ℕ) (picture : PictureSamples) → slice_get pictures n ≡ Some picture → (state : State) × (outcome_shown tables packets n ≡ Some (Ok (state, picture)))

@@ -1,0 +1,4 @@
+pub mod Plans
+pub mod Faults
+pub mod Exports
+pub mod Laws

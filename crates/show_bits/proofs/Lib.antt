@@ -1,0 +1,2 @@
+pub mod ByteBits
+pub mod Tags
