@@ -32,6 +32,7 @@ OPENING = b"YUV4MPEG2 W64 H48 F30:1 Ip C420jpeg\n"
 TOLD = collections.Counter()
 REFUSED = "vp8serve: command line: {} and {} are both {}: name another file for {}\n"
 AMONG = "vp8serve: command line: OUT {} is standard output, so replies would be among the frames: name /dev/fd/3 3>&1 >replies\n"
+SAVED_AMONG = "vp8serve: command line: --save {} is standard output, so replies would be among the packets: name /dev/fd/3 3>&1 >replies\n"
 
 
 def differs(name, got, want):
@@ -120,11 +121,12 @@ def devices():
         ended = run("a.ivf", "--save", "fifo")
         differs("a saved pipe", (ended, reader.stdout.read()), ((0, "", ""), STREAM))
     os.unlink("fifo")
-    with subprocess.Popen([VP8SERVE, "a.ivf", "--save", "/dev/stdout"], stdin=subprocess.DEVNULL, stdout=subprocess.PIPE) as ended:
-        differs("saved standard output", ended.stdout.read(), STREAM)
+    differs("saved standard output", run("a.ivf", "--save", "/dev/stdout"), (2, "", SAVED_AMONG.format("/dev/stdout")))
     with open("saved.ivf", "wb") as file:
-        differs("saved standard output, a file", run("a.ivf", "--save", "/dev/stdout", stdout=file), (0, "", ""))
-    differs("saved standard output, its bytes", content("saved.ivf"), STREAM)
+        differs("saved standard output, a file", run("a.ivf", "--save", "/dev/stdout", stdout=file), (2, "", SAVED_AMONG.format("/dev/stdout")))
+    line = f"{VP8SERVE} a.ivf --save /dev/fd/3 3>&1 >replies"
+    shown = subprocess.run(["sh", "-c", line], input=b"count\n", capture_output=True, timeout=60)
+    differs("saved /dev/fd/3", (shown.returncode, shown.stdout, content("replies")), (0, STREAM, b"packets 3 frames 3\n"))
 
 
 def over():

@@ -1,5 +1,6 @@
 pub mod Counts
 pub mod Disks
+pub mod Links
 pub mod Logs
 pub mod Places
 pub mod Steps

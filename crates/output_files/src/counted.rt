@@ -1,5 +1,7 @@
 // How much of a text a file took.
-ghost use Rattle.std.specs.Prelude.{◌≡◌, None};
+ghost use Rattle.std.specs.Prelude.{◌≡◌, IfOk, None, OnErr, take};
+ghost use Rattle.std.specs.Io.{WritesAtMost};
+ghost use Rattle.std.specs.Io.KnownBytes.{WriteAppends};
 ghost use Rattle.output_files.specs.Counts.{IsTakenAfter, whole_pieces};
 
 use memchr::memchr;
@@ -76,7 +78,12 @@ impl<W: Write> Counted<W> {
 impl<W: Write> Write for Counted<W> {
     ghost contents = { λ w. W.contents w.inner };
 
-    fn write(&mut self, buf: &[u8]) -> io::Result<usize> {
+    fn write(&mut self, buf: &[u8]) -> io::Result<usize>
+        ensures bound { WritesAtMost result buf.now }
+        ensures bytes { WriteAppends (W.contents self.old.inner) (W.contents self.new.inner) result buf.now }
+        ensures counted { IfOk result (λ count. IsTakenAfter self.old.taken (take count buf.now) self.new.taken) }
+        ensures uncounted { OnErr result (self.new.taken ≡ self.old.taken) }
+    {
         let count = self.inner.write(buf)?;
         self.taken = self.taken.after(&buf[..count]);
         Ok(count)

@@ -1,6 +1,7 @@
 // The parts of a path, and where links at its end lead.
-ghost use Rattle.std.specs.Prelude.{◌≡◌, ◌++◌};
+ghost use Rattle.std.specs.Prelude.{◌≡◌, ◌++◌, IfOk, string_bytes};
 ghost use Rattle.output_files.specs.Places.{IsFolderOf, IsFolderPart, IsName};
+ghost use Rattle.output_files.specs.Links.{IsFollowed, IsLedTo};
 
 use std::alloc::{AllocError, Global};
 use std::fs;
@@ -32,9 +33,11 @@ pub fn folder_of(path: &str) -> &str
     }
 }
 
-/// The path that a link with this text at this path leads to.
-fn led_to(alloc: Global, path: &str, link: &str) -> Result<String, AllocError> {
-    if link.starts_with('/') {
+/// The path that a link with this text at this path leads to: the text if it is absolute, else the folder of the path and the text.
+fn led_to(alloc: Global, path: &str, link: &str) -> Result<String, AllocError>
+    ensures { IfOk result (λ to. IsLedTo path.now link.now (string_bytes to)) }
+{
+    if link.as_bytes().starts_with(b"/") {
         return String::from_str(alloc, link);
     }
     let (folder, _) = parts_of(path);
@@ -44,7 +47,9 @@ fn led_to(alloc: Global, path: &str, link: &str) -> Result<String, AllocError> {
 /// The path that a path leads to once the links at its end are followed, whether or not something is there.
 ///
 /// `FilesystemLoop` after 40 links; `OutOfMemory`.
-pub fn followed<R: Files>(files: &R, alloc: Global, path: &str) -> io::Result<String> {
+pub fn followed<R: Files>(files: &R, alloc: Global, path: &str) -> io::Result<String>
+    ensures { IfOk result (λ to. IsFollowed path.now (string_bytes to)) }
+{
     let mut path = String::from_str(alloc, path)?;
     for _ in 0..MOST_LINKS {
         let Ok(link) = files.read_link(alloc, path.as_str()) else {

@@ -6,7 +6,7 @@ use Rattle.std.specs.List.{slice_split, starts_with}
 use Rattle.serve_arguments.specs.Capacities.{capacity_given}
 use Rattle.serve_arguments.specs.declared.capacities.Capacity.{Capacity}
 use Rattle.serve_arguments.specs.declared.files.Argument.{Argument}
-use Rattle.serve_arguments.specs.declared.files.Argument.TheVariants.{In, Sources, Requests, Out, Tables, Save, Replies}
+use Rattle.serve_arguments.specs.declared.files.Argument.TheVariants.{In, Sources, Requests, Out, Tables, Save, Replies, Errors}
 use Rattle.serve_arguments.specs.declared.files.Named.{Named}
 use Rattle.serve_arguments.specs.declared.files.SameFile.{SameFile}
 use Rattle.serve_arguments.specs.declared.fault.Fault.{Fault}
@@ -44,6 +44,7 @@ argument_name Out = codes "OUT"
 argument_name Tables = codes "--tables"
 argument_name Save = codes "--save"
 argument_name Replies = codes "standard output"
+argument_name Errors = codes "standard error"
 
 -- an argument, and the path of the file that it names, if it names one
 abbrev pub NamedFile : Type 0
@@ -79,6 +80,19 @@ out_file words = (Out, file_of words.frames.now)
 
 abbrev pub saved_file : Words → NamedFile
 saved_file words = (Save, option_map (λ path. path.now) words.saved)
+
+-- standard input, if the requests are not named
+abbrev pub input_file : Words → NamedFile
+input_file words = (Requests, if pointwise nat_eq words.requests.now (codes "-") then Some (codes "/dev/stdin") else None)
+
+-- the files beside those that are only read
+abbrev pub standard_files : Words → List NamedFile
+standard_files words =
+    input_file words ∷ out_file words ∷ (Replies, Some (codes "/dev/stdout")) ∷ (Errors, Some (codes "/dev/stderr")) ∷ saved_file words ∷ []
+
+-- all files of a command line with these paths of `--sources`, in the order in which an error names them
+abbrev pub placed_files : Words → List (List ℕ) → List NamedFile
+placed_files words more = read_files words more ++ standard_files words
 
 -- a file that is written is none of these others; a device may be named twice
 abbrev pub IsApart : NamedFile → List NamedFile → Type 0

@@ -19,6 +19,8 @@ pub enum Argument {
     Save,
     /// Standard output, which no argument names.
     Replies,
+    /// Standard error, which no argument names.
+    Errors,
 }
 
 impl Argument {
@@ -34,6 +36,15 @@ impl Argument {
             Argument::Tables => "--tables",
             Argument::Save => "--save",
             Argument::Replies => "standard output",
+            Argument::Errors => "standard error",
+        }
+    }
+
+    /// What is written to its file.
+    fn content(self) -> &'static str {
+        match self {
+            Argument::Save => "packets",
+            _ => "frames",
         }
     }
 }
@@ -70,16 +81,21 @@ impl fmt::Display for SameFile<'_> {
         let written = self.written.name();
         let other = self.other.name();
         let path = self.path;
-        if self.other == Argument::Replies {
-            return write!(
+        let content = self.written.content();
+        match self.other {
+            Argument::Replies => write!(
                 f,
-                "{written} {path} is {other}, so replies would be among the frames: name /dev/fd/3 3>&1 >replies"
-            );
+                "{written} {path} is {other}, so replies would be among the {content}: name /dev/fd/3 3>&1 >replies"
+            ),
+            Argument::Errors => write!(
+                f,
+                "{written} {path} is {other}, so messages would be among the {content}: name another file for {written}"
+            ),
+            _ => write!(
+                f,
+                "{written} and {other} are both {path}: name another file for {written}"
+            ),
         }
-        write!(
-            f,
-            "{written} and {other} are both {path}: name another file for {written}"
-        )
     }
 }
 
@@ -122,7 +138,7 @@ fn check_apart<'a>(written: Named<'a>, others: &[Named<'a>]) -> Result<(), SameF
 }
 
 /// The arguments whose files are only read, with these paths of `--sources`.
-fn read_files<'a>(
+pub(crate) fn read_files<'a>(
     alloc: Global,
     words: Words<'a>,
     more: &[&'a str],
@@ -169,7 +185,7 @@ fn kept_files(words: Words<'_>) -> [Named<'_>; 2]
 }
 
 /// The file for the frames.
-fn out_file(words: Words<'_>) -> Named<'_>
+pub(crate) fn out_file(words: Words<'_>) -> Named<'_>
     ensures { named_file result ≡ out_file words.entry }
 {
     Named {
@@ -179,7 +195,7 @@ fn out_file(words: Words<'_>) -> Named<'_>
 }
 
 /// The file for the packets after the run.
-fn saved_file(words: Words<'_>) -> Named<'_>
+pub(crate) fn saved_file(words: Words<'_>) -> Named<'_>
     ensures { named_file result ≡ saved_file words.entry }
 {
     Named {

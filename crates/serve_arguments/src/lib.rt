@@ -17,6 +17,6 @@ pub use capacities::Capacity;
 pub use fault::Fault;
 pub use files::{Argument, SameFile};
 pub use inputs::{FilesRead, Inputs, read_files, read_inputs};
-pub use located::{Located, check_clashes, check_places};
+pub use located::{Located, check_located, check_places};
 pub use states::{report_cache, states_over};
 pub use words::{Accepted, Words};

@@ -1,14 +1,14 @@
 // What the paths of the command line name, however they are spelled.
-ghost use Rattle.std.specs.Prelude.{◌≡◌, ℕ, List, Contains, IfErr, IfOk, IfSome, OnOk, Some, false, true};
-ghost use Rattle.std.specs.List.{All};
-ghost use Rattle.serve_arguments.specs.Locations.{IsClash, is_clash};
+ghost use Rattle.std.specs.Prelude.{◌≡◌, IfErr, IfOk, OnOk, filter, map, option_map};
+ghost use Rattle.serve_arguments.specs.CommandLines.{input_file, named_file, names_of, placed_files, standard_files};
+ghost use Rattle.serve_arguments.specs.Locations.{ArePlaced, AreSeparate, IsApartFrom, IsClash, IsClashAmong, IsPlaceFault, has_path, is_clash, is_kept_from, is_kept_from_out, is_kept_from_save, is_over, located_file};
 
 use crate::fault::Fault;
-use crate::files::{Argument, SameFile};
+use crate::files::{Argument, Named, SameFile, out_file, read_files, saved_file};
 use crate::words::{Accepted, Words};
 use output_files::{Place, place_of};
 use program_parts::NO_FILE;
-use std::alloc::AllocError;
+use std::alloc::{AllocError, Global};
 use std::rt::Files;
 
 /// The system's path of standard input.
@@ -17,90 +17,156 @@ const INPUT: &str = "/dev/stdin";
 /// The system's path of standard output.
 const REPLIES: &str = "/dev/stdout";
 
-/// An argument, its path, and what is there.
+/// The system's path of standard error.
+const ERRORS: &str = "/dev/stderr";
+
+/// An argument, its path, and what the system says is there, or in its folder if nothing is there yet.
 #[derive(Drop)]
 pub struct Located<'a> {
     argument: Argument,
     path: &'a str,
-    place: Place,
+    place: Option<Place>,
 }
 
-/// Finds what is at a path, if it is there, or its folder.
+/// The file of the requests if they are not named: standard input.
+fn input_file(words: Words<'_>) -> Named<'_>
+    ensures { named_file result ≡ input_file words.entry }
+{
+    Named {
+        argument: Argument::Requests,
+        path: if words.requests == NO_FILE {
+            Some(INPUT)
+        } else {
+            None
+        },
+    }
+}
+
+/// The files beside those that are only read: standard input, OUT, standard output and error, and the file of `--save`.
+fn standard_files(words: Words<'_>) -> [Named<'_>; 5]
+    ensures { map named_file result ≡ standard_files words.entry }
+{
+    [
+        input_file(words),
+        out_file(words),
+        Named {
+            argument: Argument::Replies,
+            path: Some(REPLIES),
+        },
+        Named {
+            argument: Argument::Errors,
+            path: Some(ERRORS),
+        },
+        saved_file(words),
+    ]
+}
+
+/// The files of which the system is asked what they are, in the order in which an error names them.
+fn placed_files<'a>(alloc: Global, line: &Accepted<'a>) -> Result<Vec<Named<'a>>, AllocError>
+    ensures { IfOk result (λ files. map named_file files.items ≡ placed_files line.now.words (names_of line.now.more.items)) }
+{
+    let mut files = read_files(alloc, line.words, line.more.as_slice())?;
+    files.extend_from_slice(&standard_files(line.words))?;
+    Ok(files)
+}
+
+/// Asks the system what is at the paths of these files. Those without a path are left out.
 fn locate<'a, R: Files + AllocGlobal>(
     rt: &R,
-    argument: Argument,
-    path: &'a str,
-) -> Result<Option<Located<'a>>, AllocError> {
-    let place = place_of(rt, rt.alloc(), path)?;
-    Ok(place.map(|place| Located {
-        argument,
-        path,
-        place,
-    }))
-}
-
-/// Adds what is at a path to a list.
-fn add<'a, R: Files + AllocGlobal>(
-    rt: &R,
-    argument: Argument,
-    path: &'a str,
-    list: &mut Vec<Located<'a>>,
-) -> Result<(), AllocError> {
-    if let Some(found) = locate(rt, argument, path)? {
-        list.push(found)?;
-    }
-    Ok(())
-}
-
-/// The files that are read and must not be saved: the requests and the tables.
-fn kept<'a, R: Files + AllocGlobal>(
-    rt: &R,
-    words: Words<'a>,
-) -> Result<Vec<Located<'a>>, AllocError> {
-    let mut list = Vec::new(rt.alloc());
-    let requests = if words.requests == NO_FILE {
-        INPUT
-    } else {
-        words.requests
-    };
-    add(rt, Argument::Requests, requests, &mut list)?;
-    if let Some(tables) = words.tables {
-        add(rt, Argument::Tables, tables, &mut list)?;
-    }
-    Ok(list)
-}
-
-/// The sources.
-fn sources<'a, R: Files + AllocGlobal>(
-    rt: &R,
-    line: &Accepted<'a>,
-) -> Result<Vec<Located<'a>>, AllocError> {
-    let mut list = Vec::new(rt.alloc());
-    if line.words.stream != NO_FILE {
-        add(rt, Argument::In, line.words.stream, &mut list)?;
-    }
-    for path in line.more.as_slice() {
-        if *path != NO_FILE {
-            add(rt, Argument::Sources, path, &mut list)?;
+    files: &[Named<'a>],
+) -> Result<Vec<Located<'a>>, AllocError>
+    ensures { IfOk result (λ located. map located_file located.items ≡ filter has_path (map named_file files.now)) }
+{
+    let mut located = Vec::new(rt.alloc());
+    for file in files {
+        if let Some(path) = file.path {
+            let place = place_of(rt, rt.alloc(), path)?;
+            located.push(Located {
+                argument: file.argument,
+                path,
+                place,
+            })?;
         }
     }
-    Ok(list)
+    Ok(located)
 }
 
-/// Whether writing one changes the other: they are one file, and not a device. Standard output may only be a device that drops what it
-/// is given.
+/// Whether OUT must not be the file of this argument.
+fn is_kept_from_out(other: Argument) -> bool
+    ensures { result ≡ is_kept_from_out other }
+{
+    match other {
+        Argument::Out | Argument::Save => false,
+        Argument::In
+        | Argument::Sources
+        | Argument::Requests
+        | Argument::Tables
+        | Argument::Replies
+        | Argument::Errors => true,
+    }
+}
+
+/// Whether the file of `--save` must not be that of this argument: it may be a source, which is read before.
+fn is_kept_from_save(other: Argument) -> bool
+    ensures { result ≡ is_kept_from_save other }
+{
+    match other {
+        Argument::In | Argument::Sources | Argument::Save => false,
+        Argument::Requests
+        | Argument::Tables
+        | Argument::Out
+        | Argument::Replies
+        | Argument::Errors => true,
+    }
+}
+
+/// Whether the file of one argument is written, and must not be that of the other.
+fn is_kept_from(written: Argument, other: Argument) -> bool
+    ensures { result ≡ is_kept_from written other }
+{
+    match written {
+        Argument::Out => is_kept_from_out(other),
+        Argument::Save => is_kept_from_save(other),
+        Argument::In
+        | Argument::Sources
+        | Argument::Requests
+        | Argument::Tables
+        | Argument::Replies
+        | Argument::Errors => false,
+    }
+}
+
+/// Whether writing at one place changes what this argument has at the other: they are one file, and not a device. A standard stream may
+/// only be a device that drops what it is given.
+fn is_over(other: Argument, written: &Place, place: &Place) -> bool
+    ensures { result ≡ is_over other written.now place.now }
+{
+    match other {
+        Argument::Replies | Argument::Errors => !written.is_null() && written.is_same(place),
+        Argument::In
+        | Argument::Sources
+        | Argument::Requests
+        | Argument::Tables
+        | Argument::Out
+        | Argument::Save => written.is_one_file(place),
+    }
+}
+
+/// Whether the first file is written, must not be the second, and is it, as the system said.
 fn is_clash(written: &Located<'_>, other: &Located<'_>) -> bool
     ensures { result ≡ is_clash written.now other.now }
 {
-    match other.argument {
-        Argument::Replies => !written.place.is_null() && written.place.is_same(&other.place),
-        _ => written.place.is_one_file(&other.place),
+    match (&written.place, &other.place) {
+        (Some(place), Some(theirs)) => {
+            is_kept_from(written.argument, other.argument) && is_over(other.argument, place, theirs)
+        }
+        _ => false,
     }
 }
 
-/// Checks that writing a file changes none of these. If it changes one, the first of them is returned.
-pub fn check_clashes<'a>(written: &Located<'a>, others: &[Located<'a>]) -> Result<(), SameFile<'a>>
-    ensures apart { OnOk result (All (λ other. is_clash written.now other ≡ false) others.now) }
+/// Checks that a file is none of these that it must not be. Otherwise the first of them is returned.
+fn check_apart<'a>(written: &Located<'a>, others: &[Located<'a>]) -> Result<(), SameFile<'a>>
+    ensures apart { OnOk result (IsApartFrom written.now others.now) }
     ensures clash { IfErr result (IsClash written.now others.now) }
 {
     for other in others {
@@ -115,61 +181,33 @@ pub fn check_clashes<'a>(written: &Located<'a>, others: &[Located<'a>]) -> Resul
     Ok(())
 }
 
-/// Checks the file for the frames, if there is one.
-fn check_out<'a, R: Files + AllocGlobal>(
-    rt: &R,
-    line: &Accepted<'a>,
-    out: &Located<'a>,
-) -> Result<(), Fault<'a>> {
-    let sources = sources(rt, line).map_err(|_| Fault::NoMemory)?;
-    check_clashes(out, sources.as_slice()).map_err(Fault::NamedTwice)?;
-    let kept = kept(rt, line.words).map_err(|_| Fault::NoMemory)?;
-    check_clashes(out, kept.as_slice()).map_err(Fault::NamedTwice)?;
-    match locate(rt, Argument::Replies, REPLIES) {
-        Ok(Some(replies)) => check_clashes(out, &[replies]).map_err(Fault::NamedTwice),
-        Ok(None) => Ok(()),
-        Err(_) => Err(Fault::NoMemory),
+/// Checks that no file among these that is written is one that it must not be. Otherwise the first such file is returned, with the first
+/// that it is.
+pub fn check_located<'a>(files: &[Located<'a>]) -> Result<(), SameFile<'a>>
+    ensures separate { OnOk result (AreSeparate files.now) }
+    ensures clash { IfErr result (IsClashAmong files.now) }
+{
+    for written in files {
+        if let Err(same) = check_apart(written, files) {
+            return Err(same);
+        }
     }
-}
-
-/// Checks the file of `--save`, if there is one: it may be a source, which is read before.
-fn check_saved<'a, R: Files + AllocGlobal>(
-    rt: &R,
-    line: &Accepted<'a>,
-    saved: &Located<'a>,
-) -> Result<(), Fault<'a>> {
-    let kept = kept(rt, line.words).map_err(|_| Fault::NoMemory)?;
-    check_clashes(saved, kept.as_slice()).map_err(Fault::NamedTwice)?;
-    if line.words.frames == NO_FILE {
-        return Ok(());
-    }
-    match locate(rt, Argument::Out, line.words.frames) {
-        Ok(Some(out)) => check_clashes(saved, &[out]).map_err(Fault::NamedTwice),
-        Ok(None) => Ok(()),
-        Err(_) => Err(Fault::NoMemory),
-    }
+    Ok(())
 }
 
 /// Checks that no file that is written is the file of another argument, by what is at the paths: another spelling, a link or a second hard
 /// link of a file is that file. The file of `--save` may be IN or a source, which are read before it is written. A device may be
-/// named twice. The file for the frames must not be standard output's either, unless it is `/dev/null`.
+/// named twice. Neither file may be standard output's or standard error's, unless it is `/dev/null`.
 ///
 /// `NamedTwice` with two arguments that name one; `NoMemory`.
 pub fn check_places<'a, R: Files + AllocGlobal>(
     rt: &R,
     line: &Accepted<'a>,
-) -> Result<(), Fault<'a>> {
-    if line.words.frames != NO_FILE {
-        let out = locate(rt, Argument::Out, line.words.frames).map_err(|_| Fault::NoMemory)?;
-        if let Some(out) = out {
-            check_out(rt, line, &out)?;
-        }
-    }
-    if let Some(path) = line.words.saved {
-        let saved = locate(rt, Argument::Save, path).map_err(|_| Fault::NoMemory)?;
-        if let Some(saved) = saved {
-            check_saved(rt, line, &saved)?;
-        }
-    }
-    Ok(())
+) -> Result<(), Fault<'a>>
+    ensures separate { OnOk result (ArePlaced line.now AreSeparate) }
+    ensures fault { IfErr result (IsPlaceFault line.now) }
+{
+    let files = placed_files(rt.alloc(), line).map_err(|_| Fault::NoMemory)?;
+    let located = locate(rt, files.as_slice()).map_err(|_| Fault::NoMemory)?;
+    check_located(located.as_slice()).map_err(Fault::NamedTwice)
 }

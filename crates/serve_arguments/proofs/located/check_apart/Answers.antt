@@ -2,16 +2,17 @@ use Rattle.std.proofs.Common.{◌≡◌, All, false, get_or, refl, rules, subst,
 use Rattle.std.proofs.lemmas.List.{take_all, take_more}
 use Rattle.std.proofs.lemmas.List.Elements.{All-push}
 use Rattle.serve_arguments.specs.Locations.{is_clash}
-use Rattle.serve_arguments.proofs.located.check_clashes.Goals as goal
+use Rattle.serve_arguments.proofs.located.check_apart.Goals as goal
 
 pub returns-then-is_clash-clause-clash : goal.returns-then-is_clash-clause-clash
 returns-then-is_clash-clause-clash c = record {
+  at = c.loop-other.other-index;
+  within = c.loop-other-test.true;
   other = c.other-item.result;
-  among = (c.loop-other.other-index, c.loop-other-test.true, sym c.other-item.is);
+  is_there = sym c.other-item.is;
   clash = search rules;
-  names_written = refl;
-  names_other = refl;
-  path = refl;
+  first = c.loop-other.invariant;
+  names = record { written_is = refl; other_is = refl; path_is = refl };
 }
 
 pub loop-other-preserved : goal.loop-other-preserved
