@@ -210,9 +210,7 @@ FUNCTIONS = """
     ivf.set([7, 8, 9], 44);
     return [
       made(steps.deleted(3, 6)), made(steps.held(3, 6)), made(steps.heldBefore(3, 6)), made(steps.dropped(3, 6)),
-      ...[0, 4, 6, 9, 10].map((at) => made(steps.moved(3, 6, at))),
-      ...[0, 3, 4, 6, 10].map((at) => made(steps.copied(0, 3, 6, at, true))),
-      steps.copied(1, 3, 5, 4, false), steps.ofSource(["x"], 1, 0), steps.ofSource(["x"], 0, 0),
+      steps.ofSource(["x"], 1, 0), steps.ofSource(["x"], 0, 0),
       steps.hexadecimal([0, 17, 255]), steps.hexadecimal([]), [...steps.packetOf(ivf)], [...steps.packetOf(ivf.subarray(1))].length,
       [steps.packetOfLine("copy 1 2 3"), steps.packetOfLine("delete 7"), steps.packetOfLine("script -")],
       [0, 1, 2, 3, 6].map((passed) => player.frameDue(5, 1, passed, range, true)), [0, 1, 2, 3].map((passed) => player.frameDue(5, -1, passed, range, false)),
@@ -228,9 +226,7 @@ FUNCTIONS = """
     ];"""
 RESULTS = [
     "abcghij", "abc---ghij", "abc---ghij", "abc...ghij",
-    "defabcghij", "abcdefghij", "abcdefghij", "abcghidefj", "abcghijdef",
-    "defabcdefghij", "abcdefdefghij", "abcddefefghij", "abcdefdefghij", "abcdefghijdef",
-    ["copy 1 3 4", "copy 1 4 5"], ["use 1", "x"], ["x"],
+    ["use 1", "x"], ["x"],
     "0011ff", "-", [7, 8, 9], 46,
     [3, 7, None],
     [5, 6, 3, 4, 3], [5, 4, 3, None],
@@ -598,6 +594,19 @@ def edit(page):
     browser.wait(f"wokureti.model.session.edits.length === {start + 3}")
     expect(lines()[start:] == ["move 60 79"] * 3, f"a move made {lines()[start:]}")
     browser.key("Control", "z")
+    browser.wait(f"wokureti.model.session.edits.length === {start}")
+    # What was copied is inserted, although its number is another one by then.
+    browser.run("await wokureti.model.goPacket(60); wokureti.model.select(60, 63)")
+    browser.key("Control", "c")
+    browser.run("await wokureti.model.goPacket(2); wokureti.model.select(null)")
+    browser.key("Delete")
+    browser.wait("wokureti.model.packets === 249")
+    browser.run("await wokureti.model.goPacket(10)")
+    browser.key("Control", "v")
+    browser.wait("wokureti.model.packets === 252")
+    expect(lines()[start:] == ["delete 2", "copy 0 59 10", "copy 0 61 11", "copy 0 63 12"], f"a copy after a deletion made {lines()[start:]}")
+    for _ in range(2):
+        browser.key("Control", "z")
     browser.wait(f"wokureti.model.session.edits.length === {start}")
     browser.run("wokureti.model.select(20, 25)")
     browser.key("Delete")

@@ -437,6 +437,105 @@ class Steps(PageCase):
             self.assertEqual(self.ask(path)[0], 404, path)
 
 
+class Pasting(PageCase):
+    def remember(self, first, count, source=0):
+        found = self.members(f"/numbers?source={source}&first={first}&count={count}")
+        return {"contents": found["contents"], "numbers": found["numbers"]}
+
+    def paste(self, board, at, source=0, move=False, status=200, **more):
+        body = {**board, "at": at, "source": source, "move": move, "revision": self.members("/session")["revision"], **more}
+        found, _, text = self.post_to("/paste", **body)
+        self.assertEqual(found, status, text)
+        return json.loads(text)
+
+    def stream(self, source=0):
+        with self.live.lock:
+            contents = self.live.contents()
+            return [contents.packet(number, source).bytes() for number in range(len(contents.streams[source]))]
+
+    def test_a_copy_is_of_packets_and_not_of_numbers(self):
+        packets = packets_of(SCENES)
+        self.serve(SCENES)
+        board = self.remember(30, 3)
+        self.change("delete 2")
+        self.assertEqual(self.paste(board, 10), {"revision": 3, "first": 10, "count": 3, "deleted": 0, "made": 3})
+        self.assertEqual(self.stream(), [*packets[:2], *packets[3:11], *packets[30:33], *packets[11:]])
+        self.assertEqual(self.members("/session")["edits"][1:], ["copy 0 29 10", "copy 0 31 11", "copy 0 33 12"])
+        # One step, and it can be pasted again.
+        self.change("undo")
+        self.change("move 0 40")
+        self.paste(board, 0)
+        self.assertEqual(self.stream()[:3], packets[30:33])
+
+    def test_packets_that_were_deleted_or_replaced_are_inserted_again(self):
+        packets = packets_of(SCENES)
+        self.serve(SCENES)
+        board = self.remember(30, 3)
+        self.step("replace 30 -", "delete 31")
+        found = self.paste(board, 5)
+        self.assertEqual((found["deleted"], found["count"]), (2, 3))
+        self.assertEqual(self.stream()[5:8], packets[30:33])
+
+    def test_a_cut_moves_the_packets(self):
+        packets = packets_of(SCENES)
+        for at, wanted in ((3, 3), (9, 9), (10, 9), (12, 9), (13, 10), (40, 37)):
+            self.serve(SCENES)
+            board = self.remember(10, 3)
+            self.change("delete 0")
+            found = self.paste(board, at, move=True)
+            rest = packets[1:10] + packets[13:]
+            self.assertEqual((found["first"], found["count"], found["deleted"]), (wanted, 3, 0), at)
+            self.assertEqual(self.stream(), rest[:wanted] + packets[10:13] + rest[wanted:], at)
+            self.assertEqual(found["made"], 0 if wanted == 9 else 3)
+
+    def test_the_copy_that_was_cut_is_moved(self):
+        packets = packets_of(SCENES)
+        self.serve(SCENES)
+        self.paste(self.remember(5, 1), 20)
+        # Packets 5 and 20 have the same bytes.
+        board = self.remember(20, 1)
+        self.step("delete 0", "delete 0")
+        self.paste(board, 40, move=True)
+        self.assertEqual(self.stream(), [*packets[2:41], packets[5], *packets[41:]])
+
+    def test_a_cut_from_another_source(self):
+        packets, others = packets_of(SCENES), packets_of(SMALL)
+        self.serve(SCENES, sources=[SMALL])
+        self.paste(self.remember(3, 2, source=1), 7, move=True)
+        self.assertEqual(self.stream(), packets[:7] + others[3:5] + packets[7:])
+        self.assertEqual(self.stream(1), others[:3] + others[5:])
+        self.assertEqual(self.members("/session")["source"], 0)
+        self.change("undo")
+        self.assertEqual((self.stream(), self.stream(1)), (packets, others))
+        self.paste(self.remember(3, 2), 1, source=1)
+        self.assertEqual(self.stream(1), others[:1] + packets[3:5] + others[1:])
+
+    def test_what_is_refused(self):
+        self.serve(SCENES, sources=[SMALL])
+        count = len(packets_of(SCENES))
+        board = self.remember(3, 2)
+        for path in (f"first={count}&count=1", "first=0&count=0", f"first=0&count={count + 1}", "source=2&first=0&count=1"):
+            self.assertEqual(self.ask(f"/numbers?{path}")[0], 404, path)
+        self.paste(board, count + 1, status=404)
+        self.paste(board, 0, source=2, status=404)
+        self.paste(board, 0, revision=9, status=412)
+        for numbers in ([[1]], [[1, "2"]], [[-1, 1]], [[0, 1 << 31]], [1], [[True, 1]]):
+            self.paste({**board, "numbers": numbers}, 0, status=400)
+        self.paste({**board, "numbers": [[1 << 30, 1]]}, 0, status=409)
+        self.assertEqual(self.members("/session")["revision"], 1)
+
+    def test_copies_of_packets_that_the_program_forgot(self):
+        self.serve(SCENES, edits=self.folder() / "list")
+        self.step("insert 5 7 1000", "delete 9")
+        made, own = self.remember(5, 1), self.remember(20, 1)
+        with mock.patch("sys.stderr"):
+            os.kill(process_of(self.live.session), signal.SIGKILL)
+            self.assertEqual(self.ask("/frames/2.y4m")[0], 200)
+        self.assertIn("gone", self.paste(made, 0, status=409)["error"])
+        self.paste(own, 0)
+        self.assertEqual(self.stream()[0], packets_of(SCENES)[20])
+
+
 class Checks(PageCase):
     def test_findings_are_those_of_the_current_stream(self):
         path = self.broken()

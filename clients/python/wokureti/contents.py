@@ -1,5 +1,6 @@
 """The packets of a session as they are after its edits: the program has them too, but does not give them out."""
 
+import secrets
 from array import array
 from typing import NamedTuple
 
@@ -39,14 +40,17 @@ class Held(NamedTuple):
 class Contents:
     """The packets of all sources.
 
-    Each packet has a number in a pool: those of the files first, then each one that an edit made. A stream is a list of such numbers, so
-    an edit moves numbers, and a packet's bytes are where they were.
+    Each packet has a number in a pool: those of the files first, then each one that an edit made, a copy too. A stream is a list of such
+    numbers, so an edit moves numbers, a packet's bytes are where they were, and a number is in one stream at most, once: it says which
+    packet is meant, wherever that is now.
     """
 
     def __init__(self, inputs, settings, edits_path):
         self.inputs = inputs
         self.program, self.lister, self.tables = settings
         self.edits_path = edits_path
+        # Numbers of packets that edits made are those of these contents alone.
+        self.name = secrets.token_hex(4)
         self.current = 0
         self.script = "-"
         self.bases, self.streams = [], []
@@ -58,7 +62,8 @@ class Contents:
             count += records
         self.of_files = count
         self.file_sizes = None
-        # Of the packets that edits made: the time stamp, and the bytes, or what the program makes them of.
+        # Of the packets that edits made: the time stamp, and the bytes, or what the program makes them of, or the number of the packet that a
+        # copy was made of.
         self.made = []
         self.forged = {}
         self.listed = Facts(self)
@@ -77,7 +82,7 @@ class Contents:
         numbers = tuple(map(int, rest))
         if word == "copy":
             source, index, at = numbers
-            return self.perform(Operation("insert", (at,), self.streams[source][index]))
+            return self.perform(Operation("insert", (at,), self.make(self.stamp(self.streams[source][index]), self.root(self.streams[source][index]))))
         if word in ("blank", "hold"):
             at, *size = numbers
             return self.perform(Operation("insert", (at,), self.forge_at(word, at, size)))
@@ -132,6 +137,11 @@ class Contents:
             size = ivf.key_size(self.bytes(next(number for number in keys if self.has_key_tag(number)), 10))
         return self.make(stamp, (word, *size))
 
+    def root(self, number):
+        """The packet that a copy was made of; any other packet is its own."""
+        found = self.made[number - self.of_files][1] if number >= self.of_files else number
+        return found if isinstance(found, int) else number
+
     def where(self, number):
         """The file and the index of a packet of a file."""
         source = max(place for place, base in enumerate(self.bases) if base <= number and len(self.inputs.all[place].index))
@@ -146,6 +156,7 @@ class Contents:
 
     def bytes(self, number, size=None):
         """The bytes of a packet, or the first ones of them."""
+        number = self.root(number)
         if number < self.of_files:
             item, index = self.where(number)
             return item.read(index, size)
@@ -155,6 +166,7 @@ class Contents:
 
     def size(self, number):
         """The number of bytes of a packet."""
+        number = self.root(number)
         if number < self.of_files:
             item, index = self.where(number)
             return item.index.sizes[index]
@@ -170,6 +182,7 @@ class Contents:
         return sum(sizes[number] if number < count else self.size(number) for number in numbers)
 
     def has_key_tag(self, number):
+        number = self.root(number)
         if number < self.of_files:
             item, index = self.where(number)
             return bool(item.index.tags[index] & ivf.KEY)

@@ -93,6 +93,14 @@ class Facts:
         if size is not None or cause is not None:
             self.put(len(self.flags) - 1, flags, size, cause)
 
+    def add_copy(self, root):
+        """Adds a packet whose bytes are those of one that was listed."""
+        number = len(self.flags)
+        self.flags.append(self.flags[root])
+        for known in (self.sizes, self.causes):
+            if root in known:
+                known[number] = known[root]
+
     def put(self, number, flags, size, cause):
         self.flags[number] = flags
         self.sizes.pop(number, None)
@@ -120,8 +128,10 @@ class Facts:
                 self.causes.clear()
                 self.learn_files()
             new = range(len(self.flags), contents.of_files + len(contents.made))
-            for found in self.by_themselves(new):
-                self.add(*found)
+            listed = [number for number in new if contents.root(number) == number]
+            found = dict(zip(listed, self.by_themselves(listed)))
+            for number in new:
+                self.add(*found[number]) if number in found else self.add_copy(contents.root(number))
 
     def of_range(self, source, numbers):
         """The facts of the packets of a range, of all if it is None, as dictionaries."""

@@ -6,6 +6,7 @@ import pathlib
 import time
 
 from . import ivf, records, repair
+from .clipboard import Clipboard, Gone, numbers_of, runs_of
 from .errors import Refused
 from .frames import MARK
 from .proposals import Proposals
@@ -43,6 +44,7 @@ class PageRoutes(Routes):
         super().__init__(live, server, token)
         self.titles, self.files = titles, files_of_page()
         self.posts[("preview",)] = self.preview
+        self.posts[("paste",)] = self.paste
         self.reads.update(
             {
                 ("session",): self.session,
@@ -50,6 +52,7 @@ class PageRoutes(Routes):
                 ("timeline",): self.timeline,
                 ("origins",): self.origins,
                 ("place",): self.place,
+                ("numbers",): self.numbers,
                 ("check",): self.check_of,
                 ("repairs",): self.repairs,
                 ("repair_all",): self.repair_all,
@@ -164,6 +167,46 @@ class PageRoutes(Routes):
         source = self.source_of(request, view)
         packet = self.number(request, "packet", 0)
         return as_json({"revision": view.revision, "source": source, "packet": packet, "frame": view.frame_of(source, packet)})
+
+    def numbers(self, request):
+        """The numbers of packets, which stay theirs while edits move them."""
+        self.only(request, "source", "first", "count")
+        view = self.live.current_view()
+        source = self.source_of(request, view)
+        first, count = self.number(request, "first", 0), self.number(request, "count", 1)
+        found = view.streams[source][first : first + count]
+        if not count or len(found) != count:
+            raise Refuse(404, "there are no such packets")
+        return as_json({"revision": view.revision, "contents": view.contents.name, "numbers": runs_of(found)})
+
+    def paste(self, request):
+        """Inserts packets that were remembered by their numbers, as one step."""
+        self.only(request)
+        kinds = {"contents": str, "numbers": list, "source": int, "at": int, "move": bool, "revision": int}
+        members = parse_body(request.body, kinds)
+        if set(members) != set(kinds):
+            raise Refuse(400, f"the body has {', '.join(kinds)}")
+        with self.live.lock:
+            view = self.live.current_view()
+            if members["revision"] != self.live.revision:
+                raise Refuse(412, "the stream was changed", revision=self.live.revision)
+            source, at = members["source"], members["at"]
+            if source >= len(view.streams) or at > len(view.streams[source]):
+                raise Refuse(404, "there is no such packet")
+            try:
+                numbers = numbers_of(members["numbers"], MOST_LINES)
+                if view.contents.name != members["contents"] and any(number >= view.contents.of_files for number in numbers):
+                    raise Gone("the packets that were copied are gone, since vp8serve was started again")
+                board = Clipboard(view.contents, view.streams, numbers, source, at)
+            except Gone as gone:
+                raise Refuse(409, str(gone)) from None
+            except ValueError as error:
+                raise Refuse(400, str(error)) from None
+            found = board.moves() if members["move"] else board.copies()
+            lines = found.lines if source == view.source or not found.lines else [f"use {source}", *found.lines]
+            if lines:
+                self.live.run_step(lines)
+            return as_json({"revision": self.live.revision, "first": found.first, "count": found.count, "deleted": found.deleted, "made": len(lines)})
 
     def lines_of(self, request, option):
         """The view, and what vp8list says of a packet: lines, and members that say why there are none."""
@@ -351,7 +394,7 @@ def parse_body(body, kinds):
     if not isinstance(members, dict) or not set(members) <= set(kinds):
         raise Refuse(400, f"the body is an object with {', '.join(kinds)}")
     for name, value in members.items():
-        if not isinstance(value, kinds[name]) or isinstance(value, bool) or (kinds[name] is int and not 0 <= value < 1 << 60):
+        if not isinstance(value, kinds[name]) or (isinstance(value, bool) and kinds[name] is not bool) or (kinds[name] is int and not 0 <= value < 1 << 60):
             raise Refuse(400, f"{name} is not of its kind")
     return members
 

@@ -54,7 +54,12 @@ class Pool:
         new = range(len(self.kinds), contents.of_files + len(contents.made))
         has_bytes = False
         for number in new:
-            made = contents.made[number - contents.of_files][1]
+            made, root = contents.made[number - contents.of_files][1], contents.root(number)
+            if root != number:
+                for known in (self.sizes, self.keys, self.shown, self.kinds):
+                    known.append(known[root])
+                has_bytes = True
+                continue
             data = contents.bytes(number)
             tags = ivf.tag_of(len(data), data[0] if data else 0)
             self.sizes.append(len(data))

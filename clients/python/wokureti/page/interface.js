@@ -62,6 +62,11 @@ export async function change(lines, revision) {
   return (await post("edits", body, lines === "save" ? "the stream to be saved" : "edit")).json();
 }
 
+/** Inserts remembered packets as one step. */
+export async function paste(members) {
+  return (await post("paste", members, "edit")).json();
+}
+
 /** A frame of a response: width, height, samples, and the revision that it is of. */
 async function frameOf(response) {
   const bytes = new Uint8Array(await response.arrayBuffer());
