@@ -16,7 +16,7 @@ import unittest
 from array import array
 from unittest import mock
 
-from support import DATA, ODD, SLOW, SMALL, Case, command, packets_of, process_of, serve, start, write_packets
+from support import DATA, ODD, SLOW, SMALL, Case, command, list_of, packets_of, process_of, serve, start, write_packets
 from test_serve import TOKEN, ServerCase
 from wokureti import Refused, Script, Session, ivf, programs, views
 from wokureti.opened import Opened
@@ -35,8 +35,8 @@ SCENES = write_packets(
 class PageCase(ServerCase):
     """A server with a page, in this process."""
 
-    def serve(self, stream=SMALL, edits=None, save=None, **options):
-        self.live = Opened({"stream": stream, **options}, edits, save)
+    def serve(self, stream=SMALL, edits=None, save=None, stems=(), **options):
+        self.live = Opened({"stream": stream, **options}, edits, save, stems=stems)
         self.server = Server()
         titles = [os.path.basename(str(path)) for path in (stream, *options.get("sources", ()))]
         self.server.routes = PageRoutes(self.live, self.server, TOKEN, titles)
@@ -211,7 +211,7 @@ class Views(PageCase):
         self.serve(SMALL, edits=room / "list", save=room / "out.ivf", sources=[ODD])
         found = self.members("/session")
         self.assertEqual([found[name] for name in ("revision", "packets", "frames", "sources", "source", "script", "edits", "undone", "saved", "listed")], [1, 12, 12, [12, 12], 0, "-", [], [], True, True])
-        self.assertEqual((found["names"], found["save"], found["list"]), (["small.ivf", "odd-size.ivf"], str(room / "out.ivf"), str(room / "list")))
+        self.assertEqual((found["names"], found["saves"][0]["next"], found["list"]), (["small.ivf", "odd-size.ivf"], str(room / "out.ivf"), str(room / "list")))
         self.step("delete 3", "delete 3")
         self.change("delete 0")
         self.change(f"replace 0 {'00' * 1000}")
@@ -350,7 +350,7 @@ class Steps(PageCase):
         room = self.folder()
         self.serve(edits=room / "list")
         self.assertEqual(self.step("delete 3", "delete 3", "hold 4"), {"reply": "ok 11", "revision": 2})
-        self.assertEqual((room / "list").read_text(), "delete 3\ndelete 3\nhold 4\n")
+        self.assertEqual(list_of(room / "list"), "# step 3\ndelete 3\ndelete 3\nhold 4\n")
         self.assertEqual(self.change("undo")["reply"], ["delete 3", "delete 3", "hold 4"])
         self.assertEqual(((room / "list").read_text(), self.members("/session")["packets"]), ("", 12))
         self.change("redo")
@@ -435,6 +435,100 @@ class Steps(PageCase):
         self.assertEqual(self.members(f"/timeline?first={10**17}")["kinds"], "")
         for path in ("/timeline?source=1", "/place?source=1", "/before/frames/x.y4m", "/before/frames/-1.y4m", f"/before/frames/{'9' * 40}.y4m", "/before/frames", "/before/frames/0.y4m/x"):
             self.assertEqual(self.ask(path)[0], 404, path)
+
+
+class Saving(PageCase):
+    def opened(self, room, name="clip", **options):
+        """A server whose names are those of a clip in a folder."""
+        self.serve(SCENES, edits=room / f"{name}.edits", stems=[str(room / one) for one in (name, "second")], **options)
+
+    def saves(self):
+        return self.members("/session")["saves"]
+
+    def save(self, **more):
+        status, _, body = self.post_to("/edits", line="save", **more)
+        self.assertEqual(status, 200, body)
+        return json.loads(body)["reply"]
+
+    def test_a_list_that_was_never_saved_is_not_saved(self):
+        room = self.folder()
+        self.opened(room)
+        self.step("delete 3")
+        self.live.close()
+        self.opened(room)
+        found = self.members("/session")
+        self.assertEqual((found["edits"], found["saved"], found["saves"][0]), (["delete 3"], False, {"edited": True, "saved": False, "file": None, "next": str(room / "clip-edited.ivf")}))
+        self.save()
+        self.assertTrue(self.members("/session")["saved"])
+        # Saved is what is in the file.
+        self.change("undo")
+        self.assertTrue(self.members("/session")["saved"])
+        self.change("redo")
+        self.assertEqual(self.saves()[0]["file"], str(room / "clip-edited.ivf"))
+        self.change("delete 0")
+        self.assertEqual((self.saves()[0]["file"], self.members("/session")["saved"]), (None, False))
+
+    def test_the_name_is_taken_when_the_file_is_written(self):
+        room = self.folder()
+        self.opened(room)
+        self.step("delete 3")
+        (room / "clip-edited.ivf").write_text("it came since")
+        self.assertEqual(self.save(), str(room / "clip-edited-2.ivf"))
+        self.assertEqual((room / "clip-edited.ivf").read_text(), "it came since")
+        # Its own file is replaced, but not another one with its name.
+        self.change("delete 0")
+        self.assertEqual(self.save(), str(room / "clip-edited-2.ivf"))
+        self.assertEqual(packets_of(room / "clip-edited-2.ivf"), packets_of(SCENES)[1:3] + packets_of(SCENES)[4:])
+        (room / "clip-edited-2.ivf").unlink()
+        (room / "clip-edited-2.ivf").write_text("another one")
+        self.change("delete 0")
+        self.assertEqual(self.save(), str(room / "clip-edited-3.ivf"))
+        self.assertEqual((room / "clip-edited-2.ivf").read_text(), "another one")
+
+    def test_a_save_that_fails_leaves_no_file(self):
+        room = self.folder()
+        self.opened(room)
+        self.step("delete 3")
+        with mock.patch("wokureti.files.whole", side_effect=OSError(28, "No space left on device")):
+            status, _, body = self.post_to("/edits", line="save")
+        self.assertEqual((status, "clip-edited.ivf: No space left on device: not saved, and nothing was written" in json.loads(body)["error"]), (500, True))
+        self.assertEqual(sorted(path.name for path in room.iterdir()), ["clip.edits"])
+        self.assertEqual(self.members("/session")["revision"], 2)
+
+    def test_a_script_is_not_in_the_packets(self):
+        room = self.folder()
+        self.opened(room)
+        self.change("script trim 0 0 5")
+        found = self.members("/session")
+        self.assertEqual((found["saves"][0]["edited"], found["saved"], found["script"]), (False, True, "trim 0 0 5"))
+        self.save()
+        self.assertEqual(packets_of(room / "clip-edited.ivf"), packets_of(SCENES))
+
+    def test_the_edits_of_other_sources_are_named_and_saved(self):
+        room = self.folder()
+        self.opened(room, sources=[SMALL])
+        self.step("use 1", "delete 3")
+        self.assertEqual([(one["edited"], one["saved"]) for one in self.saves()], [(False, True), (True, False)])
+        self.assertFalse(self.members("/session")["saved"])
+        self.save()
+        self.assertFalse(self.members("/session")["saved"])
+        self.assertEqual(self.save(source=1), str(room / "second-edited.ivf"))
+        self.assertEqual(packets_of(room / "second-edited.ivf"), packets_of(SMALL)[:3] + packets_of(SMALL)[4:])
+        self.assertTrue(self.members("/session")["saved"])
+        for body, status in (({"line": "save", "source": 2}, 404), ({"line": "undo", "source": 0}, 400), ({"line": "save", "source": -1}, 400), ({"lines": ["delete 0"], "source": 0}, 400)):
+            self.assertEqual(self.post_to("/edits", **body)[0], status, body)
+
+    def test_edits_that_are_not_on_the_disk_are_marked(self):
+        room = self.folder()
+        self.opened(room)
+        self.step("delete 3")
+        with mock.patch("wokureti.edit_files.EditFile.write", side_effect=OSError(28, "full")):
+            self.assertEqual(self.post_to("/edits", lines=["delete 0", "delete 0"])[0], 500)
+        found = self.members("/session")
+        self.assertEqual((found["edits"], found["unwritten"], found["revision"]), (["delete 3", "delete 0", "delete 0"], 2, 3))
+        self.change("delete 1")
+        self.assertEqual(self.members("/session")["unwritten"], 0)
+        self.assertEqual(list_of(room / "clip.edits"), "delete 3\n# step 2\ndelete 0\ndelete 0\ndelete 1\n")
 
 
 class Pasting(PageCase):
@@ -913,7 +1007,7 @@ class TheCommand(Case):
             self.assertEqual(self.ask(host, f"/{token}/edits", "delete 3")[0], 200)
             errors = self.end(process, ending)
             self.assertIn(str(room / "a clip.edits"), errors)
-        self.assertEqual((room / "a clip.edits").read_text(), "delete 3\ndelete 3\n")
+        self.assertEqual(list_of(room / "a clip.edits"), "delete 3\ndelete 3\n")
         self.assertEqual(sorted(path.name for path in room.iterdir()), ["a clip.edits", "a clip.ivf"])
 
     def test_it_saves_to_a_new_file(self):
@@ -970,15 +1064,57 @@ class TheCommand(Case):
         one.close()
 
     def test_names_beside(self):
-        from wokureti.opening import free_name, names_beside
+        from wokureti.opening import stem_of
+        from wokureti.saves import claimed, free_name
 
         room = self.folder()
-        self.assertEqual(names_beside(f"{room}/clip.webm"), (f"{room}/clip.edits", f"{room}/clip-edited.ivf"))
-        self.assertEqual(names_beside("-"), ("stream.edits", "stream-edited.ivf"))
-        self.assertEqual(names_beside("/dev/fd/5"), ("5.edits", "5-edited.ivf"))
-        (room / "a.ivf").write_text("")
-        os.symlink(room / "gone", room / "a-2.ivf")
-        self.assertEqual(free_name(f"{room}/a.ivf"), f"{room}/a-3.ivf")
+        self.assertEqual([stem_of(path) for path in (f"{room}/clip.webm", "-", "/dev/fd/5")], [f"{room}/clip", "stream", "5"])
+        (room / "a-edited.ivf").write_text("")
+        os.symlink(room / "gone", room / "a-edited-2.ivf")
+        self.assertEqual((free_name(f"{room}/a"), claimed(f"{room}/a"), claimed(f"{room}/a")), (f"{room}/a-edited-3.ivf", f"{room}/a-edited-3.ivf", f"{room}/a-edited-4.ivf"))
+
+    def test_a_folder_that_cannot_be_written(self):
+        from wokureti import opening
+
+        room = self.folder()
+        with mock.patch.object(opening, "is_writable", return_value=False), mock.patch.dict(os.environ, {"XDG_STATE_HOME": str(room / "state")}):
+            one, other = (opening.stem_of(f"/media/{name}/clip.ivf") for name in ("one", "other"))
+        self.assertEqual([os.path.dirname(stem) for stem in (one, other)], [str(room / "state/wokureti")] * 2)
+        self.assertNotEqual(one, other)
+        if os.getuid() == 0:
+            return
+        clip = write_packets(room / "clip.ivf", packets_of(SMALL))
+        os.chmod(room, 0o555)
+        self.addCleanup(os.chmod, room, 0o755)
+        with mock.patch.dict(os.environ, {"XDG_STATE_HOME": str(self.folder())}):
+            process, host, token = self.open(clip)
+            self.assertEqual(self.ask(host, f"/{token}/edits", "delete 3")[0], 200)
+            self.assertIn("nothing can be written next to", self.end(process))
+
+    def test_two_starts_at_once(self):
+        room = self.folder()
+        clip = write_packets(room / "clip.ivf", packets_of(SMALL))
+        for turn in range(4):
+            both = [start("open", clip, "--no-browser", stdout=subprocess.PIPE, stderr=subprocess.PIPE) for _ in range(2)]
+            for process in both:
+                self.addCleanup(process.kill)
+            found = {process: process.stdout.readline().decode().strip() for process in both}
+            running = [process for process in both if found[process]]
+            for process in both:
+                if not found[process]:
+                    self.assertEqual((process.wait(10 * SLOW), b"another session" in process.stderr.read()), (2, True))
+                    process.stdout.close()
+                    process.stderr.close()
+            # Both may be refused if each saw the other one, but none loses its list.
+            for process in running:
+                _, _, host, token, *_ = found[process].split("/")
+                self.assertEqual(self.ask(host, f"/{token}/edits", "delete 3")[0], 200)
+                self.assertTrue((room / "clip.edits").exists())
+                self.end(process)
+            self.assertLessEqual(len(running), 1)
+            if running:
+                self.assertEqual(list_of(room / "clip.edits"), "delete 3\n")
+                (room / "clip.edits").unlink()
 
 
 class Scripts(PageCase):

@@ -1,5 +1,6 @@
 """wokureti serve: the virtual file, the interface, and requests that must not be answered."""
 
+import errno
 import http.client
 import json
 import os
@@ -15,9 +16,9 @@ import unittest
 import zlib
 from unittest import mock
 
-from support import DATA, ODD, SLOW, SMALL, Case, is_alive, packets_of, process_of, start, start_unwaking, whole_text, write_packets
+from support import DATA, ODD, SLOW, SMALL, Case, is_alive, list_of, packets_of, process_of, start, start_unwaking, whole_text, write_packets
 from test_edits import edit
-from wokureti import Refused, Script, Session, web
+from wokureti import Refused, Script, Session, edit_files, web
 from wokureti.live import Live
 from wokureti.outcomes import Outcomes
 from wokureti.routes import Routes
@@ -389,7 +390,7 @@ class Interface(ServerCase):
         self.assertEqual(self.members("/edits")["undone"], ["delete 3"])
         self.assertEqual(self.change("redo"), {"reply": ["delete 3"], "revision": 5})
         self.assertEqual(self.change("redo"), {"reply": [], "revision": 5})
-        self.assertEqual((room / "list").read_text(), "delete 3\ndelete 3\n")
+        self.assertEqual(list_of(room / "list"), "delete 3\ndelete 3\n")
         self.assertEqual(self.members("/edits")["saved"], False)
         self.assertEqual(self.change("save")["reply"], str(room / "out.ivf"))
         self.assertEqual(self.members("/edits")["saved"], True)
@@ -400,6 +401,41 @@ class Interface(ServerCase):
         self.assertEqual(self.post("delete 0", revision=4)[0], 412)
         self.assertEqual(self.post("delete 0", revision=5)[0], 200)
         self.assertEqual(self.members("/")["packets"], 9)
+
+    def test_a_full_disk(self):
+        room = self.folder()
+        self.serve(edits=room / "list", save="/dev/full")
+        self.change("delete 3")
+        tag = self.get("/clip.y4m")[1]["ETag"]
+        status, members = self.post("save")
+        self.assertEqual(status, 500)
+        self.assertIn("/dev/full: No space left on device: not saved", members["error"])
+        # Nobody who reads the clip is cut off by that.
+        self.assertEqual((self.members("/edits")["revision"], self.get("/clip.y4m")[1]["ETag"]), (2, tag))
+        with mock.patch.object(edit_files.EditFile, "write", side_effect=OSError(errno.ENOSPC, "full")):
+            status, members = self.post("delete 0")
+        self.assertEqual(status, 500)
+        self.assertIn(f"{room / 'list'}: No space left on device: the last edit is made but not on the disk; the edit before it is safe", members["error"])
+        self.assertEqual(self.members("/edits")["edits"], ["delete 3", "delete 0"])
+        os.kill(process_of(self.live.session), signal.SIGKILL)
+        with mock.patch("sys.stderr"):
+            self.assertEqual(self.members("/")["packets"], 10)
+        self.assertEqual(list_of(room / "list"), "delete 3\ndelete 0\n")
+        self.live.saves.named = None
+
+    def test_a_list_that_is_replaced_is_named(self):
+        room = self.folder()
+        self.serve(edits=room / "list")
+        self.change("delete 3")
+        (room / "list").unlink()
+        (room / "list").write_text("mine\n")
+        with mock.patch("sys.stderr"):
+            self.change("delete 0")
+            os.kill(process_of(self.live.session), signal.SIGKILL)
+            self.assertEqual(self.members("/")["packets"], 10)
+        self.assertEqual(((room / "list").read_text(), list_of(room / "list.1")), ("mine\n", "delete 3\ndelete 0\n"))
+        self.assertEqual(len(self.live.notices), 1)
+        self.assertIn(str(room / "list.1"), self.live.notices[0][1])
 
     def test_bodies_that_are_no_edits(self):
         self.serve()
@@ -687,7 +723,7 @@ class TheCommand(Case):
             process.stdout.close()
             process.stderr.close()
             self.assertFalse(is_alive(children[0]))
-        self.assertEqual((room / "list").read_text(), "delete 3\ndelete 3\n")
+        self.assertEqual(list_of(room / "list"), "delete 3\ndelete 3\n")
         self.assertEqual(packets_of(room / "out.ivf"), packets_of(SMALL)[:3] + packets_of(SMALL)[5:])
 
     def test_an_interrupt_right_before_the_main_thread_waits(self):

@@ -97,11 +97,11 @@ class Here:
                 thread.join()
 
 
-def open_session(stream, sources, edits, script, tables, program):
+def open_session(stream, sources, edits, script, tables, program, anyway=False):
     """A session with the edits of a list and a script, for finding out what the parts are."""
     from .session import Session
 
-    session = Session(stream, sources=sources, tables=tables, program=program)
+    session = Session(stream, sources=sources, tables=tables, program=program, anyway=anyway)
     try:
         if edits is not None:
             session.edits.run(edits)

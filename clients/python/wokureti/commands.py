@@ -24,6 +24,7 @@ def add_edits(parser):
     """The arguments that name other streams, and edits."""
     parser.add_argument("--source", action="append", default=[], metavar="B", help="another stream: source 1, 2, and so on")
     parser.add_argument("--edits", metavar="FILE", help="a list of edits, made first")
+    parser.add_argument("--anyway", action="store_true", help="makes the edits of a list that is of another stream")
     parser.add_argument("--script", metavar="TEXT", help="the script, for example 'trim 0 0 50'")
     parser.add_argument("--tables", metavar="FILE", help="3012 bytes that replace the long tables of RFC 6386")
 
@@ -56,7 +57,7 @@ def opened(given, folder):
     """The session of the arguments, with their edits and script. The output may be none of the inputs."""
     cat.check_output(given.out, [given.stream, *given.source, given.edits, given.tables])
     stream, *sources = (convert.as_ivf(path, folder) for path in [given.stream, *given.source])
-    return cat.open_session(stream, sources, given.edits, given.script, given.tables, programs.find("vp8serve"))
+    return cat.open_session(stream, sources, given.edits, given.script, given.tables, programs.find("vp8serve"), given.anyway)
 
 
 def run_cat(given):
@@ -87,6 +88,7 @@ def add_served(parser):
     parser.add_argument("--cache", type=int, metavar="N", help="number of decoded states that are cached")
     parser.add_argument("--port", type=int, default=0, metavar="N", help="the port; a free one if missing")
     parser.add_argument("--tables", metavar="FILE", help="3012 bytes that replace the long tables of RFC 6386")
+    parser.add_argument("--anyway", action="store_true", help="makes the edits of a list that is of another stream")
 
 
 def served(given, folder):
@@ -117,7 +119,7 @@ def run_open(given):
     with tempfile.TemporaryDirectory(prefix="wokureti-") as folder:
         options = served(given, folder)
         titles = [given.stream, *given.source]
-        return opening.run(options, titles, given.edits, given.save, given.port, not given.no_browser, not given.no_pad)
+        return opening.run(options, titles, given.edits, given.save, given.port, not given.no_browser, not given.no_pad, given.anyway)
 
 
 def add_serve(commands):
@@ -137,7 +139,7 @@ def run_serve(given):
     from . import serve
 
     with tempfile.TemporaryDirectory(prefix="wokureti-") as folder:
-        return serve.run(served(given, folder), given.edits, given.save, given.port)
+        return serve.run({**served(given, folder), "anyway": given.anyway}, given.edits, given.save, given.port)
 
 
 def add_repair(commands):

@@ -203,6 +203,11 @@ class Contents:
             self.forged[key] = runs.saved_packets(self.program, lines, self.tables)[-1][1]
         return self.forged[key]
 
+    def is_edited(self, source, stream):
+        """Whether the packets of a source are others than those of its file."""
+        base, count = self.bases[source], len(self.inputs.all[source].records())
+        return len(stream) != count or stream != array("I", range(base, base + count))
+
     def source(self, source):
         """The number of a source that is there; the current one if none is given."""
         source = self.current if source is None else checks.number(source)

@@ -38,3 +38,13 @@ class Ended(Exception):
         super().__init__(text or f"vp8serve ended with status {status}")
         self.status = status
         self.text = text
+
+
+class OtherStream(ValueError):
+    """A list of edits is of another stream than the session: how many packets and bytes each has."""
+
+    def __init__(self, path, wanted, found):
+        theirs, ours = (f"{packets:,} packets of {size:,} bytes" for packets, size in (wanted, found))
+        more = "" if wanted != found else ", but others"
+        text = f"{path} is the list of edits of another stream: of one with {theirs}, and this one has {ours}{more}. Name another list with --edits, or make these edits with --anyway"
+        super().__init__(text)

@@ -1,5 +1,6 @@
 """The files that a session was opened with, kept open so that the bytes of their packets can be read later."""
 
+import hashlib
 import os
 import shutil
 import stat
@@ -7,6 +8,9 @@ import tempfile
 import threading
 
 from . import checks, ivf
+
+# Bytes that are read at a time.
+WINDOW = 1 << 20
 
 
 class Input:
@@ -19,6 +23,7 @@ class Input:
         self.head = ivf.EMPTY
         self.index = None
         self.lock = threading.Lock()
+        self.found_digest, self.digesting = None, threading.Lock()
         self.is_shared = False
         if path == "-":
             return
@@ -75,6 +80,29 @@ class Input:
         self.head, index = ivf.read_index(self.descriptor)
         self.check()
         return index
+
+    def extent(self):
+        """The number of packets, and of their bytes."""
+        index = self.records()
+        return len(index), sum(index.sizes)
+
+    def digest(self):
+        """The SHA-256 of the packets, each after its size: what they are called and what their time stamps are does not matter. Read once."""
+        with self.digesting:
+            if self.found_digest is None:
+                self.found_digest = self.read_digest()
+            return self.found_digest
+
+    def read_digest(self):
+        index, found = self.records(), hashlib.sha256()
+        window, base = b"", 0
+        for start, size in zip(index.starts, index.sizes):
+            if start < base or start + size > base + len(window):
+                window, base = os.pread(self.opened(), max(size, WINDOW), start), start
+            found.update(size.to_bytes(4, "little"))
+            found.update(memoryview(window)[start - base : start - base + size])
+        self.check()
+        return found.hexdigest()
 
     def opened(self):
         """The descriptor. `OSError` if the session is over."""

@@ -20,14 +20,14 @@ MOST_CHECKS = 8
 class Opened(live.Live):
     """A stream with what a page needs. What is not the program's own work is answered while the program works."""
 
-    def __init__(self, options, edits=None, save=None, pad=False, save_at_end=True):
-        self.pad, self.save_at_end = pad, save_at_end
+    def __init__(self, options, edits=None, save=None, pad=False, stems=()):
+        self.pad = pad
         self.current, self.pool = None, None
         self.check_lock, self.check, self.checks, self.count = threading.Lock(), None, [], 0
         self.originals, self.preview = {}, Preview(options)
         # What goes on: a word, how much of it is done, of how much, and since when.
         self.doing = None
-        super().__init__(options, edits, save)
+        super().__init__(options, edits, save, stems)
         threading.Thread(target=self.list_files, daemon=True).start()
 
     # Views
@@ -39,6 +39,8 @@ class Opened(live.Live):
             with self.lock:
                 contents = self.contents()
             contents.listed.learn()
+            # What the first edit writes to the list.
+            contents.inputs.all[0].digest()
             with self.lock:
                 if self.pool is not None and self.pool.contents is contents:
                     self.pool.refuse(contents.listed)
@@ -95,9 +97,7 @@ class Opened(live.Live):
         self.doing = ("edit", done, total, self.doing[3])
 
     def close(self):
-        if not self.save_at_end:
-            self.saved = self.revision
-        if self.saved == self.revision or self.save_path is None:
+        if self.saves.named is None or self.is_known_saved():
             interrupt(self)
         with self.check_lock:
             if self.check is not None:
@@ -107,6 +107,11 @@ class Opened(live.Live):
             original.close()
         self.preview.close()
         super().close()
+
+    def is_known_saved(self):
+        """Whether there is nothing to save at the end, without waiting for a request that goes on."""
+        view = self.current
+        return view is not None and view.revision == self.revision and self.saves.is_saved(0, view.contents, view.streams[0])
 
     # What is beside the stream
 

@@ -1,6 +1,6 @@
 """wokureti open: the page of a stream, in a browser."""
 
-import contextlib
+import hashlib
 import os
 import sys
 import webbrowser
@@ -14,32 +14,27 @@ from .pages import PageRoutes
 TEXT_BROWSERS = ("www-browser", "links", "elinks", "lynx", "w3m")
 
 
-def free_name(path):
-    """A path that is not there yet: clip-edited.ivf, clip-edited-2.ivf, and so on."""
-    stem, ending = os.path.splitext(path)
-    found, number = path, 2
-    while os.path.lexists(found):
-        found, number = f"{stem}-{number}{ending}", number + 1
-    return found
-
-
 def is_writable(folder):
     return os.access(folder or ".", os.W_OK | os.X_OK)
 
 
-def names_beside(stream):
-    """The list of edits and the file to save to, next to the stream, or in the current folder if nothing can be written there."""
+def state_folder():
+    """The folder for what a program of this user keeps."""
+    home = os.environ.get("XDG_STATE_HOME", "")
+    return os.path.join(home if os.path.isabs(home) else os.path.expanduser("~/.local/state"), "wokureti")
+
+
+def stem_of(stream):
+    """The beginning of the names of the list of edits and of the file to save to: next to the stream, or in the state folder if nothing can be
+    written there."""
     stem = "stream" if stream == "-" else os.path.splitext(stream)[0]
-    if stream.startswith(("/dev/", "/proc/")) or not is_writable(os.path.dirname(stem)):
+    if stream.startswith(("/dev/", "/proc/")):
         stem = os.path.basename(stem)
-    return f"{stem}.edits", free_name(f"{stem}-edited.ivf")
-
-
-def drop_empty(path, is_new):
-    """A list that was made here, and that no edit was written to, goes."""
-    with contextlib.suppress(OSError):
-        if is_new and not os.path.getsize(path):
-            os.unlink(path)
+    if is_writable(os.path.dirname(stem)):
+        return stem
+    # Streams of other folders may have the same name.
+    mark = hashlib.sha256(os.fsencode(os.path.realpath(stem))).hexdigest()[:8]
+    return os.path.join(state_folder(), f"{os.path.basename(stem)}-{mark}")
 
 
 def show(url):
@@ -55,21 +50,22 @@ def show(url):
         return False
 
 
-def run(options, titles, edits, save, port, has_browser, pad):
+def run(options, titles, edits, save, port, has_browser, pad, anyway=False):
     """Serves the page until the process is interrupted, and says where the edits are."""
-    beside = names_beside(titles[0])
-    path, save_path = edits or beside[0], save or beside[1]
-    is_new = not os.path.lexists(path)
+    stems = [stem_of(title) for title in titles]
+    path = edits or f"{stems[0]}.edits"
+    if any(os.path.dirname(stem) == state_folder() for stem in stems):
+        os.makedirs(state_folder(), mode=0o700, exist_ok=True)
+        print(f"wokureti: nothing can be written next to {titles[0]}: what is edited is in {path}", file=sys.stderr, flush=True)
     try:
-        live = Opened(options, path, save_path, pad, save_at_end=save is not None)
-    except BaseException as error:
-        drop_empty(path, is_new)
-        if isinstance(error, Ended) and ": input " in str(error):
+        live = Opened({**options, "anyway": anyway}, path, save, pad, stems)
+    except Ended as error:
+        if ": input " in str(error):
             raise Ended(error.status, f"{error}\n`wokureti repair {titles[0]} OUT` searches the packets of a damaged file") from None
         raise
     count = len(live.session.edits)
     if count:
-        print(f"{path}: {count} {'edit' if count == 1 else 'edits'} made", file=sys.stderr, flush=True)
+        print(f"{path}: {edits_text(count)} made", file=sys.stderr, flush=True)
     names = [os.path.basename(title) for title in titles]
 
     def announce(address):
@@ -80,11 +76,23 @@ def run(options, titles, edits, save, port, has_browser, pad):
     try:
         serve.serve_with(live, port, lambda *given: PageRoutes(*given, names), announce)
     finally:
-        lines = len(live.session.edits)
-        if lines:
-            print(f"wokureti: {lines} {'edit is' if lines == 1 else 'edits are'} in {path}: the next `wokureti open` goes on from there", file=sys.stderr)
-        drop_empty(path, is_new)
-        if live.written and lines:
-            print(f"wokureti: the edited stream was saved to {save_path}", file=sys.stderr)
+        say_where(live, titles[0], f"{stems[0]}.edits")
     return 0
 
+
+def edits_text(count):
+    return "1 edit" if count == 1 else f"{count} edits"
+
+
+def say_where(live, title, usual):
+    """Where the edits and the saved packets are."""
+    edits = live.session.edits
+    lines, written = len(edits), edits.written
+    if written:
+        how = f"`wokureti open {title}`" if edits.path == usual else f"`wokureti open {title} --edits {edits.path}`"
+        print(f"wokureti: {edits_text(written)} {'is' if written == 1 else 'are'} in {edits.path}: {how} goes on from there", file=sys.stderr)
+    if lines > written:
+        print(f"wokureti: {edits_text(lines - written)} could not be written to {edits.path}, and {'is' if lines - written == 1 else 'are'} lost", file=sys.stderr)
+    for source, done in sorted(live.saves.done.items()):
+        of = "" if source == 0 else f"of source {source} "
+        print(f"wokureti: the edited packets {of}were saved to {done.path}", file=sys.stderr)

@@ -91,7 +91,7 @@ class PageRoutes(Routes):
         """What the page shows of the session."""
         self.only(request)
         view = self.live.current_view()
-        first = view.timeline(0)
+        first, edits, saves = view.timeline(0), self.live.session.edits, self.saves_of(view)
         members = {
             "revision": view.revision,
             "instance": self.live.instance,
@@ -103,17 +103,29 @@ class PageRoutes(Routes):
             "source": view.source,
             "script": view.script,
             "edits_before": view.edits_before,
-            "edits": [line for line, _ in view.edits],
-            "steps": [step for _, step in view.edits],
+            "edits": [line for line, _, _ in view.edits],
+            "steps": [step for _, step, _ in view.edits],
+            "titles": {place: title for place, (_, _, title) in enumerate(view.edits) if title},
             "undone": view.undone,
-            "saved": self.live.saved == view.revision,
-            "save": self.live.save_path,
-            "list": os.fspath(self.live.edits_path),
+            "saved": all(source["saved"] for source in saves),
+            "saves": saves,
+            "list": edits.path,
+            "unwritten": max(0, len(edits) - edits.written),
+            "notices": self.live.notices,
             "listed": view.pool.is_listed,
             "restarts": len(self.live.events),
             "shown": first.frames[-1],
         }
         return as_json(members)
+
+    def saves_of(self, view):
+        """For each source whether it is edited, whether its packets are as they were opened or saved, in which file they are, and the file that
+        Save writes."""
+        saves, found = self.live.saves, []
+        for source, stream in enumerate(view.streams):
+            is_edited, path = view.contents.is_edited(source, stream), saves.file_of(source, view.contents, stream)
+            found.append({"edited": is_edited, "saved": path is not None or not is_edited, "file": path, "next": saves.path(source)})
+        return found
 
     def progress(self, request):
         """What goes on. Nothing waits here."""
@@ -205,7 +217,7 @@ class PageRoutes(Routes):
             found = board.moves() if members["move"] else board.copies()
             lines = found.lines if source == view.source or not found.lines else [f"use {source}", *found.lines]
             if lines:
-                self.live.run_step(lines)
+                self.live.run_step(lines, f"{'Move' if members['move'] else 'Copy'} {found.count} packets to {found.first}")
             return as_json({"revision": self.live.revision, "first": found.first, "count": found.count, "deleted": found.deleted, "made": len(lines)})
 
     def lines_of(self, request, option):
@@ -366,23 +378,40 @@ class PageRoutes(Routes):
         return Response(200, "video/x-ivf", length=length, headers=headers, pieces=until_ended(self.text(view, 0)))
 
     def change(self, request):
-        """An edit, several as one step, `undo`, `redo` or `save`."""
+        """An edit, several as one step, which may have a title, `undo`, `redo` or `save`, which may be of a source."""
         self.only(request)
-        members = parse_body(request.body, {"line": str, "lines": list, "revision": int})
+        members = parse_body(request.body, {"line": str, "lines": list, "title": str, "source": int, "revision": int})
+        if "source" in members and "lines" not in members:
+            return self.save(members)
         if "lines" not in members:
             return super().change(request)
         lines = checked_lines(members)
-        if not lines or "line" in members:
+        if not lines or {"line", "source"} & set(members):
             raise Refuse(400, "a change is of a line, or of lines")
         with self.live.lock:
             revision = members.get("revision")
             if revision is not None and revision != self.live.revision:
                 raise Refuse(412, "the stream was changed", revision=self.live.revision)
             try:
-                reply = self.live.run_step(lines)
+                reply = self.live.run_step(lines, members.get("title", ""))
             except ValueError as error:
                 raise Refuse(400, str(error)) from None
             return as_json({"reply": reply, "revision": self.live.revision})
+
+
+    def save(self, members):
+        """Saves the packets of a source."""
+        source = members["source"]
+        if members.get("line") != "save":
+            raise Refuse(400, "a source is saved")
+        with self.live.lock:
+            if source >= len(self.live.contents().streams):
+                raise Refuse(404, "there is no such source")
+            try:
+                path = self.live.make(lambda: self.live.save(source))
+            except ValueError as error:
+                raise Refuse(409, str(error)) from None
+            return as_json({"reply": path, "revision": self.live.revision})
 
 
 def parse_body(body, kinds):

@@ -189,7 +189,7 @@ class Routes:
                 "edits": list(session.edits),
                 "undone": session.edits.undone,
                 "source": session.edits.contents().current,
-                "saved": self.live.saved == self.live.revision,
+                "saved": self.live.is_saved(),
             }
         return as_json(members)
 
@@ -213,12 +213,12 @@ class Routes:
 
     def beats(self):
         """The revisions, the current one first."""
-        told, restarts, saved = None, len(self.live.events), self.live.saved
+        told, restarts, saved = None, len(self.live.events), self.live.saves.count
         while not self.server.ended:
             with self.live.lock:
-                if (told, restarts, saved) == (self.live.revision, len(self.live.events), self.live.saved):
+                if (told, restarts, saved) == (self.live.revision, len(self.live.events), self.live.saves.count):
                     self.live.changed.wait(BEAT)
-                revision, count, was_saved = self.live.revision, len(self.live.events), self.live.saved
+                revision, count, was_saved = self.live.revision, len(self.live.events), self.live.saves.count
             if revision != told:
                 yield b'event: edit\ndata: {"revision": %d}\n\n' % revision
             elif count != restarts:

@@ -12,6 +12,8 @@ from .inputs import Inputs
 from .pipes import Gone, Late, Pipes, Strange
 
 EDITS = frozenset(("use", "insert", "replace", "delete", "move", "copy", "blank", "hold", "script"))
+# Lines and bytes that are sent at a time, at most.
+MOST_LINES, MOST_BYTES = 500, 1 << 18
 
 
 class Count(NamedTuple):
@@ -28,7 +30,8 @@ class Session:
     may take, `tables` a file that replaces the RFC's long tables, and `save` the file that gets the packets of source 0 when the session
     is closed; with `pad` players that use libvpx show the packets of `blank` and `hold` in it too. `program` is the path of vp8serve, `lister` that of vp8list, which `packets` needs.
 
-    `edits` is a file that the accepted edits are written to, each when it was accepted; if the file exists, its edits are made first.
+    `edits` is a file that the accepted edits are written to, each when it was accepted; if the file exists, its edits are made first. A list
+    of another stream is refused, unless `anyway` is true. `resume` is the list of a session that ended, with which this one goes on.
     `timeout` is the number of seconds that a call may take, if it gives none of its own. With `explain` the program says why it refuses
     a request, in `Refused.reason`.
 
@@ -52,6 +55,8 @@ class Session:
         edits=None,
         lister=None,
         cache_bytes=None,
+        anyway=False,
+        resume=None,
     ):
         # Called with the line of each edit that was accepted, also with those of `undo` and `redo`.
         self.on_edit = None
@@ -68,7 +73,7 @@ class Session:
             words = self._words(cache, cache_bytes, tables, save, pad)
             if edits is not None:
                 checks.outputs(edits, [*self._inputs.paths, *(path for path in (save, tables) if path is not None)], "edits")
-            self._edits = EditList(self, edits)
+            self._edits = EditList(self, edits, anyway)
             self._pipes = Pipes(words, self._inputs.shared)
         except BaseException:
             self._close_files()
@@ -77,7 +82,7 @@ class Session:
             # The reply comes once the files were read, so a file that is missing, or not IVF, is reported here.
             self.request("stats")
             self._inputs.check()
-            self._edits.load()
+            self._edits.load() if resume is None else self._edits.resume(resume)
         except BaseException:
             self.kill()
             raise
@@ -170,6 +175,29 @@ class Session:
         """
         reply, _ = self._ask(line, timeout, listed)
         return reply
+
+    def request_all(self, lines, timeout=None, progress=None):
+        """The replies to edits, which are not listed. Many are sent together, so a reply may be a refusal, as an exception in the list: the
+        edits that were sent with it are made, and those after them are not. `progress` is called with how many were made."""
+        replies = []
+        for batch in batches(lines):
+            with self._locked(timeout) as deadline:
+                found = self._exchange(*map(checks.line, batch), deadline=deadline)
+                first, is_refused = self._lines - len(found) + 1, False
+                for number, (line, (reply, _)) in enumerate(zip(batch, found), first):
+                    if reply.startswith("refused "):
+                        # The program explains them in their order: the first one is that of the first line.
+                        replies.append(Refused(reply) if is_refused else self._refused(reply, number, deadline))
+                        is_refused = True
+                    else:
+                        replies.append(reply)
+                        if self.on_edit is not None:
+                            self.on_edit(line)
+            if progress is not None:
+                progress(len(replies))
+            if is_refused:
+                break
+        return replies
 
     def _ask(self, line, timeout=None, listed=True):
         """The reply to a request line, and the width, height and samples of its picture, if it serves one."""
@@ -271,12 +299,12 @@ class Session:
 
     def delete(self, at, timeout=None):
         """Deletes a packet, or those of a range of indexes, which is one step for `undo`. If one is refused, none is deleted."""
-        count = None
-        with self._locked(timeout), self._edits.step():
-            # The last one comes first: if there is no such packet, nothing was deleted yet, and the others keep their indexes.
-            for index in checks.indexes(at):
-                count = self._number(f"delete {index}", timeout)
-        return self.count(timeout).packets if count is None else count
+        # The last one comes first, so the others keep their indexes.
+        lines = [f"delete {index}" for index in checks.indexes(at)]
+        if not lines:
+            return self.count(timeout).packets
+        with self._locked(timeout):
+            return int(self._edits.run_step(lines, timeout).split()[1])
 
     def move(self, index, to, timeout=None):
         """Removes a packet and inserts it at index `to` of the remaining ones."""
@@ -383,6 +411,19 @@ class _Turn:
 
     def __exit__(self, kind, value, trace):
         self.lock.release()
+
+
+def batches(lines):
+    """Request lines in groups that are sent together."""
+    batch, size = [], 0
+    for line in lines:
+        batch.append(line)
+        size += len(line)
+        if len(batch) == MOST_LINES or size >= MOST_BYTES:
+            yield batch
+            batch, size = [], 0
+    if batch:
+        yield batch
 
 
 def is_reply(reply, line):

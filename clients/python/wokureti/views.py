@@ -245,7 +245,7 @@ class View:
             before.before = None
         self.script, self.source = contents.script, contents.current
         self.edits_before = max(0, len(edits.entries) - MOST_EDITS)
-        self.edits = [(entry.line[:MOST_TEXT], entry.step) for entry in edits.entries[-MOST_EDITS:]]
+        self.edits = [(entry.line[:MOST_TEXT], entry.step, entry.title) for entry in edits.entries[-MOST_EDITS:]]
         self.undone = [line[:MOST_TEXT] for line in edits.undone[:MOST_EDITS]]
 
     def timeline(self, source):

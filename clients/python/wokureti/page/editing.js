@@ -39,7 +39,7 @@ export class Editing {
     find("redo").disabled = !session.undone.length;
     find("undo").title = session.edits.length ? `Undo: ${session.edits[session.edits.length - 1].slice(0, 60)} (Ctrl+Z)` : "Nothing to undo";
     find("redo").title = session.undone.length ? `Redo: ${session.undone[0].slice(0, 60)} (Ctrl+Shift+Z)` : "Nothing to redo";
-    find("save").disabled = session.saved;
+    find("save").disabled = session.saved && session.script === "-";
     for (const id of ["delete", "hold", "drop", "copy", "cut"]) find(id).disabled = !chosen;
     find("paste").disabled = !this.clipboard;
   }
@@ -62,7 +62,7 @@ export class Editing {
     const since = performance.now();
     performance.mark("edit");
     try {
-      const answer = await server.change(lines, lines === "save" ? null : this.model.revision);
+      const answer = await server.change(lines, this.model.revision, typeof said === "string" ? said : "");
       await this.model.load();
       const text = typeof said === "function" ? said(answer.reply) : said;
       if (text && !isQuiet) this.status.say(`${text} (${Math.round(performance.now() - since)} ms)`);
@@ -100,10 +100,30 @@ export class Editing {
     return this.make("redo", (lines) => (lines.length ? `made again: ${named(lines)}` : "there is nothing to redo"));
   }
 
-  save() {
-    return this.make("save", (path) => {
-      notice(`Saved to ${path}`, { id: "saved" });
-      return `saved to ${path}`;
+  /** Saves packets. With a script, or with edits of other sources, it asks what. */
+  async save() {
+    const { session } = this.model;
+    const { saves, script, names } = session;
+    let source = 0;
+    if (script !== "-" || saves.some(({ edited }, number) => number && edited)) {
+      const choices = saves
+        .map(({ edited, next }, number) => [`the packets of ${names[number]}${number || script === "-" ? "" : ", without the script"}, to ${fileOf(next)}`, number, edited])
+        .filter(([, number, edited]) => edited || number === 0);
+      const note = script === "-" ? "" : `The script changes what is shown, and no packet. \`wokureti cat\` with --edits ${session.list} writes the frames that are shown.`;
+      const found = await ask("Save", "Save", [{ name: "source", label: "What", value: 0, choices }], note);
+      if (!found) return;
+      source = Number(found.source);
+    }
+    return this.inTurn(async () => {
+      try {
+        const path = await server.save(source);
+        await this.model.load();
+        const what = source === 0 && this.model.session.script !== "-" ? "The packets were saved, without the script, to" : source ? `The packets of ${names[source]} were saved to` : "Saved to";
+        notice(`${what} ${path}`, { id: "saved" });
+        this.status.say(`${what[0].toLowerCase()}${what.slice(1)} ${path}`);
+      } catch (error) {
+        await this.refuse(error);
+      }
     });
   }
 
@@ -226,6 +246,24 @@ export class Editing {
 /** Packets in words. */
 export function packets({ first, end }) {
   return end === first + 1 ? `packet ${first}` : `packets ${first} to ${end - 1}`;
+}
+
+/** The name of a file without its folder. */
+export function fileOf(path) {
+  return path.slice(path.lastIndexOf("/") + 1);
+}
+
+/** What of the stream is in which file. */
+export function savedText({ saves, script, names, edits }) {
+  const parts = [];
+  saves.forEach(({ edited, file }, source) => {
+    if (!edited && !file) return;
+    const of = source ? `${names[source]}: ` : "";
+    const without = source === 0 && file && script !== "-" ? ", without the script" : "";
+    parts.push(file ? `${of}saved to ${fileOf(file)}${without}` : `${of}not saved`);
+  });
+  if (!parts.length && edits.length) parts.push(script === "-" ? "nothing to save" : "the script is in the list of edits");
+  return parts.join(" · ");
 }
 
 function named(lines) {

@@ -277,7 +277,7 @@ export class Findings {
         return;
       }
       const title = `${said.length.toLocaleString("en")} steps, ${lines.length.toLocaleString("en")} edits${left ? `, ${left} packets stay damaged` : ""}`;
-      await this.preview({ title, lines, packet: this.model.packet });
+      await this.preview({ title, lines, packet: this.model.packet, step: "Repair all" });
       find("preview-text").title = said.slice(0, 40).join("\n");
     } catch (error) {
       this.status.say(error.message);
@@ -291,7 +291,7 @@ export class Findings {
     if (!repair) return;
     const { packet } = repair;
     this.close();
-    const isMade = await this.editing.make(this.model.session.source === 0 ? repair.lines : ["use 0", ...repair.lines], repair.title);
+    const isMade = await this.editing.make(this.model.session.source === 0 ? repair.lines : ["use 0", ...repair.lines], repair.step || repair.title);
     await this.viewer.setPreview(null);
     if (isMade) await this.model.goPacket(Math.min(packet, this.model.packets - 1));
   }

@@ -55,11 +55,16 @@ function post(path, body, what, signal) {
   return ask(path, { method: "POST", headers: { "Content-Type": "application/json" }, body: JSON.stringify(body), signal }, what);
 }
 
-/** Makes edits as one step, or `undo`, `redo` or `save`, if the stream is still that of the revision. */
-export async function change(lines, revision) {
-  const body = typeof lines === "string" ? { line: lines } : { lines };
-  if (revision !== null) body.revision = revision;
-  return (await post("edits", body, lines === "save" ? "the stream to be saved" : "edit")).json();
+/** Makes edits as one step with a title, or `undo` or `redo`, if the stream is still that of the revision. */
+export async function change(lines, revision, title = "") {
+  const body = typeof lines === "string" ? { line: lines, revision } : { lines, revision };
+  if (title && typeof lines !== "string") body.title = title;
+  return (await post("edits", body, "edit")).json();
+}
+
+/** Saves the packets of a source, and returns the name of the file. */
+export async function save(source) {
+  return (await (await post("edits", { line: "save", source }, "the packets to be saved")).json()).reply;
 }
 
 /** Inserts remembered packets as one step. */

@@ -1,6 +1,6 @@
 // Starts the page.
 
-import { Editing } from "./editing.js";
+import { Editing, savedText } from "./editing.js";
 import { EditList } from "./edit_list.js";
 import { Findings } from "./findings.js";
 import { Fragment, parse } from "./fragment.js";
@@ -101,14 +101,15 @@ function writeSelection() {
 }
 
 function writeHead() {
-  const { names, rate, script, saved, sources, save, edits } = model.session;
+  const { names, rate, script, saved, sources, saves } = model.session;
   find("name").textContent = names[0];
   document.title = `${saved ? "" : "• "}${names[0]} – Wokureti`;
   const facts = [`${model.session.packets.toLocaleString("en")} packets`, `${model.frames.toLocaleString("en")} frames`, `${(rate[0] / rate[1]).toFixed(3).replace(/\.?0+$/, "")} frames a second`];
   if (script !== "-") facts.push("with a script");
   find("facts").textContent = facts.join(" · ");
-  find("saved").textContent = saved ? (edits.length ? "saved" : "") : "not saved";
-  find("save").title = `Save the edited stream to ${save} (Ctrl+S)`;
+  find("saved").textContent = savedText(model.session);
+  find("saved").title = find("saved").textContent;
+  find("save").title = `Save the edited packets to ${saves[0].next} (Ctrl+S)`;
   const label = find("source-label");
   label.hidden = sources.length < 2;
   find("replace-source").hidden = sources.length < 2;
@@ -202,6 +203,15 @@ server.listen((name) => {
   }
   if (name === "restarted") notice("vp8serve ended. It was started again, and all edits are there.", { id: "restarted" });
   reload().catch((error) => status.say(error.message));
+});
+
+// What the server says without being asked.
+let noticed = 0;
+model.addEventListener("session", () => {
+  for (const [number, text] of model.session.notices) {
+    if (number > noticed) notice(text, { isBad: true });
+    noticed = Math.max(noticed, number);
+  }
 });
 
 // Until all headers are listed, no packet is known to be refused.
