@@ -249,6 +249,30 @@ class Views(PageCase):
         self.assertEqual(self.members("/origins?from=100000&count=5")["packets"], [])
         self.assertIsNone(self.members("/place?packet=3&source=1")["frame"])
 
+    def test_packets_that_no_frame_shows(self):
+        self.serve(SCENES, sources=[SMALL])
+        with self.session(SCENES) as one, self.session(SMALL) as other:
+            wanted = [[frame.i420() for frame in session.frames(range(12))] for session in (one, other)]
+        # Without a script no frame shows a packet of source 1.
+        place = self.members("/place?packet=3&source=1")
+        self.assertEqual((place["frame"], place["own"], place["before"]), (None, 3, 3))
+        for packet in (0, 3, 11):
+            self.assertEqual(self.picture(f"/packets/{packet}.y4m?source=1"), wanted[1][packet])
+        # With a script none shows packet 9 of source 0.
+        self.change("script trim 0 0 5")
+        self.assertEqual((self.members("/place?packet=9")["frame"], self.members("/place?packet=4")["frame"]), (None, 4))
+        self.assertEqual(self.picture("/packets/9.y4m"), wanted[0][9])
+        # They are those of the edited packets.
+        self.step("delete 2", "use 1", "delete 0", "copy 0 0 0", "use 0")
+        self.assertEqual(self.picture("/packets/8.y4m"), wanted[0][9])
+        self.assertEqual(self.members("/place?packet=8")["before"], 9)
+        self.assertEqual(self.picture("/packets/0.y4m?source=1"), wanted[0][0])
+        self.assertEqual(self.members("/session")["edits"][-1], "use 0")
+        for path in (f"/packets/{len(packets_of(SCENES))}.y4m", "/packets/0.y4m?source=2", "/packets/x.y4m", "/packets/0.png"):
+            self.assertEqual(self.ask(path)[0], 404, path)
+        status, _, body = self.post_to("/preview", lines=["delete 0"], packet=7)
+        self.assertEqual((status, body.partition(b"\nFRAME\n")[2] == self.picture("/packets/8.y4m")), (200, True))
+
     def test_the_frames_before_the_edits(self):
         self.serve(SCENES)
         with self.session(SCENES) as other:

@@ -5,7 +5,7 @@ import json
 import threading
 import time
 
-from . import checks, facts, live
+from . import checks, facts, ivf, live
 from .checking import Check
 from .errors import Ended, Refused
 from .views import Pool, View
@@ -24,7 +24,8 @@ class Opened(live.Live):
         self.pad = pad
         self.current, self.pool = None, None
         self.check_lock, self.check, self.checks, self.count = threading.Lock(), None, [], 0
-        self.originals, self.preview = {}, Preview(options)
+        # Programs beside the one of the stream: of edits that are not made, and of packets that no frame shows.
+        self.originals, self.preview, self.aside = {}, Preview(options), Preview(options)
         # What goes on: a word, how much of it is done, of how much, and since when.
         self.doing = None
         super().__init__(options, edits, save, stems)
@@ -106,6 +107,7 @@ class Opened(live.Live):
             interrupt(original)
             original.close()
         self.preview.close()
+        self.aside.close()
         super().close()
 
     def is_known_saved(self):
@@ -166,6 +168,18 @@ class Preview:
         """The width, height and samples of a frame after these edits."""
         with self.lock:
             self.follow(lines)
+            return self.live.picture(frame)
+
+    def packet(self, lines, source, packet, frame=None):
+        """The picture of a packet of a source after these edits, without the script. `frame` is its frame in the source, if that is known."""
+        lines = [line for line in lines if not line.startswith("script")]
+        with self.lock:
+            self.follow([*lines, *([f"script source {source}"] if source else [])])
+            if frame is None:
+                contents = self.live.contents()
+                stream = contents.streams[source]
+                shown = [ivf.is_shown(contents.bytes(number, 3)) for number in stream]
+                frame = max(0, min(sum(shown[:packet]), sum(shown) - 1))
             return self.live.picture(frame)
 
     def findings(self, lines, packet):

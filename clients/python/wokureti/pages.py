@@ -85,6 +85,8 @@ class PageRoutes(Routes):
                 return Response(200, kind, text)
         if len(parts) == 3 and parts[:2] == ("before", "frames"):
             return self.before(request, parts[2])
+        if len(parts) == 2 and parts[0] == "packets":
+            return self.packet(request, parts[1])
         return super().read(request, parts)
 
     def session(self, request):
@@ -178,7 +180,35 @@ class PageRoutes(Routes):
         view = self.live.current_view()
         source = self.source_of(request, view)
         packet = self.number(request, "packet", 0)
-        return as_json({"revision": view.revision, "source": source, "packet": packet, "frame": view.frame_of(source, packet)})
+        members = {"revision": view.revision, "source": source, "packet": packet, "frame": view.frame_of(source, packet)}
+        if packet < len(view.streams[source]):
+            members.update(own=self.own_frame(view, source, packet), before=self.original_frame(view, source, packet))
+        return as_json(members)
+
+    def own_frame(self, view, source, packet):
+        """The frame of a source, without the script, that shows a packet: that of the next shown packet if it is hidden."""
+        frames = view.timeline(source).frames
+        return max(0, min(frames[packet], frames[-1] - 1))
+
+    def packet(self, request, name):
+        """The picture of a packet, without the script."""
+        self.only(request, "source")
+        view = self.live.current_view()
+        source, number = self.source_of(request, view), self.y4m_number(name)
+        if number >= len(view.streams[source]):
+            raise Refuse(404, "there is no such packet")
+        with self.live.lock:
+            if self.live.revision != view.revision:
+                raise Refuse(412, "the stream was changed", revision=self.live.revision)
+            made = list(self.live.alive().edits)
+        return self.y4m(self.live.aside.packet(made, source, number, self.own_frame(view, source, number)))
+
+    def y4m_number(self, name):
+        """The number in the name of a frame."""
+        number, _, kind = name.partition(".")
+        if not number.isdecimal() or len(number) > 18 or kind != "y4m":
+            raise Refuse(404, "there is nothing here")
+        return int(number)
 
     def numbers(self, request):
         """The numbers of packets, which stay theirs while edits move them."""
@@ -317,10 +347,7 @@ class PageRoutes(Routes):
         self.only(request, "source")
         view = self.live.current_view()
         source = self.source_of(request, view)
-        number, _, kind = name.partition(".")
-        if not number.isdecimal() or len(number) > 18 or kind != "y4m":
-            raise Refuse(404, "there is nothing here")
-        return self.y4m(self.live.original(source).picture(int(number)))
+        return self.y4m(self.live.original(source).picture(self.y4m_number(name)))
 
     def differs(self, request):
         """The next frame that is another one than that of the opened file, as far as a quarter of a second goes. `next` is where to go on."""
@@ -353,7 +380,7 @@ class PageRoutes(Routes):
     def preview(self, request):
         """A frame, or the findings of a group of pictures, after edits that are not made."""
         self.only(request)
-        members = parse_body(request.body, {"lines": list, "frame": int, "findings": int, "revision": int})
+        members = parse_body(request.body, {"lines": list, "frame": int, "findings": int, "packet": int, "source": int, "revision": int})
         lines, view = checked_lines(members), self.live.current_view()
         if members.get("revision", view.revision) != view.revision:
             raise Refuse(412, "the stream was changed", revision=view.revision)
@@ -362,8 +389,13 @@ class PageRoutes(Routes):
         if "findings" in members:
             found = self.live.preview.findings(made + lines, members["findings"])
             return as_json({"revision": view.revision, "findings": found})
+        if "packet" in members:
+            source, packet = members.get("source", 0), members["packet"]
+            if source >= len(view.streams):
+                raise Refuse(404, "there is no such source")
+            return self.y4m(self.live.preview.packet(made + lines, source, packet))
         if "frame" not in members:
-            raise Refuse(400, "a preview is of a frame, or of findings")
+            raise Refuse(400, "a preview is of a frame, of a packet, or of findings")
         return self.y4m(self.live.preview.picture(made + lines, members["frame"]))
 
     def stream(self, request):

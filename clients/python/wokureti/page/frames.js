@@ -33,6 +33,12 @@ export class Frames {
     return this.fetch(`now ${frame}`, revision, (signal) => server.frame(frame, signal));
   }
 
+  /** The picture of a packet without the script. */
+  aside(source, packet) {
+    const { revision } = this.model;
+    return this.fetch(`aside ${source} ${packet}`, revision, (signal) => server.frameOfPacket(source, packet, signal));
+  }
+
   before(source, frame) {
     return this.fetch(`before ${source} ${frame}`, null, (signal) => server.frameBefore(source, frame, signal));
   }

@@ -103,6 +103,15 @@ export async function frameBefore(source, number, signal) {
   return frameOf(await ask(`before/frames/${number}.y4m?source=${source}`, { signal }, `frame ${number} before the edits`));
 }
 
+export async function frameOfPacket(source, packet, signal) {
+  return frameOf(await ask(`packets/${packet}.y4m?source=${source}`, { signal }, `packet ${packet} of source ${source}`));
+}
+
+/** The picture of a packet after edits that are not made, without the script. */
+export async function previewPacket(lines, source, packet, revision, signal) {
+  return frameOf(await post("preview", { lines, source, packet, revision }, "preview", signal));
+}
+
 export async function previewFrame(lines, number, revision, signal) {
   return frameOf(await post("preview", { lines, frame: number, revision }, "preview", signal));
 }

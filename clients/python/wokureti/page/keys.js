@@ -4,7 +4,7 @@ const find = (id) => document.getElementById(id);
 
 /** Each key has names as `KeyboardEvent.key` has them, a text, and what it does. */
 export function keysOf({ model, player, timeline, editing, findings, viewer, macroblocks, palette }) {
-  const step = (count) => () => model.go(model.frame + count);
+  const step = (count) => () => model.step(count);
   const playOn = (direction) => () => {
     const same = Math.sign(player.speed) === direction;
     return player.play(same ? Math.sign(player.speed) * Math.min(8, Math.abs(player.speed) * 2) : direction);
@@ -16,8 +16,8 @@ export function keysOf({ model, player, timeline, editing, findings, viewer, mac
     { keys: ["Shift+ArrowRight"], show: "Shift →", text: "extend the selection to the right", act: () => extend(model, 1) },
     { keys: ["PageUp"], show: "Page Up", text: "back 10 frames", act: step(-10) },
     { keys: ["PageDown"], show: "Page Down", text: "forward 10 frames", act: step(10) },
-    { keys: ["Home"], show: "Home", text: "first frame", act: () => model.go(0) },
-    { keys: ["End"], show: "End", text: "last frame", act: () => model.go(model.frames - 1) },
+    { keys: ["Home"], show: "Home", text: "first frame", act: () => model.goEnd(true) },
+    { keys: ["End"], show: "End", text: "last frame", act: () => model.goEnd(false) },
     { keys: [" "], show: "Space", text: "play or stop", act: () => player.toggle() },
     { keys: ["j", "J"], show: "J", text: "play backward; again: faster", act: playOn(-1) },
     { keys: ["k", "K"], show: "K", text: "stop", act: () => player.stop() },

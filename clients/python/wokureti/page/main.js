@@ -91,8 +91,10 @@ function time(frame) {
 }
 
 function writeFrame() {
-  if (document.activeElement !== find("frame")) find("frame").value = model.frame;
-  find("time").textContent = model.session ? `of ${model.frames.toLocaleString("en")} · ${time(model.frame)}` : "";
+  if (document.activeElement !== find("frame")) find("frame").value = model.aside ? "" : model.frame;
+  if (!model.session) find("time").textContent = "";
+  else if (model.aside) find("time").textContent = `packet ${model.aside.packet}, which no frame shows`;
+  else find("time").textContent = `of ${model.frames.toLocaleString("en")} · ${time(model.frame)}`;
 }
 
 function writeSelection() {
@@ -159,10 +161,10 @@ find("loop").addEventListener("click", () => {
   player.restart();
 });
 for (const [id, go] of [
-  ["first", () => model.go(0)],
-  ["back", () => model.go(model.frame - 1)],
-  ["forward", () => model.go(model.frame + 1)],
-  ["last", () => model.go(model.frames - 1)],
+  ["first", () => model.goEnd(true)],
+  ["back", () => model.step(-1)],
+  ["forward", () => model.step(1)],
+  ["last", () => model.goEnd(false)],
 ]) {
   find(id).addEventListener("click", () => go().catch(() => {}));
 }
@@ -188,7 +190,6 @@ async function reload() {
   await model.load();
   if (!before) return;
   if (before.instance !== model.session.instance) location.reload();
-  if (before.revision !== model.session.revision) await model.go(model.frame);
 }
 
 server.listen((name) => {
@@ -246,8 +247,9 @@ async function begin() {
   restarts = model.session.restarts;
   if (start.source && start.source < model.session.sources.length) {
     await model.useSource(start.source);
+  } else {
+    await model.go(model.frame);
   }
-  await model.go(model.frame);
   if (start.scale) timeline.setView(start.from || 0, start.scale);
   find("timeline").focus({ focusVisible: false });
   status.say(restarts ? `vp8serve was started again ${restarts} times` : "ready");

@@ -70,6 +70,8 @@ export class Player {
     this.speed = speed;
     this.begin(start);
     this.viewer.isPlaying = true;
+    this.model.isPlaying = true;
+    this.model.aside = null;
     this.onchange?.();
     cancelAnimationFrame(this.asked);
     this.asked = requestAnimationFrame(() => this.tick());
@@ -104,6 +106,7 @@ export class Player {
     this.speed = 0;
     cancelAnimationFrame(this.asked);
     this.viewer.isPlaying = false;
+    this.model.isPlaying = false;
     this.onchange?.();
     this.model.go(this.model.frame).catch(() => {});
   }
