@@ -811,6 +811,10 @@ class Checks(PageCase):
             self.assertEqual((status, errors), (1, ""))
             (room / "mine.ivf").write_bytes(self.ask("/stream.ivf")[2])
             self.assertEqual(packets_of(room / "mine.ivf"), packets_of(room / "out.ivf"))
+            if second == (SCENES,):
+                # No packet of the second recording is sent as HEX.
+                self.assertTrue(any(line.startswith("copy 1 ") for line in found["lines"]))
+                self.assertLess(max(map(len, found["lines"])), 60)
             self.assertEqual(out.decode().splitlines()[: len(found["said"])], found["said"])
             self.change("undo")
             self.assertEqual(self.ask("/stream.ivf")[2], before)

@@ -4,14 +4,17 @@ import argparse
 import os
 import sys
 import tempfile
+import traceback
 
 from . import cat, checks, convert, programs
-from .errors import Ended, Refused
+from .errors import Ended, Lost, Refused
 
 ABOUT = """\
 Shows, edits, repairs and compares VP8 streams with the programs vp8serve and vp8list. They are those of the variables VP8SERVE and
-VP8LIST, or on the PATH.
+VP8LIST, or on the PATH. An exit status of 70 says that wokureti itself failed.
 """
+# The exit status of a mistake of this program, EX_SOFTWARE of sysexits.h: no command means anything else by it.
+MISTAKE = 70
 
 
 def stop(text):
@@ -149,7 +152,8 @@ def add_repair(commands):
         description="Reads a damaged stream, mends what can be mended without a person, and writes it to OUT. A line says what each step did. "
         "Packets whose records are lost are searched; packets that are there twice go; packets out of order are sorted by their time stamps; "
         "those that are missing or refused are taken from a second recording; and where packets are refused or lost, the picture before is "
-        "held up to the next key frame. Exit status 0 if the stream was clean, 1 if it was mended, 2 if something could not be mended.",
+        "held up to the next key frame. OUT is then checked as by `vp8list --check`. Exit status 0 if the stream was clean, 1 if it was mended and "
+        "OUT has no damage, 2 if damage is left, or no key frame survives and nothing was written.",
     )
     parser.add_argument("stream", metavar="IN", help="IVF file")
     parser.add_argument("out", metavar="OUT", help="the mended IVF file")
@@ -164,7 +168,7 @@ def add_repair(commands):
 
 
 def run_repair(given):
-    from . import files, ivf, repair
+    from . import files, ivf, progress, repair
 
     inputs = [given.stream, given.second, given.tables]
     for out in (given.out, given.edits):
@@ -176,8 +180,9 @@ def run_repair(given):
     with tempfile.TemporaryDirectory(prefix="wokureti-") as folder:
         data, second = (path and read_all(convert.as_ivf(path, folder)) for path in (given.stream, given.second))
     try:
-        found = repair.repair(data, programs.find("vp8serve"), programs.find("vp8list"), second, given.tables, steps)
-    except ivf.NotIvf as error:
+        with progress.Stages() as stages:
+            found = repair.repair(data, programs.find("vp8serve"), programs.find("vp8list"), second, given.tables, steps, stages.stage)
+    except (ivf.NotIvf, repair.NoKeyFrame) as error:
         raise cat.Failed(f"{given.stream}: {error}") from None
     packets = [(packet.stamp, packet.data) for packet in found.packets]
     files.write_whole(given.out, ivf.pieces(found.head, len(packets), packets))
@@ -280,5 +285,22 @@ def main(words=None):
         return 2
     except KeyboardInterrupt:
         return 130
-    except (cat.Failed, Ended, Refused, OSError, ValueError) as error:
+    except (cat.Failed, Ended, Lost, Refused, OSError, ValueError) as error:
         return stop(error)
+    except Exception as error:
+        return mistake(error)
+
+
+def mistake(error):
+    """Says in one line what went wrong, and where the rest of it is."""
+    text = "".join(traceback.format_exception(type(error), error, error.__traceback__))
+    try:
+        descriptor, path = tempfile.mkstemp(prefix="wokureti-mistake-", suffix=".txt")
+        with open(descriptor, "w", encoding="utf-8", errors="backslashreplace") as file:
+            file.write(f"wokureti {' '.join(sys.argv[1:])}\n{text}")
+        where = f"the rest is in {path}"
+    except OSError:
+        print(text, end="", file=sys.stderr)
+        where = "the rest is above"
+    print(f"wokureti: a mistake of wokureti itself: {type(error).__name__}: {str(error)[:200]}; {where}", file=sys.stderr)
+    return MISTAKE

@@ -48,3 +48,7 @@ class OtherStream(ValueError):
         more = "" if wanted != found else ", but others"
         text = f"{path} is the list of edits of another stream: of one with {theirs}, and this one has {ours}{more}. Name another list with --edits, or make these edits with --anyway"
         super().__init__(text)
+
+
+class Lost(Exception):
+    """A program ended, and could not be started again or ended again."""

@@ -9,7 +9,7 @@ import threading
 
 from . import facts
 from .edit_files import NotWritten
-from .errors import Ended, Refused
+from .errors import Ended, Lost, Refused
 from .outcomes import Outcomes
 from .saves import Saves
 from .session import Session
@@ -24,10 +24,6 @@ MOST_NOTICES = 100
 
 class Changed(Exception):
     """The stream is no more that of the revision."""
-
-
-class Lost(Exception):
-    """The program ended, and could not be started again or ended again."""
 
 
 class Viewer:

@@ -7,7 +7,7 @@ import time
 
 from . import checks, facts, ivf, live
 from .checking import Check
-from .errors import Ended, Refused
+from .errors import Ended, Lost, Refused
 from .views import Pool, View
 
 
@@ -35,7 +35,7 @@ class Opened(live.Live):
 
     def list_files(self):
         """Lists the headers of all packets; until that is done, no packet is known to be refused."""
-        with contextlib.suppress(OSError, Ended, live.Lost, Refused):
+        with contextlib.suppress(OSError, Ended, Lost, Refused):
             self.session.read_indexes()
             with self.lock:
                 contents = self.contents()

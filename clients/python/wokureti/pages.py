@@ -321,14 +321,14 @@ class PageRoutes(Routes):
         try:
             try:
                 found = repair.repair(data, *given, *others, tables=contents.tables, steps=STEPS)
-            except ivf.NotIvf:
+            except (ivf.NotIvf, repair.NoKeyFrame):
                 raise
             except ValueError:
                 # Source 1 is another stream.
                 found = repair.repair(data, *given, tables=contents.tables, steps=STEPS)
-        except ivf.NotIvf as error:
+        except (ivf.NotIvf, repair.NoKeyFrame) as error:
             raise Refuse(409, str(error)) from None
-        lines = repair.edits_of(data, found)
+        lines = repair.edits_of(data, found, *others)
         return as_json({"revision": view.revision, "lines": lines, "said": found.lines, "left": found.left})
 
     def text(self, view, source):

@@ -1,6 +1,7 @@
 """A line of progress on a terminal."""
 
 import sys
+import threading
 import time
 
 
@@ -24,5 +25,34 @@ class Progress:
         return self
 
     def __exit__(self, kind, value, trace):
+        if self.is_shown:
+            print("\r\x1b[K", end="", file=sys.stderr, flush=True)
+
+
+class Stages:
+    """Shows on a terminal what is done, and for how long, once that takes more than a second."""
+
+    def __init__(self):
+        self.text, self.start = None, time.monotonic()
+        self.ended, self.is_shown = threading.Event(), False
+        self.thread = threading.Thread(target=self.tick, daemon=True)
+
+    def stage(self, text):
+        self.text, self.start = text, time.monotonic()
+
+    def tick(self):
+        while not self.ended.wait(1):
+            text, passed = self.text, time.monotonic() - self.start
+            if text is not None and passed >= 1:
+                self.is_shown = True
+                print(f"\r{text}: {passed:.0f} s\x1b[K", end="", file=sys.stderr, flush=True)
+
+    def __enter__(self):
+        if sys.stderr.isatty():
+            self.thread.start()
+        return self
+
+    def __exit__(self, kind, value, trace):
+        self.ended.set()
         if self.is_shown:
             print("\r\x1b[K", end="", file=sys.stderr, flush=True)

@@ -6,9 +6,8 @@ import re
 import time
 
 from . import png, ranges
-from .errors import Ended, Refused
+from .errors import Ended, Lost, Refused
 from .frames import frame_of
-from .live import Lost
 from .outcomes import TooMany
 from .session import EDITS, Session
 from .virtual import ENDINGS, MODES, Cannot, Clip, header_of

@@ -39,6 +39,15 @@ class Gap(NamedTuple):
     after: int
 
 
+class Guess(NamedTuple):
+    """A packet at a gap whose record may only have a wrong size: it begins there, its time stamp goes on, and it would have all bytes up to the
+    next record. `gap` is the index of the gap; the packet is in the place of the one before it if that was cut at its size."""
+
+    gap: int
+    packet: Found
+    is_cut: bool
+
+
 def begins_packet(data, place, size):
     """Whether a packet of this size may begin at a place: its tag, its start code, and the size of its first partition."""
     if size == 0:
@@ -126,8 +135,25 @@ def head_of(data):
 
 def find(data):
     """The head or None, the packets, and the gaps between them."""
+    return find_all(data)[:3]
+
+
+def guess_at(data, place, end, last):
+    """A packet between a record whose size is wrong and the next record, or None."""
+    if place + RECORD.size > end:
+        return None
+    stamp, after = (RECORD.unpack_from(data, at)[1] for at in (place, end))
+    if not (last is None or last <= stamp) or not stamp <= after or after - stamp > MOST_STEP:
+        return None
+    if not begins_packet(data, place + RECORD.size, end - place - RECORD.size):
+        return None
+    return Found(stamp, data[place + RECORD.size : end], place)
+
+
+def find_all(data):
+    """The same, and guesses at packets whose sizes are wrong."""
     head, place = head_of(data)
-    packets, gaps, last = [], [], None
+    packets, gaps, guesses, last = [], [], [], None
     while place < len(data):
         found = sized_at(data, place, last)
         if found is not None:
@@ -141,17 +167,21 @@ def find(data):
                 found = None
         resumed = next_place(data, place + 1 if found is None else place + RECORD.size, last)
         start = place
-        if found is not None and (resumed is None or resumed >= end):
+        guess = None if resumed is None else guess_at(data, place, resumed, last)
+        is_cut = found is not None and (resumed is None or resumed >= end)
+        if is_cut:
             # The record is where the one before it leads to, and its packet ends before the next one that was found.
             packets.append(Found(found[1], data[place + RECORD.size : end], place))
             last, start = found[1], end
         stop = len(data) if resumed is None else resumed
         if stop > start:
             gaps.append(Gap(start, stop, len(packets)))
+            if guess is not None:
+                guesses.append(Guess(len(gaps) - 1, guess, is_cut))
         if resumed is None:
             break
         place = resumed
-    return head, packets, gaps
+    return head, packets, gaps, guesses
 
 
 def plain(data):

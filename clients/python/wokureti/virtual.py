@@ -3,9 +3,9 @@
 import queue
 import threading
 
-from .errors import Refused
+from .errors import Lost, Refused
 from .frames import MARK, size_of
-from .live import Changed, Lost
+from .live import Changed
 
 # Frames that are asked for at a time, at most, and their bytes.
 AT_ONCE, BYTES_AT_ONCE = 8, 16 << 20
