@@ -18,7 +18,7 @@ from unittest import mock
 
 from support import DATA, ODD, SLOW, SMALL, Case, is_alive, list_of, packets_of, process_of, start, start_unwaking, whole_text, write_packets
 from test_edits import edit
-from wokureti import Refused, Script, Session, edit_files, web
+from wokureti import Refused, Script, Session, edit_files, ivf, web
 from wokureti.live import Live
 from wokureti.outcomes import Outcomes
 from wokureti.routes import Routes
@@ -107,6 +107,15 @@ class VirtualFile(ServerCase):
         self.assertEqual((headers["Content-Length"], headers["Accept-Ranges"]), (str(len(wanted)), "bytes"))
         status, headers, body = self.ask("/clip.y4m", "HEAD")
         self.assertEqual((status, headers["Content-Length"], body), (200, str(len(wanted)), b""))
+
+    def test_the_rate_is_that_of_the_time_stamps(self):
+        path = self.folder() / "clip.ivf"
+        packets = [(40 * number, data) for number, data in enumerate(packets_of(SMALL))]
+        path.write_bytes(b"".join(ivf.pieces(ivf.Head(16, 16, 1000, 1), len(packets), packets)))
+        self.serve(path)
+        self.assertEqual(self.members("/")["rate"], [25, 1])
+        for name in ("/clip.y4m", "/frames/3.y4m"):
+            self.assertEqual(self.ask(name)[2].split(b"\n")[0].split()[3], b"F25:1")
 
     def test_ranges_at_each_boundary(self):
         wanted = whole_text(SMALL)

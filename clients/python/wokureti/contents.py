@@ -1,5 +1,6 @@
 """The packets of a session as they are after its edits: the program has them too, but does not give them out."""
 
+import math
 import secrets
 from array import array
 from typing import NamedTuple
@@ -229,9 +230,14 @@ class Contents:
 
     @property
     def rate(self):
-        """Rate and scale of the frames that are served."""
-        head = self.inputs.all[0].head
-        return (head.rate, head.scale) if head.rate and head.scale else (30, 1)
+        """Rate and scale of the frames that are served: those of the header of source 0, whose time base may be finer than a frame, over the
+        median step of its time stamps."""
+        head, step = self.inputs.all[0].head, self.inputs.all[0].step()
+        rate, scale = (head.rate, head.scale) if head.rate and head.scale else (30, 1)
+        if step == 1:
+            return rate, scale
+        common = math.gcd(rate, scale * step)
+        return rate // common, scale * step // common
 
     def shown_kinds(self, source):
         """For each shown packet of a source its kind, `key` or `inter`."""

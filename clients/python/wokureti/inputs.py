@@ -23,7 +23,7 @@ class Input:
         self.head = ivf.EMPTY
         self.index = None
         self.lock = threading.Lock()
-        self.found_digest, self.digesting = None, threading.Lock()
+        self.found_digest, self.digesting, self.found_step = None, threading.Lock(), None
         self.is_shared = False
         if path == "-":
             return
@@ -80,6 +80,15 @@ class Input:
         self.head, index = ivf.read_index(self.descriptor)
         self.check()
         return index
+
+    def step(self):
+        """The median of the steps between the time stamps of shown packets: the time of a frame. 1 if there is none."""
+        if self.found_step is None:
+            index = self.records()
+            stamps = [stamp for stamp, tags in zip(index.stamps, index.tags) if tags & ivf.SHOWN]
+            steps = sorted(after - before for before, after in zip(stamps, stamps[1:]) if after > before)
+            self.found_step = steps[len(steps) // 2] if steps else 1
+        return self.found_step
 
     def extent(self):
         """The number of packets, and of their bytes."""

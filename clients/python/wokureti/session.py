@@ -367,7 +367,8 @@ class Session:
 
     @property
     def rate(self):
-        """The frames a second of the frames that are served, as a pair: rate and scale of source 0, or 30 and 1 if either is 0."""
+        """The frames a second of the frames that are served, as a pair: rate and scale of source 0, or 30 and 1 if either is 0, over the median
+        step of its time stamps."""
         with self._locked(None):
             return self._edits.contents().rate
 
