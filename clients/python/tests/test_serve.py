@@ -1,5 +1,6 @@
 """wokureti serve: the virtual file, the interface, and requests that must not be answered."""
 
+import contextlib
 import errno
 import http.client
 import json
@@ -18,7 +19,7 @@ from unittest import mock
 
 from support import DATA, ODD, SLOW, SMALL, Case, is_alive, list_of, packets_of, process_of, start, start_unwaking, whole_text, write_packets
 from test_edits import edit
-from wokureti import Refused, Script, Session, edit_files, ivf, web
+from wokureti import Refused, Script, Session, edit_files, ivf, virtual, web
 from wokureti.live import Live
 from wokureti.outcomes import Outcomes
 from wokureti.routes import Routes
@@ -665,6 +666,56 @@ class Hostile(ServerCase):
             self.assertLessEqual(len(self.server.connections), web.MOST_CONNECTIONS)
             for sock in socks:
                 sock.close()
+
+    def test_clients_without_the_token_take_no_place(self):
+        with socket.create_connection(("127.0.0.1", self.server.port), timeout=5 * SLOW) as events:
+            events.sendall(self.head(f"GET /{TOKEN}/events HTTP/1.1"))
+            file = events.makefile("rb")
+            self.assertIn(b"200 OK", file.readline())
+            ended, failed = threading.Event(), []
+
+            def bother():
+                while not ended.is_set():
+                    with contextlib.suppress(OSError), socket.create_connection(("127.0.0.1", self.server.port), timeout=2) as sock:
+                        sock.sendall(b"GET /wrong/edits HTTP/1.1\r\n")
+                        ended.wait(0.5)
+
+            threads = [threading.Thread(target=bother, daemon=True) for _ in range(100)]
+            for thread in threads:
+                thread.start()
+            with mock.patch.object(web, "STALLED", 0.1):
+                for number in range(60):
+                    status = self.ask(f"/frames/{number % 12}.i420")[0]
+                    if status != 200:
+                        failed.append(status)
+                    time.sleep(0.01)
+            ended.set()
+            for thread in threads:
+                thread.join(5 * SLOW)
+            self.assertEqual(failed, [])
+            # Who waits for events still has the connection.
+            self.change("delete 0")
+            found = b""
+            while b'"revision": 2' not in found:
+                found += file.readline()
+            self.change("undo")
+            file.close()
+        self.live.revision = 1
+
+    def test_what_is_made_ahead_is_bounded(self):
+        made, most = virtual.Ahead(), virtual.MOST_BYTES
+        frame = 1920 * 1080 * 3 // 2
+        counts = [made.take(frame) for _ in range(60)]
+        self.assertEqual((counts[0], counts[-1]), (8, 0))
+        self.assertLessEqual(3 * frame * sum(counts), most)
+        for count in counts:
+            made.give(count, frame)
+        self.assertEqual((made.taken, made.take(most)), (0, 0))
+        # Those who get none are served too.
+        wanted = self.ask("/clip.y4m")[2]
+        with mock.patch.object(virtual, "AHEAD", made), mock.patch.object(virtual, "MOST_BYTES", 0):
+            self.assertEqual(self.ask("/clip.y4m")[2], wanted)
+        self.assertEqual(virtual.AHEAD.taken, 0)
 
     def test_clients_that_do_not_read(self):
         script = Script().splice(0, 0)
