@@ -40,13 +40,14 @@ class PageCase(ServerCase):
         self.server = Server()
         titles = [os.path.basename(str(path)) for path in (stream, *options.get("sources", ()))]
         self.server.routes = PageRoutes(self.live, self.server, TOKEN, titles)
-        thread = threading.Thread(target=self.server.serve, daemon=True)
+        live, server = self.live, self.server
+        thread = threading.Thread(target=server.serve, daemon=True)
         thread.start()
 
         def end():
-            self.server.end()
+            server.end()
             thread.join(5)
-            self.live.close()
+            live.close()
 
         self.addCleanup(end)
         self.await_list()

@@ -40,13 +40,14 @@ class ServerCase(Case):
         self.live = Live({"stream": stream, **options}, edits, save)
         self.server = Server()
         self.server.routes = Routes(self.live, self.server, TOKEN)
-        thread = threading.Thread(target=self.server.serve, daemon=True)
+        live, server = self.live, self.server
+        thread = threading.Thread(target=server.serve, daemon=True)
         thread.start()
 
         def end():
-            self.server.end()
+            server.end()
             thread.join(5)
-            self.live.close()
+            live.close()
 
         self.addCleanup(end)
 

@@ -130,7 +130,7 @@ class Repair:
         elif not scan:
             raise ivf.NotIvf("it is no IVF file of VP8, and its packets are not searched with --no-scan")
         head, packets, gaps, guesses = salvage.find_all(data)
-        if not packets and not guesses:
+        if not packets and not any(guesses):
             raise ivf.NotIvf("no packet of VP8 was found in it")
         packets, gaps = self.take_guesses(packets, gaps, guesses)
         ends = {gap.after for gap in gaps}
@@ -146,17 +146,18 @@ class Repair:
                 self.say(f"byte {gap.start}: {gap.end - gap.start} bytes {where} lead to no record: read on at byte {gap.end}")
 
     def take_guesses(self, packets, gaps, guesses):
-        """Takes packets whose records have a wrong size: those that decode to their end with all the bytes up to the next record."""
+        """Takes packets whose records have a wrong size: those that decode to their end with all the bytes up to the next record. `guesses` has
+        those of each gap."""
+        guesses = [group for group in guesses if group]
         if self.lister is None or not guesses:
             return packets, gaps
-        wrong = self.wrong_ones(packets, gaps, guesses)
-        taken = [guess for guess in guesses if guess not in wrong]
-        if wrong:
+        self.stage(f"trying {len(guesses):,} records with a wrong size")
+        taken = [group[0] for group in guesses]
+        if self.wrong_ones(packets, gaps, taken):
             # A wrong guess also makes those after it look wrong.
             taken = []
-            for guess in guesses[:MOST_GUESSES]:
-                if not self.wrong_ones(packets, gaps, [*taken, guess]):
-                    taken.append(guess)
+            for group in guesses[:MOST_GUESSES]:
+                taken += next(([guess] for guess in group if not self.wrong_ones(packets, gaps, [*taken, guess])), [])
         found, left, places = with_guesses(packets, gaps, taken)
         for guess, place in zip(taken, places):
             size = len(guess.packet.data)

@@ -40,8 +40,8 @@ class Gap(NamedTuple):
 
 
 class Guess(NamedTuple):
-    """A packet at a gap whose record may only have a wrong size: it begins there, its time stamp goes on, and it would have all bytes up to the
-    next record. `gap` is the index of the gap; the packet is in the place of the one before it if that was cut at its size."""
+    """A packet whose record may only have a wrong size: its time stamp goes on, and it would have all bytes up to the next record. It begins with
+    a gap, whose index is `gap`; or it is in the place of the packet before that, which was cut at its size (`is_cut`)."""
 
     gap: int
     packet: Found
@@ -150,8 +150,17 @@ def guess_at(data, place, end, last):
     return Found(stamp, data[place + RECORD.size : end], place)
 
 
+def guesses_at(data, number, gap, last, cut):
+    """The guesses at a gap, the likelier one first. `cut` is where the packet before it begins that was cut at its size, and the time stamp before
+    that, or None."""
+    found = [(guess_at(data, gap.start, gap.end, last), False)]
+    if cut is not None:
+        found.append((guess_at(data, cut[0], gap.end, cut[1]), True))
+    return [Guess(number, packet, is_cut) for packet, is_cut in found if packet is not None]
+
+
 def find_all(data):
-    """The same, and guesses at packets whose sizes are wrong."""
+    """The same, and for each gap the guesses at a packet whose size is wrong."""
     head, place = head_of(data)
     packets, gaps, guesses, last = [], [], [], None
     while place < len(data):
@@ -167,17 +176,16 @@ def find_all(data):
                 found = None
         resumed = next_place(data, place + 1 if found is None else place + RECORD.size, last)
         start = place
-        guess = None if resumed is None else guess_at(data, place, resumed, last)
         is_cut = found is not None and (resumed is None or resumed >= end)
         if is_cut:
             # The record is where the one before it leads to, and its packet ends before the next one that was found.
             packets.append(Found(found[1], data[place + RECORD.size : end], place))
-            last, start = found[1], end
+            before, last, start = last, found[1], end
         stop = len(data) if resumed is None else resumed
         if stop > start:
             gaps.append(Gap(start, stop, len(packets)))
-            if guess is not None:
-                guesses.append(Guess(len(gaps) - 1, guess, is_cut))
+            if resumed is not None:
+                guesses.append(guesses_at(data, len(gaps) - 1, gaps[-1], last, (place, before) if is_cut else None))
         if resumed is None:
             break
         place = resumed
