@@ -1120,6 +1120,34 @@ class TheCommand(Case):
             self.assertEqual(self.ask(host, f"/{token}/edits", "delete 3")[0], 200)
             self.assertIn("nothing can be written next to", self.end(process))
 
+    def test_the_command_line_of_the_browser_has_no_token(self):
+        room = self.folder()
+        clip = write_packets(room / "clip.ivf", packets_of(SMALL))
+        browser = room / "browser"
+        browser.write_text('#!/bin/sh\necho "$@" > "$0.words"\n')
+        browser.chmod(0o755)
+        process = start("open", clip, stdout=subprocess.PIPE, stderr=subprocess.PIPE, env={"DISPLAY": ":99", "BROWSER": str(browser), "TMPDIR": str(room)})
+        self.addCleanup(process.kill)
+        url = process.stdout.readline().decode().strip()
+        limit = time.monotonic() + 10 * SLOW
+        while not (room / "browser.words").exists() or not (room / "browser.words").read_text():
+            self.assertLess(time.monotonic(), limit)
+            time.sleep(0.02)
+        words = (room / "browser.words").read_text()
+        token = url.split("/")[3]
+        self.assertNotIn(token, words)
+        door = pathlib.Path(words.strip().removeprefix("file://"))
+        self.assertEqual((door.stat().st_mode & 0o777, f"url={url}" in door.read_text()), (0o600, True))
+        # The door is of no site; the page opens from there, and nothing else does.
+        site = {"Sec-Fetch-Site": "cross-site", "Sec-Fetch-Mode": "navigate", "Sec-Fetch-Dest": "document"}
+        for path, headers, status in (("page/", site, 200), ("page/main.js", site, 403), ("session", site, 403), ("page/", {**site, "Sec-Fetch-Dest": "iframe"}, 403), ("page/", {**site, "Sec-Fetch-Mode": "no-cors"}, 403)):
+            one = http.client.HTTPConnection(url.split("/")[2], timeout=10 * SLOW)
+            one.request("GET", f"/{token}/{path}", headers=headers)
+            self.assertEqual(one.getresponse().status, status, path)
+            one.close()
+        self.end(process)
+        self.assertFalse(door.exists())
+
     def test_two_starts_at_once(self):
         room = self.folder()
         clip = write_packets(room / "clip.ivf", packets_of(SMALL))

@@ -760,32 +760,63 @@ class Hostile(ServerCase):
 class TheCommand(Case):
     LIMIT = 30
 
+    def begin(self, *words, **options):
+        """A server: its process, its host, the word that only reads, and the one that edits."""
+        process = start("serve", *words, stdout=subprocess.PIPE, stderr=subprocess.PIPE, **options)
+        self.addCleanup(process.kill)
+        host, reading = re.fullmatch(r"http://(127\.0\.0\.1:\d+)/([\w-]{20,})/clip\.y4m\n", process.stdout.readline().decode()).groups()
+        editing = re.fullmatch(rf"http://{host}/([\w-]{{20,}})/edits\n", process.stdout.readline().decode()).group(1)
+        return process, host, reading, editing
+
+    def end(self, process, ending):
+        """What it wrote to standard error."""
+        process.send_signal(ending)
+        with self.within(5):
+            self.assertEqual(process.wait(10 * SLOW), 0)
+        out, errors = process.stdout.read(), process.stderr.read()
+        process.stdout.close()
+        process.stderr.close()
+        self.assertEqual(out, b"")
+        return errors
+
     def test_it_serves_until_it_is_interrupted(self):
         room = self.folder()
         path = write_packets(room / "a clip.ivf", packets_of(SMALL))
-        for number, ending in enumerate((signal.SIGINT, signal.SIGTERM)):
-            process = start("serve", path, "--edits", room / "list", "--save", room / "out.ivf", stdout=subprocess.PIPE, stderr=subprocess.PIPE)
-            self.addCleanup(process.kill)
-            url = process.stdout.readline().decode().strip()
-            host, token = re.fullmatch(r"http://(127\.0\.0\.1:\d+)/([\w-]{20,})/clip\.y4m", url).groups()
+        for number, ending in enumerate((signal.SIGINT, signal.SIGTERM, signal.SIGHUP)):
+            process, host, reading, editing = self.begin(path, "--edits", room / "list", "--save", room / "out.ivf")
             one = http.client.HTTPConnection(host, timeout=10 * SLOW)
-            one.request("GET", f"/{token}/clip.y4m")
+            one.request("GET", f"/{reading}/clip.y4m")
             self.assertEqual(one.getresponse().read(), whole_text(SMALL, *(number * ["delete 3"])))
             headers = {"Origin": f"http://{host}", "Content-Type": "application/json"}
-            one.request("POST", f"/{token}/edits", '{"line": "delete 3"}', headers)
-            self.assertEqual(one.getresponse().status, 200)
+            # The address of the players does not edit.
+            for token, status in ((reading, 403), (editing, 200)):
+                one.request("POST", f"/{token}/edits", '{"line": "delete 3"}', headers)
+                response = one.getresponse()
+                self.assertEqual((response.status, response.read()[:9]), (status, b'{"error":' if status == 403 else b'{"reply":'))
             one.close()
             children = [int(pid) for pid in subprocess.run(["pgrep", "-P", str(process.pid)], capture_output=True, text=True, check=False).stdout.split()]
             self.assertEqual(len(children), 1)
-            process.send_signal(ending)
-            with self.within(5):
-                self.assertEqual(process.wait(10 * SLOW), 0)
-            self.assertEqual((process.stdout.read(), process.stderr.read()), (b"", b""))
-            process.stdout.close()
-            process.stderr.close()
+            self.assertEqual(self.end(process, ending), b"")
             self.assertFalse(is_alive(children[0]))
-        self.assertEqual(list_of(room / "list"), "delete 3\ndelete 3\n")
-        self.assertEqual(packets_of(room / "out.ivf"), packets_of(SMALL)[:3] + packets_of(SMALL)[5:])
+            self.assertEqual(list_of(room / "list"), "delete 3\n" * (number + 1))
+            self.assertEqual(packets_of(room / "out.ivf"), packets_of(SMALL)[:3] + packets_of(SMALL)[4 + number :])
+
+    def test_folders_of_programs_that_are_gone(self):
+        room = self.folder()
+        env = {"TMPDIR": str(room)}
+        first, *_ = self.begin(SMALL, env=env)
+        second, *_ = self.begin(SMALL, env=env)
+        folders = set(room.iterdir())
+        self.assertTrue(len(folders) >= 2 and all(path.name.startswith("wokureti-") for path in folders), folders)
+        (room / "wokureti-of-a-person").mkdir()
+        first.kill()
+        first.communicate(timeout=10 * SLOW)
+        self.end(self.begin(SMALL, env=env)[0], signal.SIGTERM)
+        left = set(room.iterdir()) - {room / "wokureti-of-a-person"}
+        # Those of the one that runs are there, and those of the one that was killed are not.
+        self.assertTrue(left and left < folders, (left, folders))
+        self.end(second, signal.SIGHUP)
+        self.assertEqual([path.name for path in room.iterdir()], ["wokureti-of-a-person"])
 
     def test_an_interrupt_right_before_the_main_thread_waits(self):
         for words in (("serve", SMALL), ("open", SMALL, "--no-browser", "--edits", self.folder() / "list")):

@@ -9,7 +9,7 @@ import subprocess
 import tempfile
 import threading
 
-from . import checks, files, parts, programs, waits
+from . import checks, files, parts, programs, rooms, waits
 from .errors import Ended
 from .progress import Progress
 
@@ -152,7 +152,7 @@ def write(session, out, workers, name="frames"):
             pass
         return [] if refused is None else [f"frames 0 to {count - 1}: {refused.reply}"]
     first = parts.find_first(session, number)
-    with tempfile.TemporaryDirectory(prefix="wokureti-", dir=plain_folder()) as folder:
+    with rooms.Room(plain_folder()) as folder:
         room = parts.Room(folder, session, first)
         plan, made = workers(room, count)
         refusals, progress = [], Progress(name, count)

@@ -2,11 +2,13 @@
 
 import argparse
 import os
+import signal
 import sys
 import tempfile
+import threading
 import traceback
 
-from . import cat, checks, convert, programs
+from . import cat, checks, convert, programs, rooms
 from .errors import Ended, Lost, Refused
 
 ABOUT = """\
@@ -68,7 +70,7 @@ def run_cat(given):
     jobs = given.jobs or len(os.sched_getaffinity(0))
     if jobs < 1:
         raise cat.Failed("--jobs is 1 or more")
-    with tempfile.TemporaryDirectory(prefix="wokureti-") as folder, opened(given, folder) as session:
+    with rooms.Room() as folder, opened(given, folder) as session:
         if given.sshlogin:
             from . import machines
 
@@ -119,7 +121,7 @@ def add_open(commands):
 def run_open(given):
     from . import opening
 
-    with tempfile.TemporaryDirectory(prefix="wokureti-") as folder:
+    with rooms.Room() as folder:
         options = served(given, folder)
         titles = [given.stream, *given.source]
         return opening.run(options, titles, given.edits, given.save, given.port, not given.no_browser, not given.no_pad, given.anyway)
@@ -141,7 +143,7 @@ def add_serve(commands):
 def run_serve(given):
     from . import serve
 
-    with tempfile.TemporaryDirectory(prefix="wokureti-") as folder:
+    with rooms.Room() as folder:
         return serve.run({**served(given, folder), "anyway": given.anyway}, given.edits, given.save, given.port)
 
 
@@ -177,7 +179,7 @@ def run_repair(given):
     if given.edits is not None and checks.is_same_file(given.out, given.edits):
         raise cat.Failed("OUT and the list of edits are one file")
     steps = {name for name in ("scan", "double", "sort", "hold") if not getattr(given, f"no_{name}")}
-    with tempfile.TemporaryDirectory(prefix="wokureti-") as folder:
+    with rooms.Room() as folder:
         data, second = (path and read_all(convert.as_ivf(path, folder)) for path in (given.stream, given.second))
     try:
         with progress.Stages() as stages:
@@ -254,7 +256,7 @@ def add_png(commands):
 def run_png(given):
     from . import png
 
-    with tempfile.TemporaryDirectory(prefix="wokureti-") as folder:
+    with rooms.Room() as folder:
         with opened(given, folder) as session:
             text = png.of_frame(session.frame(given.number), given.matrix, given.full)
         with cat.output(given.out) as file:
@@ -277,6 +279,8 @@ def parser_of():
 def main(words=None):
     """Runs a command line, and returns the exit status."""
     given = parser_of().parse_args(words)
+    end_by_signals()
+    rooms.sweep()
     try:
         return given.run(given)
     except BrokenPipeError:
@@ -289,6 +293,21 @@ def main(words=None):
         return stop(error)
     except Exception as error:
         return mistake(error)
+
+
+def end_by_signals():
+    """A terminal that closes, or a request to end, ends a command as Ctrl-C does: what is to be saved is saved, and no folder is left."""
+    def end(number, frame):
+        # What is done at the end is not ended by a second one.
+        for one in (signal.SIGTERM, signal.SIGHUP):
+            signal.signal(one, signal.SIG_IGN)
+        raise KeyboardInterrupt
+
+    if threading.current_thread() is threading.main_thread():
+        for number in (signal.SIGTERM, signal.SIGHUP):
+            # nohup ignores the closing of a terminal.
+            if signal.getsignal(number) != signal.SIG_IGN:
+                signal.signal(number, end)
 
 
 def mistake(error):

@@ -7,10 +7,9 @@ import math
 import os
 import shutil
 import sys
-import tempfile
 import urllib.request
 
-from . import checks, convert, facts, files, png, programs, records, y4m
+from . import checks, convert, facts, files, png, programs, records, rooms, y4m
 from .errors import Ended, Refused
 from .frames import frame_of, sides
 from .session import Session
@@ -298,7 +297,7 @@ def compare(one, other, pictures=None, tables=None):
     if one == other == "-":
         raise ValueError("only one of the two can be standard input")
     found = Comparison()
-    with tempfile.TemporaryDirectory(prefix="wokureti-") as folder:
+    with rooms.Room() as folder:
         with opened(one, folder, tables) as (left, left_path), opened(other, folder, tables) as (right, right_path):
             for number, pair in enumerate(itertools.zip_longest(left, right)):
                 found.add(number, *pair)

@@ -12,7 +12,7 @@ import tempfile
 import threading
 from array import array
 
-from . import ivf
+from . import ivf, rooms
 from .errors import Ended
 
 MOST_TIME = 300
@@ -39,7 +39,7 @@ def run(lister, path, *options, pass_fds=(), statuses=(0,)):
 
 def run_on(lister, packets, *options, statuses=(0,)):
     """The same of these packets, pairs of a time stamp and bytes."""
-    with tempfile.TemporaryDirectory() as folder:
+    with rooms.Room() as folder:
         path = os.path.join(folder, "packets.ivf")
         with open(path, "wb") as file:
             file.writelines(ivf.pieces(ivf.EMPTY, 0, packets))

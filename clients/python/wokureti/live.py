@@ -3,14 +3,13 @@
 import contextlib
 import os
 import secrets
-import sys
-import tempfile
 import threading
 
-from . import facts
+from . import facts, rooms
 from .edit_files import NotWritten
 from .errors import Ended, Lost, Refused
 from .outcomes import Outcomes
+from .progress import say
 from .saves import Saves
 from .session import Session
 
@@ -58,7 +57,7 @@ class Live:
         self.changed = threading.Condition(self.lock)
         self.instance, self.revision = secrets.token_hex(4), 1
         self.saves = Saves(save, stems)
-        self.room = tempfile.TemporaryDirectory(prefix="wokureti-")
+        self.room = rooms.Room()
         self.viewers, self.log = [], []
         self.known, self.found = (None, None), (None, None)
         self.checking = threading.Lock()
@@ -78,7 +77,7 @@ class Live:
 
     def notice(self, text):
         """Says something that nobody asked for."""
-        print(f"wokureti: {text}", file=sys.stderr, flush=True)
+        say(text)
         self.noticed += 1
         self.notices = [*self.notices, (self.noticed, text)][-MOST_NOTICES:]
 
@@ -91,7 +90,7 @@ class Live:
         """Ends the programs. The edits are in the list; the stream is saved if it was changed since the last time."""
         with self.lock:
             try:
-                if not self.closed and self.saves.named is not None and not self.is_saved(0):
+                if not self.closed and self.saves.named is not None and self.is_to_be_saved():
                     self.save()
             finally:
                 self.closed = True
@@ -110,7 +109,7 @@ class Live:
         """Starts the program again, from the list of edits."""
         if self.closed:
             raise Lost("the server ends")
-        print(f"wokureti: vp8serve ended ({ended}); it is started again from the list of edits", file=sys.stderr, flush=True)
+        say(f"vp8serve ended ({ended}); it is started again from the list of edits")
         self.drop_viewers()
         before = self.session
         before.kill()
@@ -176,12 +175,17 @@ class Live:
         self.changed.notify_all()
         return path
 
-    def is_saved(self, source=None):
-        """Whether the packets of a source, or of all, are as they were opened or saved."""
+    def is_saved(self):
+        """Whether the packets of all sources are as they were opened or saved."""
         with self.lock:
             contents = self.contents()
-            sources = range(len(contents.streams)) if source is None else [source]
-            return all(self.saves.is_saved(one, contents, contents.streams[one]) for one in sources)
+            return all(self.saves.is_saved(source, contents, stream) for source, stream in enumerate(contents.streams))
+
+    def is_to_be_saved(self):
+        """Whether something was edited, and the file that was named does not have it."""
+        contents = self.contents()
+        is_edited = self.revision > 1 or len(self.session.edits) > 0
+        return is_edited and self.saves.file_of(0, contents, contents.streams[0]) is None
 
     def picture(self, number, revision=None):
         """The width, height and samples of a frame. `Changed` if the stream is of another revision."""

@@ -113,7 +113,10 @@ class Opened(live.Live):
     def is_known_saved(self):
         """Whether there is nothing to save at the end, without waiting for a request that goes on."""
         view = self.current
-        return view is not None and view.revision == self.revision and self.saves.is_saved(0, view.contents, view.streams[0])
+        if view is None or view.revision != self.revision:
+            return False
+        is_edited = self.revision > 1 or len(self.session.edits) > 0
+        return not is_edited or self.saves.file_of(0, view.contents, view.streams[0]) is not None
 
     # What is beside the stream
 

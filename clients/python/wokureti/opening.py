@@ -2,6 +2,7 @@
 
 import hashlib
 import os
+import pathlib
 import sys
 import webbrowser
 
@@ -9,6 +10,7 @@ from . import serve
 from .errors import Ended
 from .opened import Opened
 from .pages import PageRoutes
+from .progress import say
 
 # Browsers that take over the terminal.
 TEXT_BROWSERS = ("www-browser", "links", "elinks", "lynx", "w3m")
@@ -37,17 +39,26 @@ def stem_of(stream):
     return os.path.join(state_folder(), f"{os.path.basename(stem)}-{mark}")
 
 
-def show(url):
-    """Opens a browser, if there is one with windows. Whether it was started."""
+def show(url, folder):
+    """Opens a browser, if there is one with windows. Whether it was started. Its command line, which other users of the machine can read, has a
+    file that leads to the address, and that only this user can read."""
     if not (os.environ.get("DISPLAY") or os.environ.get("WAYLAND_DISPLAY")):
         return False
     try:
         browser = webbrowser.get()
         if getattr(browser, "name", "") in TEXT_BROWSERS:
             return False
-        return browser.open(url)
+        return browser.open(pathlib.Path(write_door(url, folder)).as_uri())
     except (webbrowser.Error, OSError):
         return False
+
+
+def write_door(url, folder):
+    """The file that leads to the page."""
+    path = os.path.join(folder, "page.html")
+    with open(os.open(path, os.O_WRONLY | os.O_CREAT | os.O_EXCL | os.O_CLOEXEC, 0o600), "w", encoding="ascii") as file:
+        file.write(f'<!doctype html><meta charset="utf-8"><meta name="referrer" content="no-referrer"><meta http-equiv="refresh" content="0; url={url}"><title>Wokureti</title><a href="{url}">Wokureti</a>\n')
+    return path
 
 
 def run(options, titles, edits, save, port, has_browser, pad, anyway=False):
@@ -56,7 +67,7 @@ def run(options, titles, edits, save, port, has_browser, pad, anyway=False):
     path = edits or f"{stems[0]}.edits"
     if any(os.path.dirname(stem) == state_folder() for stem in stems):
         os.makedirs(state_folder(), mode=0o700, exist_ok=True)
-        print(f"wokureti: nothing can be written next to {titles[0]}: what is edited is in {path}", file=sys.stderr, flush=True)
+        say(f"nothing can be written next to {titles[0]}: what is edited is in {path}")
     try:
         live = Opened({**options, "anyway": anyway}, path, save, pad, stems)
     except Ended as error:
@@ -68,10 +79,10 @@ def run(options, titles, edits, save, port, has_browser, pad, anyway=False):
         print(f"{path}: {edits_text(count)} made", file=sys.stderr, flush=True)
     names = [os.path.basename(title) for title in titles]
 
-    def announce(address):
+    def announce(address, reading):
         print(f"{address}page/", flush=True)
-        if not has_browser or not show(f"{address}page/"):
-            print("wokureti: open this address in a browser. Ctrl-C ends it", file=sys.stderr, flush=True)
+        if not has_browser or not show(f"{address}page/", live.room.name):
+            say("open this address in a browser. Ctrl-C ends it")
 
     try:
         serve.serve_with(live, port, lambda *given: PageRoutes(*given, names), announce)
@@ -90,9 +101,9 @@ def say_where(live, title, usual):
     lines, written = len(edits), edits.written
     if written:
         how = f"`wokureti open {title}`" if edits.path == usual else f"`wokureti open {title} --edits {edits.path}`"
-        print(f"wokureti: {edits_text(written)} {'is' if written == 1 else 'are'} in {edits.path}: {how} goes on from there", file=sys.stderr)
+        say(f"{edits_text(written)} {'is' if written == 1 else 'are'} in {edits.path}: {how} goes on from there")
     if lines > written:
-        print(f"wokureti: {edits_text(lines - written)} could not be written to {edits.path}, and {'is' if lines - written == 1 else 'are'} lost", file=sys.stderr)
+        say(f"{edits_text(lines - written)} could not be written to {edits.path}, and {'is' if lines - written == 1 else 'are'} lost")
     for source, done in sorted(live.saves.done.items()):
         of = "" if source == 0 else f"of source {source} "
-        print(f"wokureti: the edited packets {of}were saved to {done.path}", file=sys.stderr)
+        say(f"the edited packets {of}were saved to {done.path}")

@@ -63,6 +63,11 @@ class PageRoutes(Routes):
             }
         )
 
+    def is_entry(self, request):
+        """The page, if a browser opens it as a page of its own: the file that leads there is of no site."""
+        is_page = request.headers.get("sec-fetch-mode") == "navigate" and request.headers.get("sec-fetch-dest") == "document"
+        return is_page and request.method == "GET" and request.parts[1:] == ["page", ""]
+
     def answer(self, request):
         """A browser reports each status of 400 and more as an error of the page: with `refusals=answers` a refusal is an answer."""
         wants = request.query.pop("refusals", None) == "answers"

@@ -1,8 +1,15 @@
 """A line of progress on a terminal."""
 
+import contextlib
 import sys
 import threading
 import time
+
+
+def say(text):
+    """Writes a line to standard error; nothing if that is gone, as after a terminal was closed."""
+    with contextlib.suppress(OSError, ValueError):
+        print(f"wokureti: {text}", file=sys.stderr, flush=True)
 
 
 class Progress:

@@ -21,7 +21,9 @@ WORDS = ("undo", "redo", "save")
 
 
 class Routes:
-    """What is served of a stream, below a path that has the token."""
+    """What is served of a stream, below a path that has the token; or another one, `reading`, with which nothing can be changed."""
+
+    reading = None
 
     def __init__(self, live, server, token):
         self.live, self.server, self.token = live, server, token
@@ -37,9 +39,13 @@ class Routes:
 
     def check(self, request):
         """Refuses a request before its body is read."""
-        if not hmac.compare_digest(request.parts[0].encode(), self.token.encode()) or len(request.parts) < 2:
+        given = request.parts[0].encode()
+        changes, reads = (token is not None and hmac.compare_digest(given, token.encode()) for token in (self.token, self.reading))
+        if not (changes or reads) or len(request.parts) < 2:
             raise Refuse(404, "there is nothing here")
         if request.method == "POST":
+            if not changes:
+                raise Refuse(403, "this address only reads")
             if tuple(request.parts[1:]) not in self.posts:
                 raise Refuse(405, f"only {' and '.join(path for path, in self.posts)} take a POST")
             if request.headers.get("origin") != self.server.origin:
@@ -53,6 +59,10 @@ class Routes:
             raise Refuse(405, "GET, HEAD and POST are answered")
         elif request.headers.get("content-length", "0") != "0":
             raise Refuse(400, f"a {request.method} has no body")
+
+    def is_entry(self, request):
+        """Whether a request is for what a person opens in a browser, from wherever."""
+        return False
 
     def answer(self, request):
         parts = tuple(request.parts[1:])

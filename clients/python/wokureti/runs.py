@@ -2,9 +2,8 @@
 
 import os
 import subprocess
-import tempfile
 
-from . import checks, ivf
+from . import checks, ivf, rooms
 from .errors import Ended
 
 # Seconds.
@@ -25,7 +24,7 @@ def run(words, lines=()):
 
 def saved_packets(program, lines, tables=None):
     """The packets that the program saves after these requests on an empty stream."""
-    with tempfile.TemporaryDirectory() as folder:
+    with rooms.Room() as folder:
         path = os.path.join(folder, "saved.ivf")
         words = [program, "-", "-", "-", "--save", path]
         if tables is not None:
@@ -38,7 +37,7 @@ def saved_packets(program, lines, tables=None):
 
 def padded(program, pieces):
     """The text of an IVF file as the program saves it with --pad, in pieces."""
-    with tempfile.TemporaryDirectory() as folder:
+    with rooms.Room() as folder:
         before, after = os.path.join(folder, "before.ivf"), os.path.join(folder, "after.ivf")
         with open(before, "wb") as file:
             file.writelines(pieces)

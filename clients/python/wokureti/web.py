@@ -279,7 +279,7 @@ class Server:
         origin = request.headers.get("origin")
         if origin is not None and origin != self.origin:
             raise Refuse(403, "the request comes from another site")
-        if request.headers.get("sec-fetch-site", "none") not in ("same-origin", "none"):
+        if request.headers.get("sec-fetch-site", "none") not in ("same-origin", "none") and not self.routes.is_entry(request):
             raise Refuse(403, "the request comes from another site")
         self.routes.check(request)
 
