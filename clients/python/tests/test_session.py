@@ -261,8 +261,13 @@ class Broken(Case):
             Session("-", sources=["-", SMALL, "/nowhere.ivf"])
         self.assertEqual((ended.exception.status, ended.exception.text), (1, "vp8serve: cannot read /nowhere.ivf"))
 
+    def test_the_number_of_cached_states(self):
+        for cache in (0, 4097, -1):
+            with self.assertRaisesRegex(ValueError, f"1 to 4096, and not {cache}"):
+                Session(SMALL, cache=cache)
+
     def test_no_program(self):
-        with self.assertRaises(FileNotFoundError):
+        with self.assertRaisesRegex(FileNotFoundError, "there is no /.*: install it, or name it in the variable VP8SERVE"):
             Session(SMALL, program="/nowhere/vp8serve")
 
     def test_a_save_that_cannot_begin(self):

@@ -9,7 +9,7 @@ import threading
 import traceback
 
 from . import cat, checks, convert, programs, rooms
-from .errors import Ended, Lost, Refused
+from .errors import Ended, Lost, Refused, sentence
 
 ABOUT = """\
 Shows, edits, repairs and compares VP8 streams with the programs vp8serve and vp8list. They are those of the variables VP8SERVE and
@@ -17,6 +17,10 @@ VP8LIST, or on the PATH. An exit status of 70 says that wokureti itself failed.
 """
 # The exit status of a mistake of this program, EX_SOFTWARE of sysexits.h: no command means anything else by it.
 MISTAKE = 70
+
+
+# What each command reads.
+STREAM = "IVF file, or WebM, MKV, AVI or MP4 if ffmpeg or mkvtoolnix is there; `-` is standard input"
 
 
 def stop(text):
@@ -42,7 +46,7 @@ def add_cat(commands):
         "several processes decode the parts, and the parts are joined in order as they come. Exit status 1 if a frame is refused, which is "
         "then left out; 2 for any error.",
     )
-    parser.add_argument("stream", metavar="IN", help="IVF file")
+    parser.add_argument("stream", metavar="IN", help=STREAM)
     add_edits(parser)
     parser.add_argument("out", metavar="OUT", nargs="?", default="-", help="the text; standard output if it is missing, or `-`")
     parser.add_argument("--jobs", type=int, default=0, metavar="N", help="processes on this machine; as many as processors if missing")
@@ -88,7 +92,7 @@ def run_cat(given):
 
 def add_served(parser):
     """The arguments of a server."""
-    parser.add_argument("stream", metavar="IN", help="IVF file; `-` is an empty stream")
+    parser.add_argument("stream", metavar="IN", help=f"{STREAM}; /dev/null is an empty stream")
     parser.add_argument("--source", action="append", default=[], metavar="B", help="another stream: source 1, 2, and so on")
     parser.add_argument("--cache", type=int, metavar="N", help="number of decoded states that are cached")
     parser.add_argument("--port", type=int, default=0, metavar="N", help="the port; a free one if missing")
@@ -157,7 +161,7 @@ def add_repair(commands):
         "held up to the next key frame. OUT is then checked as by `vp8list --check`. Exit status 0 if the stream was clean, 1 if it was mended and "
         "OUT has no damage, 2 if damage is left, or no key frame survives and nothing was written.",
     )
-    parser.add_argument("stream", metavar="IN", help="IVF file")
+    parser.add_argument("stream", metavar="IN", help=STREAM)
     parser.add_argument("out", metavar="OUT", help="the mended IVF file")
     parser.add_argument("--second", metavar="FILE", help="a second recording of the same packets")
     parser.add_argument("--edits", metavar="FILE", help="writes the edits that make OUT of IN, which `vp8serve IN FILE - --save OUT` runs")
@@ -201,6 +205,8 @@ def run_repair(given):
 
 
 def read_all(path):
+    if path == "-":
+        return b""
     with open(path, "rb") as file:
         return file.read()
 
@@ -244,7 +250,7 @@ def add_png(commands):
         help="a frame as PNG",
         description="Writes a frame as a PNG file, with the colours of ITU-R BT.601 and luma of 16 to 235, as VP8 has them.",
     )
-    parser.add_argument("stream", metavar="IN", help="IVF file")
+    parser.add_argument("stream", metavar="IN", help=STREAM)
     parser.add_argument("number", metavar="N", type=int, help="the number of the frame, from 0")
     parser.add_argument("out", metavar="OUT", help="the PNG file; standard output if it is `-`")
     add_edits(parser)
@@ -290,7 +296,7 @@ def main(words=None):
     except KeyboardInterrupt:
         return 130
     except (cat.Failed, Ended, Lost, Refused, OSError, ValueError) as error:
-        return stop(error)
+        return stop(sentence(error))
     except Exception as error:
         return mistake(error)
 

@@ -69,7 +69,8 @@ def opened(name, folder, tables=None):
     elif name == "-":
         source = sys.stdin.buffer
     else:
-        path = convert.as_ivf(name, folder)
+        # A pipe is read as it comes.
+        path = convert.as_ivf(name, folder) if os.path.isfile(name) else name
         source = open(path, "rb")
     with contextlib.closing(source) as file:
         head, ivf_path = peek(file), None
@@ -83,6 +84,13 @@ def opened(name, folder, tables=None):
                     copy.write(head)
                     shutil.copyfileobj(file, copy, 1 << 20)
             frames, ivf_path = of_stream(path, tables), path
+        elif convert.kind_of(head) is not None:
+            copied = convert.new_name(folder, "spooled")
+            with open(copied, "xb") as copy:
+                copy.write(head)
+                shutil.copyfileobj(file, copy, 1 << 20)
+            ivf_path = convert.as_ivf(copied, folder)
+            frames = of_stream(ivf_path, tables)
         else:
             raise ValueError(f"{name} is no IVF file of VP8, and no YUV4MPEG2 text")
         with contextlib.closing(frames):
@@ -91,7 +99,7 @@ def opened(name, folder, tables=None):
 
 def peek(file):
     """The first bytes of a file."""
-    return y4m.read_exactly(file, 9)
+    return y4m.read_exactly(file, 12)
 
 
 class Joined:

@@ -11,7 +11,7 @@ import warnings
 
 from .contents import Contents
 from .edit_files import EditFile, NotWritten
-from .errors import OtherStream, Refused
+from .errors import OtherStream, Refused, sentence
 from .files import write_whole
 
 # The requests that are not edits, and the first word of their replies. The reply to an edit begins with `ok`.
@@ -144,7 +144,7 @@ class EditList:
             if self._entries:
                 self._write()
         except OSError as error:
-            self._say(str(error))
+            self._say(sentence(error))
         file, self._file = self._file, None
         self._known = file.known
         file.close()
@@ -216,7 +216,7 @@ class EditList:
         try:
             self._write()
         except OSError as error:
-            self._say(str(error))
+            self._say(sentence(error))
 
     def contents(self):
         """The packets after the edits, which are found when they are needed first."""

@@ -1,5 +1,6 @@
 """The exceptions of a session."""
 
+import os
 import re
 
 # A reply such as "refused source 2 packet 60 TokenPartition 1".
@@ -52,3 +53,10 @@ class OtherStream(ValueError):
 
 class Lost(Exception):
     """A program ended, and could not be started again or ended again."""
+
+
+def sentence(error):
+    """An error as a message says it: that of the system without its number."""
+    if type(error).__str__ is not OSError.__str__ or not isinstance(error, OSError) or not error.strerror:
+        return str(error)
+    return f"{os.fsdecode(error.filename)}: {error.strerror}" if isinstance(error.filename, (str, bytes)) else error.strerror

@@ -12,7 +12,7 @@ import tempfile
 import threading
 from array import array
 
-from . import ivf, rooms
+from . import ivf, programs, rooms
 from .errors import Ended
 
 MOST_TIME = 300
@@ -29,6 +29,8 @@ def run(lister, path, *options, pass_fds=(), statuses=(0,)):
             done = subprocess.run(
                 words, stdout=out, stderr=subprocess.PIPE, timeout=MOST_TIME, stdin=subprocess.DEVNULL, check=False, pass_fds=pass_fds
             )
+        except FileNotFoundError:
+            raise programs.missing(lister) from None
         except subprocess.TimeoutExpired:
             raise Ended(None, f"{lister} took longer than {MOST_TIME} seconds") from None
         if done.returncode not in statuses:

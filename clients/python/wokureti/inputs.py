@@ -7,7 +7,7 @@ import stat
 import tempfile
 import threading
 
-from . import checks, ivf
+from . import checks, convert, ivf, rooms
 
 # Bytes that are read at a time.
 WINDOW = 1 << 20
@@ -156,14 +156,25 @@ class Inputs:
     """The streams of a session, source 0 first."""
 
     def __init__(self, paths):
-        self.all = []
+        self.all, self.room = [], None
         try:
             for path in paths:
-                self.all.append(Input(path))
+                self.all.append(Input(self.taken_out(path)))
         except BaseException:
             self.close()
             raise
         self.paths = paths
+
+    def taken_out(self, path):
+        """The path, or of a file in another container that of its packets."""
+        if path == "-" or not os.path.isfile(path):
+            return path
+        with open(path, "rb") as file:
+            if convert.kind_of(file.read(12)) is None:
+                return path
+        if self.room is None:
+            self.room = rooms.Room()
+        return convert.as_ivf(path, self.room.name, is_quiet=True)
 
     @property
     def words(self):
@@ -182,6 +193,8 @@ class Inputs:
     def close(self):
         for item in self.all:
             item.close()
+        if self.room is not None:
+            self.room.cleanup()
 
 
 def is_input(path, paths):

@@ -1,10 +1,18 @@
 """Where the programs vp8serve and vp8list are."""
 
+import errno
 import os
 import pathlib
 import shutil
 
 TREE = pathlib.Path(__file__).resolve().parents[3]
+
+
+def missing(word):
+    """The error of a program that is not there."""
+    name = "vp8list" if os.path.basename(word) == "vp8list" else "vp8serve"
+    where = f"{name} is not on the PATH" if os.sep not in word else f"there is no {word}"
+    return FileNotFoundError(errno.ENOENT, f"{where}: install it, or name it in the variable {name.upper()}")
 
 
 def find(name):

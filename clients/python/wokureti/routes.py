@@ -6,7 +6,7 @@ import re
 import time
 
 from . import png, ranges
-from .errors import Ended, Lost, Refused
+from .errors import Ended, Lost, Refused, sentence
 from .frames import frame_of
 from .outcomes import TooMany
 from .session import EDITS, Session
@@ -76,7 +76,7 @@ class Routes:
         except (Lost, Ended) as lost:
             raise Refuse(503, str(lost)) from None
         except OSError as error:
-            raise Refuse(500, str(error)) from None
+            raise Refuse(500, sentence(error)) from None
 
     def read(self, request, parts):
         if parts in self.reads:

@@ -3,7 +3,7 @@
 import os
 import subprocess
 
-from . import checks, ivf, rooms
+from . import checks, ivf, programs, rooms
 from .errors import Ended
 
 # Seconds.
@@ -15,6 +15,8 @@ def run(words, lines=()):
     given = "".join(f"{line}\n" for line in lines).encode()
     try:
         done = subprocess.run(words, input=given, capture_output=True, timeout=MOST_TIME, check=False)
+    except FileNotFoundError:
+        raise programs.missing(words[0]) from None
     except subprocess.TimeoutExpired:
         raise Ended(None, f"{words[0]} took longer than {MOST_TIME} seconds") from None
     if done.returncode != 0:

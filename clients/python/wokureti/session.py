@@ -24,7 +24,8 @@ class Count(NamedTuple):
 
 
 class Session:
-    """A running vp8serve over an IVF file, or over an empty stream if `stream` is `-`.
+    """A running vp8serve over an IVF file, or over an empty stream if `stream` is `-`. Of a file in another container, such as WebM, the packets
+    are taken out first, by ffmpeg or mkvextract.
 
     `sources` are the paths of sources 1 to 7, `cache` the number of cached states, or `cache_bytes` the number of bytes that their pictures
     may take, `tables` a file that replaces the RFC's long tables, and `save` the file that gets the packets of source 0 when the session
@@ -99,7 +100,7 @@ class Session:
         if tables is not None:
             words += ["--tables", checks.path(tables)]
         if cache is not None:
-            words += ["--cache", str(checks.number(cache))]
+            words += ["--cache", str(checks.states(cache))]
         if cache_bytes is not None:
             words += ["--cache-bytes", str(checks.number(cache_bytes))]
         return words + ["--pad"] * bool(pad) + ["--explain"] * bool(self._explain)
