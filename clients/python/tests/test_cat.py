@@ -11,7 +11,7 @@ import unittest
 from unittest import mock
 
 from support import DATA, ODD, SLOW, SMALL, Case, command, packets_of, start, start_unwaking, whole_text, write_packets
-from wokureti import Session, cat, machines, programs
+from wokureti import Session, cat, commands, machines, parts, programs
 
 SCENES = DATA / "scene-cuts.ivf"
 HIDDEN = DATA / "hidden-altref.ivf"
@@ -193,6 +193,38 @@ class Containers(Case):
         self.assertEqual(packets_of(self.room / "saved.ivf"), [self.packets[3], *self.packets])
         # The folder with the packets is gone.
         self.assertFalse(os.path.exists(stream._inputs.room.name))
+
+
+class Bounded(Case):
+    def test_the_folder_for_temporary_files_has_a_few_parts(self):
+        room = self.folder()
+        path = write_packets(room / "in.ivf", 16 * packets_of(SMALL))
+        wanted = whole_text(path)
+        header = wanted.index(b"\n") + 1
+        size = (len(wanted) - header) // 192
+        real, most, sizes = cat.run_part, [], []
+
+        def run_part(folder, number, *more):
+            real(folder, number, *more)
+            found = [entry.stat().st_size for entry in os.scandir(folder.folder) if entry.name.endswith(".y4m")]
+            most.append(sum(found))
+            sizes.append(os.path.getsize(folder.path(number, "y4m")))
+
+        for script in ((), ("--script", "trim 0 0 500")):
+            with mock.patch.object(cat, "run_part", run_part), mock.patch.object(cat, "MOST_HELD", 30 * size), mock.patch.object(parts, "MOST_PART", 12 * size):
+                self.assertEqual(commands.main(["cat", str(path), str(room / "out.y4m"), "--jobs", "4", *script]), 0)
+            self.assertEqual((room / "out.y4m").read_bytes(), wanted)
+        # A part has 12 frames, and the one that leads, and two of them are there at a time; one more is being joined.
+        self.assertLessEqual(max(sizes), header + 13 * size)
+        self.assertLessEqual(max(most), 3 * (header + 13 * size))
+        self.assertGreaterEqual(len(sizes), 2 * 16)
+
+    def test_a_full_folder_is_named(self):
+        room = self.folder()
+        (room / "it").mkdir()
+        self.assertEqual(cat.if_full(str(room / "it")), "")
+        with mock.patch.object(cat, "LEAST_FREE", 1 << 62):
+            self.assertEqual(cat.if_full(str(room / "it")), f". The folder for temporary files, {room}, is full: name another one in the variable TMPDIR")
 
 
 class Failures(Case):

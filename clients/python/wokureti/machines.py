@@ -168,7 +168,8 @@ def workers_of(session, logins, program, tables):
     def workers(room, count):
         contents = session.edits.contents()
         processes = 4 * len(logins)
-        plan = parts.by_packets(contents, processes) if contents.script == "-" else parts.by_frames(count, processes)
+        size = room.first.size
+        plan = parts.by_packets(contents, processes, size) if contents.script == "-" else parts.by_frames(count, processes, size)
         return plan, Machines(room, plan, logins, program, tables)
 
     return workers
