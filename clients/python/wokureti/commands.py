@@ -225,18 +225,47 @@ def add_compare(commands):
         help="where two streams of frames part",
         description="Compares the frames of A and B, each an IVF file, a YUV4MPEG2 file, a URL, or `-`, a decoder under test on a pipe. Prints the first "
         "frame that differs, with the first sample and, of IVF files, the record of the first macroblock that differs; how many frames and samples "
-        "differ, and the PSNR. Exit status 0 if all are the same, 1 if "
-        "not, 2 for an error.",
+        "differ, and the PSNR. With --decoder A is a folder of streams, and each is compared with the frames of that decoder. Exit status 0 if all are "
+        "the same, 1 if not, 2 for an error.",
     )
     parser.add_argument("one", metavar="A")
-    parser.add_argument("other", metavar="B")
+    parser.add_argument("other", metavar="B", nargs="?")
+    parser.add_argument(
+        "--decoder",
+        metavar="CMD",
+        help="a command that decodes a stream: {in} is the stream, {out} a file for its frames, YUV4MPEG2 or I420; they come on standard output if "
+        "{out} is missing. For example 'vpxdec --i420 -o {out} {in}'",
+    )
+    parser.add_argument("--jobs", type=int, default=0, metavar="N", help="with --decoder: streams at a time; as many as processors if missing")
+    parser.add_argument("--junit", metavar="FILE", help="with --decoder: the results as JUnit has them")
     parser.add_argument("--png", metavar="DIR", help="writes the first two frames that differ, and their difference, as PNG")
     parser.add_argument("--tables", metavar="FILE", help="3012 bytes that replace the long tables of RFC 6386")
     parser.set_defaults(run=run_compare)
 
 
+def run_decoder(given):
+    from . import decoders
+
+    found = []
+    for result in decoders.results(given.one, given.decoder, given.jobs or len(os.sched_getaffinity(0)), given.tables):
+        found.append(result)
+        print(f"{result.name}: {'; '.join(result.lines[:2]) or 'same'}", flush=True)
+    same = sum(result.is_same for result in found)
+    print(f"{same} of {len(found)} streams are the same")
+    if given.junit is not None:
+        decoders.write_junit(given.junit, given.decoder, found)
+    return 0 if same == len(found) else 1
+
+
 def run_compare(given):
     from . import compare
+
+    if given.decoder is not None:
+        if given.other is not None or given.png is not None or given.jobs < 0:
+            raise cat.Failed("with --decoder there is one folder, and no B and no --png")
+        return run_decoder(given)
+    if given.other is None or given.junit is not None:
+        raise cat.Failed("two streams are compared: B is missing, or --decoder")
 
     found = compare.compare(given.one, given.other, given.png, given.tables)
     for line in found.lines():

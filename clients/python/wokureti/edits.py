@@ -5,9 +5,13 @@ is in it before the call that made it returns. Comments and empty lines of the f
 line says which stream the list is of, and `# step 3 Repair all` that the next three edits are one step for `undo`.
 """
 
+from __future__ import annotations
+
 import contextlib
+import os
 import re
 import warnings
+from typing import Callable, Iterable, Iterator, Optional, Union
 
 from .contents import Contents
 from .edit_files import EditFile, NotWritten
@@ -92,7 +96,7 @@ class EditList:
         self._named, self._path, self._known = None, None, None
         self._file = None
         # Called with a sentence if the file is another one than was thought; without it that is a warning.
-        self.on_notice = None
+        self.on_notice: Optional[Callable[[str], None]] = None
         if path is not None:
             self._use(EditFile(path))
             self._named = self._path
@@ -102,10 +106,10 @@ class EditList:
         if self._contents is not None:
             self._contents.edits_path = file.path
 
-    def __iter__(self):
+    def __iter__(self) -> Iterator[str]:
         return iter([entry.line for entry in self._entries])
 
-    def __len__(self):
+    def __len__(self) -> int:
         return len(self._entries)
 
     @property
@@ -113,26 +117,26 @@ class EditList:
         """The edits, with their steps: those of one step are taken back together."""
         return self._entries
 
-    def text(self):
+    def text(self) -> str:
         """The list as text."""
         return "".join(entry.text for entry in self._entries)
 
-    def save(self, path):
+    def save(self, path: Union[str, bytes, os.PathLike[str], os.PathLike[bytes]]) -> None:
         """Writes the list to another file."""
         write_whole(path, [self.text().encode()])
 
     @property
-    def path(self):
+    def path(self) -> Optional[str]:
         """The file of the list, or None."""
         return self._path
 
     @property
-    def written(self):
+    def written(self) -> int:
         """How many of the edits are in the file, on the disk."""
         return len(self._ends)
 
     @property
-    def undone(self):
+    def undone(self) -> list[str]:
         """The lines that `redo` makes again, the next one first."""
         return [entry.line for group in reversed(self._undone) for entry in group]
 
@@ -173,7 +177,7 @@ class EditList:
             place += sum(len(line.encode()) + 1 for line in lines[before:number])
             self._ends.append(place)
 
-    def run(self, path):
+    def run(self, path: Union[str, bytes, os.PathLike[str], os.PathLike[bytes]]) -> None:
         """Makes the edits of a list, which is only read."""
         with open(path, encoding="utf-8") as file:
             text = file.read()
@@ -228,7 +232,7 @@ class EditList:
         return self._contents
 
     @contextlib.contextmanager
-    def step(self, title=""):
+    def step(self, title: str = "") -> Iterator[None]:
         """Edits in the block are one step for `undo`, which may have a title. They are in the file when the block ends."""
         if self._depth == 0:
             self._step += 1
@@ -318,10 +322,10 @@ class EditList:
         count = len(new)
         self._say(f"{why} while it was open: {'the edit is' if count == 1 else f'all {count} edits are'} in {self._path} now")
 
-    def run_step(self, lines, timeout=None, progress=None, title=""):
+    def run_step(self, lines: Iterable[str], timeout: Optional[float] = None, progress: Optional[Callable[[int], None]] = None, title: str = "") -> str:
         """Makes edits as one step, and returns the reply to the last one. If one is refused, none is made, and what was undone can be made
         again as before. `progress` is called with the number of edits that were made."""
-        count, undone, after = len(self._entries), list(self._undone), self._after
+        count, undone, after, lines = len(self._entries), list(self._undone), self._after, list(lines)
         # After a refusal the program may have made some of the edits that follow it: those are taken back too.
         replies = self._session.request_all(lines, timeout, progress)
         refused = next((reply for reply in replies if isinstance(reply, Refused)), None)
