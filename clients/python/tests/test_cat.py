@@ -152,6 +152,12 @@ class Paths(Case):
         self.assertEqual((self.room / "mended.ivf").read_bytes(), SCENES.read_bytes())
         self.assertEqual(command("compare", "-", SCENES, given=SCENES.read_bytes())[0], 0)
 
+    def test_a_name_that_a_terminal_obeys(self):
+        for words in (["a\x1b[31m\x07.ivf"], [self.clip, "a\x1b[31m\x07/out.y4m"]):
+            status, _, errors = command("cat", *words, cwd=self.room)
+            self.assertEqual((status, "\x1b" in errors, "\x07" in errors), (2, False, False))
+        self.assertIn("a\\x1b[31m\\x07/", errors)
+
     def test_a_folder_that_is_not_there(self):
         status, _, errors = command("cat", self.clip, self.room / "none" / "out.y4m")
         self.assertEqual((status, "No such file" in errors), (2, True))

@@ -370,6 +370,58 @@ class Timelines(Case):
             self.assertEqual([place for place, mark in enumerate(found) if mark], marked, stream)
 
 
+class Going(PageCase):
+    def test_key_packets_and_cuts(self):
+        self.serve(SCENES, sources=[SMALL])
+        keys = [place for place, data in enumerate(packets_of(SCENES)) if ivf.is_key(data)]
+        for packet in (0, 1, keys[1], keys[-1], len(packets_of(SCENES)) - 1):
+            after, before = (self.members(f"/key?packet={packet}&step={step}")["packet"] for step in (1, -1))
+            self.assertEqual(after, next((key for key in keys if key > packet), None), packet)
+            self.assertEqual(before, next((key for key in reversed(keys) if key < packet), None), packet)
+        self.assertEqual(self.members("/key?packet=0&source=1")["packet"], next((place for place, data in enumerate(packets_of(SMALL)) if place and ivf.is_key(data)), None))
+        self.change("script trim 0 0 10; trim 0 20 5; splice 1 2; source 1; splice 3 4")
+        for frame, before, after in ((0, None, 10), (9, 0, 10), (10, 0, 15), (12, 10, 15), (15, 10, None), (26, 15, None)):
+            self.assertEqual([self.members(f"/cut?frame={frame}&step={step}")["frame"] for step in (-1, 1)], [before, after], frame)
+
+    def test_frames_that_are_served_together(self):
+        self.serve(SCENES)
+        with self.session(SCENES) as stream:
+            wanted = [stream.frame(number).i420() for number in range(8)]
+        for first, last in ((0, 0), (0, 7), (3, 5)):
+            status, headers, body = self.ask(f"/frames/{first}-{last}.y4m")
+            head, *frames = body.split(b"FRAME\n")
+            self.assertEqual((status, headers["ETag"], len(body)), (200, f'"{self.live.instance}-1"', int(headers["Content-Length"])))
+            self.assertEqual(body[len(head) :], b"".join(b"FRAME\n" + samples for samples in wanted[first : last + 1]))
+            self.assertEqual(head, self.ask("/frames/0.y4m")[2].partition(b"FRAME\n")[0])
+        self.step("replace 5 1000")
+        count = self.members("/session")["frames"]
+        for path, status in (("3-5", 409), ("0-4", 200), (f"{count - 1}-{count}", 404), ("5-3", 400), ("0-8", 400), ("0-x", 404), ("-1-2", 404)):
+            self.assertEqual(self.ask(f"/frames/{path}.y4m")[0], status, path)
+
+    def test_reports(self):
+        path = self.broken()
+        self.serve(path)
+        status, headers, body = self.ask("/report.json")
+        found = json.loads(body)
+        lines = subprocess.run([programs.find("vp8list"), path, "--check"], capture_output=True, text=True, check=False).stdout.splitlines()
+        self.assertEqual((status, found["findings"], found["summary"]), (200, lines[:-1], lines[-1]))
+        self.assertIn("broken-findings.json", headers["Content-Disposition"])
+        self.live.files = None
+        self.server.routes.titles = ["<b>&.ivf"]
+        status, headers, body = self.ask("/report.html")
+        text = body.decode()
+        self.assertEqual((status, headers["Content-Type"], "<b>" in text, "&lt;b&gt;&amp;.ivf" in text), (200, "text/html; charset=utf-8", False, True))
+        for line in lines[:-1]:
+            self.assertIn("<tr><td>{}</td><td>{}</td></tr>".format(*line.split(": ", 1)), text)
+
+    def test_findings_have_the_key_packet_before_them(self):
+        self.serve(self.broken(18))
+        found = self.checked()
+        self.assertEqual(len(found["groups"]), len(found["findings"]))
+        for finding, group in zip(found["findings"], found["groups"]):
+            self.assertEqual(group, None if finding["packet"] is None else 16 if 16 <= finding["packet"] < 32 else group)
+
+
 class Steps(PageCase):
     def test_a_step(self):
         room = self.folder()

@@ -10,6 +10,7 @@ import traceback
 
 from . import cat, checks, convert, programs, rooms
 from .errors import Ended, Lost, Refused, sentence
+from .progress import say
 
 ABOUT = """\
 Shows, edits, repairs and compares VP8 streams with the programs vp8serve and vp8list. They are those of the variables VP8SERVE and
@@ -25,7 +26,7 @@ STREAM = "IVF file, or WebM, MKV, AVI or MP4 if ffmpeg or mkvtoolnix is there; `
 
 def stop(text):
     """Ends with a message and status 2."""
-    print(f"wokureti: {text}", file=sys.stderr)
+    say(str(text))
     return 2
 
 
@@ -84,9 +85,9 @@ def run_cat(given):
             workers = cat.here(session, jobs, program, given.tables)
         refusals = cat.write(session, given.out, workers)
     for line in refusals[:10]:
-        print(f"wokureti: {line}", file=sys.stderr)
+        say(line)
     if len(refusals) > 10:
-        print(f"wokureti: {len(refusals) - 10} more frames were refused", file=sys.stderr)
+        say(f"{len(refusals) - 10} more frames were refused")
     return 1 if refusals else 0
 
 

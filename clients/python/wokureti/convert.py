@@ -5,9 +5,9 @@ import shutil
 import stat
 import struct
 import subprocess
-import sys
 
 from . import checks, ivf
+from .progress import say
 
 MOST_TIME = 3600
 
@@ -81,7 +81,7 @@ def taken_out(path, folder, name, kind, is_quiet):
         raise Container(f"{name} is a {kind} file: to take its packets out, install ffmpeg or mkvtoolnix")
     count_packets(out)
     if not is_quiet:
-        print(f"wokureti: {name} is a {kind} file; {tool} took its packets out without coding them again", file=sys.stderr)
+        say(f"{name} is a {kind} file; {tool} took its packets out without coding them again")
     return out
 
 

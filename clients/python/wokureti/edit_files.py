@@ -6,6 +6,8 @@ import os
 import stat
 import time
 
+from .files import sync_folder
+
 # Seconds.
 LOCK_TIME = 1
 # Names that are tried for another file.
@@ -32,6 +34,8 @@ class EditFile:
     def __init__(self, path, is_fresh=False):
         self.path = os.fspath(path)
         self.descriptor, self.is_new = open_locked(self.path, is_fresh)
+        if self.is_new:
+            sync_folder(os.path.dirname(os.path.realpath(self.path)))
         self.size = os.fstat(self.descriptor).st_size
         # What was known of the file after the last write.
         self.known = signature(os.fstat(self.descriptor))

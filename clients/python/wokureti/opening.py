@@ -3,7 +3,6 @@
 import hashlib
 import os
 import pathlib
-import sys
 import webbrowser
 
 from . import serve
@@ -76,7 +75,7 @@ def run(options, titles, edits, save, port, has_browser, pad, anyway=False):
         raise
     count = len(live.session.edits)
     if count:
-        print(f"{path}: {edits_text(count)} made", file=sys.stderr, flush=True)
+        say(f"{path}: {edits_text(count)} made")
     names = [os.path.basename(title) for title in titles]
 
     def announce(address, reading):

@@ -1,8 +1,11 @@
 """The routes that `wokureti open` has more than `wokureti serve`: the files of its page, and what the page asks for."""
 
+import html
+import itertools
 import json
 import os
 import pathlib
+import re
 import time
 
 from . import ivf, records, repair
@@ -29,6 +32,9 @@ STEPS = frozenset(("double", "sort", "hold"))
 MOST_LINES = 20000
 # Frames whose origins are told at a time, at most; seconds that one search for a frame that differs takes.
 MOST_ORIGINS, SEARCH_TIME = 4096, 0.25
+# Frames that are served together, at most.
+MOST_TOGETHER = 8
+RANGE = re.compile("([0-9]{1,15})-([0-9]{1,15})\\.y4m")
 
 
 def files_of_page():
@@ -54,6 +60,10 @@ class PageRoutes(Routes):
                 ("place",): self.place,
                 ("numbers",): self.numbers,
                 ("check",): self.check_of,
+                ("key",): self.key,
+                ("cut",): self.cut,
+                ("report.json",): self.report,
+                ("report.html",): self.report,
                 ("repairs",): self.repairs,
                 ("repair_all",): self.repair_all,
                 ("differs",): self.differs,
@@ -92,6 +102,8 @@ class PageRoutes(Routes):
             return self.before(request, parts[2])
         if len(parts) == 2 and parts[0] == "packets":
             return self.packet(request, parts[1])
+        if len(parts) == 2 and parts[0] == "frames" and "-" in parts[1]:
+            return self.frames(request, parts[1])
         return super().read(request, parts)
 
     def session(self, request):
@@ -215,6 +227,64 @@ class PageRoutes(Routes):
             raise Refuse(404, "there is nothing here")
         return int(number)
 
+    def frames(self, request, name):
+        """A few frames that follow each other, of one size."""
+        self.only(request)
+        found = RANGE.fullmatch(name)
+        if found is None:
+            raise Refuse(404, "there is nothing here")
+        first, last = int(found.group(1)), int(found.group(2))
+        if not 0 <= last - first < MOST_TOGETHER:
+            raise Refuse(400, f"1 to {MOST_TOGETHER} frames are served together")
+        with self.live.lock:
+            etag, rate = f'"{self.live.instance}-{self.live.revision}"', self.live.rate()
+            pictures = self.live.pictures(range(first, last + 1))
+        size = pictures[0][:2]
+        length = len(header_of(size, rate)) + sum(len(MARK) + len(samples) for _, _, samples in pictures)
+        pieces = itertools.chain([header_of(size, rate)], *((MARK, samples) for _, _, samples in pictures))
+        return Response(200, "video/x-yuv4mpeg", length=length, headers=[("ETag", etag)], pieces=pieces)
+
+    def step_of(self, request):
+        return -1 if request.query.get("step") == "-1" else 1
+
+    def key(self, request):
+        """The next key packet of a source, or the one before."""
+        self.only(request, "source", "packet", "step")
+        view = self.live.current_view()
+        source, packet = self.source_of(request, view), self.number(request, "packet", 0)
+        keys = view.timeline(source).keys
+        found = keys.find(1, packet + 1) if self.step_of(request) > 0 else keys.rfind(1, 0, min(packet, len(keys)))
+        return as_json({"revision": view.revision, "source": source, "packet": None if found < 0 else found})
+
+    def cut(self, request):
+        """The next frame that does not follow the one before it in its source, or the one before: where a script joins, and its end."""
+        self.only(request, "frame", "step")
+        view = self.live.current_view()
+        frame, ends = self.number(request, "frame", 0), [0, *view.runs()[1][:-1]]
+        if self.step_of(request) > 0:
+            found = next((end for end in ends if end > frame), None)
+        else:
+            found = next((end for end in reversed(ends) if end < frame), None)
+        return as_json({"revision": view.revision, "frame": found})
+
+    def report(self, request):
+        """The findings of the current packets as a file: as objects, or as a page of their own."""
+        self.only(request)
+        revision, lines = self.live.findings()
+        name = self.safe_name()
+        if request.parts[-1] == "report.json":
+            text = json.dumps({"stream": self.titles[0], "revision": revision, "findings": lines[:-1], "summary": lines[-1] if lines else ""}, indent=1).encode() + b"\n"
+            return Response(200, "application/json", text, headers=[("Content-Disposition", f'attachment; filename="{name}-findings.json"')])
+        rows = "".join("<tr><td>{}</td><td>{}</td></tr>\n".format(*map(html.escape, line.partition(": ")[::2])) for line in lines[:-1])
+        title = html.escape(f"Findings of {self.titles[0]}")
+        text = f'<!doctype html>\n<meta charset="utf-8">\n<title>{title}</title>\n<h1>{title}</h1>\n<p>{html.escape(lines[-1] if lines else "")}</p>\n<table>\n{rows}</table>\n'
+        return Response(200, "text/html; charset=utf-8", text.encode(), headers=[("Content-Disposition", f'attachment; filename="{name}-findings.html"')])
+
+    def safe_name(self):
+        """The name of the stream in the name of a file."""
+        name = os.path.splitext(os.path.basename(self.titles[0]))[0]
+        return "".join(letter if letter.isalnum() and letter.isascii() else "-" for letter in name) or "stream"
+
     def numbers(self, request):
         """The numbers of packets, which stay theirs while edits move them."""
         self.only(request, "source", "first", "count")
@@ -289,11 +359,13 @@ class PageRoutes(Routes):
         check = self.live.checked()
         first = self.number(request, "from", 0)
         is_over = check.is_over
+        findings = check.findings[first:]
         members = {
             "revision": self.live.revision,
             "check": check.number,
             "from": first,
-            "findings": check.findings[first:],
+            "findings": findings,
+            "groups": groups_of(check, findings),
             "damage": check.damage,
             "notes": check.notes,
             "done": check.done,
@@ -409,9 +481,7 @@ class PageRoutes(Routes):
         view = self.live.current_view()
         timeline, stream = view.timeline(0), view.streams[0]
         length = ivf.HEAD.size + ivf.RECORD.size * len(stream) + sum(timeline.sizes)
-        name = os.path.splitext(os.path.basename(self.titles[0]))[0]
-        safe = "".join(letter if letter.isalnum() and letter.isascii() else "-" for letter in name) or "stream"
-        headers = [("Content-Disposition", f'attachment; filename="{safe}-edited.ivf"')]
+        headers = [("Content-Disposition", f'attachment; filename="{self.safe_name()}-edited.ivf"')]
         return Response(200, "video/x-ivf", length=length, headers=headers, pieces=until_ended(self.text(view, 0)))
 
     def change(self, request):
@@ -449,6 +519,12 @@ class PageRoutes(Routes):
             except ValueError as error:
                 raise Refuse(409, str(error)) from None
             return as_json({"reply": path, "revision": self.live.revision})
+
+
+def groups_of(check, findings):
+    """For each finding the key packet at or before its packet, or None: what is damaged after a packet is mostly damaged with it."""
+    keys = check.view.timeline(0).keys
+    return [None if finding["packet"] is None else max(0, keys.rfind(1, 0, finding["packet"] + 1)) for finding in findings]
 
 
 def parse_body(body, kinds):

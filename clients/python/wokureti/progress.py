@@ -6,10 +6,15 @@ import threading
 import time
 
 
+def plain(text):
+    """A text as a terminal shows it: a name of a file may have characters that a terminal obeys."""
+    return "".join(letter if letter.isprintable() or letter == "\n" else letter.encode("unicode_escape", "replace").decode("ascii") for letter in text)
+
+
 def say(text):
     """Writes a line to standard error; nothing if that is gone, as after a terminal was closed."""
     with contextlib.suppress(OSError, ValueError):
-        print(f"wokureti: {text}", file=sys.stderr, flush=True)
+        print(f"wokureti: {plain(text)}", file=sys.stderr, flush=True)
 
 
 class Progress:

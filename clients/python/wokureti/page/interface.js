@@ -90,6 +90,16 @@ export function parseFrame(bytes) {
   return { width, height, samples };
 }
 
+/** The frames of a YUV4MPEG2 text. */
+export function parseFrames(bytes, count) {
+  const end = bytes.indexOf(10);
+  const found = /^YUV4MPEG2 W(\d+) H(\d+)/.exec(new TextDecoder().decode(bytes.subarray(0, end)));
+  const [width, height] = [Number(found[1]), Number(found[2])];
+  const size = 6 + sizeOf(width, height);
+  if (bytes.length !== end + 1 + count * size) throw new Error("frames were cut off");
+  return Array.from({ length: count }, (_, place) => ({ width, height, samples: bytes.subarray(end + 1 + place * size + 6, end + 1 + (place + 1) * size) }));
+}
+
 /** The number of samples of a frame. */
 export function sizeOf(width, height) {
   return width * height + 2 * ((width + 1) >> 1) * ((height + 1) >> 1);
@@ -97,6 +107,13 @@ export function sizeOf(width, height) {
 
 export async function frame(number, signal) {
   return frameOf(await ask(`frames/${number}.y4m`, { signal }, `frame ${number}`));
+}
+
+/** Frames that follow each other and have one size. */
+export async function frames(first, count, signal) {
+  const response = await ask(`frames/${first}-${first + count - 1}.y4m`, { signal }, `frame ${first}`);
+  const revision = Number((response.headers.get("ETag") || "").replace(/"/g, "").split("-")[1] || 0);
+  return parseFrames(new Uint8Array(await response.arrayBuffer()), count).map((frame) => ({ ...frame, revision }));
 }
 
 export async function frameBefore(source, number, signal) {

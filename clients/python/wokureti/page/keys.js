@@ -16,6 +16,10 @@ export function keysOf({ model, player, timeline, editing, findings, viewer, mac
     { keys: ["Shift+ArrowRight"], show: "Shift →", text: "extend the selection to the right", act: () => extend(model, 1) },
     { keys: ["PageUp"], show: "Page Up", text: "back 10 frames", act: step(-10) },
     { keys: ["PageDown"], show: "Page Down", text: "forward 10 frames", act: step(10) },
+    { keys: ["ArrowUp"], show: "↑", text: "the key frame before", act: () => model.goKey(-1) },
+    { keys: ["ArrowDown"], show: "↓", text: "next key frame", act: () => model.goKey(1) },
+    { keys: ["Shift+PageUp"], show: "Shift Page Up", text: "the cut before, where the script joins", act: () => model.goCut(-1) },
+    { keys: ["Shift+PageDown"], show: "Shift Page Down", text: "next cut", act: () => model.goCut(1) },
     { keys: ["Home"], show: "Home", text: "first frame", act: () => model.goEnd(true) },
     { keys: ["End"], show: "End", text: "last frame", act: () => model.goEnd(false) },
     { keys: [" "], show: "Space", text: "play or stop", act: () => player.toggle() },
@@ -49,7 +53,7 @@ export function keysOf({ model, player, timeline, editing, findings, viewer, mac
     { keys: ["N", "Shift+N"], act: () => viewer.nextDifference(-1) },
     { keys: ["."], show: ".", text: "next finding", act: () => findings.go(1) },
     { keys: [","], show: ",", text: "the finding before", act: () => findings.go(-1) },
-    { keys: ["g", "G"], show: "G", text: "type the number of a frame", act: () => find("frame").select() },
+    { keys: ["g", "G"], show: "G", text: "type a frame: a number, a step as -5, or a time as 1:02.5", act: () => find("frame").select() },
     { keys: ["?"], show: "?", text: "this list", act: () => palette.showKeys() },
   ];
 }

@@ -14,6 +14,7 @@ import { PacketFacts } from "./packet_facts.js";
 import { Player } from "./player.js";
 import { ScriptPanel } from "./script.js";
 import { Status, notice } from "./status.js";
+import { frameOf, timeText } from "./times.js";
 import { Timeline } from "./timeline.js";
 import { Viewer } from "./viewer.js";
 
@@ -83,23 +84,17 @@ document.querySelector("#viewer .tools").addEventListener("click", () => fragmen
 
 // The head, and what is current
 
-function time(frame) {
-  const milliseconds = Math.round((frame / model.rate) * 1000);
-  const seconds = Math.floor(milliseconds / 1000);
-  const parts = [Math.floor(seconds / 3600), Math.floor(seconds / 60) % 60, seconds % 60].map((part) => String(part).padStart(2, "0"));
-  return `${parts.join(":")}.${String(milliseconds % 1000).padStart(3, "0")}`;
-}
-
 function writeFrame() {
   if (document.activeElement !== find("frame")) find("frame").value = model.aside ? "" : model.frame;
   if (!model.session) find("time").textContent = "";
   else if (model.aside) find("time").textContent = `packet ${model.aside.packet}, which no frame shows`;
-  else find("time").textContent = `of ${model.frames.toLocaleString("en")} · ${time(model.frame)}`;
+  else find("time").textContent = `of ${model.frames.toLocaleString("en")} · ${timeText(model.frame, model.rate)}`;
 }
 
 function writeSelection() {
   const { selection } = model;
-  find("selection-text").textContent = selection ? `${(selection.end - selection.first).toLocaleString("en")} packets selected, ${selection.first} to ${selection.end - 1}` : "";
+  const count = selection ? selection.end - selection.first : 0;
+  find("selection-text").textContent = selection ? `${count.toLocaleString("en")} packets selected, ${selection.first} to ${selection.end - 1}, ${timeText(count, model.rate)}` : "";
 }
 
 function writeHead() {
@@ -130,8 +125,9 @@ model.addEventListener("selection", writeSelection);
 find("source").addEventListener("change", () => model.useSource(Number(find("source").value)).catch(() => {}));
 model.addEventListener("session", () => (find("source").value = model.source));
 find("frame").addEventListener("change", () => {
-  const number = Number(find("frame").value.replace(/[^\d]/g, ""));
-  if (Number.isFinite(number)) model.go(number).catch(() => {});
+  const frame = frameOf(find("frame").value, model.frame, model.rate);
+  if (frame === null) status.say("a frame is a number, as 120; a step, as -5; or a time, as 1:02.5 or 12.5");
+  else model.go(frame).catch(() => {});
 });
 find("frame").addEventListener("keydown", (event) => {
   if (event.key === "Enter" || event.key === "Escape") find("frame").blur();

@@ -90,6 +90,18 @@ export class Model extends EventTarget {
     return this.aside ? this.goPacket(this.packet + count) : this.go(this.frame + count);
   }
 
+  /** Goes to the next key packet, or to the one before. */
+  async goKey(step) {
+    const { packet } = await server.members(`key?source=${this.source}&packet=${this.packet}&step=${step}`);
+    if (packet !== null) await this.goPacket(packet);
+  }
+
+  /** Goes to the next frame that begins something else, or to the one before. */
+  async goCut(step) {
+    const { frame } = await server.members(`cut?frame=${this.frame}&step=${step}`);
+    if (frame !== null) await this.go(frame);
+  }
+
   /** Goes to the first frame or the last one. */
   goEnd(isFirst) {
     if (this.aside) return this.goPacket(isFirst ? 0 : this.packets - 1);

@@ -3,7 +3,8 @@
 import * as server from "./interface.js";
 
 // Frames that are asked for at a time, and how far ahead.
-const AT_ONCE = 4;
+const AT_ONCE = 2;
+const TOGETHER_AT_ONCE = 4;
 const AHEAD = 16;
 const TOGETHER = 8;
 // Milliseconds that playback waits for its first frames.
@@ -36,6 +37,17 @@ export function orderOf(frames, direction) {
   if (direction > 0) return frames;
   const group = (frame) => Math.floor(frame / TOGETHER);
   return [...frames].sort((one, other) => group(other) - group(one) || one - other);
+}
+
+/** Frames that follow each other as pairs of the first one and how many there are, a few at most: one request for each. */
+export function groupsOf(frames) {
+  const groups = [];
+  for (const frame of frames) {
+    const last = groups.at(-1);
+    if (last && frame === last[0] + last[1] && last[1] < TOGETHER_AT_ONCE) last[1]++;
+    else groups.push([frame, 1]);
+  }
+  return groups;
 }
 
 export class Player {
@@ -176,12 +188,12 @@ export class Player {
   fetch(due, direction) {
     const step = Math.max(1, Math.round(Math.abs(this.speed)));
     const ahead = framesAhead(due, direction, AHEAD * Math.min(step, 2), this.range, this.isLoop);
-    for (const frame of orderOf(ahead, direction)) {
+    const wanted = orderOf(ahead, direction).filter((frame) => !this.frames.isAsked(frame));
+    for (const [first, count] of groupsOf(wanted)) {
       if (this.flying >= AT_ONCE) return;
-      if (this.frames.isAsked(frame)) continue;
       this.flying++;
       this.frames
-        .get(frame)
+        .getTogether(first, count)
         .catch(() => {})
         .finally(() => this.flying--);
     }
