@@ -61,6 +61,7 @@ class PageRoutes(Routes):
                 ("numbers",): self.numbers,
                 ("check",): self.check_of,
                 ("key",): self.key,
+                ("range",): self.range,
                 ("cut",): self.cut,
                 ("report.json",): self.report,
                 ("report.html",): self.report,
@@ -255,6 +256,17 @@ class PageRoutes(Routes):
         keys = view.timeline(source).keys
         found = keys.find(1, packet + 1) if self.step_of(request) > 0 else keys.rfind(1, 0, min(packet, len(keys)))
         return as_json({"revision": view.revision, "source": source, "packet": None if found < 0 else found})
+
+    def range(self, request):
+        """The frames that show packets `first` to `end` - 1 one after the other: their first one and the one after them, or null."""
+        self.only(request, "source", "first", "end")
+        view = self.live.current_view()
+        source = self.source_of(request, view)
+        first, end = self.number(request, "first", 0), self.number(request, "end", 0)
+        if not first <= end <= len(view.streams[source]):
+            raise Refuse(404, "there are no such packets")
+        found = view.range_of(source, first, end) or (None, None)
+        return as_json({"revision": view.revision, "first": found[0], "end": found[1]})
 
     def cut(self, request):
         """The next frame that does not follow the one before it in its source, or the one before: where a script joins, and its end."""

@@ -290,6 +290,16 @@ class View:
                 return end - count + shown - first
         return None
 
+    def range_of(self, source, first, end):
+        """The frames that show packets of a source one after the other, or None if the script does not show all of them so."""
+        runs, ends = self.runs()
+        shown = self.timeline(source).frames
+        for (count, other, start), stop in zip(runs, ends):
+            if other == source and start <= shown[first] and shown[end] <= start + count:
+                begin = stop - count + shown[first] - start
+                return begin, begin + shown[end] - shown[first]
+        return None
+
     @property
     def rate(self):
         return self.contents.rate

@@ -19,6 +19,7 @@ export function ask(title, action, fields, note = "") {
     } else {
       input.type = "number";
       input.min = 0;
+      if (name === "seconds") input.step = "any";
       input.required = true;
       if (most !== undefined) input.max = most;
     }

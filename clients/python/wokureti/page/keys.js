@@ -3,7 +3,7 @@
 const find = (id) => document.getElementById(id);
 
 /** Each key has names as `KeyboardEvent.key` has them, a text, and what it does. */
-export function keysOf({ model, player, timeline, editing, findings, viewer, macroblocks, palette }) {
+export function keysOf({ model, player, timeline, editing, findings, viewer, macroblocks, cutting, palette }) {
   const step = (count) => () => model.step(count);
   const playOn = (direction) => () => {
     const same = Math.sign(player.speed) === direction;
@@ -33,6 +33,9 @@ export function keysOf({ model, player, timeline, editing, findings, viewer, mac
     { keys: ["Delete", "Backspace"], show: "Delete", text: "delete the selected packets", act: () => editing.delete() },
     { keys: ["h", "H"], show: "H", text: "hold the picture before in their place", act: () => editing.hold() },
     { keys: ["d", "D"], show: "D", text: "drop them: packets of no bytes", act: () => editing.drop() },
+    { keys: ["e", "E"], show: "E", text: "show only the frames of the selection", act: () => cutting.keep() },
+    { keys: ["x", "X"], show: "X", text: "cut the frames of the selection out: no packet is changed", act: () => cutting.cutOut() },
+    { keys: ["r", "R"], show: "R", text: "fade, or show black or a frame for a time", act: () => cutting.more() },
     { keys: ["Ctrl+c"], show: "Ctrl C", text: "remember them", act: () => editing.copy(false) },
     { keys: ["Ctrl+x"], show: "Ctrl X", text: "remember them, to move them", act: () => editing.copy(true) },
     { keys: ["Ctrl+v"], show: "Ctrl V", text: "insert them before the current packet", act: () => editing.paste() },
@@ -47,6 +50,7 @@ export function keysOf({ model, player, timeline, editing, findings, viewer, mac
     { keys: ["3"], act: () => viewer.choose_view("split") },
     { keys: ["4"], act: () => viewer.choose_view("difference") },
     { keys: ["f", "F"], show: "F", text: "fit the picture", act: () => viewer.choose_size("fit") },
+    { keys: ["w", "W"], show: "W", text: "the picture on the whole screen", act: () => palette.fullScreen() },
     { keys: ["p", "P"], show: "P", text: "the loupe", act: () => viewer.loupe.toggle() },
     { keys: ["m", "M"], show: "M", text: "the overlay of macroblocks", act: () => macroblocks.toggle() },
     { keys: ["n"], show: "N", text: "next frame that differs; with Shift the one before", act: () => viewer.nextDifference(1) },

@@ -1,5 +1,6 @@
 // Starts the page.
 
+import { Cutting } from "./cutting.js";
 import { Editing, savedText } from "./editing.js";
 import { EditList } from "./edit_list.js";
 import { Findings } from "./findings.js";
@@ -32,6 +33,7 @@ const findings = new Findings(model, viewer, editing, timeline, status);
 const packetFacts = new PacketFacts(model);
 const scriptPanel = new ScriptPanel(model, editing);
 const editList = new EditList(model, editing);
+const cutting = new Cutting(model, editing, status);
 editing.viewer = viewer;
 
 // Panels
@@ -170,11 +172,13 @@ for (const [id, go] of [
 const palette = {
   escape: () => (findings.shown ? findings.leave() : model.select(null)),
   showKeys: () => find("keys").showModal(),
+  fullScreen: () => (document.fullscreenElement ? document.exitFullscreen() : find("viewer").requestFullscreen()),
 };
-const list = keys.keysOf({ model, player, timeline, editing, findings, viewer, macroblocks, palette });
+const list = keys.keysOf({ model, player, timeline, editing, findings, viewer, macroblocks, cutting, palette });
 keys.write(list);
 keys.listen(list, viewer.loupe, macroblocks);
 find("help").addEventListener("click", palette.showKeys);
+find("full").addEventListener("click", () => palette.fullScreen().catch((error) => status.say(error.message)));
 
 // What the server says
 
@@ -253,7 +257,7 @@ async function begin() {
 }
 
 // For tests.
-window.wokureti = { model, frames, viewer, macroblocks, player, timeline, editing, findings, editList, scriptPanel };
+window.wokureti = { model, frames, viewer, macroblocks, player, timeline, editing, findings, editList, scriptPanel, cutting };
 begin().catch((error) => {
   status.say(error.message);
   notice(error.message, { isBad: true });

@@ -59,6 +59,7 @@ export class Viewer {
       this.picture.gain = Number(find("gain").value);
       this.repaint();
     });
+    find("stage").addEventListener("pointerdown", (event) => this.pan(event));
     find("loupe-switch").addEventListener("click", () => this.loupe.toggle());
     find("next-difference").addEventListener("click", () => this.nextDifference(1));
   }
@@ -87,6 +88,24 @@ export class Viewer {
         this[`choose_${name}`](other.dataset[name]);
       });
     });
+  }
+
+  /** Drags a picture that is larger than its place. */
+  pan(event) {
+    const stage = find("stage");
+    const isLarger = stage.scrollWidth > stage.clientWidth || stage.scrollHeight > stage.clientHeight;
+    if (event.button !== 0 || !isLarger || event.target.closest("#split-handle")) return;
+    const [left, top] = [stage.scrollLeft + event.clientX, stage.scrollTop + event.clientY];
+    stage.setPointerCapture(event.pointerId);
+    const move = (moved) => stage.scrollTo(left - moved.clientX, top - moved.clientY);
+    const end = () => {
+      stage.removeEventListener("pointermove", move);
+      stage.removeEventListener("pointerup", end);
+      stage.removeEventListener("pointercancel", end);
+    };
+    stage.addEventListener("pointermove", move);
+    stage.addEventListener("pointerup", end);
+    stage.addEventListener("pointercancel", end);
   }
 
   get needsBefore() {
