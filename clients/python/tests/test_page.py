@@ -387,9 +387,9 @@ class Going(PageCase):
         self.serve(SCENES, sources=[SMALL])
         count = len(packets_of(SCENES))
         ask = lambda first, end, source=0: [self.members(f"/range?source={source}&first={first}&end={end}")[name] for name in ("first", "end")]  # noqa: E731
-        self.assertEqual([ask(3, 9), ask(0, count), ask(5, 5), ask(0, 3, 1)], [[3, 9], [0, count], [5, 5], [None, None]])
+        self.assertEqual([ask(3, 9), ask(0, count), ask(5, 5), ask(0, 3, 1)], [[3, 9], [0, count], [None, None], [None, None]])
         self.change("script trim 0 5 10; source 1; splice 2 1")
-        self.assertEqual([ask(5, 9), ask(4, 9), ask(14, 16), ask(0, 12, 1), ask(7, 8)], [[12, 16], [None, None], [None, None], [0, 12], [14, 15]])
+        self.assertEqual([ask(5, 9), ask(4, 9), ask(14, 16), ask(0, 12, 1), ask(7, 8)], [[12, 16], [12, 16], [21, 22], [0, 12], [14, 15]])
         for query in (f"first=0&end={count + 1}", "first=5&end=4", "source=2&first=0&end=1"):
             self.assertEqual(self.ask(f"/range?{query}")[0], 404, query)
 

@@ -258,7 +258,7 @@ class PageRoutes(Routes):
         return as_json({"revision": view.revision, "source": source, "packet": None if found < 0 else found})
 
     def range(self, request):
-        """The frames that show packets `first` to `end` - 1 one after the other: their first one and the one after them, or null."""
+        """The frames from the first one that shows one of the packets `first` to `end` - 1 to the last: the first and the one after them, or null."""
         self.only(request, "source", "first", "end")
         view = self.live.current_view()
         source = self.source_of(request, view)

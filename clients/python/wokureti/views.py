@@ -291,14 +291,14 @@ class View:
         return None
 
     def range_of(self, source, first, end):
-        """The frames that show packets of a source one after the other, or None if the script does not show all of them so."""
+        """The frames from the first one that shows one of these packets to the last one, or None if none does."""
         runs, ends = self.runs()
-        shown = self.timeline(source).frames
+        shown, found = self.timeline(source).frames, []
         for (count, other, start), stop in zip(runs, ends):
-            if other == source and start <= shown[first] and shown[end] <= start + count:
-                begin = stop - count + shown[first] - start
-                return begin, begin + shown[end] - shown[first]
-        return None
+            low, high = max(start, shown[first]), min(start + count, shown[end])
+            if other == source and low < high:
+                found.append((stop - count + low - start, stop - count + high - start))
+        return (min(found)[0], max(end for _, end in found)) if found else None
 
     @property
     def rate(self):

@@ -79,13 +79,13 @@ export class Cutting {
     find("frames-more").disabled = !session || !session.frames;
   }
 
-  /** The frames that show the selected packets, or null. */
+  /** The frames from the first one that shows a selected packet to the last, or null. */
   async range() {
     const { selection, source } = this.model;
     if (!selection) return null;
     const found = await server.members(`range?source=${source}&first=${selection.first}&end=${selection.end}`);
     if (found.first === null || found.end <= found.first) {
-      this.status.say("the frames that are shown do not have the selected packets one after the other");
+      this.status.say("no frame shows a selected packet");
       return null;
     }
     return found;
