@@ -14,6 +14,8 @@ export class Model extends EventTarget {
     // The packet whose own picture is looked at, since no frame shows it: another source, or a packet that the script leaves out.
     this.aside = null;
     this.moves = 0;
+    // Until the frame of a packet is known.
+    this.going = null;
     this.isPlaying = false;
     this.selection = null;
     this.blocks = new Map();
@@ -85,8 +87,9 @@ export class Model extends EventTarget {
     if (!keepPacket) await this.follow();
   }
 
-  /** Goes on by so many frames, or by packets if the picture is that of a packet. */
-  step(count) {
+  /** Goes on by so many frames, or by packets if the picture is that of a packet: from the packet that was asked for last. */
+  async step(count) {
+    await this.going?.catch(() => {});
     return this.aside ? this.goPacket(this.packet + count) : this.go(this.frame + count);
   }
 
@@ -98,6 +101,7 @@ export class Model extends EventTarget {
 
   /** Goes to the next frame that begins something else, or to the one before. */
   async goCut(step) {
+    await this.going?.catch(() => {});
     const { frame } = await server.members(`cut?frame=${this.frame}&step=${step}`);
     if (frame !== null) await this.go(frame);
   }
@@ -126,7 +130,15 @@ export class Model extends EventTarget {
   }
 
   /** Goes to a packet, and to the frame that shows it; if there is none, to its own picture. */
-  async goPacket(packet) {
+  goPacket(packet) {
+    const going = this.goPacketNow(packet).finally(() => {
+      if (this.going === going) this.going = null;
+    });
+    this.going = going;
+    return going;
+  }
+
+  async goPacketNow(packet) {
     const move = ++this.moves;
     this.packet = Math.max(0, Math.min(Math.max(0, this.packets - 1), packet));
     this.send("packet");
