@@ -900,7 +900,9 @@ def kill(page):
     session = page.members("session")
     browser.errors()
     for child in children:
-        os.kill(int(child), signal.SIGKILL)
+        # A check may have ended by itself.
+        with contextlib.suppress(ProcessLookupError):
+            os.kill(int(child), signal.SIGKILL)
     time.sleep(0.1)
     browser.run("await wokureti.model.go(77)")
     page.at(77)

@@ -150,6 +150,8 @@ class Paths(Case):
         self.assertEqual((command("png", "-", 3, "-", given=SCENES.read_bytes()), png[0], png[1][:4]), (png, 0, b"\x89PNG"))
         self.assertEqual(command("repair", "-", self.room / "mended.ivf", given=SCENES.read_bytes())[::2], (0, ""))
         self.assertEqual((self.room / "mended.ivf").read_bytes(), SCENES.read_bytes())
+        with open(SCENES, "rb") as file:
+            self.assertEqual(start("repair", "-", self.room / "mended.ivf", stdin=file, stdout=subprocess.DEVNULL).wait(20 * SLOW), 0)
         self.assertEqual(command("compare", "-", SCENES, given=SCENES.read_bytes())[0], 0)
 
     def test_a_name_that_a_terminal_obeys(self):

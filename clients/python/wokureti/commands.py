@@ -184,11 +184,11 @@ def run_repair(given):
     if given.edits is not None and checks.is_same_file(given.out, given.edits):
         raise cat.Failed("OUT and the list of edits are one file")
     steps = {name for name in ("scan", "double", "sort", "hold") if not getattr(given, f"no_{name}")}
-    with rooms.Room() as folder:
-        data, second = (path and read_all(convert.as_ivf(path, folder)) for path in (given.stream, given.second))
     try:
-        with progress.Stages() as stages:
-            found = repair.repair(data, programs.find("vp8serve"), programs.find("vp8list"), second, given.tables, steps, stages.stage)
+        with rooms.Room() as folder, progress.Stages() as stages:
+            path, other = (path and convert.as_ivf(path, folder) for path in (given.stream, given.second))
+            data, second = (path and read_all(path) for path in (path, other))
+            found = repair.repair(data, programs.find("vp8serve"), programs.find("vp8list"), second, given.tables, steps, stages.stage, as_file(path))
     except (ivf.NotIvf, repair.NoKeyFrame) as error:
         raise cat.Failed(f"{given.stream}: {error}") from None
     packets = [(packet.stamp, packet.data) for packet in found.packets]
@@ -203,6 +203,12 @@ def run_repair(given):
     before = len(salvage_count(data))
     print(f"{len(packets)} packets written, {before} are read without repair; {found.changes} changes")
     return 2 if found.left else 1 if found.changes else 0
+
+
+def as_file(path):
+    """The path for another program, or None if that would find another file there."""
+    is_here = str(path).startswith(("/dev/", "/proc/")) or not os.path.isfile(path)
+    return None if is_here else checks.path(path)
 
 
 def read_all(path):

@@ -50,6 +50,8 @@ class Repair:
         # How many packets the header counts, how many changes were made, and how much is left that was not mended.
         self.counted = self.changes = self.left = 0
         self.forged = {}
+        # The packets as they are in a file, and its path.
+        self.in_file = (None, None)
         # Packets, and what vp8list says of them.
         self.outlined, self.checked = (None, []), (None, [])
         # Called with what is done next.
@@ -69,19 +71,26 @@ class Repair:
         if not self.packets:
             return []
         self.stage(f"listing {len(self.packets):,} packets")
-        found = self.list_of((packet.stamp, packet.data) for packet in self.packets)
+        found = self.list_of(self.lister_run())
         # What is refused because of others is listed again, each after a key packet.
         again = [place for place, outline in enumerate(found) if outline.cause in facts.OF_OTHERS]
         if again:
             key = self.forge("blank", 1, 1)
-            listed = self.list_of((0, data) for place in again for data in (key, self.packets[place].data))[1::2]
+            packets = ((0, data) for place in again for data in (key, self.packets[place].data))
+            listed = self.list_of(facts.run_on(self.lister, packets))[1::2]
             for place, outline in zip(again, listed):
                 found[place] = outline
         return found
 
-    def list_of(self, packets):
-        lines = facts.outlines(facts.run_on(self.lister, packets))
-        return [Outline(bool(flags & facts.KEY), bool(flags & facts.SHOWN), cause) for flags, _, cause in lines]
+    def list_of(self, lines):
+        return [Outline(bool(flags & facts.KEY), bool(flags & facts.SHOWN), cause) for flags, _, cause in facts.outlines(lines)]
+
+    def lister_run(self, *options, statuses=(0,)):
+        """What vp8list prints of the packets: of the file, as long as they are those that are in it."""
+        packets, path = self.in_file
+        if path is not None and packets is self.packets:
+            return facts.run(self.lister, path, *options, statuses=statuses)
+        return facts.run_on(self.lister, ((packet.stamp, packet.data) for packet in self.packets), *options, statuses=statuses)
 
     def damaged(self):
         """The packets whose decoding ends too early or reads past an end, and for each of them what vp8list says."""
@@ -97,12 +106,15 @@ class Repair:
         """What vp8list --check says of the packets. They are checked once, as long as they stay."""
         if self.checked[0] is not self.packets:
             self.stage(f"checking {len(self.packets):,} packets")
-            self.checked = (self.packets, list(self.findings_of((packet.stamp, packet.data) for packet in self.packets)))
+            lines = self.lister_run(*self.check_words(), statuses=(0, 1))
+            self.checked = (self.packets, list(map(json.loads, lines)))
         return self.checked[1]
 
+    def check_words(self):
+        return ["--check", "--json"] + (["--tables", self.tables] if self.tables else [])
+
     def findings_of(self, packets):
-        options = ["--check", "--json"] + (["--tables", self.tables] if self.tables else [])
-        return map(json.loads, facts.run_on(self.lister, packets, *options, statuses=(0, 1)))
+        return map(json.loads, facts.run_on(self.lister, packets, *self.check_words(), statuses=(0, 1)))
 
     def forge(self, word, width, height):
         """The bytes of a grey key frame, or of a packet that shows the last picture again and is shown by libvpx too."""
@@ -115,8 +127,8 @@ class Repair:
 
     # Reading
 
-    def read(self, data, scan=True):
-        """Takes the packets of a file."""
+    def read(self, data, scan=True, path=None):
+        """Takes the packets of a file. Its path is only for vp8list, which then reads it itself."""
         found = salvage.plain(data)
         if found is not None:
             head, packets, end = found
@@ -126,6 +138,8 @@ class Repair:
                 self.counted = int.from_bytes(data[24:28], "little")
                 if end < len(data):
                     self.say(f"byte {end}: the last {len(data) - end} bytes are no whole record: dropped")
+                elif path is not None:
+                    self.in_file = (self.packets, path)
                 return
         elif not scan:
             raise ivf.NotIvf("it is no IVF file of VP8, and its packets are not searched with --no-scan")
@@ -272,7 +286,7 @@ class Repair:
             if data == packet.data:
                 continue
             cause = outlines[place].cause
-            has_zeros = bytes(salvage.ZEROS) in packet.data and bytes(salvage.ZEROS) not in data
+            has_zeros = bytes(salvage.ZEROS) in bytes(packet.data) and bytes(salvage.ZEROS) not in bytes(data)
             if cause or place in past or packet.before_gap or has_zeros:
                 why = f"refused {cause}" if cause else past[place] if place in past else "zeros in it" if has_zeros else "damaged at its end"
                 self.say(f"packet {place}: {why}: the packet of the second recording with its time stamp, {packet.stamp}")
@@ -487,12 +501,12 @@ def packets_of(data, scan=True):
     return reader.packets
 
 
-def repair(data, program, lister, second=None, tables=None, steps=frozenset(("scan", "double", "sort", "hold")), stage=None):
-    """Mends a stream, and returns a `Repair`. `stage` is called with what is done next."""
+def repair(data, program, lister, second=None, tables=None, steps=frozenset(("scan", "double", "sort", "hold")), stage=None, path=None):
+    """Mends a stream, and returns a `Repair`. `stage` is called with what is done next, and `path` is a file with the data, if there is one."""
     found = Repair(program, lister, tables)
     found.stage = stage or found.stage
     found.stage("searching the packets")
-    found.read(data, "scan" in steps)
+    found.read(data, "scan" in steps, path)
     if "double" in steps:
         found.drop_doubles()
     if "sort" in steps:

@@ -147,7 +147,7 @@ def guess_at(data, place, end, last):
         return None
     if not begins_packet(data, place + RECORD.size, end - place - RECORD.size):
         return None
-    return Found(stamp, data[place + RECORD.size : end], place)
+    return Found(stamp, memoryview(data)[place + RECORD.size : end], place)
 
 
 def guesses_at(data, number, gap, last, cut):
@@ -162,14 +162,15 @@ def guesses_at(data, number, gap, last, cut):
 def find_all(data):
     """The same, and for each gap the guesses at a packet whose size is wrong."""
     head, place = head_of(data)
-    packets, gaps, guesses, last = [], [], [], None
+    # Packets are parts of the file, and no copies of it.
+    packets, gaps, guesses, last, view = [], [], [], None, memoryview(data)
     while place < len(data):
         found = sized_at(data, place, last)
         if found is not None:
             end = place + RECORD.size + found[0]
             # A packet may be damaged in its first bytes, if more records follow it.
             if follow(data, end, found[1], 1 if record_at(data, place, last) else CHAIN):
-                packets.append(Found(found[1], data[place + RECORD.size : end], place))
+                packets.append(Found(found[1], view[place + RECORD.size : end], place))
                 place, last = end, found[1]
                 continue
             if not begins_packet(data, place + RECORD.size, found[0]):
@@ -179,7 +180,7 @@ def find_all(data):
         is_cut = found is not None and (resumed is None or resumed >= end)
         if is_cut:
             # The record is where the one before it leads to, and its packet ends before the next one that was found.
-            packets.append(Found(found[1], data[place + RECORD.size : end], place))
+            packets.append(Found(found[1], view[place + RECORD.size : end], place))
             before, last, start = last, found[1], end
         stop = len(data) if resumed is None else resumed
         if stop > start:
@@ -198,12 +199,12 @@ def plain(data):
         head, place = ivf.parse_head(data[: ivf.HEAD.size])
     except ivf.NotIvf:
         return None
-    packets = []
+    packets, view = [], memoryview(data)
     while place + RECORD.size <= len(data):
         size, stamp = RECORD.unpack_from(data, place)
         end = place + RECORD.size + size
         if end > len(data):
             break
-        packets.append(Found(stamp, data[place + RECORD.size : end], place))
+        packets.append(Found(stamp, view[place + RECORD.size : end], place))
         place = end
     return head, packets, place
