@@ -196,7 +196,7 @@ def dask_recipe(room, wanted):
     if subprocess.run([sys.executable, "-c", "import distributed"], capture_output=True, check=False).returncode != 0:
         print("Dask: python3-distributed is not there")
         return 0
-    lines = (TOP / "docs/cookbook.md").read_text(encoding="utf-8").split("    cat > hashes.py <<'END'\n")[1].split("\n    END\n")[0].splitlines()
+    lines = (TOP / "docs/cookbook.md").read_text(encoding="utf-8").split("\n    ' > hashes.py\n")[0].rsplit("\n    echo '\n", 1)[1].splitlines()
     (room / "hashes.py").write_text("".join(f"{line[4:]}\n" for line in lines))
     (room / "clips").mkdir()
     count = 24
