@@ -893,6 +893,31 @@ def asides(browser, room, clip, other):
     say("packets that no frame shows: their own pictures, of another source and without a script; two sources are compared")
 
 
+def door(browser, room, clip):
+    """The file that a browser is started with leads to the page."""
+    starter = room / "starter"
+    starter.write_text('#!/bin/sh\necho "$@" > "$0.words"\n')
+    starter.chmod(0o755)
+    env = dict(os.environ, PYTHONPATH=str(TOP / "clients/python"), DISPLAY=":99", BROWSER=str(starter))
+    words = [sys.executable, "-m", "wokureti", "open", str(clip), "--edits", str(room / "list-of-door")]
+    process = subprocess.Popen(words, env=env, stdout=subprocess.PIPE, stderr=subprocess.DEVNULL, text=True)
+    address = process.stdout.readline().strip()
+    limit = time.monotonic() + 30
+    while not (room / "starter.words").exists() or not (room / "starter.words").read_text().endswith("\n"):
+        if time.monotonic() > limit:
+            raise AssertionError("no browser was started")
+        time.sleep(0.05)
+    file = (room / "starter.words").read_text().strip()
+    expect(file.startswith("file:///") and address.split("/")[3] not in file, f"the browser is started with {file}")
+    browser.open(file)
+    browser.wait("location.href.startsWith('http://127.0.0.1:') && document.body && document.body.dataset.ready === 'yes'", seconds=60)
+    expect(browser.run("return location.href.split('#')[0]") == address, "the file does not lead to the page")
+    browser.open("about:blank")
+    process.terminate()
+    process.wait(30)
+    say("the browser is started with a file that leads to the page")
+
+
 def kill(page):
     """vp8serve is killed: the page says so, and goes on."""
     browser = page.browser
@@ -1074,6 +1099,7 @@ def main():
         kill(page)
         reachable(page)
         said = page.end()
+        door(browser, room, clip)
         asides(browser, room, clip, other)
         for size in ((1440, 900), (390, 844)):
             by_keyboard(browser, room, clip, broken, place, size, looks)

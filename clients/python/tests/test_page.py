@@ -1210,6 +1210,14 @@ class TheCommand(Case):
         self.end(process)
         self.assertFalse(door.exists())
 
+    def test_a_name_that_a_terminal_obeys(self):
+        room = self.folder()
+        clip = write_packets(room / "a\x1b[31m.ivf", packets_of(SMALL))
+        process, host, token = self.open(clip)
+        self.assertEqual(self.ask(host, f"/{token}/edits", "delete 3")[0], 200)
+        errors = self.end(process)
+        self.assertEqual(("\x1b" in errors, "a\\x1b[31m.edits" in errors), (False, True))
+
     def test_two_starts_at_once(self):
         room = self.folder()
         clip = write_packets(room / "clip.ivf", packets_of(SMALL))
