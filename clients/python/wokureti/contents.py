@@ -10,6 +10,8 @@ from .facts import Facts
 from .inputs import is_input
 
 
+# For each value of tags whether it is that of a key packet.
+KEY_OF = bytes(map(ivf.KEY.__and__, range(256)))
 # Packets that are read together, at most.
 MOST_TOGETHER = 1 << 16
 
@@ -54,19 +56,21 @@ class Contents:
         self.name = secrets.token_hex(4)
         self.current = 0
         self.script = "-"
-        self.bases, self.streams = [], []
+        # For each packet of a stream also whether it has a key tag: the last one before a packet is found at once.
+        self.bases, self.streams, self.keys = [], [], []
         count = 0
         for item in inputs.all:
             records = len(item.records())
             self.bases.append(count)
             self.streams.append(array("I", range(count, count + records)))
+            self.keys.append(item.records().tags.translate(KEY_OF))
             count += records
         self.of_files = count
         self.file_sizes = None
         # Of the packets that edits made: the time stamp, and the bytes, or what the program makes them of, or the number of the packet that a
         # copy was made of.
         self.made = []
-        self.forged = {}
+        self.forged, self.key_sizes = {}, {}
         self.listed = Facts(self)
 
     def apply(self, line):
@@ -92,7 +96,7 @@ class Contents:
     def perform(self, operation):
         """Makes a change, and returns what takes it back."""
         word, numbers, packet, text = operation
-        stream = self.streams[self.current]
+        stream, keys = self.streams[self.current], self.keys[self.current]
         if word == "script":
             before, self.script = self.script, text
             return Operation("script", (), None, before)
@@ -102,14 +106,17 @@ class Contents:
         if word == "move":
             start, to = numbers
             stream.insert(to, stream.pop(start))
+            keys.insert(to, keys.pop(start))
             return Operation("move", (to, start))
         at = numbers[0]
         if word == "insert":
             stream.insert(at, packet)
+            keys.insert(at, self.has_key_tag(packet))
             return Operation("delete", (at,))
         if word == "delete":
+            keys.pop(at)
             return Operation("insert", (at,), stream.pop(at))
-        before, stream[at] = stream[at], packet
+        before, stream[at], keys[at] = stream[at], packet, self.has_key_tag(packet)
         return Operation("replace", (at,), before)
 
     def line(self, operation):
@@ -134,8 +141,10 @@ class Contents:
         stream = self.streams[self.current]
         stamp = self.stamp(stream[at - 1]) if at else 0
         if word == "hold":
-            keys = (stream[index] for index in range(at - 1, -1, -1))
-            size = ivf.key_size(self.bytes(next(number for number in keys if self.has_key_tag(number)), 10))
+            number = stream[self.keys[self.current].rindex(1, 0, at)]
+            if number not in self.key_sizes:
+                self.key_sizes[number] = ivf.key_size(self.bytes(number, 10))
+            size = self.key_sizes[number]
         return self.make(stamp, (word, *size))
 
     def root(self, number):
