@@ -1,5 +1,6 @@
 #!/usr/bin/env python3
-"""Times the page of `wokureti open` in Debian's chromium: from opening to the first picture, from an edit to the new picture, and playback.
+"""Times the page of `wokureti open` in Debian's chromium: from opening to the first picture, from an edit to the new picture, steps of many edits,
+and playback.
 
     bench/page.py CLIP-OF-640x360 CLIP-OF-1920x1080
 
@@ -77,6 +78,36 @@ def edits(browser, clip, name):
     page.end()
 
 
+# Deletes, takes back and makes again, holds: each as one step of many edits.
+LARGE = """
+    const { model, editing } = wokureti;
+    const times = [];
+    const timed = async (act) => {
+      const since = performance.now();
+      await act();
+      times.push((performance.now() - since) / 1000);
+    };
+    model.select(1000, 11000);
+    await timed(() => editing.delete());
+    await timed(() => editing.undo());
+    await timed(() => editing.redo());
+    await editing.undo();
+    model.select(1000, 4000);
+    await timed(() => editing.hold());
+    return [model.packets, ...times];"""
+
+
+def large_steps(browser, path, count):
+    page = Page(browser, path)
+    page.open()
+    browser.wait("wokureti.model.session.listed", seconds=300)
+    packets, *times = browser.run(LARGE)
+    words = ("10,000 packets deleted", "undone", "deleted again", "3,000 held")
+    said = ", ".join(f"{word} {seconds:.1f} s" for word, seconds in zip(words, times))
+    print(f"large steps in {count:,} packets: {said}{'' if packets == count else f', and {packets} packets'}", flush=True)
+    page.end()
+
+
 def playback(browser, clip, name):
     """Frames a second that are shown: at the stream's rate, and at 8 times of it, which is more than there can be."""
     page = Page(browser, clip)
@@ -109,6 +140,7 @@ def main():
             path = room / f"{count}.ivf"
             make_million(path, count)
             opening(browser, path, count)
+        large_steps(browser, room / "100000.ivf", 100_000)
         for clip, size in ((small, "640x360"), (large, "1920x1080")):
             link = room / f"{size}.ivf"
             link.symlink_to(clip)

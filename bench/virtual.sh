@@ -35,7 +35,7 @@ class Server:
         self.process = subprocess.Popen([*serve, *words], stdout=subprocess.PIPE)
         atexit.register(self.process.terminate)
         self.url = self.process.stdout.readline().decode().strip()
-        self.host, self.token = self.url.split("/")[2:4]
+        self.host, self.token = self.process.stdout.readline().decode().split("/")[2:4]
         self.http = http.client.HTTPConnection(self.host)
 
     def get(self, path):

@@ -1,10 +1,11 @@
 #!/usr/bin/env python3
 """Runs the commands of docs/cookbook.md (or of the files named) as they stand, in order, in one bash and one new
 folder, and compares their output with the lines after `#`. A player is replaced by `cat`, and `wokureti open` is interrupted after some
-seconds."""
+seconds. On a machine of more than three processors they run on three of them, since no output may depend on how many there are."""
 
 import os
 import pathlib
+import shutil
 import subprocess
 import sys
 import tempfile
@@ -33,6 +34,12 @@ def complete(command):
     return subprocess.run(["bash", "-n", "-c", command], capture_output=True).returncode == 0
 
 
+def on_three():
+    """The beginning of a command line that runs the rest on three processors, if there are more."""
+    processors = sorted(os.sched_getaffinity(0))
+    return ["taskset", "-c", ",".join(map(str, processors[:3]))] if len(processors) > 3 and shutil.which("taskset") else []
+
+
 def run(path, folder):
     wrong = 0
     commands = blocks(path.read_text(encoding="utf-8"))
@@ -41,7 +48,7 @@ def run(path, folder):
     path_of_programs = f"{folder}/bin:{programs}:{os.environ['PATH']}"
     env = dict(os.environ, PATH=path_of_programs, PYTHONPATH=str(TOP / "clients/python"), PYTHONDONTWRITEBYTECODE="1")
     # Most of it is the page, which is open for 8 s.
-    ran = subprocess.run(["bash", "-c", script], cwd=folder, env=env, capture_output=True, text=True, stdin=subprocess.DEVNULL, timeout=300)
+    ran = subprocess.run([*on_three(), "bash", "-c", script], cwd=folder, env=env, capture_output=True, text=True, stdin=subprocess.DEVNULL, timeout=300)
     outputs = ran.stdout.split("--end--\n")
     for (command, wanted), output in zip(commands, outputs):
         lines = output.splitlines()

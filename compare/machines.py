@@ -7,6 +7,7 @@ one vp8serve; then again, and one sshd is killed in the middle with all that it 
 It needs Debian's openssh-server, openssh-client, parallel and rsync, and the built programs. README.md says more.
 """
 
+import hashlib
 import os
 import pathlib
 import shutil
@@ -181,12 +182,39 @@ def run(room, plain):
     finally:
         for machine in machines:
             machine.kill()
+    faults += dask_recipe(room, wanted)
     left = sorted(os.listdir(room / "tmp"))
     if left:
         faults += 1
         print(f"left in the folder for files: {left}")
     print(f"{faults} differences")
     return 1 if faults else 0
+
+
+def dask_recipe(room, wanted):
+    """The recipe of the cookbook, which decodes a folder of clips on several workers of Dask, if that is there. How many hashes are wrong."""
+    if subprocess.run([sys.executable, "-c", "import distributed"], capture_output=True, check=False).returncode != 0:
+        print("Dask: python3-distributed is not there")
+        return 0
+    lines = (TOP / "docs/cookbook.md").read_text(encoding="utf-8").split("\n    ' > hashes.py\n")[0].rsplit("\n    echo '\n", 1)[1].splitlines()
+    (room / "hashes.py").write_text("".join(f"{line[4:]}\n" for line in lines))
+    (room / "clips").mkdir()
+    count = 24
+    for number in range(count):
+        shutil.copy(room / "a clip.ivf", room / "clips" / f"clip {number}.ivf")
+    header, size = wanted.index(b"\n") + 1, None
+    with Session(room / "a clip.ivf") as session:
+        session.frame(0)
+        size = session.frame_size
+    frames = [wanted[place + 6 : place + size] for place in range(header, len(wanted), size)]
+    right = hashlib.md5(b"".join(frames)).hexdigest()
+    env = dict(os.environ, PYTHONPATH=str(TOP / "clients/python"), VP8SERVE=programs.find("vp8serve"))
+    start = time.monotonic()
+    done = subprocess.run([sys.executable, "hashes.py"], cwd=room, env=env, stdout=subprocess.PIPE, text=True, timeout=300, check=False)
+    found = [line.rsplit(" ", 1)[1] for line in done.stdout.splitlines()]
+    wrong = count - found.count(right)
+    print(f"Dask: status {done.returncode}, {len(found)} clips of {len(frames)} frames, {wrong} wrong, {time.monotonic() - start:.1f} s")
+    return wrong
 
 
 def one_run(name, words, kill, machines, clip, room, ssh, wanted):

@@ -1,9 +1,10 @@
 #!/usr/bin/env python3
 """Uses the page of `wokureti open` in a real browser, and compares what it shows with ffmpeg and with vp8serve.
 
-    compare/page.py [--shots FOLDER]
+    compare/page.py [--shots FOLDER | --looks FOLDER]
 
-Debian's chromium, chromium-driver and ffmpeg must be there. With --shots only the pictures for the documents are written, to a folder.
+Debian's chromium, chromium-driver and ffmpeg must be there. With --shots only the pictures for the documents are written, to a folder; with
+--looks what the tasks by keys look like is written there too.
 README.md says more.
 """
 
@@ -210,9 +211,7 @@ FUNCTIONS = """
     ivf.set([7, 8, 9], 44);
     return [
       made(steps.deleted(3, 6)), made(steps.held(3, 6)), made(steps.heldBefore(3, 6)), made(steps.dropped(3, 6)),
-      ...[0, 4, 6, 9, 10].map((at) => made(steps.moved(3, 6, at))),
-      ...[0, 3, 4, 6, 10].map((at) => made(steps.copied(0, 3, 6, at, true))),
-      steps.copied(1, 3, 5, 4, false), steps.ofSource(["x"], 1, 0), steps.ofSource(["x"], 0, 0),
+      steps.ofSource(["x"], 1, 0), steps.ofSource(["x"], 0, 0),
       steps.hexadecimal([0, 17, 255]), steps.hexadecimal([]), [...steps.packetOf(ivf)], [...steps.packetOf(ivf.subarray(1))].length,
       [steps.packetOfLine("copy 1 2 3"), steps.packetOfLine("delete 7"), steps.packetOfLine("script -")],
       [0, 1, 2, 3, 6].map((passed) => player.frameDue(5, 1, passed, range, true)), [0, 1, 2, 3].map((passed) => player.frameDue(5, -1, passed, range, false)),
@@ -228,9 +227,7 @@ FUNCTIONS = """
     ];"""
 RESULTS = [
     "abcghij", "abc---ghij", "abc---ghij", "abc...ghij",
-    "defabcghij", "abcdefghij", "abcdefghij", "abcghidefj", "abcghijdef",
-    "defabcdefghij", "abcdefdefghij", "abcddefefghij", "abcdefdefghij", "abcdefghijdef",
-    ["copy 1 3 4", "copy 1 4 5"], ["use 1", "x"], ["x"],
+    ["use 1", "x"], ["x"],
     "0011ff", "-", [7, 8, 9], 46,
     [3, 7, None],
     [5, 6, 3, 4, 3], [5, 4, 3, None],
@@ -599,6 +596,19 @@ def edit(page):
     expect(lines()[start:] == ["move 60 79"] * 3, f"a move made {lines()[start:]}")
     browser.key("Control", "z")
     browser.wait(f"wokureti.model.session.edits.length === {start}")
+    # What was copied is inserted, although its number is another one by then.
+    browser.run("await wokureti.model.goPacket(60); wokureti.model.select(60, 63)")
+    browser.key("Control", "c")
+    browser.run("await wokureti.model.goPacket(2); wokureti.model.select(null)")
+    browser.key("Delete")
+    browser.wait("wokureti.model.packets === 249")
+    browser.run("await wokureti.model.goPacket(10)")
+    browser.key("Control", "v")
+    browser.wait("wokureti.model.packets === 252")
+    expect(lines()[start:] == ["delete 2", "copy 0 59 10", "copy 0 61 11", "copy 0 63 12"], f"a copy after a deletion made {lines()[start:]}")
+    for _ in range(2):
+        browser.key("Control", "z")
+    browser.wait(f"wokureti.model.session.edits.length === {start}")
     browser.run("wokureti.model.select(20, 25)")
     browser.key("Delete")
     browser.wait("wokureti.model.packets === 245")
@@ -606,7 +616,7 @@ def edit(page):
     browser.key("h")
     browser.wait(f"wokureti.model.session.edits.length === {start + 9}")
     browser.click("#tab-edits")
-    shown = browser.run("return document.querySelectorAll('#edits-list li').length")
+    shown = browser.run("return document.querySelectorAll('#edits-list li .row').length")
     expect(shown == start + 9, f"the list shows {shown} edits")
     browser.run("[...document.querySelectorAll('#edits-list .row')].at(-1).click()")
     browser.wait("wokureti.model.packet === 31")
@@ -702,6 +712,212 @@ def two_tabs(page):
     say("two tabs: each shows the edits of the other; an edit for an older revision is not made")
 
 
+def tab_to(browser, css, most=200):
+    """Presses the Tab key until an element has the focus."""
+    for _ in range(most):
+        if browser.run("return document.activeElement.matches(arguments[0])", css):
+            return
+        browser.key("Tab")
+    raise AssertionError(f"{css} is not reached by the Tab key")
+
+
+def go_to(browser, text, frame):
+    """Types a frame, and goes back to the timeline."""
+    browser.key("g")
+    browser.wait("document.activeElement.id === 'frame'")
+    for letter in text:
+        browser.key(letter)
+    browser.key("Enter")
+    browser.wait(f"wokureti.model.frame === {frame}")
+    browser.wait(f"wokureti.model.known({frame}) && wokureti.model.known({frame}).packet === wokureti.model.packet")
+
+
+def by_keyboard(browser, room, clip, broken, place, size, looks):
+    """A day's tasks by keys alone: damage is found and repaired, frames are cut out, a shot is moved, a fade is made, all is saved and opened again."""
+    stream = room / f"keys-{size[0]}.ivf"
+    stream.write_bytes(broken.read_bytes())
+    browser.set_size(*size)
+    page = Page(browser, stream, "--source", clip)
+    page.open()
+
+    def shot(name):
+        if looks is not None:
+            (looks / f"{size[0]}x{size[1]}-{name}.png").write_bytes(browser.screenshot())
+
+    browser.wait("wokureti.findings.check && wokureti.findings.check.over", seconds=60)
+    shot("opened")
+    browser.key(".")
+    browser.wait(f"wokureti.model.packet === {place}")
+    tab_to(browser, "#findings-list .row")
+    browser.key("Enter")
+    browser.wait("document.querySelectorAll('.repairs button').length > 3")
+    tab_to(browser, ".repairs button")
+    shot("repairs")
+    browser.key("Enter")
+    browser.wait("document.getElementById('preview-result').textContent.startsWith('no damage')", seconds=60)
+    shot("preview")
+    tab_to(browser, "#preview-take")
+    browser.key("Enter")
+    browser.wait("wokureti.findings.check && wokureti.findings.check.over && wokureti.findings.check.damage === 0", seconds=60)
+    # Frames 20 to 29 are cut out; a time is typed for the first of them.
+    tab_to(browser, "#timeline")
+    go_to(browser, "0.8", 20)
+    browser.key("i")
+    go_to(browser, "29", 29)
+    browser.key("o")
+    browser.key("x")
+    browser.wait("wokureti.model.frames === 240")
+    with Session(clip) as session:
+        pictures = {frame: session.frame(frame).rgb().tobytes() for frame in (19, 30, 50, 99, 0)}
+    go_to(browser, "20", 20)
+    page.at(20)
+    expect(page.pixels()[2] == pictures[30], "frame 30 does not follow frame 19 after a cut")
+    # The shot of the second key packet is moved to the beginning.
+    browser.key("Home")
+    browser.key("Down")
+    browser.wait("wokureti.model.packet === 50")
+    browser.key("i")
+    browser.key("Down")
+    browser.wait("wokureti.model.packet === 100")
+    browser.key("Left")
+    browser.wait("wokureti.model.packet === 99")
+    browser.key("o")
+    browser.wait("wokureti.model.selection && wokureti.model.selection.first === 50 && wokureti.model.selection.end === 100")
+    browser.key("Control", "x")
+    browser.wait("!document.getElementById('paste').disabled")
+    browser.key("Home")
+    browser.wait("wokureti.model.packet === 0")
+    browser.key("Control", "v")
+    browser.wait("wokureti.model.selection && wokureti.model.selection.first === 0 && wokureti.model.selection.end === 50")
+    browser.key("Home")
+    page.at(0)
+    expect(page.pixels()[2] == pictures[50], "the shot is not at the beginning")
+    shot("moved")
+    # A fade over the first second.
+    browser.key("Escape")
+    browser.key("i")
+    go_to(browser, "24", 24)
+    browser.key("o")
+    browser.key("r")
+    browser.wait("document.getElementById('ask').open")
+    shot("fade")
+    tab_to(browser, "#ask button[value=yes]")
+    browser.key("Enter")
+    browser.wait("wokureti.model.session.script.includes('fade')")
+    go_to(browser, "0", 0)
+    page.at(0)
+    expect(set(page.pixels()[2]) <= {0, 1}, "the first frame of the fade is not black")
+    edits = page.members("session")
+    browser.key("Control", "s")
+    browser.wait("document.getElementById('ask').open")
+    tab_to(browser, "#ask button[value=yes]")
+    browser.key("Enter")
+    browser.wait("document.getElementById('saved').textContent.includes('without the script')")
+    shot("saved")
+    saved = room / f"keys-{size[0]}-edited.ivf"
+    packets = [data for _, data in ivf.read_packets(clip)[1]]
+    expect([data for _, data in ivf.read_packets(saved)[1]] == packets[50:100] + packets[:50] + packets[100:], "the saved packets are not those of the moved shot")
+    page.quiet(f"keys, {size[0]}x{size[1]}")
+    page.end()
+    # Opened again: all edits are there, what was never saved in this run is not called saved, and one undo takes back a step.
+    page = Page(browser, stream, "--source", clip)
+    page.open()
+    after = page.members("session")
+    expect((after["edits"], after["steps"], after["saved"]) == (edits["edits"], edits["steps"], False), "the edits are not those of the run before")
+    tab_to(browser, "#timeline")
+    browser.key("Control", "z")
+    browser.wait("!wokureti.model.session.script.includes('fade')")
+    browser.key("Control", "z")
+    browser.wait(f"wokureti.model.session.edits.length === {len(edits['edits']) - 51}")
+    shot("reopened")
+    page.quiet(f"keys, {size[0]}x{size[1]}, opened again")
+    page.end()
+    browser.set_size(1440, 900)
+    say(f"keys alone, {size[0]}x{size[1]}: found, repaired, cut out, moved, faded, saved, opened again")
+
+
+def asides(browser, room, clip, other):
+    """Packets that no frame shows have their own picture; two sources are compared; what was called lost is shown."""
+    page = Page(browser, clip, "--source", other, "--edits", room / "list-of-asides")
+    page.open()
+    browser.run("await wokureti.model.useSource(1)")
+    with Session(other) as session:
+        wanted = [session.frame(number).rgb().tobytes() for number in range(4)]
+    browser.wait("document.getElementById('picture-text').textContent.startsWith('Packet 0 of source 1')")
+    expect(page.pixels()[2] == wanted[0], "the picture of source 1 is not its first frame")
+    browser.run("document.getElementById('timeline').focus()")
+    browser.key("Right")
+    browser.key("Right")
+    browser.wait("document.getElementById('picture-text').textContent.startsWith('Packet 2 of source 1')")
+    expect(page.pixels()[2] == wanted[2], "the picture is not that of packet 2 of source 1")
+    browser.key("Delete")
+    browser.wait("wokureti.model.session.edits.join() === 'use 1,delete 2'")
+    browser.wait("document.getElementById('saved').textContent.includes('not saved')")
+    expect(pathlib.Path(other).name in browser.run("return document.getElementById('saved').textContent"), "the source whose edits are not saved is not named")
+    browser.key("Control", "z")
+    # A packet that the script leaves out.
+    browser.run("await wokureti.model.useSource(0); await wokureti.editing.make(['use 0', 'script trim 0 0 20'], ''); await wokureti.model.goPacket(40)")
+    browser.wait("!document.getElementById('stage-note').hidden && document.getElementById('picture-text').textContent.startsWith('Packet 40')")
+    with Session(clip) as session:
+        expect(page.pixels()[2] == session.frame(40).rgb().tobytes(), "the picture is not that of the packet that the script leaves out")
+    # Two sources.
+    browser.run("await wokureti.model.go(3); wokureti.viewer.choose_view('pair'); const select = document.getElementById('against'); select.value = '1'; select.dispatchEvent(new Event('change'))")
+    browser.wait("document.getElementById('picture-text').textContent.includes('source 1')")
+    with Session(clip) as one, Session(other) as two:
+        mine, theirs = one.frame(3), two.frame(3)
+    count = sum(left != right for left, right in zip(mine.i420(), theirs.i420()))
+    text = browser.run("return document.getElementById('picture-text').textContent")
+    expect(f"{count:,} of" in text, f"two sources are compared: {text}, not {count}")
+    # A call in the last moment of another one is not lost.
+    shown = browser.run("""
+        const { viewer } = wokureti;
+        await viewer.showing;
+        const real = viewer.showNow;
+        const lost = [];
+        for (let wait = 0; wait < 8; wait++) {
+          let calls = 0;
+          viewer.showNow = async () => { calls++; };
+          viewer.show();
+          for (let turn = 0; turn < wait; turn++) await null;
+          const before = calls;
+          viewer.show();
+          await new Promise((done) => setTimeout(done, 5));
+          if (calls <= before && !(calls === 1 && before === 0)) lost.push(wait);
+          if (calls === before) lost.push(wait);
+        }
+        viewer.showNow = real;
+        return lost;""")
+    expect(not shown, f"calls of show() are lost after {shown} turns")
+    page.quiet("asides")
+    page.end()
+    say("packets that no frame shows: their own pictures, of another source and without a script; two sources are compared")
+
+
+def door(browser, room, clip):
+    """The file that a browser is started with leads to the page."""
+    starter = room / "starter"
+    starter.write_text('#!/bin/sh\necho "$@" > "$0.words"\n')
+    starter.chmod(0o755)
+    env = dict(os.environ, PYTHONPATH=str(TOP / "clients/python"), DISPLAY=":99", BROWSER=str(starter))
+    words = [sys.executable, "-m", "wokureti", "open", str(clip), "--edits", str(room / "list-of-door")]
+    process = subprocess.Popen(words, env=env, stdout=subprocess.PIPE, stderr=subprocess.DEVNULL, text=True)
+    address = process.stdout.readline().strip()
+    limit = time.monotonic() + 30
+    while not (room / "starter.words").exists() or not (room / "starter.words").read_text().endswith("\n"):
+        if time.monotonic() > limit:
+            raise AssertionError("no browser was started")
+        time.sleep(0.05)
+    file = (room / "starter.words").read_text().strip()
+    expect(file.startswith("file:///") and address.split("/")[3] not in file, f"the browser is started with {file}")
+    browser.open(file)
+    browser.wait("location.href.startsWith('http://127.0.0.1:') && document.body && document.body.dataset.ready === 'yes'", seconds=60)
+    expect(browser.run("return location.href.split('#')[0]") == address, "the file does not lead to the page")
+    browser.open("about:blank")
+    process.terminate()
+    process.wait(30)
+    say("the browser is started with a file that leads to the page")
+
+
 def kill(page):
     """vp8serve is killed: the page says so, and goes on."""
     browser = page.browser
@@ -709,7 +925,9 @@ def kill(page):
     session = page.members("session")
     browser.errors()
     for child in children:
-        os.kill(int(child), signal.SIGKILL)
+        # A check may have ended by itself.
+        with contextlib.suppress(ProcessLookupError):
+            os.kill(int(child), signal.SIGKILL)
     time.sleep(0.1)
     browser.run("await wokureti.model.go(77)")
     page.at(77)
@@ -850,11 +1068,14 @@ def shots(browser, folder, clip, broken):
 
 def main():
     folder = sys.argv[2] if sys.argv[1:2] == ["--shots"] and len(sys.argv) == 3 else None
+    looks = pathlib.Path(sys.argv[2]) if sys.argv[1:2] == ["--looks"] and len(sys.argv) == 3 else None
     with tempfile.TemporaryDirectory() as name, Browser() as browser:
         room = pathlib.Path(name)
         say(f"chromium {browser.version}, vp8serve {subprocess.run([programs.find('vp8serve'), '--version'], capture_output=True, text=True, check=True).stdout.split()[1]}")
         clip, broken, place = room / "clip.ivf", room / "broken.ivf", 93
         make_clip(clip, "480x270" if folder else "640x360", 250)
+        other = room / "other.ivf"
+        make_clip(other, "480x270" if folder else "640x360", 50, "testsrc2")
         break_packet(clip, broken, place)
         if folder:
             shots(browser, folder, clip, broken)
@@ -878,6 +1099,10 @@ def main():
         kill(page)
         reachable(page)
         said = page.end()
+        door(browser, room, clip)
+        asides(browser, room, clip, other)
+        for size in ((1440, 900), (390, 844)):
+            by_keyboard(browser, room, clip, broken, place, size, looks)
         expect(str(broken.with_suffix(".edits")) in said, f"the end says {said}")
         million(browser, room)
         # ffmpeg draws this picture faster than the other one.

@@ -73,7 +73,7 @@ def version_of(name):
 def post(url, line):
     origin = "/".join(url.split("/")[:3])
     headers = {"Origin": origin, "Content-Type": "application/json"}
-    request = urllib.request.Request(url.replace("/clip.y4m", "/edits"), json.dumps({"line": line}).encode(), headers)
+    request = urllib.request.Request(url, json.dumps({"line": line}).encode(), headers)
     with urllib.request.urlopen(request, timeout=20) as answer:
         return json.loads(answer.read())
 
@@ -87,20 +87,21 @@ def main():
         env = dict(os.environ, PYTHONPATH=str(TOP / "clients/python"), VP8SERVE=programs.find("vp8serve"), VP8LIST=programs.find("vp8list"))
         server = subprocess.Popen([sys.executable, "-m", "wokureti", "serve", str(clip)], stdout=subprocess.PIPE, env=env)
         try:
-            return run(server.stdout.readline().decode().strip(), clip, choose)
+            url, edits = (server.stdout.readline().decode().strip() for _ in range(2))
+            return run(url, edits, clip, choose)
         finally:
             server.terminate()
             server.wait(10)
 
 
-def run(url, clip, choose):
+def run(url, edits, clip, choose):
     faults = compared = 0
     with Session(clip) as session:
         rate, scale = session.rate
         for line in (None, "delete 40", "script fade 0 0 200 0 256"):
             if line is not None:
                 session.request(line)
-                post(url, line)
+                post(edits, line)
             count = session.count().frames
             seconds = subprocess.run(
                 ["ffprobe", "-v", "error", "-show_entries", "format=duration", "-of", "csv=p=0", url], stdout=subprocess.PIPE, text=True, **QUIET

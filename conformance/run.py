@@ -10,7 +10,7 @@
 A stream is `same`, or the first frame that differs is shown, with the macroblock and the sample, and what the macroblock is made of. A stream in
 which the decoder shows fewer frames than the standard is compared as far as it goes. --beyond takes the streams in which libvpx leaves the
 standard, too. The last lines name the points that only streams that differ reach, and count streams, frames and points. The exit status is 1
-if a stream differs.
+if a stream differs, and 2 if the decoder cannot be run. COMMAND is split as a shell does: quote a path with spaces in it.
 """
 
 import argparse
@@ -20,6 +20,8 @@ import json
 import os
 import pathlib
 import re
+import shlex
+import shutil
 import subprocess
 import sys
 import tempfile
@@ -183,15 +185,28 @@ def write_junit(path, name, results):
     xml.ElementTree(suite).write(path, encoding="utf-8", xml_declaration=True)
 
 
+def fail(text):
+    """Ends with a sentence, and the status of a decoder that cannot be run."""
+    print(f"run.py: {text}", file=sys.stderr)
+    sys.exit(2)
+
+
+def need(word):
+    if shutil.which(word) is None:
+        fail(f"{word} is not there: install it, or give its path" if os.sep not in word else f"there is no program {word}; a path with spaces is quoted")
+
+
 def command_of(asked, room):
     """The words that run the decoder; the adapter in Go is built first."""
     if asked.name not in KNOWN:
-        return asked.command.split() if asked.command else None
+        return shlex.split(asked.command) if asked.command else None
     if asked.name == "go":
         # Debian's golang-golang-x-image-dev puts its sources there.
         settings = {"GO111MODULE": "off", "GOPATH": os.environ.get("GOPATH", "/usr/share/gocode"), "GOCACHE": f"{room}/cache", "GOFLAGS": ""}
+        need("go")
         built = ["go", "build", "-o", f"{room}/key_packets", str(HERE / "adapters/key_packets.go")]
-        subprocess.run(built, env={**os.environ, **settings}, check=True)
+        if subprocess.run(built, env={**os.environ, **settings}, check=False).returncode != 0:
+            fail("the adapter in Go was not built: Debian's golang-golang-x-image-dev is needed")
     return [word.replace("{room}", room) for word in KNOWN[asked.name]]
 
 
@@ -232,6 +247,7 @@ def main():
         command = command_of(asked, room)
         if command is None:
             parser.error(f"{asked.name} is not known: give its command")
+        need(command[0])
         found = pool.map(lambda path: difference(path, command, asked), paths)
         for path, (text, same, frames) in zip(paths, found):
             results.append((path.stem, text, same, frames))

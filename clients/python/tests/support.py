@@ -4,6 +4,7 @@ import contextlib
 import hashlib
 import os
 import pathlib
+import re
 import signal
 import subprocess
 import sys
@@ -90,6 +91,11 @@ def is_alive(pid):
             return file.read().rsplit(")", 1)[1].split()[0] != "Z"
     except OSError:
         return False
+
+
+def list_of(path):
+    """The text of a list of edits without its first line, which says what stream it is of."""
+    return re.sub(r"\A# wokureti: edits of \d+ packets, \d+ bytes, sha256 [0-9a-f]{64}\n", "", path.read_text())
 
 
 def process_of(session):

@@ -2,14 +2,16 @@
 
 import os
 import pty
+import shutil
 import signal
 import subprocess
 import threading
 import time
 import unittest
+from unittest import mock
 
 from support import DATA, ODD, SLOW, SMALL, Case, command, packets_of, start, start_unwaking, whole_text, write_packets
-from wokureti import Session, programs
+from wokureti import Session, cat, commands, machines, parts, programs
 
 SCENES = DATA / "scene-cuts.ivf"
 HIDDEN = DATA / "hidden-altref.ivf"
@@ -27,6 +29,8 @@ def program_that(folder, text):
 class Texts(Case):
     def assertWhole(self, stream, status=0, lines=(), sources=(), words=()):
         wanted = whole_text(stream, *lines, sources=sources)
+        # What a session calls an empty stream is standard input for the command.
+        stream = "/dev/null" if stream == "-" else stream
         for jobs in (1, 3):
             found, text, errors = command("cat", stream, "--jobs", jobs, *words)
             self.assertEqual((found, text == wanted, bool(errors)), (status, True, status != 0), errors)
@@ -135,7 +139,26 @@ class Paths(Case):
         self.assertTrue((self.room / "link").is_symlink())
         self.assertEqual((self.room / "target").read_bytes(), self.wanted)
         self.assertEqual(command("cat", self.clip, "/dev/null"), (0, b"", ""))
-        self.assertEqual(command("cat", "/dev/stdin", given=SCENES.read_bytes()), (0, self.wanted, ""))
+        for name in ("/dev/stdin", "-"):
+            self.assertEqual(command("cat", name, given=SCENES.read_bytes()), (0, self.wanted, ""))
+            with open(SCENES, "rb") as file:
+                process = start("cat", name, stdin=file, stdout=subprocess.PIPE)
+                self.assertEqual((process.communicate(timeout=20 * SLOW)[0], process.returncode), (self.wanted, 0))
+        self.assertEqual(command("cat", "/dev/null"), (0, b"", ""))
+        # The other commands too.
+        png = command("png", SCENES, 3, "-")
+        self.assertEqual((command("png", "-", 3, "-", given=SCENES.read_bytes()), png[0], png[1][:4]), (png, 0, b"\x89PNG"))
+        self.assertEqual(command("repair", "-", self.room / "mended.ivf", given=SCENES.read_bytes())[::2], (0, ""))
+        self.assertEqual((self.room / "mended.ivf").read_bytes(), SCENES.read_bytes())
+        with open(SCENES, "rb") as file:
+            self.assertEqual(start("repair", "-", self.room / "mended.ivf", stdin=file, stdout=subprocess.DEVNULL).wait(20 * SLOW), 0)
+        self.assertEqual(command("compare", "-", SCENES, given=SCENES.read_bytes())[0], 0)
+
+    def test_a_name_that_a_terminal_obeys(self):
+        for words in (["a\x1b[31m\x07.ivf"], [self.clip, "a\x1b[31m\x07/out.y4m"]):
+            status, _, errors = command("cat", *words, cwd=self.room)
+            self.assertEqual((status, "\x1b" in errors, "\x07" in errors), (2, False, False))
+        self.assertIn("a\\x1b[31m\\x07/", errors)
 
     def test_a_folder_that_is_not_there(self):
         status, _, errors = command("cat", self.clip, self.room / "none" / "out.y4m")
@@ -143,6 +166,74 @@ class Paths(Case):
         status, _, errors = command("cat", self.room / "none.ivf", self.room / "out.y4m")
         self.assertEqual((status, "cannot read" in errors), (2, True))
         self.assertEqual(sorted(os.listdir(self.room)), ["in of é.ivf"])
+
+
+@unittest.skipUnless(shutil.which("ffmpeg"), "ffmpeg is not there")
+class Containers(Case):
+    def setUp(self):
+        super().setUp()
+        self.room = self.folder()
+        self.webm = self.room / "a.webm"
+        subprocess.run(["ffmpeg", "-nostdin", "-v", "error", "-i", SCENES, "-c", "copy", self.webm], check=True, timeout=20 * SLOW)
+        self.packets = packets_of(SCENES)
+
+    def test_each_command_reads_them(self):
+        status, text, errors = command("cat", self.webm)
+        self.assertEqual((status, b"".join(text.split(b"\n", 1)[1:]) == whole_text(SCENES).split(b"\n", 1)[1], "took its packets out" in errors), (0, True, True))
+        status, piped, errors = command("cat", "-", given=self.webm.read_bytes())
+        self.assertEqual((status, piped == text, "standard input is a WebM" in errors), (0, True, True))
+        self.assertEqual(command("compare", "-", SCENES, given=self.webm.read_bytes())[0], 0)
+        status, _, _ = command("repair", "-", self.room / "out.ivf", given=self.webm.read_bytes())
+        self.assertEqual((status, packets_of(self.room / "out.ivf")), (0, self.packets))
+        # The header counts the packets.
+        self.assertEqual(int.from_bytes((self.room / "out.ivf").read_bytes()[24:28], "little"), len(self.packets))
+        done = subprocess.run([programs.find("vp8list"), self.room / "out.ivf", "--check"], capture_output=True, text=True, check=False)
+        self.assertNotIn("note: header: 1", done.stdout)
+        self.assertNotIn("frames, 16 packets", done.stdout)
+
+    def test_a_session_reads_them(self):
+        with self.session(self.webm, sources=[self.webm]) as stream:
+            self.assertEqual([stream.packet(n) for n in range(len(self.packets))], self.packets)
+            stream.copy(1, 3, 0)
+            self.assertEqual(stream.packet(0), self.packets[3])
+            stream.save(self.room / "saved.ivf")
+            with self.assertRaisesRegex(ValueError, "a file of the session"):
+                stream.save(self.webm)
+        self.assertEqual(packets_of(self.room / "saved.ivf"), [self.packets[3], *self.packets])
+        # The folder with the packets is gone.
+        self.assertFalse(os.path.exists(stream._inputs.room.name))
+
+
+class Bounded(Case):
+    def test_the_folder_for_temporary_files_has_a_few_parts(self):
+        room = self.folder()
+        path = write_packets(room / "in.ivf", 16 * packets_of(SMALL))
+        wanted = whole_text(path)
+        header = wanted.index(b"\n") + 1
+        size = (len(wanted) - header) // 192
+        real, most, sizes = cat.run_part, [], []
+
+        def run_part(folder, number, *more):
+            real(folder, number, *more)
+            found = [entry.stat().st_size for entry in os.scandir(folder.folder) if entry.name.endswith(".y4m")]
+            most.append(sum(found))
+            sizes.append(os.path.getsize(folder.path(number, "y4m")))
+
+        for script in ((), ("--script", "trim 0 0 500")):
+            with mock.patch.object(cat, "run_part", run_part), mock.patch.object(cat, "MOST_HELD", 30 * size), mock.patch.object(parts, "MOST_PART", 12 * size):
+                self.assertEqual(commands.main(["cat", str(path), str(room / "out.y4m"), "--jobs", "4", *script]), 0)
+            self.assertEqual((room / "out.y4m").read_bytes(), wanted)
+        # A part has 12 frames, and the one that leads, and two of them are there at a time; one more is being joined.
+        self.assertLessEqual(max(sizes), header + 13 * size)
+        self.assertLessEqual(max(most), 3 * (header + 13 * size))
+        self.assertGreaterEqual(len(sizes), 2 * 16)
+
+    def test_a_full_folder_is_named(self):
+        room = self.folder()
+        (room / "it").mkdir()
+        self.assertEqual(cat.if_full(str(room / "it")), "")
+        with mock.patch.object(cat, "LEAST_FREE", 1 << 62):
+            self.assertEqual(cat.if_full(str(room / "it")), f". The folder for temporary files, {room}, is full: name another one in the variable TMPDIR")
 
 
 class Failures(Case):
@@ -173,7 +264,8 @@ class Failures(Case):
         self.assertIn("part 1 has", self.assertFails(env))
 
     def test_no_program(self):
-        self.assertFails({"VP8SERVE": "/nowhere/vp8serve"})
+        errors = self.assertFails({"VP8SERVE": "/nowhere/vp8serve"})
+        self.assertEqual(errors, "wokureti: there is no /nowhere/vp8serve: install it, or name it in the variable VP8SERVE\n")
 
     def test_a_full_disk(self):
         limit = ["sh", "-c", 'ulimit -f 8; exec "$@"', "sh"]
@@ -223,6 +315,23 @@ class Failures(Case):
             process.stdin.close()
 
         self.interrupt(start_unwaking, interrupt)
+
+
+class Machines(Case):
+    def test_machines_are_asked_first(self):
+        room = self.folder()
+        ssh = room / "ssh"
+        # What a machine answers is in its name.
+        ssh.write_text('#!/bin/sh\ncase "$1" in none) echo "ssh: no such host" >&2; exit 255;; rsync) exit 3;; program) exit 4;; slow) exec sleep 60;; esac\n')
+        ssh.chmod(0o755)
+        names = ["none", "4/rsync", "2/program", "slow"]
+        with mock.patch.dict(os.environ, {"PARALLEL_SSH": str(ssh)}), mock.patch.object(machines, "MOST_ASK", 0.5), mock.patch("sys.stderr") as said, self.within(5):
+            with self.assertRaisesRegex(cat.Failed, "no machine"):
+                machines.able(names, "vp8serve")
+            self.assertEqual(machines.able([":", "8/good", *names], "vp8serve"), [":", "8/good"])
+        text = "".join(call.args[0] for call in said.write.call_args_list)
+        for sentence in ("none cannot be reached: ssh: no such host", "rsync has no rsync", "program has no vp8serve: install it there", "slow does not answer in 0.5 seconds"):
+            self.assertIn(f"wokureti: {sentence}", text)
 
 
 class Progress(Case):

@@ -9,6 +9,7 @@ import subprocess
 import sys
 import threading
 import unittest
+import xml.etree.ElementTree as xml
 from unittest import mock
 
 from support import DATA, ODD, SLOW, SMALL, TOP, Case, command, packets_of, start, whole_text, write_packets
@@ -245,6 +246,68 @@ class Compare(Case):
         with mock.patch.object(compare, "numpy", None):
             found.append(list(compare.compare(str(self.one), str(other)).lines()))
         self.assertEqual(found[0], found[1])
+
+
+class Decoders(Case):
+    LIMIT = 40
+
+    def setUp(self):
+        super().setUp()
+        self.room = self.folder() / "a folder"
+        (self.room / "more").mkdir(parents=True)
+        for name in ("scene-cuts", "still"):
+            (self.room / f"{name}.ivf").write_bytes((DATA / f"{name}.ivf").read_bytes())
+        (self.room / "more/odd.ivf").write_bytes(ODD.read_bytes())
+        (self.room / "notes.txt").write_text("no stream")
+        # Frame 5 is refused: a decoder shows none there.
+        packets = packets_of(SMALL)
+        write_packets(self.room / "broken.ivf", [*packets[:5], BROKEN])
+
+    def decoder(self, text):
+        """A command with a space in its path, that has the frames of a stream and does something with them."""
+        path = self.room.parent / "a decoder"
+        lines = ["#!/bin/sh", f"export PYTHONPATH='{TOP}/clients/python'", f'"{sys.executable}" -m wokureti cat "$1" "$2.y4m" --jobs 1 2> /dev/null', text]
+        path.write_text("\n".join(lines) + "\n")
+        path.chmod(0o755)
+        return f"'{path}' {{in}} {{out}}"
+
+    def run_it(self, text, *words):
+        status, out, errors = command("compare", "--decoder", self.decoder(text), self.room, "--junit", self.room.parent / "junit.xml", *words)
+        self.assertEqual(errors, "")
+        suite = xml.parse(self.room.parent / "junit.xml").getroot()
+        failures = {case.get("name"): case.find("failure").text for case in suite if case.find("failure") is not None}
+        self.assertEqual((suite.get("tests"), suite.get("failures")), (str(len(suite)), str(len(failures))))
+        return status, out.decode().splitlines(), failures
+
+    def test_a_folder_of_streams(self):
+        status, lines, failures = self.run_it('mv "$2.y4m" "$2"')
+        names = ["broken.ivf", "more/odd.ivf", "scene-cuts.ivf", "still.ivf"]
+        self.assertEqual((status, lines, failures), (0, [*(f"{name}: same" for name in names), "4 of 4 streams are the same"], {}))
+        # I420, as a decoder writes it that knows no Y4M; one stream by itself, and one process.
+        raw = 'tail -n +2 "$2.y4m" | sed "s/^FRAME$//" > /dev/null; "$0.py" "$2.y4m" > "$2"'
+        (self.room.parent / "a decoder.py").write_text(f"#!{sys.executable}\nimport sys\nsys.path.insert(0, {str(TOP / 'clients/python')!r})\nfrom wokureti import y4m\nfor frame in y4m.read_frames(open(sys.argv[1], 'rb')):\n    sys.stdout.buffer.write(frame[2])\n")
+        (self.room.parent / "a decoder.py").chmod(0o755)
+        self.assertEqual(self.run_it(raw, "--jobs", "1")[0], 0)
+
+    def test_what_differs(self):
+        change = 'if [ "$(basename "$1")" = still.ivf ]; then printf x | dd of="$2.y4m" bs=1 seek=200 conv=notrunc status=none; fi; mv "$2.y4m" "$2"'
+        status, lines, failures = self.run_it(change)
+        self.assertEqual((status, list(failures), lines[-1]), (1, ["still.ivf"], "3 of 4 streams are the same"))
+        self.assertIn("first difference: frame 0: plane Y", failures["still.ivf"])
+        status, lines, failures = self.run_it('case "$1" in *odd*) echo "no memory" >&2; exit 3;; esac; head -c 100 "$2.y4m" > "$2"')
+        self.assertEqual((status, len(failures)), (1, 4))
+        self.assertIn("no memory", failures["more/odd.ivf"])
+
+    def test_what_cannot_be_run(self):
+        for words, said in (
+            (["--decoder", "/nowhere/decoder {in}", self.room], "there is no program /nowhere/decoder"),
+            (["--decoder", "true", self.room / "more", SMALL], "no B"),
+            (["--decoder", "true", self.folder()], "has no streams"),
+            ([SMALL], "B is missing"),
+            ([SMALL, SMALL, "--junit", self.room / "x"], "two streams"),
+        ):
+            status, out, errors = command("compare", *words)
+            self.assertEqual((status, out, said in errors), (2, b"", True), errors)
 
 
 class Quiet(http.server.SimpleHTTPRequestHandler):

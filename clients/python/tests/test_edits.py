@@ -1,5 +1,6 @@
 """The list of edits, undo and redo, and the packets as the client knows them."""
 
+import errno
 import json
 import os
 import random
@@ -8,9 +9,11 @@ import subprocess
 import sys
 import threading
 import unittest
+from unittest import mock
 
-from support import DATA, ODD, SLOW, SMALL, TOP, Case, packets_of, process_of, serve
-from wokureti import Ended, Refused, Script, Session, programs
+from support import DATA, ODD, SLOW, SMALL, TOP, Case, list_of, packets_of, process_of, serve, write_packets
+from wokureti import Ended, Refused, Script, Session, edit_files, programs
+from wokureti.errors import OtherStream
 
 HIDDEN = DATA / "hidden-altref.ivf"
 
@@ -144,22 +147,62 @@ class Undo(Case):
             stream.undo()
             stream.redo()
             before = state(stream, 1)
-            real, sent = stream.request, []
+            real = stream.request_all
 
-            def request(line, timeout=None, listed=True):
-                sent.append(line)
-                if len(sent) == 2:
-                    raise Refused("refused NoMemory")
-                return real(line, timeout, listed)
+            def request_all(lines, timeout=None, progress=None):
+                lines = list(lines)
+                # The second one is refused, and the third one, which was sent with it, is made.
+                return [*real(lines[:1]), Refused("refused NoMemory"), *real(lines[2:])]
 
-            stream.request = request
+            stream.request_all = request_all
             with self.assertRaises(Refused):
                 stream.undo()
-            del stream.request
-            self.assertEqual(len(sent), 3)
+            del stream.request_all
             self.assertEqual(state(stream, 1), before)
             self.assertEqual(stream.undo(), ["delete 4", "delete 3", "delete 2"])
             self.assertEqual([stream.packet(n) for n in range(12)], packets_of(SMALL))
+
+
+class LargeSteps(Case):
+    LIMIT = 40
+
+    def many(self, count):
+        """A stream of a key packet and many that repeat it."""
+        with self.session("-") as stream:
+            stream.blank(0, 16, 16)
+            stream.hold(1)
+            key, hold = stream.packet(0), stream.packet(1)
+        return write_packets(self.folder() / "many.ivf", [key] + (count - 1) * [hold])
+
+    def test_ten_thousand_edits_are_sent_together(self):
+        stream = self.session(self.many(12000), edits=self.folder() / "list")
+        real, calls = stream._pipes.exchange, []
+        stream._pipes.exchange = lambda lines, deadline: calls.append(len(lines)) or real(lines, deadline)
+        stream.delete(range(100, 10100))
+        self.assertEqual(stream.count().packets, 2000)
+        self.assertEqual(len(stream.undo()), 10000)
+        self.assertEqual(stream.count().packets, 12000)
+        self.assertEqual(len(stream.redo()), 10000)
+        self.assertEqual(stream.count().packets, 2000)
+        self.assertLess(len(calls), 300)
+
+    def test_a_step_that_is_refused_in_the_middle(self):
+        stream = self.session()
+        stream.delete(0)
+        stream.undo()
+        before = state(stream, 1)
+        # Those after the refused one are sent with it.
+        for lines in (["delete 3", "delete 99", "delete 0", "hold 2", "move 0 5"], ["delete 3"] * 9 + ["hold 9"] + ["delete 0"] * 3, ["use 1", "delete 0"]):
+            with self.assertRaises(Refused):
+                stream.edits.run_step(lines)
+            self.assertEqual((state(stream, 1), list(stream.edits), stream.edits.undone), (before, [], ["delete 0"]))
+
+    def test_the_reason_is_that_of_the_first_refusal(self):
+        stream = self.session(explain=True)
+        with self.assertRaises(Refused) as caught:
+            stream.edits.run_step(["delete 3", "delete 99", "delete 98"])
+        self.assertIn("packet 99", caught.exception.reason)
+        self.assertEqual(stream.edits.run_step(["delete 3", "delete 3"]), "ok 10")
 
 
 class Packets(Case):
@@ -295,15 +338,18 @@ try:
     session.insert(0, bytes(600))
 except OSError as error:
     print("list", error.errno)
-print(session.count().packets, len(session.edits), open({str(room / "list")!r}).read())
+    print(error)
+print(session.count().packets, len(session.edits), session.edits.written, open({str(room / "list")!r}).read().split("\\n", 1)[1])
 session.undo()
 session.delete(1)
-print(open({str(room / "list")!r}).read())
+print(open({str(room / "list")!r}).read().split("\\n", 1)[1])
 """
         env = dict(os.environ, PYTHONPATH=str(TOP / "clients/python"))
         done = subprocess.run([sys.executable, "-c", code], env=env, capture_output=True, text=True, timeout=20 * SLOW, check=False)
-        self.assertEqual((done.stderr, done.stdout.split("\n")[:4]), ("", ["save 27", "list 27", "12 2 delete 0", ""]))
-        self.assertEqual(done.stdout.split("\n")[4:], ["delete 0", "delete 1", "", ""])
+        lines = done.stdout.split("\n")
+        self.assertEqual((done.stderr, lines[:2], lines[3:5]), ("", ["save 27", "list 27"], ["12 2 1 delete 0", ""]))
+        self.assertEqual(lines[2], f"{room / 'list'}: File too large: the last edit is made but not on the disk; the edit before it is safe. Make room: the next edit writes all")
+        self.assertEqual(lines[5:], ["delete 0", "delete 1", "", ""])
         self.assertEqual((room / "old.ivf").read_bytes(), b"old")
         self.assertEqual(sorted(os.listdir(room)), ["list", "old.ivf"])
 
@@ -314,14 +360,14 @@ class Lists(Case):
         stream = self.session(edits=path)
         self.assertEqual(path.read_text(), "")
         stream.delete(3)
-        self.assertEqual(path.read_text(), "delete 3\n")
+        self.assertEqual(list_of(path), "delete 3\n")
         with self.assertRaises(Refused):
             stream.delete(30)
         stream.script("trim 0 0 5")
         stream.insert(0, b"\1\2", 7)
-        self.assertEqual(path.read_text(), "delete 3\nscript trim 0 0 5\ninsert 0 7 0102\n")
+        self.assertEqual(list_of(path), "delete 3\nscript trim 0 0 5\ninsert 0 7 0102\n")
         stream.undo()
-        self.assertEqual(path.read_text(), "delete 3\nscript trim 0 0 5\n")
+        self.assertEqual(list_of(path), "delete 3\nscript trim 0 0 5\n")
         stream.redo()
         self.assertEqual(path.read_text(), stream.edits.text())
         self.assertEqual(serve(SMALL, [*stream.edits, "count"])[-1], "packets 12 frames 5")
@@ -369,6 +415,122 @@ class Lists(Case):
         with self.assertRaisesRegex(ValueError, "no newline"):
             Session(SMALL, edits=path)
         self.assertEqual(path.read_text(), "delete 3\ndelete 1")
+
+    def noticed(self, stream):
+        said = []
+        stream.edits.on_notice = said.append
+        return said
+
+    def test_a_list_that_is_replaced_or_removed_while_it_is_open(self):
+        def replace(path):
+            (path.parent / "other").write_text("another list\n")
+            os.replace(path.parent / "other", path)
+
+        def append(path):
+            with open(path, "a") as file:
+                file.write("# a line of a person\n")
+
+        for change, said, name in ((replace, "replaced by another file", "list.1"), (os.unlink, "removed", "list"), (append, "changed by another program", "list.1")):
+            room = self.folder()
+            stream = self.session(edits=room / "list")
+            heard = self.noticed(stream)
+            stream.delete(3)
+            change(room / "list")
+            theirs = (room / "list").read_text() if name != "list" else ""
+            stream.delete(4)
+            stream.delete(0)
+            self.assertEqual((list_of(room / name), stream.edits.path), ("delete 3\ndelete 4\ndelete 0\n", str(room / name)))
+            self.assertEqual(len(heard), 1)
+            self.assertIn(said, heard[0])
+            self.assertIn(str(room / name), heard[0])
+            # What somebody else wrote is as it was.
+            self.assertEqual(theirs, (room / "list").read_text() if theirs else "")
+            stream.close()
+            self.assertEqual(list_of(room / name), "delete 3\ndelete 4\ndelete 0\n")
+
+    def test_a_list_that_is_replaced_after_the_last_edit(self):
+        room = self.folder()
+        stream = self.session(edits=room / "list")
+        heard = self.noticed(stream)
+        stream.delete(3)
+        os.unlink(room / "list")
+        stream.close()
+        self.assertEqual((list_of(room / "list"), len(heard)), ("delete 3\n", 1))
+
+    def test_edits_that_are_not_on_the_disk_are_written_with_the_next(self):
+        room = self.folder()
+        stream = self.session(edits=room / "list")
+        stream.delete(3)
+        with mock.patch.object(edit_files.EditFile, "write", side_effect=OSError(errno.ENOSPC, "full")):
+            for turn in range(2):
+                with self.assertRaisesRegex(OSError, f"list: No space left on device: the last {'edit is' if not turn else '2 edits are'} made but not on the disk"):
+                    stream.delete(0)
+        self.assertEqual((list_of(room / "list"), len(stream.edits), stream.edits.written), ("delete 3\n", 3, 1))
+        # They are not lost with the program either.
+        os.kill(process_of(stream), signal.SIGKILL)
+        with self.assertRaises(Ended):
+            stream.count()
+        again = self.session(resume=stream.edits)
+        self.assertEqual((list(again.edits), again.count().packets), (["delete 3", "delete 0", "delete 0"], 9))
+        self.assertEqual(list_of(room / "list"), "delete 3\ndelete 0\ndelete 0\n")
+        self.assertEqual(again.undo(), ["delete 0"])
+        self.assertEqual(list_of(room / "list"), "delete 3\ndelete 0\n")
+        again.close()
+
+    def test_steps_are_in_the_list(self):
+        path = self.folder() / "list"
+        stream = self.session(edits=path)
+        stream.delete(11)
+        stream.edits.run_step(["delete 2", "replace 1 -", "delete 2"], title="Repair\nall")
+        stream.delete(range(3, 5))
+        stream.hold(1)
+        self.assertEqual(list_of(path), "delete 11\n# step 3 Repair all\ndelete 2\nreplace 1 -\ndelete 2\n# step 2\ndelete 4\ndelete 3\nhold 1\n")
+        text = path.read_text()
+        stream.close()
+        again = self.session(edits=path)
+        self.assertEqual(again.edits.entries[1].title, "Repair all")
+        for lines in (["hold 1"], ["delete 4", "delete 3"], ["delete 2", "replace 1 -", "delete 2"], ["delete 11"], []):
+            self.assertEqual(again.undo(), lines)
+        self.assertEqual([again.packet(n) for n in range(12)], packets_of(SMALL))
+        while again.redo():
+            pass
+        self.assertEqual(path.read_text(), text)
+        again.close()
+        # A program that runs the list takes the comments for what they are.
+        self.assertEqual(serve(SMALL, [*text.splitlines(), "count"])[-1], "packets 8 frames 8")
+
+    def test_a_list_belongs_to_a_stream_and_not_to_a_name(self):
+        room = self.folder()
+        with self.session(edits=room / "list") as stream:
+            stream.delete(3)
+        text = (room / "list").read_text()
+        with self.assertRaisesRegex(OtherStream, "another stream: of one with 12 packets of 1,185 bytes, and this one has 12 packets of 11,204 bytes.*--anyway"):
+            Session(ODD, edits=room / "list")
+        data = packets_of(SMALL)
+        data[5] = data[5][:-1] + bytes([data[5][-1] ^ 1])
+        with self.assertRaisesRegex(OtherStream, "but others"):
+            Session(write_packets(room / "changed.ivf", data), edits=room / "list")
+        with self.assertRaises(OtherStream):
+            self.session(ODD).edits.run(room / "list")
+        self.assertEqual((room / "list").read_text(), text)
+        # The same packets with another name and other time stamps.
+        with self.session(write_packets(room / "copy.ivf", packets_of(SMALL), rate=1000, scale=33), edits=room / "list") as stream:
+            self.assertEqual(list(stream.edits), ["delete 3"])
+        with self.session(ODD, edits=room / "list", anyway=True) as stream:
+            self.assertEqual(list(stream.edits), ["delete 3"])
+
+    def test_a_list_that_was_made_here_goes_if_it_has_nothing(self):
+        room = self.folder()
+        (room / "old").write_text("")
+        for name, is_left in (("new", False), ("old", True)):
+            self.session(edits=room / name).close()
+            self.assertEqual((room / name).exists(), is_left)
+        # Not that of another session.
+        stream = self.session(edits=room / "new")
+        with self.assertRaisesRegex(ValueError, "another session"):
+            Session(SMALL, edits=room / "new")
+        stream.delete(0)
+        self.assertEqual(list_of(room / "new"), "delete 0\n")
 
     def test_a_list_has_one_session(self):
         path = self.folder() / "list"

@@ -16,7 +16,7 @@ import unittest
 from array import array
 from unittest import mock
 
-from support import DATA, ODD, SLOW, SMALL, Case, command, packets_of, process_of, serve, start, write_packets
+from support import DATA, ODD, SLOW, SMALL, Case, command, list_of, packets_of, process_of, serve, start, write_packets
 from test_serve import TOKEN, ServerCase
 from wokureti import Refused, Script, Session, ivf, programs, views
 from wokureti.opened import Opened
@@ -35,18 +35,19 @@ SCENES = write_packets(
 class PageCase(ServerCase):
     """A server with a page, in this process."""
 
-    def serve(self, stream=SMALL, edits=None, save=None, **options):
-        self.live = Opened({"stream": stream, **options}, edits, save)
+    def serve(self, stream=SMALL, edits=None, save=None, stems=(), **options):
+        self.live = Opened({"stream": stream, **options}, edits, save, stems=stems)
         self.server = Server()
         titles = [os.path.basename(str(path)) for path in (stream, *options.get("sources", ()))]
         self.server.routes = PageRoutes(self.live, self.server, TOKEN, titles)
-        thread = threading.Thread(target=self.server.serve, daemon=True)
+        live, server = self.live, self.server
+        thread = threading.Thread(target=server.serve, daemon=True)
         thread.start()
 
         def end():
-            self.server.end()
+            server.end()
             thread.join(5)
-            self.live.close()
+            live.close()
 
         self.addCleanup(end)
         self.await_list()
@@ -211,7 +212,7 @@ class Views(PageCase):
         self.serve(SMALL, edits=room / "list", save=room / "out.ivf", sources=[ODD])
         found = self.members("/session")
         self.assertEqual([found[name] for name in ("revision", "packets", "frames", "sources", "source", "script", "edits", "undone", "saved", "listed")], [1, 12, 12, [12, 12], 0, "-", [], [], True, True])
-        self.assertEqual((found["names"], found["save"], found["list"]), (["small.ivf", "odd-size.ivf"], str(room / "out.ivf"), str(room / "list")))
+        self.assertEqual((found["names"], found["saves"][0]["next"], found["list"]), (["small.ivf", "odd-size.ivf"], str(room / "out.ivf"), str(room / "list")))
         self.step("delete 3", "delete 3")
         self.change("delete 0")
         self.change(f"replace 0 {'00' * 1000}")
@@ -248,6 +249,30 @@ class Views(PageCase):
                 self.assertLessEqual(place["frame"], frame)
         self.assertEqual(self.members("/origins?from=100000&count=5")["packets"], [])
         self.assertIsNone(self.members("/place?packet=3&source=1")["frame"])
+
+    def test_packets_that_no_frame_shows(self):
+        self.serve(SCENES, sources=[SMALL])
+        with self.session(SCENES) as one, self.session(SMALL) as other:
+            wanted = [[frame.i420() for frame in session.frames(range(12))] for session in (one, other)]
+        # Without a script no frame shows a packet of source 1.
+        place = self.members("/place?packet=3&source=1")
+        self.assertEqual((place["frame"], place["own"], place["before"]), (None, 3, 3))
+        for packet in (0, 3, 11):
+            self.assertEqual(self.picture(f"/packets/{packet}.y4m?source=1"), wanted[1][packet])
+        # With a script none shows packet 9 of source 0.
+        self.change("script trim 0 0 5")
+        self.assertEqual((self.members("/place?packet=9")["frame"], self.members("/place?packet=4")["frame"]), (None, 4))
+        self.assertEqual(self.picture("/packets/9.y4m"), wanted[0][9])
+        # They are those of the edited packets.
+        self.step("delete 2", "use 1", "delete 0", "copy 0 0 0", "use 0")
+        self.assertEqual(self.picture("/packets/8.y4m"), wanted[0][9])
+        self.assertEqual(self.members("/place?packet=8")["before"], 9)
+        self.assertEqual(self.picture("/packets/0.y4m?source=1"), wanted[0][0])
+        self.assertEqual(self.members("/session")["edits"][-1], "use 0")
+        for path in (f"/packets/{len(packets_of(SCENES))}.y4m", "/packets/0.y4m?source=2", "/packets/x.y4m", "/packets/0.png"):
+            self.assertEqual(self.ask(path)[0], 404, path)
+        status, _, body = self.post_to("/preview", lines=["delete 0"], packet=7)
+        self.assertEqual((status, body.partition(b"\nFRAME\n")[2] == self.picture("/packets/8.y4m")), (200, True))
 
     def test_the_frames_before_the_edits(self):
         self.serve(SCENES)
@@ -345,12 +370,74 @@ class Timelines(Case):
             self.assertEqual([place for place, mark in enumerate(found) if mark], marked, stream)
 
 
+class Going(PageCase):
+    def test_key_packets_and_cuts(self):
+        self.serve(SCENES, sources=[SMALL])
+        keys = [place for place, data in enumerate(packets_of(SCENES)) if ivf.is_key(data)]
+        for packet in (0, 1, keys[1], keys[-1], len(packets_of(SCENES)) - 1):
+            after, before = (self.members(f"/key?packet={packet}&step={step}")["packet"] for step in (1, -1))
+            self.assertEqual(after, next((key for key in keys if key > packet), None), packet)
+            self.assertEqual(before, next((key for key in reversed(keys) if key < packet), None), packet)
+        self.assertEqual(self.members("/key?packet=0&source=1")["packet"], next((place for place, data in enumerate(packets_of(SMALL)) if place and ivf.is_key(data)), None))
+        self.change("script trim 0 0 10; trim 0 20 5; splice 1 2; source 1; splice 3 4")
+        for frame, before, after in ((0, None, 10), (9, 0, 10), (10, 0, 15), (12, 10, 15), (15, 10, None), (26, 15, None)):
+            self.assertEqual([self.members(f"/cut?frame={frame}&step={step}")["frame"] for step in (-1, 1)], [before, after], frame)
+
+    def test_the_frames_of_packets(self):
+        self.serve(SCENES, sources=[SMALL])
+        count = len(packets_of(SCENES))
+        ask = lambda first, end, source=0: [self.members(f"/range?source={source}&first={first}&end={end}")[name] for name in ("first", "end")]  # noqa: E731
+        self.assertEqual([ask(3, 9), ask(0, count), ask(5, 5), ask(0, 3, 1)], [[3, 9], [0, count], [None, None], [None, None]])
+        self.change("script trim 0 5 10; source 1; splice 2 1")
+        self.assertEqual([ask(5, 9), ask(4, 9), ask(14, 16), ask(0, 12, 1), ask(7, 8)], [[12, 16], [12, 16], [21, 22], [0, 12], [14, 15]])
+        for query in (f"first=0&end={count + 1}", "first=5&end=4", "source=2&first=0&end=1"):
+            self.assertEqual(self.ask(f"/range?{query}")[0], 404, query)
+
+    def test_frames_that_are_served_together(self):
+        self.serve(SCENES)
+        with self.session(SCENES) as stream:
+            wanted = [stream.frame(number).i420() for number in range(8)]
+        for first, last in ((0, 0), (0, 7), (3, 5)):
+            status, headers, body = self.ask(f"/frames/{first}-{last}.y4m")
+            head, *frames = body.split(b"FRAME\n")
+            self.assertEqual((status, headers["ETag"], len(body)), (200, f'"{self.live.instance}-1"', int(headers["Content-Length"])))
+            self.assertEqual(body[len(head) :], b"".join(b"FRAME\n" + samples for samples in wanted[first : last + 1]))
+            self.assertEqual(head, self.ask("/frames/0.y4m")[2].partition(b"FRAME\n")[0])
+        self.step("replace 5 1000")
+        count = self.members("/session")["frames"]
+        for path, status in (("3-5", 409), ("0-4", 200), (f"{count - 1}-{count}", 404), ("5-3", 400), ("0-8", 400), ("0-x", 404), ("-1-2", 404)):
+            self.assertEqual(self.ask(f"/frames/{path}.y4m")[0], status, path)
+
+    def test_reports(self):
+        path = self.broken()
+        self.serve(path)
+        status, headers, body = self.ask("/report.json")
+        found = json.loads(body)
+        lines = subprocess.run([programs.find("vp8list"), path, "--check"], capture_output=True, text=True, check=False).stdout.splitlines()
+        self.assertEqual((status, found["findings"], found["summary"]), (200, lines[:-1], lines[-1]))
+        self.assertIn("broken-findings.json", headers["Content-Disposition"])
+        self.live.files = None
+        self.server.routes.titles = ["<b>&.ivf"]
+        status, headers, body = self.ask("/report.html")
+        text = body.decode()
+        self.assertEqual((status, headers["Content-Type"], "<b>" in text, "&lt;b&gt;&amp;.ivf" in text), (200, "text/html; charset=utf-8", False, True))
+        for line in lines[:-1]:
+            self.assertIn("<tr><td>{}</td><td>{}</td></tr>".format(*line.split(": ", 1)), text)
+
+    def test_findings_have_the_key_packet_before_them(self):
+        self.serve(self.broken(18))
+        found = self.checked()
+        self.assertEqual(len(found["groups"]), len(found["findings"]))
+        for finding, group in zip(found["findings"], found["groups"]):
+            self.assertEqual(group, None if finding["packet"] is None else 16 if 16 <= finding["packet"] < 32 else group)
+
+
 class Steps(PageCase):
     def test_a_step(self):
         room = self.folder()
         self.serve(edits=room / "list")
         self.assertEqual(self.step("delete 3", "delete 3", "hold 4"), {"reply": "ok 11", "revision": 2})
-        self.assertEqual((room / "list").read_text(), "delete 3\ndelete 3\nhold 4\n")
+        self.assertEqual(list_of(room / "list"), "# step 3\ndelete 3\ndelete 3\nhold 4\n")
         self.assertEqual(self.change("undo")["reply"], ["delete 3", "delete 3", "hold 4"])
         self.assertEqual(((room / "list").read_text(), self.members("/session")["packets"]), ("", 12))
         self.change("redo")
@@ -435,6 +522,199 @@ class Steps(PageCase):
         self.assertEqual(self.members(f"/timeline?first={10**17}")["kinds"], "")
         for path in ("/timeline?source=1", "/place?source=1", "/before/frames/x.y4m", "/before/frames/-1.y4m", f"/before/frames/{'9' * 40}.y4m", "/before/frames", "/before/frames/0.y4m/x"):
             self.assertEqual(self.ask(path)[0], 404, path)
+
+
+class Saving(PageCase):
+    def opened(self, room, name="clip", **options):
+        """A server whose names are those of a clip in a folder."""
+        self.serve(SCENES, edits=room / f"{name}.edits", stems=[str(room / one) for one in (name, "second")], **options)
+
+    def saves(self):
+        return self.members("/session")["saves"]
+
+    def save(self, **more):
+        status, _, body = self.post_to("/edits", line="save", **more)
+        self.assertEqual(status, 200, body)
+        return json.loads(body)["reply"]
+
+    def test_a_list_that_was_never_saved_is_not_saved(self):
+        room = self.folder()
+        self.opened(room)
+        self.step("delete 3")
+        self.live.close()
+        self.opened(room)
+        found = self.members("/session")
+        self.assertEqual((found["edits"], found["saved"], found["saves"][0]), (["delete 3"], False, {"edited": True, "saved": False, "file": None, "next": str(room / "clip-edited.ivf")}))
+        self.save()
+        self.assertTrue(self.members("/session")["saved"])
+        # Saved is what is in the file.
+        self.change("undo")
+        self.assertTrue(self.members("/session")["saved"])
+        self.change("redo")
+        self.assertEqual(self.saves()[0]["file"], str(room / "clip-edited.ivf"))
+        self.change("delete 0")
+        self.assertEqual((self.saves()[0]["file"], self.members("/session")["saved"]), (None, False))
+
+    def test_the_name_is_taken_when_the_file_is_written(self):
+        room = self.folder()
+        self.opened(room)
+        self.step("delete 3")
+        (room / "clip-edited.ivf").write_text("it came since")
+        self.assertEqual(self.save(), str(room / "clip-edited-2.ivf"))
+        self.assertEqual((room / "clip-edited.ivf").read_text(), "it came since")
+        # Its own file is replaced, but not another one with its name.
+        self.change("delete 0")
+        self.assertEqual(self.save(), str(room / "clip-edited-2.ivf"))
+        self.assertEqual(packets_of(room / "clip-edited-2.ivf"), packets_of(SCENES)[1:3] + packets_of(SCENES)[4:])
+        (room / "clip-edited-2.ivf").unlink()
+        (room / "clip-edited-2.ivf").write_text("another one")
+        self.change("delete 0")
+        self.assertEqual(self.save(), str(room / "clip-edited-3.ivf"))
+        self.assertEqual((room / "clip-edited-2.ivf").read_text(), "another one")
+
+    def test_a_save_that_fails_leaves_no_file(self):
+        room = self.folder()
+        self.opened(room)
+        self.step("delete 3")
+        with mock.patch("wokureti.files.whole", side_effect=OSError(28, "No space left on device")):
+            status, _, body = self.post_to("/edits", line="save")
+        self.assertEqual((status, "clip-edited.ivf: No space left on device: not saved, and nothing was written" in json.loads(body)["error"]), (500, True))
+        self.assertEqual(sorted(path.name for path in room.iterdir()), ["clip.edits"])
+        self.assertEqual(self.members("/session")["revision"], 2)
+
+    def test_a_script_is_not_in_the_packets(self):
+        room = self.folder()
+        self.opened(room)
+        self.change("script trim 0 0 5")
+        found = self.members("/session")
+        self.assertEqual((found["saves"][0]["edited"], found["saved"], found["script"]), (False, True, "trim 0 0 5"))
+        self.save()
+        self.assertEqual(packets_of(room / "clip-edited.ivf"), packets_of(SCENES))
+
+    def test_the_edits_of_other_sources_are_named_and_saved(self):
+        room = self.folder()
+        self.opened(room, sources=[SMALL])
+        self.step("use 1", "delete 3")
+        self.assertEqual([(one["edited"], one["saved"]) for one in self.saves()], [(False, True), (True, False)])
+        self.assertFalse(self.members("/session")["saved"])
+        self.save()
+        self.assertFalse(self.members("/session")["saved"])
+        self.assertEqual(self.save(source=1), str(room / "second-edited.ivf"))
+        self.assertEqual(packets_of(room / "second-edited.ivf"), packets_of(SMALL)[:3] + packets_of(SMALL)[4:])
+        self.assertTrue(self.members("/session")["saved"])
+        for body, status in (({"line": "save", "source": 2}, 404), ({"line": "undo", "source": 0}, 400), ({"line": "save", "source": -1}, 400), ({"lines": ["delete 0"], "source": 0}, 400)):
+            self.assertEqual(self.post_to("/edits", **body)[0], status, body)
+
+    def test_edits_that_are_not_on_the_disk_are_marked(self):
+        room = self.folder()
+        self.opened(room)
+        self.step("delete 3")
+        with mock.patch("wokureti.edit_files.EditFile.write", side_effect=OSError(28, "full")):
+            self.assertEqual(self.post_to("/edits", lines=["delete 0", "delete 0"])[0], 500)
+        found = self.members("/session")
+        self.assertEqual((found["edits"], found["unwritten"], found["revision"]), (["delete 3", "delete 0", "delete 0"], 2, 3))
+        self.change("delete 1")
+        self.assertEqual(self.members("/session")["unwritten"], 0)
+        self.assertEqual(list_of(room / "clip.edits"), "delete 3\n# step 2\ndelete 0\ndelete 0\ndelete 1\n")
+
+
+class Pasting(PageCase):
+    def remember(self, first, count, source=0):
+        found = self.members(f"/numbers?source={source}&first={first}&count={count}")
+        return {"contents": found["contents"], "numbers": found["numbers"]}
+
+    def paste(self, board, at, source=0, move=False, status=200, **more):
+        body = {**board, "at": at, "source": source, "move": move, "revision": self.members("/session")["revision"], **more}
+        found, _, text = self.post_to("/paste", **body)
+        self.assertEqual(found, status, text)
+        return json.loads(text)
+
+    def stream(self, source=0):
+        with self.live.lock:
+            contents = self.live.contents()
+            return [contents.packet(number, source).bytes() for number in range(len(contents.streams[source]))]
+
+    def test_a_copy_is_of_packets_and_not_of_numbers(self):
+        packets = packets_of(SCENES)
+        self.serve(SCENES)
+        board = self.remember(30, 3)
+        self.change("delete 2")
+        self.assertEqual(self.paste(board, 10), {"revision": 3, "first": 10, "count": 3, "deleted": 0, "made": 3})
+        self.assertEqual(self.stream(), [*packets[:2], *packets[3:11], *packets[30:33], *packets[11:]])
+        self.assertEqual(self.members("/session")["edits"][1:], ["copy 0 29 10", "copy 0 31 11", "copy 0 33 12"])
+        # One step, and it can be pasted again.
+        self.change("undo")
+        self.change("move 0 40")
+        self.paste(board, 0)
+        self.assertEqual(self.stream()[:3], packets[30:33])
+
+    def test_packets_that_were_deleted_or_replaced_are_inserted_again(self):
+        packets = packets_of(SCENES)
+        self.serve(SCENES)
+        board = self.remember(30, 3)
+        self.step("replace 30 -", "delete 31")
+        found = self.paste(board, 5)
+        self.assertEqual((found["deleted"], found["count"]), (2, 3))
+        self.assertEqual(self.stream()[5:8], packets[30:33])
+
+    def test_a_cut_moves_the_packets(self):
+        packets = packets_of(SCENES)
+        for at, wanted in ((3, 3), (9, 9), (10, 9), (12, 9), (13, 10), (40, 37)):
+            self.serve(SCENES)
+            board = self.remember(10, 3)
+            self.change("delete 0")
+            found = self.paste(board, at, move=True)
+            rest = packets[1:10] + packets[13:]
+            self.assertEqual((found["first"], found["count"], found["deleted"]), (wanted, 3, 0), at)
+            self.assertEqual(self.stream(), rest[:wanted] + packets[10:13] + rest[wanted:], at)
+            self.assertEqual(found["made"], 0 if wanted == 9 else 3)
+
+    def test_the_copy_that_was_cut_is_moved(self):
+        packets = packets_of(SCENES)
+        self.serve(SCENES)
+        self.paste(self.remember(5, 1), 20)
+        # Packets 5 and 20 have the same bytes.
+        board = self.remember(20, 1)
+        self.step("delete 0", "delete 0")
+        self.paste(board, 40, move=True)
+        self.assertEqual(self.stream(), [*packets[2:41], packets[5], *packets[41:]])
+
+    def test_a_cut_from_another_source(self):
+        packets, others = packets_of(SCENES), packets_of(SMALL)
+        self.serve(SCENES, sources=[SMALL])
+        self.paste(self.remember(3, 2, source=1), 7, move=True)
+        self.assertEqual(self.stream(), packets[:7] + others[3:5] + packets[7:])
+        self.assertEqual(self.stream(1), others[:3] + others[5:])
+        self.assertEqual(self.members("/session")["source"], 0)
+        self.change("undo")
+        self.assertEqual((self.stream(), self.stream(1)), (packets, others))
+        self.paste(self.remember(3, 2), 1, source=1)
+        self.assertEqual(self.stream(1), others[:1] + packets[3:5] + others[1:])
+
+    def test_what_is_refused(self):
+        self.serve(SCENES, sources=[SMALL])
+        count = len(packets_of(SCENES))
+        board = self.remember(3, 2)
+        for path in (f"first={count}&count=1", "first=0&count=0", f"first=0&count={count + 1}", "source=2&first=0&count=1"):
+            self.assertEqual(self.ask(f"/numbers?{path}")[0], 404, path)
+        self.paste(board, count + 1, status=404)
+        self.paste(board, 0, source=2, status=404)
+        self.paste(board, 0, revision=9, status=412)
+        for numbers in ([[1]], [[1, "2"]], [[-1, 1]], [[0, 1 << 31]], [1], [[True, 1]]):
+            self.paste({**board, "numbers": numbers}, 0, status=400)
+        self.paste({**board, "numbers": [[1 << 30, 1]]}, 0, status=409)
+        self.assertEqual(self.members("/session")["revision"], 1)
+
+    def test_copies_of_packets_that_the_program_forgot(self):
+        self.serve(SCENES, edits=self.folder() / "list")
+        self.step("insert 5 7 1000", "delete 9")
+        made, own = self.remember(5, 1), self.remember(20, 1)
+        with mock.patch("sys.stderr"):
+            os.kill(process_of(self.live.session), signal.SIGKILL)
+            self.assertEqual(self.ask("/frames/2.y4m")[0], 200)
+        self.assertIn("gone", self.paste(made, 0, status=409)["error"])
+        self.paste(own, 0)
+        self.assertEqual(self.stream()[0], packets_of(SCENES)[20])
 
 
 class Checks(PageCase):
@@ -594,6 +874,10 @@ class Checks(PageCase):
             self.assertEqual((status, errors), (1, ""))
             (room / "mine.ivf").write_bytes(self.ask("/stream.ivf")[2])
             self.assertEqual(packets_of(room / "mine.ivf"), packets_of(room / "out.ivf"))
+            if second == (SCENES,):
+                # No packet of the second recording is sent as HEX.
+                self.assertTrue(any(line.startswith("copy 1 ") for line in found["lines"]))
+                self.assertLess(max(map(len, found["lines"])), 60)
             self.assertEqual(out.decode().splitlines()[: len(found["said"])], found["said"])
             self.change("undo")
             self.assertEqual(self.ask("/stream.ivf")[2], before)
@@ -814,7 +1098,7 @@ class TheCommand(Case):
             self.assertEqual(self.ask(host, f"/{token}/edits", "delete 3")[0], 200)
             errors = self.end(process, ending)
             self.assertIn(str(room / "a clip.edits"), errors)
-        self.assertEqual((room / "a clip.edits").read_text(), "delete 3\ndelete 3\n")
+        self.assertEqual(list_of(room / "a clip.edits"), "delete 3\ndelete 3\n")
         self.assertEqual(sorted(path.name for path in room.iterdir()), ["a clip.edits", "a clip.ivf"])
 
     def test_it_saves_to_a_new_file(self):
@@ -871,15 +1155,93 @@ class TheCommand(Case):
         one.close()
 
     def test_names_beside(self):
-        from wokureti.opening import free_name, names_beside
+        from wokureti.opening import stem_of
+        from wokureti.saves import claimed, free_name
 
         room = self.folder()
-        self.assertEqual(names_beside(f"{room}/clip.webm"), (f"{room}/clip.edits", f"{room}/clip-edited.ivf"))
-        self.assertEqual(names_beside("-"), ("stream.edits", "stream-edited.ivf"))
-        self.assertEqual(names_beside("/dev/fd/5"), ("5.edits", "5-edited.ivf"))
-        (room / "a.ivf").write_text("")
-        os.symlink(room / "gone", room / "a-2.ivf")
-        self.assertEqual(free_name(f"{room}/a.ivf"), f"{room}/a-3.ivf")
+        self.assertEqual([stem_of(path) for path in (f"{room}/clip.webm", "-", "/dev/fd/5")], [f"{room}/clip", "stream", "5"])
+        (room / "a-edited.ivf").write_text("")
+        os.symlink(room / "gone", room / "a-edited-2.ivf")
+        self.assertEqual((free_name(f"{room}/a"), claimed(f"{room}/a"), claimed(f"{room}/a")), (f"{room}/a-edited-3.ivf", f"{room}/a-edited-3.ivf", f"{room}/a-edited-4.ivf"))
+
+    def test_a_folder_that_cannot_be_written(self):
+        from wokureti import opening
+
+        room = self.folder()
+        with mock.patch.object(opening, "is_writable", return_value=False), mock.patch.dict(os.environ, {"XDG_STATE_HOME": str(room / "state")}):
+            one, other = (opening.stem_of(f"/media/{name}/clip.ivf") for name in ("one", "other"))
+        self.assertEqual([os.path.dirname(stem) for stem in (one, other)], [str(room / "state/wokureti")] * 2)
+        self.assertNotEqual(one, other)
+        if os.getuid() == 0:
+            return
+        clip = write_packets(room / "clip.ivf", packets_of(SMALL))
+        os.chmod(room, 0o555)
+        self.addCleanup(os.chmod, room, 0o755)
+        with mock.patch.dict(os.environ, {"XDG_STATE_HOME": str(self.folder())}):
+            process, host, token = self.open(clip)
+            self.assertEqual(self.ask(host, f"/{token}/edits", "delete 3")[0], 200)
+            self.assertIn("nothing can be written next to", self.end(process))
+
+    def test_the_command_line_of_the_browser_has_no_token(self):
+        room = self.folder()
+        clip = write_packets(room / "clip.ivf", packets_of(SMALL))
+        browser = room / "browser"
+        browser.write_text('#!/bin/sh\necho "$@" > "$0.words"\n')
+        browser.chmod(0o755)
+        process = start("open", clip, stdout=subprocess.PIPE, stderr=subprocess.PIPE, env={"DISPLAY": ":99", "BROWSER": str(browser), "TMPDIR": str(room)})
+        self.addCleanup(process.kill)
+        url = process.stdout.readline().decode().strip()
+        limit = time.monotonic() + 10 * SLOW
+        while not (room / "browser.words").exists() or not (room / "browser.words").read_text():
+            self.assertLess(time.monotonic(), limit)
+            time.sleep(0.02)
+        words = (room / "browser.words").read_text()
+        token = url.split("/")[3]
+        self.assertNotIn(token, words)
+        door = pathlib.Path(words.strip().removeprefix("file://"))
+        self.assertEqual((door.stat().st_mode & 0o777, f"url={url}" in door.read_text()), (0o600, True))
+        # The door is of no site; the page opens from there, and nothing else does.
+        site = {"Sec-Fetch-Site": "cross-site", "Sec-Fetch-Mode": "navigate", "Sec-Fetch-Dest": "document"}
+        for path, headers, status in (("page/", site, 200), ("page/main.js", site, 403), ("session", site, 403), ("page/", {**site, "Sec-Fetch-Dest": "iframe"}, 403), ("page/", {**site, "Sec-Fetch-Mode": "no-cors"}, 403)):
+            one = http.client.HTTPConnection(url.split("/")[2], timeout=10 * SLOW)
+            one.request("GET", f"/{token}/{path}", headers=headers)
+            self.assertEqual(one.getresponse().status, status, path)
+            one.close()
+        self.end(process)
+        self.assertFalse(door.exists())
+
+    def test_a_name_that_a_terminal_obeys(self):
+        room = self.folder()
+        clip = write_packets(room / "a\x1b[31m.ivf", packets_of(SMALL))
+        process, host, token = self.open(clip)
+        self.assertEqual(self.ask(host, f"/{token}/edits", "delete 3")[0], 200)
+        errors = self.end(process)
+        self.assertEqual(("\x1b" in errors, "a\\x1b[31m.edits" in errors), (False, True))
+
+    def test_two_starts_at_once(self):
+        room = self.folder()
+        clip = write_packets(room / "clip.ivf", packets_of(SMALL))
+        for turn in range(4):
+            both = [start("open", clip, "--no-browser", stdout=subprocess.PIPE, stderr=subprocess.PIPE) for _ in range(2)]
+            for process in both:
+                self.addCleanup(process.kill)
+            found = {process: process.stdout.readline().decode().strip() for process in both}
+            running = [process for process in both if found[process]]
+            for process in both:
+                if not found[process]:
+                    self.assertEqual((process.wait(10 * SLOW), b"another session" in process.stderr.read()), (2, True))
+                    process.stdout.close()
+                    process.stderr.close()
+            # Both may be refused if each saw the other one, but none loses its list.
+            for process in running:
+                _, _, host, token, *_ = found[process].split("/")
+                self.assertEqual(self.ask(host, f"/{token}/edits", "delete 3")[0], 200)
+                self.assertTrue((room / "clip.edits").exists())
+                self.end(process)
+            self.assertLessEqual(len(running), 1)
+            if running:
+                self.assertEqual(list_of(room / "clip.edits"), "delete 3\n")
+                (room / "clip.edits").unlink()
 
 
 class Scripts(PageCase):

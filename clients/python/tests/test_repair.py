@@ -1,11 +1,14 @@
 """wokureti repair: damage of each kind, what is mended, and that sound streams stay as they are."""
 
 import os
+import pathlib
 import random
+import re
 import struct
+import subprocess
 import unittest
 
-from support import DATA, ODD, SMALL, TOP, Case, command, packets_of, serve
+from support import DATA, ODD, SMALL, TOP, Case, command, packets_of, serve, start_python
 from wokureti import ivf, programs, repair, salvage
 from wokureti.differences import edits_between
 
@@ -305,7 +308,109 @@ class Commands(RepairCase):
         self.assertEqual((path.read_bytes(), (self.room / "x").exists()), (self.data, False))
 
 
+    def test_an_exception_is_no_result(self):
+        for words in (["cat", SMALL], ["repair", SMALL, self.room / "out"], ["compare", SMALL, SMALL]):
+            code = f"import sys; from wokureti import commands; commands.programs.find = lambda name: 1 / 0; sys.exit(commands.main({[str(word) for word in words]}))"
+            process = start_python("-c", code, stdout=subprocess.PIPE, stderr=subprocess.PIPE, env={"TMPDIR": str(self.room)})
+            out, errors = process.communicate(timeout=20)
+            self.assertEqual((process.returncode, out), (70, b""), words)
+            found = re.fullmatch(r"wokureti: a mistake of wokureti itself: ZeroDivisionError: division by zero; the rest is in (.*)\n", errors.decode())
+            self.assertIn("Traceback", pathlib.Path(found.group(1)).read_text())
+
+
+class NoKeyFrames(RepairCase):
+    def broken(self, *others):
+        """The stream without a sound key frame."""
+        packets = list(self.packets)
+        for key in self.keys:
+            packets[key] = (key, b"\x10" + packets[key][1][1:3] + b"\0\0\0" + packets[key][1][6:])
+        for place in others:
+            packets[place] = (place, BROKEN)
+        return packets
+
+    def test_there_is_nothing_to_mend_from(self):
+        for packets in (self.broken(), self.broken(50), [packet for packet in self.broken() if not ivf.is_key(packet[1])], [(0, b"")] * 3):
+            (self.room / "in.ivf").write_bytes(text_of(packets))
+            status, out, errors = command("repair", self.room / "in.ivf", self.room / "out.ivf")
+            self.assertEqual((status, out, (self.room / "out.ivf").exists()), (2, b"", False))
+            self.assertIn("no key frame survives", errors)
+            self.assertNotIn("Traceback", errors)
+        # Without holding, the packets are written, and the status says that they are damaged.
+        (self.room / "in.ivf").write_bytes(text_of(self.broken()))
+        status, out, _ = command("repair", self.room / "in.ivf", self.room / "out.ivf", "--no-hold")
+        self.assertEqual((status, b"not mended" in out), (2, True))
+
+    def test_the_second_recording_has_them(self):
+        status, _, found = self.run_it(text_of(self.broken()), second=self.data)
+        self.assertEqual((status, found), (1, self.packets))
+
+    def test_the_status_is_what_the_check_says(self):
+        choose, statuses = random.Random(47), set()
+        for turn in range(60):
+            packets = list(self.packets[: choose.choice([30, 100])])
+            for _ in range(choose.randrange(1, 9)):
+                at = choose.randrange(len(packets))
+                stamp, data = packets[at]
+                cut = choose.randrange(len(data) + 1)
+                packets[at] = choose.choice([(stamp, data[:cut]), (stamp, BROKEN), (stamp, bytes(len(data))), (stamp, choose.randbytes(len(data))), (0, data), (stamp, data[:cut] + choose.randbytes(3) + data[cut + 3 :])])
+            if choose.random() < 0.2:
+                packets = [packet for packet in packets if not ivf.is_key(packet[1])]
+            data = bytearray(text_of(packets))
+            if choose.random() < 0.3:
+                at = choose.randrange(len(data))
+                data[at : at + 40] = choose.randbytes(choose.randrange(80))
+            out = self.room / "out.ivf"
+            out.unlink(missing_ok=True)
+            (self.room / "in.ivf").write_bytes(data)
+            status, _, errors = command("repair", self.room / "in.ivf", out)
+            self.assertIn(status, (0, 1, 2), errors)
+            self.assertNotIn("Traceback", errors)
+            statuses.add(status)
+            if not out.exists():
+                self.assertEqual(status, 2)
+                continue
+            is_damaged = subprocess.run([programs.find("vp8list"), out, "--check"], capture_output=True, check=False).returncode
+            self.assertEqual(status == 2, bool(is_damaged), turn)
+        self.assertEqual(statuses, {1, 2})
+
+
+class Sizes(RepairCase):
+    """Records whose sizes are wrong, while all bytes are there."""
+
+    LIMIT = 40
+
+    def wrong(self, changes):
+        places, place = [], 32
+        for _, data in self.packets:
+            places.append(place)
+            place += 12 + len(data)
+        text = bytearray(self.data)
+        for number, size in changes.items():
+            text[places[number] : places[number] + 4] = struct.pack("<I", size(len(self.packets[number][1])))
+        return bytes(text)
+
+    def test_the_packets_are_found(self):
+        for size in (lambda size: size + 5, lambda size: size - 7, lambda size: size + 100000, lambda size: 0x7FFFFFFF, lambda size: 0, lambda size: size // 2):
+            for numbers in ((20,), (self.keys[1],), (10, 50, 90)):
+                status, lines, found = self.run_it(self.wrong({number: size for number in numbers}))
+                self.assertEqual((status, found), (1, self.packets), (numbers, size(100), lines))
+                self.assertEqual([line.split(":")[0] for line in lines], [f"packet {number}" for number in numbers])
+                self.assertIn("is wrong", lines[0])
+
+    def test_bytes_that_do_not_belong_to_a_packet_are_not_taken(self):
+        place = 32 + sum(12 + len(data) for _, data in self.packets[:30])
+        status, lines, found = self.run_it(self.data[:place] + bytes(range(1, 90)) + self.data[place:])
+        self.assertEqual((status, found), (1, self.packets))
+        self.assertIn("lead to no record", lines[0])
+
+
 class Differences(unittest.TestCase):
+    def test_packets_of_a_second_recording_are_copied(self):
+        one = [(0, b"a" * 20), (1, b"b" * 20), (2, b"c" * 20), (3, b"d")]
+        other = [(0, b"a" * 20), (1, b"x" * 20), (2, b"c" * 20), (3, b"y"), (4, b"z" * 20)]
+        theirs = {packet: index + 5 for index, packet in enumerate(other)}
+        self.assertEqual(edits_between(one, other, theirs), ["copy 1 6 1", "delete 2", "replace 3 79", "copy 1 9 4"])
+
     def test_edits_make_one_list_of_another(self):
         choose = random.Random(8)
         for _ in range(300):

@@ -1,5 +1,7 @@
 """wokureti serve: the virtual file, the interface, and requests that must not be answered."""
 
+import contextlib
+import errno
 import http.client
 import json
 import os
@@ -15,9 +17,9 @@ import unittest
 import zlib
 from unittest import mock
 
-from support import DATA, ODD, SLOW, SMALL, Case, is_alive, packets_of, process_of, start, start_unwaking, whole_text, write_packets
+from support import DATA, ODD, SLOW, SMALL, Case, is_alive, list_of, packets_of, process_of, start, start_unwaking, whole_text, write_packets
 from test_edits import edit
-from wokureti import Refused, Script, Session, web
+from wokureti import Refused, Script, Session, edit_files, ivf, virtual, web
 from wokureti.live import Live
 from wokureti.outcomes import Outcomes
 from wokureti.routes import Routes
@@ -38,13 +40,14 @@ class ServerCase(Case):
         self.live = Live({"stream": stream, **options}, edits, save)
         self.server = Server()
         self.server.routes = Routes(self.live, self.server, TOKEN)
-        thread = threading.Thread(target=self.server.serve, daemon=True)
+        live, server = self.live, self.server
+        thread = threading.Thread(target=server.serve, daemon=True)
         thread.start()
 
         def end():
-            self.server.end()
+            server.end()
             thread.join(5)
-            self.live.close()
+            live.close()
 
         self.addCleanup(end)
 
@@ -106,6 +109,15 @@ class VirtualFile(ServerCase):
         self.assertEqual((headers["Content-Length"], headers["Accept-Ranges"]), (str(len(wanted)), "bytes"))
         status, headers, body = self.ask("/clip.y4m", "HEAD")
         self.assertEqual((status, headers["Content-Length"], body), (200, str(len(wanted)), b""))
+
+    def test_the_rate_is_that_of_the_time_stamps(self):
+        path = self.folder() / "clip.ivf"
+        packets = [(40 * number, data) for number, data in enumerate(packets_of(SMALL))]
+        path.write_bytes(b"".join(ivf.pieces(ivf.Head(16, 16, 1000, 1), len(packets), packets)))
+        self.serve(path)
+        self.assertEqual(self.members("/")["rate"], [25, 1])
+        for name in ("/clip.y4m", "/frames/3.y4m"):
+            self.assertEqual(self.ask(name)[2].split(b"\n")[0].split()[3], b"F25:1")
 
     def test_ranges_at_each_boundary(self):
         wanted = whole_text(SMALL)
@@ -389,7 +401,7 @@ class Interface(ServerCase):
         self.assertEqual(self.members("/edits")["undone"], ["delete 3"])
         self.assertEqual(self.change("redo"), {"reply": ["delete 3"], "revision": 5})
         self.assertEqual(self.change("redo"), {"reply": [], "revision": 5})
-        self.assertEqual((room / "list").read_text(), "delete 3\ndelete 3\n")
+        self.assertEqual(list_of(room / "list"), "delete 3\ndelete 3\n")
         self.assertEqual(self.members("/edits")["saved"], False)
         self.assertEqual(self.change("save")["reply"], str(room / "out.ivf"))
         self.assertEqual(self.members("/edits")["saved"], True)
@@ -400,6 +412,41 @@ class Interface(ServerCase):
         self.assertEqual(self.post("delete 0", revision=4)[0], 412)
         self.assertEqual(self.post("delete 0", revision=5)[0], 200)
         self.assertEqual(self.members("/")["packets"], 9)
+
+    def test_a_full_disk(self):
+        room = self.folder()
+        self.serve(edits=room / "list", save="/dev/full")
+        self.change("delete 3")
+        tag = self.get("/clip.y4m")[1]["ETag"]
+        status, members = self.post("save")
+        self.assertEqual(status, 500)
+        self.assertIn("/dev/full: No space left on device: not saved", members["error"])
+        # Nobody who reads the clip is cut off by that.
+        self.assertEqual((self.members("/edits")["revision"], self.get("/clip.y4m")[1]["ETag"]), (2, tag))
+        with mock.patch.object(edit_files.EditFile, "write", side_effect=OSError(errno.ENOSPC, "full")):
+            status, members = self.post("delete 0")
+        self.assertEqual(status, 500)
+        self.assertIn(f"{room / 'list'}: No space left on device: the last edit is made but not on the disk; the edit before it is safe", members["error"])
+        self.assertEqual(self.members("/edits")["edits"], ["delete 3", "delete 0"])
+        os.kill(process_of(self.live.session), signal.SIGKILL)
+        with mock.patch("sys.stderr"):
+            self.assertEqual(self.members("/")["packets"], 10)
+        self.assertEqual(list_of(room / "list"), "delete 3\ndelete 0\n")
+        self.live.saves.named = None
+
+    def test_a_list_that_is_replaced_is_named(self):
+        room = self.folder()
+        self.serve(edits=room / "list")
+        self.change("delete 3")
+        (room / "list").unlink()
+        (room / "list").write_text("mine\n")
+        with mock.patch("sys.stderr"):
+            self.change("delete 0")
+            os.kill(process_of(self.live.session), signal.SIGKILL)
+            self.assertEqual(self.members("/")["packets"], 10)
+        self.assertEqual(((room / "list").read_text(), list_of(room / "list.1")), ("mine\n", "delete 3\ndelete 0\n"))
+        self.assertEqual(len(self.live.notices), 1)
+        self.assertIn(str(room / "list.1"), self.live.notices[0][1])
 
     def test_bodies_that_are_no_edits(self):
         self.serve()
@@ -621,6 +668,56 @@ class Hostile(ServerCase):
             for sock in socks:
                 sock.close()
 
+    def test_clients_without_the_token_take_no_place(self):
+        with socket.create_connection(("127.0.0.1", self.server.port), timeout=5 * SLOW) as events:
+            events.sendall(self.head(f"GET /{TOKEN}/events HTTP/1.1"))
+            file = events.makefile("rb")
+            self.assertIn(b"200 OK", file.readline())
+            ended, failed = threading.Event(), []
+
+            def bother():
+                while not ended.is_set():
+                    with contextlib.suppress(OSError), socket.create_connection(("127.0.0.1", self.server.port), timeout=2) as sock:
+                        sock.sendall(b"GET /wrong/edits HTTP/1.1\r\n")
+                        ended.wait(0.5)
+
+            threads = [threading.Thread(target=bother, daemon=True) for _ in range(100)]
+            for thread in threads:
+                thread.start()
+            with mock.patch.object(web, "STALLED", 0.1):
+                for number in range(60):
+                    status = self.ask(f"/frames/{number % 12}.i420")[0]
+                    if status != 200:
+                        failed.append(status)
+                    time.sleep(0.01)
+            ended.set()
+            for thread in threads:
+                thread.join(5 * SLOW)
+            self.assertEqual(failed, [])
+            # Who waits for events still has the connection.
+            self.change("delete 0")
+            found = b""
+            while b'"revision": 2' not in found:
+                found += file.readline()
+            self.change("undo")
+            file.close()
+        self.live.revision = 1
+
+    def test_what_is_made_ahead_is_bounded(self):
+        made, most = virtual.Ahead(), virtual.MOST_BYTES
+        frame = 1920 * 1080 * 3 // 2
+        counts = [made.take(frame) for _ in range(60)]
+        self.assertEqual((counts[0], counts[-1]), (8, 0))
+        self.assertLessEqual(3 * frame * sum(counts), most)
+        for count in counts:
+            made.give(count, frame)
+        self.assertEqual((made.taken, made.take(most)), (0, 0))
+        # Those who get none are served too.
+        wanted = self.ask("/clip.y4m")[2]
+        with mock.patch.object(virtual, "AHEAD", made), mock.patch.object(virtual, "MOST_BYTES", 0):
+            self.assertEqual(self.ask("/clip.y4m")[2], wanted)
+        self.assertEqual(virtual.AHEAD.taken, 0)
+
     def test_clients_that_do_not_read(self):
         script = Script().splice(0, 0)
         for _ in range(14):
@@ -663,32 +760,63 @@ class Hostile(ServerCase):
 class TheCommand(Case):
     LIMIT = 30
 
+    def begin(self, *words, **options):
+        """A server: its process, its host, the word that only reads, and the one that edits."""
+        process = start("serve", *words, stdout=subprocess.PIPE, stderr=subprocess.PIPE, **options)
+        self.addCleanup(process.kill)
+        host, reading = re.fullmatch(r"http://(127\.0\.0\.1:\d+)/([\w-]{20,})/clip\.y4m\n", process.stdout.readline().decode()).groups()
+        editing = re.fullmatch(rf"http://{host}/([\w-]{{20,}})/edits\n", process.stdout.readline().decode()).group(1)
+        return process, host, reading, editing
+
+    def end(self, process, ending):
+        """What it wrote to standard error."""
+        process.send_signal(ending)
+        with self.within(5):
+            self.assertEqual(process.wait(10 * SLOW), 0)
+        out, errors = process.stdout.read(), process.stderr.read()
+        process.stdout.close()
+        process.stderr.close()
+        self.assertEqual(out, b"")
+        return errors
+
     def test_it_serves_until_it_is_interrupted(self):
         room = self.folder()
         path = write_packets(room / "a clip.ivf", packets_of(SMALL))
-        for number, ending in enumerate((signal.SIGINT, signal.SIGTERM)):
-            process = start("serve", path, "--edits", room / "list", "--save", room / "out.ivf", stdout=subprocess.PIPE, stderr=subprocess.PIPE)
-            self.addCleanup(process.kill)
-            url = process.stdout.readline().decode().strip()
-            host, token = re.fullmatch(r"http://(127\.0\.0\.1:\d+)/([\w-]{20,})/clip\.y4m", url).groups()
+        for number, ending in enumerate((signal.SIGINT, signal.SIGTERM, signal.SIGHUP)):
+            process, host, reading, editing = self.begin(path, "--edits", room / "list", "--save", room / "out.ivf")
             one = http.client.HTTPConnection(host, timeout=10 * SLOW)
-            one.request("GET", f"/{token}/clip.y4m")
+            one.request("GET", f"/{reading}/clip.y4m")
             self.assertEqual(one.getresponse().read(), whole_text(SMALL, *(number * ["delete 3"])))
             headers = {"Origin": f"http://{host}", "Content-Type": "application/json"}
-            one.request("POST", f"/{token}/edits", '{"line": "delete 3"}', headers)
-            self.assertEqual(one.getresponse().status, 200)
+            # The address of the players does not edit.
+            for token, status in ((reading, 403), (editing, 200)):
+                one.request("POST", f"/{token}/edits", '{"line": "delete 3"}', headers)
+                response = one.getresponse()
+                self.assertEqual((response.status, response.read()[:9]), (status, b'{"error":' if status == 403 else b'{"reply":'))
             one.close()
             children = [int(pid) for pid in subprocess.run(["pgrep", "-P", str(process.pid)], capture_output=True, text=True, check=False).stdout.split()]
             self.assertEqual(len(children), 1)
-            process.send_signal(ending)
-            with self.within(5):
-                self.assertEqual(process.wait(10 * SLOW), 0)
-            self.assertEqual((process.stdout.read(), process.stderr.read()), (b"", b""))
-            process.stdout.close()
-            process.stderr.close()
+            self.assertEqual(self.end(process, ending), b"")
             self.assertFalse(is_alive(children[0]))
-        self.assertEqual((room / "list").read_text(), "delete 3\ndelete 3\n")
-        self.assertEqual(packets_of(room / "out.ivf"), packets_of(SMALL)[:3] + packets_of(SMALL)[5:])
+            self.assertEqual(list_of(room / "list"), "delete 3\n" * (number + 1))
+            self.assertEqual(packets_of(room / "out.ivf"), packets_of(SMALL)[:3] + packets_of(SMALL)[4 + number :])
+
+    def test_folders_of_programs_that_are_gone(self):
+        room = self.folder()
+        env = {"TMPDIR": str(room)}
+        first, *_ = self.begin(SMALL, env=env)
+        second, *_ = self.begin(SMALL, env=env)
+        folders = set(room.iterdir())
+        self.assertTrue(len(folders) >= 2 and all(path.name.startswith("wokureti-") for path in folders), folders)
+        (room / "wokureti-of-a-person").mkdir()
+        first.kill()
+        first.communicate(timeout=10 * SLOW)
+        self.end(self.begin(SMALL, env=env)[0], signal.SIGTERM)
+        left = set(room.iterdir()) - {room / "wokureti-of-a-person"}
+        # Those of the one that runs are there, and those of the one that was killed are not.
+        self.assertTrue(left and left < folders, (left, folders))
+        self.end(second, signal.SIGHUP)
+        self.assertEqual([path.name for path in room.iterdir()], ["wokureti-of-a-person"])
 
     def test_an_interrupt_right_before_the_main_thread_waits(self):
         for words in (("serve", SMALL), ("open", SMALL, "--no-browser", "--edits", self.folder() / "list")):

@@ -13,7 +13,7 @@ import unittest
 from unittest import mock
 
 from support import CLIP, DATA, ODD, SLOW, SMALL, TOP, Case, digest, frames_of, is_alive, packets_of, process_of
-from wokureti import Count, Ended, Refused, Session
+from wokureti import Count, Ended, Refused, Session, ivf
 from wokureti.frames import FrameReader
 
 # The size of the example, and the MD5 of some of its frames, from `vpxdec --i420`.
@@ -159,6 +159,29 @@ class Requests(Case):
             self.assertEqual([stream.frame(3).i420()], frames_of(SMALL, [3]))
 
 
+class Rates(Case):
+    def test_the_rate_is_that_of_the_time_stamps(self):
+        packets = packets_of(SMALL)
+        path = self.folder() / "clip.ivf"
+        for rate, scale, stamps, wanted in (
+            (30, 1, range(12), (30, 1)),
+            (0, 0, range(12), (30, 1)),
+            (1000, 1, [0, 33, 67, 100, 133, 167, 200, 233, 267, 300, 333, 367], (1000, 33)),
+            (1000, 1, range(0, 480, 40), (25, 1)),
+            (90000, 1, range(0, 12 * 3003, 3003), (30000, 1001)),
+            # Two of them repeat, one skips.
+            (1000, 1, [0, 40, 40, 80, 120, 160, 160, 200, 900, 940, 980, 1020], (25, 1)),
+            (25, 1, [0] * 12, (25, 1)),
+        ):
+            head = ivf.Head(16, 16, rate, scale)
+            path.write_bytes(b"".join(ivf.pieces(head, 12, list(zip(stamps, packets)))))
+            with self.session(path) as stream:
+                self.assertEqual(stream.rate, wanted)
+                # Edits do not change it.
+                stream.delete(range(2, 9))
+                self.assertEqual(stream.rate, wanted)
+
+
 class Matched(Case):
     """Each reply and picture belongs to its request."""
 
@@ -238,8 +261,13 @@ class Broken(Case):
             Session("-", sources=["-", SMALL, "/nowhere.ivf"])
         self.assertEqual((ended.exception.status, ended.exception.text), (1, "vp8serve: cannot read /nowhere.ivf"))
 
+    def test_the_number_of_cached_states(self):
+        for cache in (0, 4097, -1):
+            with self.assertRaisesRegex(ValueError, f"1 to 4096, and not {cache}"):
+                Session(SMALL, cache=cache)
+
     def test_no_program(self):
-        with self.assertRaises(FileNotFoundError):
+        with self.assertRaisesRegex(FileNotFoundError, "there is no /.*: install it, or name it in the variable VP8SERVE"):
             Session(SMALL, program="/nowhere/vp8serve")
 
     def test_a_save_that_cannot_begin(self):

@@ -9,9 +9,15 @@ import subprocess
 import tempfile
 import threading
 
-from . import checks, files, parts, programs, waits
-from .errors import Ended
+from . import checks, files, parts, programs, rooms, waits
+from .errors import Ended, sentence
 from .progress import Progress
+
+
+# Bytes of frames that are in the folder for temporary files, at most: those of one part may be more.
+MOST_HELD = 1 << 30
+# Bytes that must be free there, else it is called full.
+LEAST_FREE = 1 << 20
 
 
 class Failed(Exception):
@@ -31,7 +37,15 @@ def run_part(room, number, program, tables, running):
         if status != 0:
             errors.seek(0)
             said = errors.read().decode(errors="replace").strip()
-            raise Failed(f"part {number}: {said or f'vp8serve ended with status {status}'}")
+            raise Failed(f"part {number}: {said or f'vp8serve ended with status {status}'}{if_full(room.folder)}")
+
+
+def if_full(folder):
+    """What a message says more if the folder for temporary files is full."""
+    found = os.statvfs(folder)
+    if found.f_bavail * found.f_frsize >= LEAST_FREE and (found.f_favail or not found.f_files):
+        return ""
+    return f". The folder for temporary files, {os.path.dirname(folder)}, is full: name another one in the variable TMPDIR"
 
 
 class Here:
@@ -43,7 +57,8 @@ class Here:
         self.running, self.left = set(), iter(range(len(plan)))
         self.done = {}
         self.ready = threading.Condition()
-        self.joined = 0
+        # How many parts were joined, and the bytes of the frames of those that were begun and not joined.
+        self.joined = self.held = 0
         self.stopped = False
         self.error = None
 
@@ -56,10 +71,11 @@ class Here:
                     if number is None:
                         return
                     # Frames take room, so a part waits until those before it were joined.
-                    while number >= self.joined + 3 * self.processes and not self.stopped:
+                    while self.is_far(number) and not self.stopped:
                         self.ready.wait()
                     if self.stopped:
                         return
+                    self.held += self.size(number)
                     # Reading the session's files from two threads at a time is avoided.
                     self.room.write(number, self.plan[number])
                 run_part(self.room, number, self.program, self.tables, self.running)
@@ -70,6 +86,17 @@ class Here:
             with self.ready:
                 self.error = self.error or error
                 self.ready.notify_all()
+
+    def size(self, number):
+        """The bytes of the frames of a part."""
+        part = self.plan[number]
+        return (part.end - part.first) * self.room.first.size
+
+    def is_far(self, number):
+        """Whether a part is too far ahead of what was joined. The next one that is joined never is."""
+        if number == self.joined:
+            return False
+        return number >= self.joined + 3 * self.processes or self.held + self.size(number) > MOST_HELD
 
     def __iter__(self):
         """The numbers of the parts, each when it was decoded, in order."""
@@ -85,7 +112,7 @@ class Here:
                         raise self.error
                 yield number
                 with self.ready:
-                    self.joined = number + 1
+                    self.joined, self.held = number + 1, self.held - self.size(number)
                     self.ready.notify_all()
         finally:
             with self.ready:
@@ -97,11 +124,11 @@ class Here:
                 thread.join()
 
 
-def open_session(stream, sources, edits, script, tables, program):
+def open_session(stream, sources, edits, script, tables, program, anyway=False):
     """A session with the edits of a list and a script, for finding out what the parts are."""
     from .session import Session
 
-    session = Session(stream, sources=sources, tables=tables, program=program)
+    session = Session(stream, sources=sources, tables=tables, program=program, anyway=anyway)
     try:
         if edits is not None:
             session.edits.run(edits)
@@ -152,18 +179,24 @@ def write(session, out, workers, name="frames"):
             pass
         return [] if refused is None else [f"frames 0 to {count - 1}: {refused.reply}"]
     first = parts.find_first(session, number)
-    with tempfile.TemporaryDirectory(prefix="wokureti-", dir=plain_folder()) as folder:
+    with rooms.Room(plain_folder()) as folder:
         room = parts.Room(folder, session, first)
         plan, made = workers(room, count)
         refusals, progress = [], Progress(name, count)
-        with output(out) as file, progress:
-            file.write(first.header)
-            for number in made:
-                more = room.refusals(number, plan[number])
-                room.join(number, plan[number], len(more), file)
-                room.clear(number)
-                refusals += more
-                progress.show(plan[number].end)
+        try:
+            with output(out) as file, progress:
+                file.write(first.header)
+                for number in made:
+                    more = room.refusals(number, plan[number])
+                    room.join(number, plan[number], len(more), file)
+                    room.clear(number)
+                    refusals += more
+                    progress.show(plan[number].end)
+        except OSError as error:
+            full = if_full(folder)
+            if full:
+                raise Failed(f"{sentence(error)}{full}") from None
+            raise
     return refusals
 
 
@@ -172,7 +205,8 @@ def here(session, processes, program, tables):
 
     def workers(room, count):
         contents = session.edits.contents()
-        plan = parts.by_packets(contents, processes) if contents.script == "-" else parts.by_frames(count, processes)
+        size = room.first.size
+        plan = parts.by_packets(contents, processes, size) if contents.script == "-" else parts.by_frames(count, processes, size)
         return plan, Here(room, plan, processes, program, tables)
 
     return workers

@@ -4,6 +4,7 @@ import operator
 import os
 
 MOST = (1 << 64) - 1
+MOST_STATES = 4096
 
 
 def number(value):
@@ -11,6 +12,14 @@ def number(value):
     value = operator.index(value)
     if not 0 <= value <= MOST:
         raise ValueError(f"{value} is not between 0 and {MOST}")
+    return value
+
+
+def states(value):
+    """The number of decoded states that are cached."""
+    value = operator.index(value)
+    if not 1 <= value <= MOST_STATES:
+        raise ValueError(f"cache is the number of decoded states that are cached, 1 to {MOST_STATES}, and not {value}")
     return value
 
 

@@ -2,21 +2,31 @@
 
 import argparse
 import os
+import signal
 import sys
 import tempfile
+import threading
+import traceback
 
-from . import __version__, cat, checks, convert, programs
-from .errors import Ended, Refused
+from . import __version__, cat, checks, convert, programs, rooms
+from .errors import Ended, Lost, Refused, sentence
+from .progress import say
 
 ABOUT = """\
 Shows, edits, repairs and compares VP8 streams with the programs vp8serve and vp8list. They are those of the variables VP8SERVE and
-VP8LIST, or installed with it, or on the PATH.
+VP8LIST, or installed with it, or on the PATH. An exit status of 70 says that wokureti itself failed.
 """
+# The exit status of a mistake of this program, EX_SOFTWARE of sysexits.h: no command means anything else by it.
+MISTAKE = 70
+
+
+# What each command reads.
+STREAM = "IVF file, or WebM, MKV, AVI or MP4 if ffmpeg or mkvtoolnix is there; `-` is standard input"
 
 
 def stop(text):
     """Ends with a message and status 2."""
-    print(f"wokureti: {text}", file=sys.stderr)
+    say(str(text))
     return 2
 
 
@@ -24,6 +34,7 @@ def add_edits(parser):
     """The arguments that name other streams, and edits."""
     parser.add_argument("--source", action="append", default=[], metavar="B", help="another stream: source 1, 2, and so on")
     parser.add_argument("--edits", metavar="FILE", help="a list of edits, made first")
+    parser.add_argument("--anyway", action="store_true", help="makes the edits of a list that is of another stream")
     parser.add_argument("--script", metavar="TEXT", help="the script, for example 'trim 0 0 50'")
     parser.add_argument("--tables", metavar="FILE", help="3012 bytes that replace the long tables of RFC 6386")
 
@@ -36,7 +47,7 @@ def add_cat(commands):
         "several processes decode the parts, and the parts are joined in order as they come. Exit status 1 if a frame is refused, which is "
         "then left out; 2 for any error.",
     )
-    parser.add_argument("stream", metavar="IN", help="IVF file")
+    parser.add_argument("stream", metavar="IN", help=STREAM)
     add_edits(parser)
     parser.add_argument("out", metavar="OUT", nargs="?", default="-", help="the text; standard output if it is missing, or `-`")
     parser.add_argument("--jobs", type=int, default=0, metavar="N", help="processes on this machine; as many as processors if missing")
@@ -56,7 +67,7 @@ def opened(given, folder):
     """The session of the arguments, with their edits and script. The output may be none of the inputs."""
     cat.check_output(given.out, [given.stream, *given.source, given.edits, given.tables])
     stream, *sources = (convert.as_ivf(path, folder) for path in [given.stream, *given.source])
-    return cat.open_session(stream, sources, given.edits, given.script, given.tables, programs.find("vp8serve"))
+    return cat.open_session(stream, sources, given.edits, given.script, given.tables, programs.find("vp8serve"), given.anyway)
 
 
 def run_cat(given):
@@ -64,7 +75,7 @@ def run_cat(given):
     jobs = given.jobs or len(os.sched_getaffinity(0))
     if jobs < 1:
         raise cat.Failed("--jobs is 1 or more")
-    with tempfile.TemporaryDirectory(prefix="wokureti-") as folder, opened(given, folder) as session:
+    with rooms.Room() as folder, opened(given, folder) as session:
         if given.sshlogin:
             from . import machines
 
@@ -74,19 +85,20 @@ def run_cat(given):
             workers = cat.here(session, jobs, program, given.tables)
         refusals = cat.write(session, given.out, workers)
     for line in refusals[:10]:
-        print(f"wokureti: {line}", file=sys.stderr)
+        say(line)
     if len(refusals) > 10:
-        print(f"wokureti: {len(refusals) - 10} more frames were refused", file=sys.stderr)
+        say(f"{len(refusals) - 10} more frames were refused")
     return 1 if refusals else 0
 
 
 def add_served(parser):
     """The arguments of a server."""
-    parser.add_argument("stream", metavar="IN", help="IVF file; `-` is an empty stream")
+    parser.add_argument("stream", metavar="IN", help=f"{STREAM}; /dev/null is an empty stream")
     parser.add_argument("--source", action="append", default=[], metavar="B", help="another stream: source 1, 2, and so on")
     parser.add_argument("--cache", type=int, metavar="N", help="number of decoded states that are cached")
     parser.add_argument("--port", type=int, default=0, metavar="N", help="the port; a free one if missing")
     parser.add_argument("--tables", metavar="FILE", help="3012 bytes that replace the long tables of RFC 6386")
+    parser.add_argument("--anyway", action="store_true", help="makes the edits of a list that is of another stream")
 
 
 def served(given, folder):
@@ -114,10 +126,10 @@ def add_open(commands):
 def run_open(given):
     from . import opening
 
-    with tempfile.TemporaryDirectory(prefix="wokureti-") as folder:
+    with rooms.Room() as folder:
         options = served(given, folder)
         titles = [given.stream, *given.source]
-        return opening.run(options, titles, given.edits, given.save, given.port, not given.no_browser, not given.no_pad)
+        return opening.run(options, titles, given.edits, given.save, given.port, not given.no_browser, not given.no_pad, given.anyway)
 
 
 def add_serve(commands):
@@ -136,8 +148,8 @@ def add_serve(commands):
 def run_serve(given):
     from . import serve
 
-    with tempfile.TemporaryDirectory(prefix="wokureti-") as folder:
-        return serve.run(served(given, folder), given.edits, given.save, given.port)
+    with rooms.Room() as folder:
+        return serve.run({**served(given, folder), "anyway": given.anyway}, given.edits, given.save, given.port)
 
 
 def add_repair(commands):
@@ -147,9 +159,10 @@ def add_repair(commands):
         description="Reads a damaged stream, mends what can be mended without a person, and writes it to OUT. A line says what each step did. "
         "Packets whose records are lost are searched; packets that are there twice go; packets out of order are sorted by their time stamps; "
         "those that are missing or refused are taken from a second recording; and where packets are refused or lost, the picture before is "
-        "held up to the next key frame. Exit status 0 if the stream was clean, 1 if it was mended, 2 if something could not be mended.",
+        "held up to the next key frame. OUT is then checked as by `vp8list --check`. Exit status 0 if the stream was clean, 1 if it was mended and "
+        "OUT has no damage, 2 if damage is left, or no key frame survives and nothing was written.",
     )
-    parser.add_argument("stream", metavar="IN", help="IVF file")
+    parser.add_argument("stream", metavar="IN", help=STREAM)
     parser.add_argument("out", metavar="OUT", help="the mended IVF file")
     parser.add_argument("--second", metavar="FILE", help="a second recording of the same packets")
     parser.add_argument("--edits", metavar="FILE", help="writes the edits that make OUT of IN, which `vp8serve IN FILE - --save OUT` runs")
@@ -162,7 +175,7 @@ def add_repair(commands):
 
 
 def run_repair(given):
-    from . import files, ivf, repair
+    from . import files, ivf, progress, repair
 
     inputs = [given.stream, given.second, given.tables]
     for out in (given.out, given.edits):
@@ -171,11 +184,12 @@ def run_repair(given):
     if given.edits is not None and checks.is_same_file(given.out, given.edits):
         raise cat.Failed("OUT and the list of edits are one file")
     steps = {name for name in ("scan", "double", "sort", "hold") if not getattr(given, f"no_{name}")}
-    with tempfile.TemporaryDirectory(prefix="wokureti-") as folder:
-        data, second = (path and read_all(convert.as_ivf(path, folder)) for path in (given.stream, given.second))
     try:
-        found = repair.repair(data, programs.find("vp8serve"), programs.find("vp8list"), second, given.tables, steps)
-    except ivf.NotIvf as error:
+        with rooms.Room() as folder, progress.Stages() as stages:
+            path, other = (path and convert.as_ivf(path, folder) for path in (given.stream, given.second))
+            data, second = (path and read_all(path) for path in (path, other))
+            found = repair.repair(data, programs.find("vp8serve"), programs.find("vp8list"), second, given.tables, steps, stages.stage, as_file(path))
+    except (ivf.NotIvf, repair.NoKeyFrame) as error:
         raise cat.Failed(f"{given.stream}: {error}") from None
     packets = [(packet.stamp, packet.data) for packet in found.packets]
     files.write_whole(given.out, ivf.pieces(found.head, len(packets), packets))
@@ -191,7 +205,15 @@ def run_repair(given):
     return 2 if found.left else 1 if found.changes else 0
 
 
+def as_file(path):
+    """The path for another program, or None if that would find another file there."""
+    is_here = str(path).startswith(("/dev/", "/proc/")) or not os.path.isfile(path)
+    return None if is_here else checks.path(path)
+
+
 def read_all(path):
+    if path == "-":
+        return b""
     with open(path, "rb") as file:
         return file.read()
 
@@ -210,18 +232,47 @@ def add_compare(commands):
         help="where two streams of frames part",
         description="Compares the frames of A and B, each an IVF file, a YUV4MPEG2 file, a URL, or `-`, a decoder under test on a pipe. Prints the first "
         "frame that differs, with the first sample and, of IVF files, the record of the first macroblock that differs; how many frames and samples "
-        "differ, and the PSNR. Exit status 0 if all are the same, 1 if "
-        "not, 2 for an error.",
+        "differ, and the PSNR. With --decoder A is a folder of streams, and each is compared with the frames of that decoder. Exit status 0 if all are "
+        "the same, 1 if not, 2 for an error.",
     )
     parser.add_argument("one", metavar="A")
-    parser.add_argument("other", metavar="B")
+    parser.add_argument("other", metavar="B", nargs="?")
+    parser.add_argument(
+        "--decoder",
+        metavar="CMD",
+        help="a command that decodes a stream: {in} is the stream, {out} a file for its frames, YUV4MPEG2 or I420; they come on standard output if "
+        "{out} is missing. For example 'vpxdec --i420 -o {out} {in}'",
+    )
+    parser.add_argument("--jobs", type=int, default=0, metavar="N", help="with --decoder: streams at a time; as many as processors if missing")
+    parser.add_argument("--junit", metavar="FILE", help="with --decoder: the results as JUnit has them")
     parser.add_argument("--png", metavar="DIR", help="writes the first two frames that differ, and their difference, as PNG")
     parser.add_argument("--tables", metavar="FILE", help="3012 bytes that replace the long tables of RFC 6386")
     parser.set_defaults(run=run_compare)
 
 
+def run_decoder(given):
+    from . import decoders
+
+    found = []
+    for result in decoders.results(given.one, given.decoder, given.jobs or len(os.sched_getaffinity(0)), given.tables):
+        found.append(result)
+        print(f"{result.name}: {'; '.join(result.lines[:2]) or 'same'}", flush=True)
+    same = sum(result.is_same for result in found)
+    print(f"{same} of {len(found)} streams are the same")
+    if given.junit is not None:
+        decoders.write_junit(given.junit, given.decoder, found)
+    return 0 if same == len(found) else 1
+
+
 def run_compare(given):
     from . import compare
+
+    if given.decoder is not None:
+        if given.other is not None or given.png is not None or given.jobs < 0:
+            raise cat.Failed("with --decoder there is one folder, and no B and no --png")
+        return run_decoder(given)
+    if given.other is None or given.junit is not None:
+        raise cat.Failed("two streams are compared: B is missing, or --decoder")
 
     found = compare.compare(given.one, given.other, given.png, given.tables)
     for line in found.lines():
@@ -235,7 +286,7 @@ def add_png(commands):
         help="a frame as PNG",
         description="Writes a frame as a PNG file, with the colours of ITU-R BT.601 and luma of 16 to 235, as VP8 has them.",
     )
-    parser.add_argument("stream", metavar="IN", help="IVF file")
+    parser.add_argument("stream", metavar="IN", help=STREAM)
     parser.add_argument("number", metavar="N", type=int, help="the number of the frame, from 0")
     parser.add_argument("out", metavar="OUT", help="the PNG file; standard output if it is `-`")
     add_edits(parser)
@@ -247,7 +298,7 @@ def add_png(commands):
 def run_png(given):
     from . import png
 
-    with tempfile.TemporaryDirectory(prefix="wokureti-") as folder:
+    with rooms.Room() as folder:
         with opened(given, folder) as session:
             text = png.of_frame(session.frame(given.number), given.matrix, given.full)
         with cat.output(given.out) as file:
@@ -271,6 +322,8 @@ def parser_of():
 def main(words=None):
     """Runs a command line, and returns the exit status."""
     given = parser_of().parse_args(words)
+    end_by_signals()
+    rooms.sweep()
     try:
         return given.run(given)
     except BrokenPipeError:
@@ -279,5 +332,37 @@ def main(words=None):
         return 2
     except KeyboardInterrupt:
         return 130
-    except (cat.Failed, Ended, Refused, OSError, ValueError) as error:
-        return stop(error)
+    except (cat.Failed, Ended, Lost, Refused, OSError, ValueError) as error:
+        return stop(sentence(error))
+    except Exception as error:
+        return mistake(error)
+
+
+def end_by_signals():
+    """A terminal that closes, or a request to end, ends a command as Ctrl-C does: what is to be saved is saved, and no folder is left."""
+    def end(number, frame):
+        # What is done at the end is not ended by a second one.
+        for one in (signal.SIGTERM, signal.SIGHUP):
+            signal.signal(one, signal.SIG_IGN)
+        raise KeyboardInterrupt
+
+    if threading.current_thread() is threading.main_thread():
+        for number in (signal.SIGTERM, signal.SIGHUP):
+            # nohup ignores the closing of a terminal.
+            if signal.getsignal(number) != signal.SIG_IGN:
+                signal.signal(number, end)
+
+
+def mistake(error):
+    """Says in one line what went wrong, and where the rest of it is."""
+    text = "".join(traceback.format_exception(type(error), error, error.__traceback__))
+    try:
+        descriptor, path = tempfile.mkstemp(prefix="wokureti-mistake-", suffix=".txt")
+        with open(descriptor, "w", encoding="utf-8", errors="backslashreplace") as file:
+            file.write(f"wokureti {' '.join(sys.argv[1:])}\n{text}")
+        where = f"the rest is in {path}"
+    except OSError:
+        print(text, end="", file=sys.stderr)
+        where = "the rest is above"
+    print(f"wokureti: a mistake of wokureti itself: {type(error).__name__}: {str(error)[:200]}; {where}", file=sys.stderr)
+    return MISTAKE

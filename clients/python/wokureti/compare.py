@@ -7,10 +7,9 @@ import math
 import os
 import shutil
 import sys
-import tempfile
 import urllib.request
 
-from . import checks, convert, facts, files, png, programs, records, y4m
+from . import checks, convert, facts, files, png, programs, records, rooms, y4m
 from .errors import Ended, Refused
 from .frames import frame_of, sides
 from .session import Session
@@ -70,7 +69,8 @@ def opened(name, folder, tables=None):
     elif name == "-":
         source = sys.stdin.buffer
     else:
-        path = convert.as_ivf(name, folder)
+        # A pipe is read as it comes.
+        path = convert.as_ivf(name, folder) if os.path.isfile(name) else name
         source = open(path, "rb")
     with contextlib.closing(source) as file:
         head, ivf_path = peek(file), None
@@ -84,6 +84,13 @@ def opened(name, folder, tables=None):
                     copy.write(head)
                     shutil.copyfileobj(file, copy, 1 << 20)
             frames, ivf_path = of_stream(path, tables), path
+        elif convert.kind_of(head) is not None:
+            copied = convert.new_name(folder, "spooled")
+            with open(copied, "xb") as copy:
+                copy.write(head)
+                shutil.copyfileobj(file, copy, 1 << 20)
+            ivf_path = convert.as_ivf(copied, folder)
+            frames = of_stream(ivf_path, tables)
         else:
             raise ValueError(f"{name} is no IVF file of VP8, and no YUV4MPEG2 text")
         with contextlib.closing(frames):
@@ -92,7 +99,7 @@ def opened(name, folder, tables=None):
 
 def peek(file):
     """The first bytes of a file."""
-    return y4m.read_exactly(file, 9)
+    return y4m.read_exactly(file, 12)
 
 
 class Joined:
@@ -298,7 +305,7 @@ def compare(one, other, pictures=None, tables=None):
     if one == other == "-":
         raise ValueError("only one of the two can be standard input")
     found = Comparison()
-    with tempfile.TemporaryDirectory(prefix="wokureti-") as folder:
+    with rooms.Room() as folder:
         with opened(one, folder, tables) as (left, left_path), opened(other, folder, tables) as (right, right_path):
             for number, pair in enumerate(itertools.zip_longest(left, right)):
                 found.add(number, *pair)

@@ -1,5 +1,7 @@
 """The packets of a session as they are after its edits: the program has them too, but does not give them out."""
 
+import math
+import secrets
 from array import array
 from typing import NamedTuple
 
@@ -8,6 +10,8 @@ from .facts import Facts
 from .inputs import is_input
 
 
+# For each value of tags whether it is that of a key packet.
+KEY_OF = bytes(map(ivf.KEY.__and__, range(256)))
 # Packets that are read together, at most.
 MOST_TOGETHER = 1 << 16
 
@@ -39,28 +43,34 @@ class Held(NamedTuple):
 class Contents:
     """The packets of all sources.
 
-    Each packet has a number in a pool: those of the files first, then each one that an edit made. A stream is a list of such numbers, so
-    an edit moves numbers, and a packet's bytes are where they were.
+    Each packet has a number in a pool: those of the files first, then each one that an edit made, a copy too. A stream is a list of such
+    numbers, so an edit moves numbers, a packet's bytes are where they were, and a number is in one stream at most, once: it says which
+    packet is meant, wherever that is now.
     """
 
     def __init__(self, inputs, settings, edits_path):
         self.inputs = inputs
         self.program, self.lister, self.tables = settings
         self.edits_path = edits_path
+        # Numbers of packets that edits made are those of these contents alone.
+        self.name = secrets.token_hex(4)
         self.current = 0
         self.script = "-"
-        self.bases, self.streams = [], []
+        # For each packet of a stream also whether it has a key tag: the last one before a packet is found at once.
+        self.bases, self.streams, self.keys = [], [], []
         count = 0
         for item in inputs.all:
             records = len(item.records())
             self.bases.append(count)
             self.streams.append(array("I", range(count, count + records)))
+            self.keys.append(item.records().tags.translate(KEY_OF))
             count += records
         self.of_files = count
         self.file_sizes = None
-        # Of the packets that edits made: the time stamp, and the bytes, or what the program makes them of.
+        # Of the packets that edits made: the time stamp, and the bytes, or what the program makes them of, or the number of the packet that a
+        # copy was made of.
         self.made = []
-        self.forged = {}
+        self.forged, self.key_sizes = {}, {}
         self.listed = Facts(self)
 
     def apply(self, line):
@@ -77,7 +87,7 @@ class Contents:
         numbers = tuple(map(int, rest))
         if word == "copy":
             source, index, at = numbers
-            return self.perform(Operation("insert", (at,), self.streams[source][index]))
+            return self.perform(Operation("insert", (at,), self.make(self.stamp(self.streams[source][index]), self.root(self.streams[source][index]))))
         if word in ("blank", "hold"):
             at, *size = numbers
             return self.perform(Operation("insert", (at,), self.forge_at(word, at, size)))
@@ -86,7 +96,7 @@ class Contents:
     def perform(self, operation):
         """Makes a change, and returns what takes it back."""
         word, numbers, packet, text = operation
-        stream = self.streams[self.current]
+        stream, keys = self.streams[self.current], self.keys[self.current]
         if word == "script":
             before, self.script = self.script, text
             return Operation("script", (), None, before)
@@ -96,14 +106,17 @@ class Contents:
         if word == "move":
             start, to = numbers
             stream.insert(to, stream.pop(start))
+            keys.insert(to, keys.pop(start))
             return Operation("move", (to, start))
         at = numbers[0]
         if word == "insert":
             stream.insert(at, packet)
+            keys.insert(at, self.has_key_tag(packet))
             return Operation("delete", (at,))
         if word == "delete":
+            keys.pop(at)
             return Operation("insert", (at,), stream.pop(at))
-        before, stream[at] = stream[at], packet
+        before, stream[at], keys[at] = stream[at], packet, self.has_key_tag(packet)
         return Operation("replace", (at,), before)
 
     def line(self, operation):
@@ -128,9 +141,16 @@ class Contents:
         stream = self.streams[self.current]
         stamp = self.stamp(stream[at - 1]) if at else 0
         if word == "hold":
-            keys = (stream[index] for index in range(at - 1, -1, -1))
-            size = ivf.key_size(self.bytes(next(number for number in keys if self.has_key_tag(number)), 10))
+            number = stream[self.keys[self.current].rindex(1, 0, at)]
+            if number not in self.key_sizes:
+                self.key_sizes[number] = ivf.key_size(self.bytes(number, 10))
+            size = self.key_sizes[number]
         return self.make(stamp, (word, *size))
+
+    def root(self, number):
+        """The packet that a copy was made of; any other packet is its own."""
+        found = self.made[number - self.of_files][1] if number >= self.of_files else number
+        return found if isinstance(found, int) else number
 
     def where(self, number):
         """The file and the index of a packet of a file."""
@@ -146,6 +166,7 @@ class Contents:
 
     def bytes(self, number, size=None):
         """The bytes of a packet, or the first ones of them."""
+        number = self.root(number)
         if number < self.of_files:
             item, index = self.where(number)
             return item.read(index, size)
@@ -155,6 +176,7 @@ class Contents:
 
     def size(self, number):
         """The number of bytes of a packet."""
+        number = self.root(number)
         if number < self.of_files:
             item, index = self.where(number)
             return item.index.sizes[index]
@@ -170,6 +192,7 @@ class Contents:
         return sum(sizes[number] if number < count else self.size(number) for number in numbers)
 
     def has_key_tag(self, number):
+        number = self.root(number)
         if number < self.of_files:
             item, index = self.where(number)
             return bool(item.index.tags[index] & ivf.KEY)
@@ -189,6 +212,11 @@ class Contents:
             lines = [f"blank 0 {width} {height}"] + ["hold 1"] * (word == "hold")
             self.forged[key] = runs.saved_packets(self.program, lines, self.tables)[-1][1]
         return self.forged[key]
+
+    def is_edited(self, source, stream):
+        """Whether the packets of a source are others than those of its file."""
+        base, count = self.bases[source], len(self.inputs.all[source].records())
+        return len(stream) != count or stream != array("I", range(base, base + count))
 
     def source(self, source):
         """The number of a source that is there; the current one if none is given."""
@@ -211,9 +239,14 @@ class Contents:
 
     @property
     def rate(self):
-        """Rate and scale of the frames that are served."""
-        head = self.inputs.all[0].head
-        return (head.rate, head.scale) if head.rate and head.scale else (30, 1)
+        """Rate and scale of the frames that are served: those of the header of source 0, whose time base may be finer than a frame, over the
+        median step of its time stamps."""
+        head, step = self.inputs.all[0].head, self.inputs.all[0].step()
+        rate, scale = (head.rate, head.scale) if head.rate and head.scale else (30, 1)
+        if step == 1:
+            return rate, scale
+        common = math.gcd(rate, scale * step)
+        return rate // common, scale * step // common
 
     def shown_kinds(self, source):
         """For each shown packet of a source its kind, `key` or `inter`."""

@@ -2,10 +2,12 @@
 
 import os
 import shutil
+import stat
+import struct
 import subprocess
-import sys
 
-from . import checks
+from . import checks, ivf
+from .progress import say
 
 MOST_TIME = 3600
 
@@ -29,15 +31,46 @@ def kind_of(head):
     return None
 
 
-def as_ivf(path, folder):
-    """The path of the stream as IVF: the file itself, or a file in the folder."""
-    if os.fspath(path) == "-" or not os.path.isfile(path):
-        return path
-    with open(path, "rb") as file:
+def is_null(found):
+    return stat.S_ISCHR(found.st_mode) and found.st_rdev == os.stat(os.devnull).st_rdev
+
+
+def spooled(path, folder):
+    """A pipe as a file in the folder."""
+    out = new_name(folder, "spooled")
+    with open(path, "rb") as pipe, open(out, "xb") as file:
+        shutil.copyfileobj(pipe, file, 1 << 20)
+    return out
+
+
+def new_name(folder, ending):
+    return os.path.join(folder, f"{len(os.listdir(folder))}.{ending}")
+
+
+def as_ivf(path, folder, is_quiet=False):
+    """The path of the stream as IVF: the file itself, or a file in the folder. `-` is standard input, and /dev/null an empty stream, for which a
+    session has the path `-`."""
+    given = "/dev/stdin" if os.fspath(path) == "-" else path
+    try:
+        found = os.stat(given)
+    except OSError:
+        # Who reads it says so.
+        return given
+    if is_null(found):
+        return "-"
+    if stat.S_ISDIR(found.st_mode):
+        return given
+    name = "standard input" if given == "/dev/stdin" else os.fsdecode(given)
+    if not stat.S_ISREG(found.st_mode):
+        given = spooled(given, folder)
+    with open(given, "rb") as file:
         kind = kind_of(file.read(12))
-    if kind is None:
-        return path
-    out = os.path.join(folder, f"{len(os.listdir(folder))}.ivf")
+    return given if kind is None else taken_out(given, folder, name, kind, is_quiet)
+
+
+def taken_out(path, folder, name, kind, is_quiet):
+    """The packets of a container as an IVF file in the folder."""
+    out = new_name(folder, "ivf")
     if shutil.which("ffmpeg"):
         tool = "ffmpeg"
         run(["ffmpeg", "-nostdin", "-v", "error", "-i", f"file:{os.fsdecode(path)}", "-map", "0:v:0", "-c", "copy", "-copyts", "-f", "ivf", out])
@@ -45,9 +78,19 @@ def as_ivf(path, folder):
         tool = "mkvextract"
         run(["mkvextract", checks.path(path), "tracks", f"0:{out}"])
     else:
-        raise Container(f"{os.fsdecode(path)} is a {kind} file: to take its packets out, install ffmpeg or mkvtoolnix")
-    print(f"wokureti: {os.fsdecode(path)} is a {kind} file; {tool} took its packets out without coding them again", file=sys.stderr)
+        raise Container(f"{name} is a {kind} file: to take its packets out, install ffmpeg or mkvtoolnix")
+    count_packets(out)
+    if not is_quiet:
+        say(f"{name} is a {kind} file; {tool} took its packets out without coding them again")
     return out
+
+
+def count_packets(path):
+    """Writes the number of packets into the header of an IVF file: these tools write another number there."""
+    with open(path, "r+b") as file:
+        _, index = ivf.read_index(file.fileno())
+        file.seek(24)
+        file.write(struct.pack("<I", len(index)))
 
 
 def run(words):

@@ -26,8 +26,13 @@ def common(one, other):
     return found[::-1]
 
 
-def edits_between(one, other):
-    """The request lines that make the packets `other` of the packets `one`, pairs of a time stamp and bytes."""
+# Packets of fewer bytes are written as HEX, also if another source has them.
+LEAST_COPY = 16
+
+
+def edits_between(one, other, theirs=None):
+    """The request lines that make the packets `other` of the packets `one`, pairs of a time stamp and bytes. `theirs` has the indexes of packets
+    of source 1, which are copied."""
     kept = common(one, other)
     lines, place, index = [], 0, 0
     for stop, end in [*kept, (len(one), len(other))]:
@@ -35,10 +40,25 @@ def edits_between(one, other):
         old, new = one[place:stop], other[index:end]
         at = index
         while old and new and old[0][0] == new[0][0]:
-            lines.append(f"replace {at} {new[0][1].hex() or '-'}")
+            lines += replacement(at, new[0], theirs or {})
             old, new, at = old[1:], new[1:], at + 1
         lines += [f"delete {at}"] * len(old)
-        for offset, (stamp, data) in enumerate(new):
-            lines.append(f"insert {at + offset} {stamp} {data.hex() or '-'}")
+        for offset, packet in enumerate(new):
+            lines.append(insertion(at + offset, packet, theirs or {}))
         place, index = stop + 1, end + 1
     return lines
+
+
+def insertion(at, packet, theirs):
+    """The line that inserts a packet."""
+    stamp, data = packet
+    if packet in theirs and len(data) >= LEAST_COPY:
+        return f"copy 1 {theirs[packet]} {at}"
+    return f"insert {at} {stamp} {data.hex() or '-'}"
+
+
+def replacement(at, packet, theirs):
+    """The lines that give a packet other bytes. It keeps its time stamp."""
+    if packet in theirs and len(packet[1]) >= LEAST_COPY:
+        return [insertion(at, packet, theirs), f"delete {at + 1}"]
+    return [f"replace {at} {packet[1].hex() or '-'}"]

@@ -1,23 +1,29 @@
 """The list of the accepted edits of a session: `vp8serve IN LIST` runs it, and it is all that there is to save of an edit.
 
 A line of the list is a request line, as in docs/requests.md: `delete 3`, `use 1`, `script trim 0 0 50`. If the list has a file, each edit
-is in it before the call that made it returns. Comments and empty lines of the file are left where they are.
+is in it before the call that made it returns. Comments and empty lines of the file are left where they are. Two comments are read: the first
+line says which stream the list is of, and `# step 3 Repair all` that the next three edits are one step for `undo`.
 """
 
+from __future__ import annotations
+
 import contextlib
-import fcntl
 import os
-import stat
-import time
+import re
+import warnings
+from typing import Callable, Iterable, Iterator, Optional, Union
 
 from .contents import Contents
-from .errors import Refused
+from .edit_files import EditFile, NotWritten
+from .errors import OtherStream, Refused, sentence
 from .files import write_whole
 
-# Seconds.
-LOCK_TIME = 1
 # The requests that are not edits, and the first word of their replies. The reply to an edit begins with `ok`.
 REPLIES = {"frame": "served", "count": "packets", "stats": "decoded"}
+STEP = re.compile(r"# step (\d{1,9})(?: (.*))?")
+STREAM = re.compile(r"# wokureti: edits of (\d+) packets, (\d+) bytes, sha256 ([0-9a-f]{64})")
+# Characters of the title of a step.
+MOST_TITLE = 100
 
 
 def words_of(line):
@@ -32,12 +38,14 @@ def is_edit(line):
 
 
 class Entry:
-    """An edit: its line, the lines of the file before it, the step that it belongs to, and what takes it back, once that is known."""
+    """An edit: its line, the lines of the file before it, the step that it belongs to, and what takes it back, once that is known. The first
+    edit of a step has its title."""
 
-    def __init__(self, line, step, before=""):
+    def __init__(self, line, step, before="", title=""):
         self.line = line
         self.step = step
         self.before = before
+        self.title = title
         self.inverse = None
 
     @property
@@ -49,85 +57,59 @@ class Entry:
         return self.line.startswith("use ")
 
 
-class EditFile:
-    """The file of a list. One session has it at a time."""
-
-    def __init__(self, path):
-        self.path = path
-        self.descriptor = os.open(path, os.O_RDWR | os.O_CREAT | os.O_CLOEXEC, 0o666)
-        try:
-            if not stat.S_ISREG(os.fstat(self.descriptor).st_mode):
-                raise ValueError(f"{path!r} is not a file")
-            self.lock()
-        except BlockingIOError:
-            os.close(self.descriptor)
-            raise ValueError(f"{path!r} is the list of another session that is open") from None
-        except BaseException:
-            os.close(self.descriptor)
-            raise
-        self.size = os.fstat(self.descriptor).st_size
-
-    def lock(self):
-        """A process that another thread starts has the files of this one for a moment, so the lock is tried for a while."""
-        limit = time.monotonic() + LOCK_TIME
-        while True:
-            try:
-                return fcntl.flock(self.descriptor, fcntl.LOCK_EX | fcntl.LOCK_NB)
-            except BlockingIOError:
-                if time.monotonic() > limit:
-                    raise
-                time.sleep(0.01)
-
-    def text(self):
-        """What is in the file."""
-        data = b""
-        while len(data) < self.size:
-            piece = os.pread(self.descriptor, self.size - len(data), len(data))
-            if not piece:
-                break
-            data += piece
-        return data.decode()
-
-    def write(self, data, at):
-        """Writes bytes at a place, where the file then ends. If that fails, the file ends at the place."""
-        os.ftruncate(self.descriptor, at)
-        self.size = at
-        left = data
-        try:
-            while left:
-                count = os.pwrite(self.descriptor, left, at)
-                left, at = left[count:], at + count
-        except BaseException:
-            os.ftruncate(self.descriptor, self.size)
-            raise
-        os.fsync(self.descriptor)
-        self.size = at
-
-    def close(self):
-        os.close(self.descriptor)
+def parsed(text, step=0):
+    """The edits of the text of a list as entries, the number of the line of each, and the lines after the last one. Steps are numbered from
+    `step` + 1 on."""
+    entries, numbers, before, left, title = [], [], "", 0, ""
+    lines = text.split("\n")
+    for number, line in enumerate(lines if lines[-1] else lines[:-1], 1):
+        if not is_edit(line):
+            before += f"{line}\n"
+            found = STEP.fullmatch(line.removesuffix("\r"))
+            if found:
+                left, title = int(found.group(1)), found.group(2) or ""
+                step += 1
+            continue
+        if not left:
+            step += 1
+        entries.append(Entry(words_of(line), step, before, title))
+        numbers.append(number)
+        left, before, title = max(0, left - 1), "", ""
+    return entries, numbers, before
 
 
 class EditList:
     """The accepted edits of a session, in their order."""
 
-    def __init__(self, session, path=None):
+    def __init__(self, session, path=None, anyway=False):
         self._session = session
+        self._anyway = anyway
         self._entries = []
         self._undone = []
         self._after = ""
         self._contents = None
         self._step = 0
         self._depth = 0
-        # Whether the file is written only when a step is whole.
-        self._waits = False
         # How many entries the file has, and where each of them ends in it.
         self._ends = []
-        self._file = None if path is None else EditFile(path)
+        # The file that was named, the one that has the edits, and what is known of it once it is closed.
+        self._named, self._path, self._known = None, None, None
+        self._file = None
+        # Called with a sentence if the file is another one than was thought; without it that is a warning.
+        self.on_notice: Optional[Callable[[str], None]] = None
+        if path is not None:
+            self._use(EditFile(path))
+            self._named = self._path
 
-    def __iter__(self):
+    def _use(self, file):
+        self._file, self._path = file, file.path
+        if self._contents is not None:
+            self._contents.edits_path = file.path
+
+    def __iter__(self) -> Iterator[str]:
         return iter([entry.line for entry in self._entries])
 
-    def __len__(self):
+    def __len__(self) -> int:
         return len(self._entries)
 
     @property
@@ -135,29 +117,47 @@ class EditList:
         """The edits, with their steps: those of one step are taken back together."""
         return self._entries
 
-    def text(self):
+    def text(self) -> str:
         """The list as text."""
         return "".join(entry.text for entry in self._entries)
 
-    def save(self, path):
+    def save(self, path: Union[str, bytes, os.PathLike[str], os.PathLike[bytes]]) -> None:
         """Writes the list to another file."""
         write_whole(path, [self.text().encode()])
 
     @property
-    def path(self):
+    def path(self) -> Optional[str]:
         """The file of the list, or None."""
-        return None if self._file is None else self._file.path
+        return self._path
 
     @property
-    def undone(self):
+    def written(self) -> int:
+        """How many of the edits are in the file, on the disk."""
+        return len(self._ends)
+
+    @property
+    def undone(self) -> list[str]:
         """The lines that `redo` makes again, the next one first."""
         return [entry.line for group in reversed(self._undone) for entry in group]
 
     def close(self):
-        """The file stays as it is."""
-        if self._file is not None:
-            file, self._file = self._file, None
-            file.close()
+        """The file stays as it is, unless somebody replaced it, or edits are not in it yet."""
+        if self._file is None:
+            return
+        try:
+            if self._entries:
+                self._write()
+        except OSError as error:
+            self._say(sentence(error))
+        file, self._file = self._file, None
+        self._known = file.known
+        file.close()
+
+    def _say(self, text):
+        if self.on_notice is not None:
+            self.on_notice(text)
+        else:
+            warnings.warn(text, RuntimeWarning, stacklevel=3)
 
     def load(self):
         """Makes the edits of the file."""
@@ -167,40 +167,60 @@ class EditList:
         if text and not text.endswith("\n"):
             last = text.splitlines()[-1]
             raise ValueError(f"{self.path}: the last line has no newline, so it may be cut off: {last[:80]!r}. End the line, or delete it")
-        before, place = "", 0
-        for number, line in enumerate(text.split("\n")[:-1], 1):
-            place += len(line.encode()) + 1
-            if not is_edit(line):
-                before += f"{line}\n"
-                continue
-            self._replay(line, number, self.path, listed=False)
-            self._new_step()
-            self._entries.append(Entry(words_of(line), self._step, before))
+        entries, numbers, after = self._parsed(text, self.path)
+        self._replay(entries, self.path, numbers)
+        self._entries, self._after = entries, after
+        self._step = entries[-1].step if entries else 0
+        place = 0
+        lines = text.split("\n")[:-1]
+        for before, number in zip([0, *numbers], numbers):
+            place += sum(len(line.encode()) + 1 for line in lines[before:number])
             self._ends.append(place)
-            before = ""
-        self._after = before
 
-    def run(self, path):
+    def run(self, path: Union[str, bytes, os.PathLike[str], os.PathLike[bytes]]) -> None:
         """Makes the edits of a list, which is only read."""
         with open(path, encoding="utf-8") as file:
             text = file.read()
-        for number, line in enumerate(text.split("\n"), 1):
-            if is_edit(line):
-                self._replay(line, number, path, listed=True)
+        entries, numbers, _ = self._parsed(text, path)
+        self._replay(entries, path, numbers)
+        for entry in entries:
+            self.accept(entry.line)
 
-    def _replay(self, line, number, path, listed):
+    def _parsed(self, text, path):
+        """The entries of a list, which must be of this stream."""
+        found = STREAM.fullmatch(text.split("\n", 1)[0].removesuffix("\r"))
+        if found and not self._anyway:
+            packets, size, digest = int(found.group(1)), int(found.group(2)), found.group(3)
+            item = self._session._inputs.all[0]
+            if (packets, size) != item.extent() or digest != item.digest():
+                raise OtherStream(path, (packets, size), item.extent())
+        return parsed(text, self._step)
+
+    def _replay(self, entries, path, numbers):
+        replies = self._session.request_all([entry.line for entry in entries])
+        for entry, number, reply in zip(entries, numbers, replies):
+            if isinstance(reply, Refused):
+                raise ValueError(f"{path}, line {number}: {entry.line[:80]}: {reply}. The list is not of this stream") from None
+
+    def resume(self, other):
+        """Goes on with the list of a session that ended: with its edits, those too that its file does not have, and with what was undone."""
+        self._replay(other._entries, other.path or "the list of edits", range(1, len(other._entries) + 1))
+        self._entries, self._undone, self._after, self._step = other._entries, other._undone, other._after, other._step
+        for entry in self._entries:
+            entry.inverse = None
+        self.on_notice, self._ends, self._path, self._named = other.on_notice, other._ends, other._path, other._named
+        if self._path is None:
+            return
+        with contextlib.suppress(OSError, ValueError):
+            file = EditFile(self._path)
+            if file.known == other._known:
+                self._use(file)
+            else:
+                file.close()
         try:
-            self._session.request(line, listed=listed)
-        except Refused as refused:
-            raise ValueError(f"{path}, line {number}: {line[:80]}: {refused}. The list is not of this stream") from None
-
-    def adopt(self, other):
-        """Takes over the steps of a list with the same edits, and what was undone there."""
-        if list(self) == list(other):
-            for entry, before in zip(self._entries, other._entries):
-                entry.step = before.step
-            self._step = max(self._step, other._step)
-            self._undone = other._undone
+            self._write()
+        except OSError as error:
+            self._say(sentence(error))
 
     def contents(self):
         """The packets after the edits, which are found when they are needed first."""
@@ -212,15 +232,26 @@ class EditList:
         return self._contents
 
     @contextlib.contextmanager
-    def step(self):
-        """Edits in the block are one step for `undo`."""
+    def step(self, title: str = "") -> Iterator[None]:
+        """Edits in the block are one step for `undo`, which may have a title. They are in the file when the block ends."""
         if self._depth == 0:
             self._step += 1
+            start = len(self._entries)
         self._depth += 1
         try:
             yield
         finally:
             self._depth -= 1
+            if self._depth == 0:
+                self._name(self._entries[start:], title)
+                self._write()
+
+    def _name(self, group, title):
+        """Puts the comment before the edits of a step that says how many they are."""
+        title = " ".join(title.split())[:MOST_TITLE]
+        if len(group) > 1:
+            group[0].title = title
+            group[0].before += f"# step {len(group)} {title}".rstrip() + "\n"
 
     def _new_step(self):
         if self._depth == 0:
@@ -229,7 +260,8 @@ class EditList:
     def accept(self, line):
         """Adds an edit that the program accepted."""
         self._new_step()
-        entry = Entry(line, self._step, self._after)
+        before = self._after or ("" if self._entries else self._first_line())
+        entry = Entry(line, self._step, before)
         self._after = ""
         if self._contents is not None:
             entry.inverse = self._contents.apply(line)
@@ -237,55 +269,84 @@ class EditList:
         self._undone.clear()
         self._write()
 
+    def _first_line(self):
+        """The comment that says which stream a list is of."""
+        if self._file is None:
+            return ""
+        item = self._session._inputs.all[0]
+        return "# wokureti: edits of {} packets, {} bytes, sha256 {}\n".format(*item.extent(), item.digest())
+
     def _write(self):
-        """Brings the file up to date. After an error the next edit tries again."""
-        if self._file is None or self._waits:
+        """Brings the file up to date. `NotWritten` if that fails: the next edit tries again."""
+        if self._path is None or self._depth:
+            return
+        change = "is not open any more" if self._file is None else self._file.change()
+        if change is not None:
+            self._move(f"{self._path} {change}")
             return
         del self._ends[len(self._entries) :]
         new = [entry.text.encode() for entry in self._entries[len(self._ends) :]]
         start = self._ends[-1] if self._ends else 0
-        self._file.write(b"".join(new), start)
-        for text in new:
-            start += len(text)
-            self._ends.append(start)
+        if not new and start == self._file.size:
+            return
+        try:
+            self._file.write(b"".join(new), start)
+        except OSError as error:
+            raise NotWritten(error, self._path, len(new), self.written) from None
+        self._extend(new)
 
-    def run_step(self, lines, timeout=None, progress=None):
+    def _extend(self, new):
+        """The file has these entries more."""
+        place = self._ends[-1] if self._ends else 0
+        for text in new:
+            place += len(text)
+            self._ends.append(place)
+
+    def _move(self, why):
+        """Writes the whole list to another file, since the one that it had is no more its own: what somebody else wrote is left as it is."""
+        new = [entry.text.encode() for entry in self._entries]
+        self._ends = []
+        try:
+            file = EditFile.beside(self._named)
+            try:
+                file.write(b"".join(new), 0)
+            except BaseException:
+                file.close()
+                raise
+        except OSError as error:
+            raise NotWritten(error, self._path, len(new), 0, why) from None
+        if self._file is not None:
+            self._file.close()
+        self._use(file)
+        self._extend(new)
+        count = len(new)
+        self._say(f"{why} while it was open: {'the edit is' if count == 1 else f'all {count} edits are'} in {self._path} now")
+
+    def run_step(self, lines: Iterable[str], timeout: Optional[float] = None, progress: Optional[Callable[[int], None]] = None, title: str = "") -> str:
         """Makes edits as one step, and returns the reply to the last one. If one is refused, none is made, and what was undone can be made
         again as before. `progress` is called with the number of edits that were made."""
-        before, reply = (len(self._entries), list(self._undone), self._after), ""
-        self._waits = True
+        count, undone, after, lines = len(self._entries), list(self._undone), self._after, list(lines)
+        # After a refusal the program may have made some of the edits that follow it: those are taken back too.
+        replies = self._session.request_all(lines, timeout, progress)
+        refused = next((reply for reply in replies if isinstance(reply, Refused)), None)
+        if refused is None:
+            with self.step(title):
+                for line in lines:
+                    self.accept(words_of(line))
+            return replies[-1] if replies else ""
+        self._depth += 1
         try:
-            with self.step():
-                for number, line in enumerate(lines, 1):
-                    reply = self._session.request(line, timeout)
-                    if progress is not None:
-                        progress(number)
-        except Refused:
+            for line, reply in zip(lines, replies):
+                if not isinstance(reply, Refused):
+                    self.accept(words_of(line))
+            self._take_back(self._entries[count:], timeout)
+            del self._entries[count:]
+            self._undone, self._after = undone, after
+        finally:
+            self._depth -= 1
             # If there is no memory to take them back, the edits before the refused one stay, in the program and in the list.
-            with self._written():
-                self._take_back(self._entries[before[0] :], timeout)
-                self._forget(*before)
-            raise
-        except BaseException:
-            self._forget(*before)
-            raise
-        finally:
-            self._waits = False
-        self._write()
-        return reply
-
-    @contextlib.contextmanager
-    def _written(self):
-        try:
-            yield
-        finally:
-            self._waits = False
             self._write()
-
-    def _forget(self, count, undone, after):
-        """The list as it was when it had so many entries."""
-        del self._entries[count:]
-        self._undone, self._after = undone, after
+        raise refused
 
     def _last_group(self):
         """How many entries the last step has, with the `use` lines after it."""
@@ -311,38 +372,41 @@ class EditList:
 
     def _take_back(self, group, timeout):
         """Takes back the last entries, the last one first."""
-        contents = self.contents()
-        taken = 0
-        try:
-            for entry in reversed(group):
-                self._session.request(contents.line(entry.inverse), timeout, listed=False)
-                contents.perform(entry.inverse)
-                taken += 1
-        except Refused:
-            # Out of memory: what was taken back is made again, so that the whole step is there.
-            for entry in group[len(group) - taken :]:
-                self._make(entry, timeout)
-            raise
+        # What takes an entry back is found when the contents are.
+        self.contents()
+        self._perform([entry.inverse for entry in reversed(group)], timeout)
 
-    def _make(self, entry, timeout):
-        """Makes an edit again."""
-        self._session.request(entry.line, timeout, listed=False)
-        entry.inverse = self.contents().apply(entry.line)
+    def _perform(self, operations, timeout):
+        """Makes changes of the packets that are not listed, and returns what takes each of them back. If one is refused for want of memory,
+        those that were made are taken back."""
+        contents = self.contents()
+        replies = self._session.request_all((contents.line(operation) for operation in operations), timeout)
+        done, refused = [], None
+        for operation, reply in zip(operations, replies):
+            if isinstance(reply, Refused):
+                refused = refused or reply
+            else:
+                done.append(contents.perform(operation))
+        if refused is not None:
+            for operation in reversed(done):
+                self._session.request(contents.line(operation), timeout, listed=False)
+                contents.perform(operation)
+            raise refused
+        return done
 
     def redo(self, timeout=None):
         """Makes the step again that was taken back last, and returns its lines."""
         if not self._undone:
             return []
-        group, made = self._undone[-1], 0
-        try:
-            for entry in group:
-                self._make(entry, timeout)
-                made += 1
-        except Refused:
-            for entry in reversed(group[:made]):
-                self._session.request(self.contents().line(entry.inverse), timeout, listed=False)
-                self.contents().perform(entry.inverse)
-            raise
+        group, contents = self._undone[-1], self.contents()
+        replies = self._session.request_all([entry.line for entry in group], timeout)
+        made = [(entry, contents.apply(entry.line)) for entry, reply in zip(group, replies) if not isinstance(reply, Refused)]
+        refused = next((reply for reply in replies if isinstance(reply, Refused)), None)
+        if refused is not None:
+            self._perform([inverse for _, inverse in reversed(made)], timeout)
+            raise refused
+        for entry, inverse in made:
+            entry.inverse = inverse
         self._undone.pop()
         self._entries += group
         self._write()

@@ -1,6 +1,10 @@
 """The exceptions of a session."""
 
+from __future__ import annotations
+
+import os
 import re
+from typing import Optional
 
 # A reply such as "refused source 2 packet 60 TokenPartition 1".
 _BROKEN = re.compile(r"refused (?:source (\d+) )?packet (\d+) (.+)")
@@ -14,12 +18,14 @@ class Refused(Exception):
     the whole reply. In a session with `explain=True`, `reason` is the program's explanation, else None.
     """
 
-    def __init__(self, reply, reason=None):
+    def __init__(self, reply: str, reason: Optional[str] = None) -> None:
         super().__init__(f"{reply}: {reason}" if reason else reply)
         self.reply = reply
         self.reason = reason
         self.word = reply.split()[1]
-        self.source = self.packet = self.cause = None
+        self.source: Optional[int] = None
+        self.packet: Optional[int] = None
+        self.cause: Optional[str] = None
         broken = _BROKEN.fullmatch(reply)
         if broken:
             self.word = "packet"
@@ -34,7 +40,28 @@ class Ended(Exception):
     The text is what the program wrote to standard error; or, if the session ended the program, the reason for it.
     """
 
-    def __init__(self, status, text):
+    def __init__(self, status: Optional[int], text: str) -> None:
         super().__init__(text or f"vp8serve ended with status {status}")
         self.status = status
         self.text = text
+
+
+class OtherStream(ValueError):
+    """A list of edits is of another stream than the session: how many packets and bytes each has."""
+
+    def __init__(self, path, wanted, found):
+        theirs, ours = (f"{packets:,} packets of {size:,} bytes" for packets, size in (wanted, found))
+        more = "" if wanted != found else ", but others"
+        text = f"{path} is the list of edits of another stream: of one with {theirs}, and this one has {ours}{more}. Name another list with --edits, or make these edits with --anyway"
+        super().__init__(text)
+
+
+class Lost(Exception):
+    """A program ended, and could not be started again or ended again."""
+
+
+def sentence(error):
+    """An error as a message says it: that of the system without its number."""
+    if type(error).__str__ is not OSError.__str__ or not isinstance(error, OSError) or not error.strerror:
+        return str(error)
+    return f"{os.fsdecode(error.filename)}: {error.strerror}" if isinstance(error.filename, (str, bytes)) else error.strerror

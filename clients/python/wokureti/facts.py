@@ -12,7 +12,7 @@ import tempfile
 import threading
 from array import array
 
-from . import ivf
+from . import ivf, programs, rooms
 from .errors import Ended
 
 MOST_TIME = 300
@@ -29,6 +29,8 @@ def run(lister, path, *options, pass_fds=(), statuses=(0,)):
             done = subprocess.run(
                 words, stdout=out, stderr=subprocess.PIPE, timeout=MOST_TIME, stdin=subprocess.DEVNULL, check=False, pass_fds=pass_fds
             )
+        except FileNotFoundError:
+            raise programs.missing(lister) from None
         except subprocess.TimeoutExpired:
             raise Ended(None, f"{lister} took longer than {MOST_TIME} seconds") from None
         if done.returncode not in statuses:
@@ -39,7 +41,7 @@ def run(lister, path, *options, pass_fds=(), statuses=(0,)):
 
 def run_on(lister, packets, *options, statuses=(0,)):
     """The same of these packets, pairs of a time stamp and bytes."""
-    with tempfile.TemporaryDirectory() as folder:
+    with rooms.Room() as folder:
         path = os.path.join(folder, "packets.ivf")
         with open(path, "wb") as file:
             file.writelines(ivf.pieces(ivf.EMPTY, 0, packets))
@@ -93,6 +95,14 @@ class Facts:
         if size is not None or cause is not None:
             self.put(len(self.flags) - 1, flags, size, cause)
 
+    def add_copy(self, root):
+        """Adds a packet whose bytes are those of one that was listed."""
+        number = len(self.flags)
+        self.flags.append(self.flags[root])
+        for known in (self.sizes, self.causes):
+            if root in known:
+                known[number] = known[root]
+
     def put(self, number, flags, size, cause):
         self.flags[number] = flags
         self.sizes.pop(number, None)
@@ -120,8 +130,10 @@ class Facts:
                 self.causes.clear()
                 self.learn_files()
             new = range(len(self.flags), contents.of_files + len(contents.made))
-            for found in self.by_themselves(new):
-                self.add(*found)
+            listed = [number for number in new if contents.root(number) == number]
+            found = dict(zip(listed, self.by_themselves(listed)))
+            for number in new:
+                self.add(*found[number]) if number in found else self.add_copy(contents.root(number))
 
     def of_range(self, source, numbers):
         """The facts of the packets of a range, of all if it is None, as dictionaries."""

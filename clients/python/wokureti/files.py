@@ -38,10 +38,22 @@ def whole(path):
             os.fsync(descriptor)
         os.chmod(temporary, stat.S_IMODE(mode) if mode is not None else 0o666 & ~mask())
         os.replace(temporary, real)
+        sync_folder(folder)
     except BaseException:
         with contextlib.suppress(OSError):
             os.unlink(temporary)
         raise
+
+
+def sync_folder(folder):
+    """Brings the names of a folder to the disk."""
+    descriptor = os.open(folder or ".", os.O_RDONLY | os.O_DIRECTORY | os.O_CLOEXEC)
+    try:
+        # Some file systems cannot.
+        with contextlib.suppress(OSError):
+            os.fsync(descriptor)
+    finally:
+        os.close(descriptor)
 
 
 def mask():

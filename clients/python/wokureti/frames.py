@@ -1,7 +1,7 @@
 """Frames, and reading them from the pipe that vp8serve writes them to."""
 
 import os
-from typing import NamedTuple
+from typing import Any, NamedTuple
 
 from . import colours
 
@@ -21,15 +21,15 @@ class Frame(NamedTuple):
     number: int
     width: int
     height: int
-    y: object
-    u: object
-    v: object
+    y: Any
+    u: Any
+    v: Any
 
-    def i420(self):
+    def i420(self) -> bytes:
         """The samples of the three planes, one after the other."""
         return b"".join(plane.tobytes() for plane in (self.y, self.u, self.v))
 
-    def rgb(self, matrix="601", full=False):
+    def rgb(self, matrix: str = "601", full: bool = False) -> Any:
         """The picture as red, green and blue: a numpy array or a memoryview of height x width x 3 bytes.
 
         `matrix` is "601" or "709" (ITU-R BT.601 or BT.709); with `full` luma has 0 to 255, else 16 to 235. Each chroma sample

@@ -1,12 +1,16 @@
 """The files that a session was opened with, kept open so that the bytes of their packets can be read later."""
 
+import hashlib
 import os
 import shutil
 import stat
 import tempfile
 import threading
 
-from . import checks, ivf
+from . import checks, convert, ivf, rooms
+
+# Bytes that are read at a time.
+WINDOW = 1 << 20
 
 
 class Input:
@@ -19,6 +23,7 @@ class Input:
         self.head = ivf.EMPTY
         self.index = None
         self.lock = threading.Lock()
+        self.found_digest, self.digesting, self.found_step = None, threading.Lock(), None
         self.is_shared = False
         if path == "-":
             return
@@ -76,6 +81,38 @@ class Input:
         self.check()
         return index
 
+    def step(self):
+        """The median of the steps between the time stamps of shown packets: the time of a frame. 1 if there is none."""
+        if self.found_step is None:
+            index = self.records()
+            stamps = [stamp for stamp, tags in zip(index.stamps, index.tags) if tags & ivf.SHOWN]
+            steps = sorted(after - before for before, after in zip(stamps, stamps[1:]) if after > before)
+            self.found_step = steps[len(steps) // 2] if steps else 1
+        return self.found_step
+
+    def extent(self):
+        """The number of packets, and of their bytes."""
+        index = self.records()
+        return len(index), sum(index.sizes)
+
+    def digest(self):
+        """The SHA-256 of the packets, each after its size: what they are called and what their time stamps are does not matter. Read once."""
+        with self.digesting:
+            if self.found_digest is None:
+                self.found_digest = self.read_digest()
+            return self.found_digest
+
+    def read_digest(self):
+        index, found = self.records(), hashlib.sha256()
+        window, base = b"", 0
+        for start, size in zip(index.starts, index.sizes):
+            if start < base or start + size > base + len(window):
+                window, base = os.pread(self.opened(), max(size, WINDOW), start), start
+            found.update(size.to_bytes(4, "little"))
+            found.update(memoryview(window)[start - base : start - base + size])
+        self.check()
+        return found.hexdigest()
+
     def opened(self):
         """The descriptor. `OSError` if the session is over."""
         if self.descriptor is None:
@@ -119,14 +156,25 @@ class Inputs:
     """The streams of a session, source 0 first."""
 
     def __init__(self, paths):
-        self.all = []
+        self.all, self.room = [], None
         try:
             for path in paths:
-                self.all.append(Input(path))
+                self.all.append(Input(self.taken_out(path)))
         except BaseException:
             self.close()
             raise
         self.paths = paths
+
+    def taken_out(self, path):
+        """The path, or of a file in another container that of its packets."""
+        if path == "-" or not os.path.isfile(path):
+            return path
+        with open(path, "rb") as file:
+            if convert.kind_of(file.read(12)) is None:
+                return path
+        if self.room is None:
+            self.room = rooms.Room()
+        return convert.as_ivf(path, self.room.name, is_quiet=True)
 
     @property
     def words(self):
@@ -145,6 +193,8 @@ class Inputs:
     def close(self):
         for item in self.all:
             item.close()
+        if self.room is not None:
+            self.room.cleanup()
 
 
 def is_input(path, paths):

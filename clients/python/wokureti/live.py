@@ -3,27 +3,26 @@
 import contextlib
 import os
 import secrets
-import sys
-import tempfile
 import threading
 
-from . import facts
-from .errors import Ended, Refused
+from . import facts, rooms
+from .edit_files import NotWritten
+from .errors import Ended, Lost, Refused
 from .outcomes import Outcomes
+from .progress import say
+from .saves import Saves
 from .session import Session
 
 # Frames of another size than the first one that a program served are refused: so each size has a program of its own, at most so many.
 MOST_VIEWERS = 3
 # Seconds that one request may take.
 MOST_TIME = 120
+# Notices that are stored.
+MOST_NOTICES = 100
 
 
 class Changed(Exception):
     """The stream is no more that of the revision."""
-
-
-class Lost(Exception):
-    """The program ended, and could not be started again or ended again."""
 
 
 class Viewer:
@@ -49,34 +48,38 @@ class Viewer:
 class Live:
     """The stream. A call waits until the one before it is done."""
 
-    # Whether packets are saved as with --pad, and whether they were saved.
-    pad = written = False
+    # Whether packets are saved as with --pad.
+    pad = False
 
-    def __init__(self, options, edits=None, save=None):
+    def __init__(self, options, edits=None, save=None, stems=()):
         self.options = dict(options, timeout=MOST_TIME)
         self.lock = threading.RLock()
         self.changed = threading.Condition(self.lock)
         self.instance, self.revision = secrets.token_hex(4), 1
-        self.saved = None
-        self.save_path = None if save is None else os.fspath(save)
-        self.room = tempfile.TemporaryDirectory(prefix="wokureti-")
-        self.edits_path = edits if edits is not None else os.path.join(self.room.name, "edits")
+        self.saves = Saves(save, stems)
+        self.room = rooms.Room()
         self.viewers, self.log = [], []
         self.known, self.found = (None, None), (None, None)
         self.checking = threading.Lock()
         self.closed = False
-        self.events = []
+        # How often the program was started again, and what else is to be said: sentences, numbered from 1.
+        self.events, self.notices, self.noticed = [], [], 0
         try:
-            self.session = self.open()
+            self.session = self.open(edits=edits)
         except BaseException:
             self.room.cleanup()
             raise
-        self.saved = self.revision
 
-    def open(self):
-        session = Session(**self.options, edits=self.edits_path, explain=True)
-        session.on_edit = self.heard
+    def open(self, **how):
+        session = Session(**{**self.options, **how}, explain=True)
+        session.on_edit, session.edits.on_notice = self.heard, self.notice
         return session
+
+    def notice(self, text):
+        """Says something that nobody asked for."""
+        say(text)
+        self.noticed += 1
+        self.notices = [*self.notices, (self.noticed, text)][-MOST_NOTICES:]
 
     def heard(self, line):
         """An edit was accepted."""
@@ -87,7 +90,7 @@ class Live:
         """Ends the programs. The edits are in the list; the stream is saved if it was changed since the last time."""
         with self.lock:
             try:
-                if self.save_path is not None and self.saved != self.revision:
+                if not self.closed and self.saves.named is not None and self.is_to_be_saved():
                     self.save()
             finally:
                 self.closed = True
@@ -106,15 +109,14 @@ class Live:
         """Starts the program again, from the list of edits."""
         if self.closed:
             raise Lost("the server ends")
-        print(f"wokureti: vp8serve ended ({ended}); it is started again from the list of edits", file=sys.stderr, flush=True)
+        say(f"vp8serve ended ({ended}); it is started again from the list of edits")
         self.drop_viewers()
         before = self.session
         before.kill()
         try:
-            self.session = self.open()
+            self.session = self.open(resume=before.edits)
         except (Ended, OSError, ValueError) as error:
             raise Lost(str(error)) from None
-        self.session.edits.adopt(before.edits)
         self.events.append("restarted")
         self.changed.notify_all()
 
@@ -127,10 +129,10 @@ class Live:
         """Makes an edit, `undo`, `redo` or `save`, and returns the reply, or the lines that were undone or made again."""
         return self.make(lambda: self.run_one(line))
 
-    def run_step(self, lines):
+    def run_step(self, lines, title=""):
         """Makes edits as one step for `undo`, and returns the reply to the last one. If one is refused, none is made."""
         def step():
-            reply = self.session.edits.run_step(lines, progress=lambda done: self.on_progress(done, len(lines)))
+            reply = self.session.edits.run_step(lines, progress=lambda done: self.on_progress(done, len(lines)), title=title)
             self.tell()
             return reply
 
@@ -161,19 +163,29 @@ class Live:
             except Ended as ended:
                 self.again(ended)
                 raise Lost("vp8serve ended; the edit was not made") from None
-            except OSError:
-                # The edit was made, and could not be written to the list.
+            except NotWritten:
+                # The edit was made.
                 self.tell()
                 raise
 
-    def save(self):
-        """Writes the packets of source 0."""
-        if self.save_path is None:
-            raise ValueError("no file was named to save to")
-        self.alive().save(self.save_path, self.pad)
-        self.saved, self.written = self.revision, True
+    def save(self, source=0):
+        """Writes the packets of a source, and returns the name of the file."""
+        contents = self.contents()
+        path = self.saves.save(source, contents, lambda path: self.session.save(path, self.pad, source))
         self.changed.notify_all()
-        return self.save_path
+        return path
+
+    def is_saved(self):
+        """Whether the packets of all sources are as they were opened or saved."""
+        with self.lock:
+            contents = self.contents()
+            return all(self.saves.is_saved(source, contents, stream) for source, stream in enumerate(contents.streams))
+
+    def is_to_be_saved(self):
+        """Whether something was edited, and the file that was named does not have it."""
+        contents = self.contents()
+        is_edited = self.revision > 1 or len(self.session.edits) > 0
+        return is_edited and self.saves.file_of(0, contents, contents.streams[0]) is None
 
     def picture(self, number, revision=None):
         """The width, height and samples of a frame. `Changed` if the stream is of another revision."""

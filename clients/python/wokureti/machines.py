@@ -1,7 +1,9 @@
 """Parts that are decoded on several machines by GNU parallel, which carries their files there and back with ssh and rsync."""
 
+import concurrent.futures
 import contextlib
 import os
+import re
 import shlex
 import shutil
 import subprocess
@@ -9,9 +11,12 @@ import time
 
 from . import parts
 from .cat import Failed
+from .progress import say
 
 # A machine that does not answer for so many seconds is given up.
 ALIVE = ("-o", "BatchMode=yes", "-o", "ConnectTimeout=10", "-o", "ServerAliveInterval=5", "-o", "ServerAliveCountMax=3")
+# Seconds in which a machine says whether it can decode.
+MOST_ASK = 15
 INSTALL = "apt-get install parallel rsync openssh-client here, and rsync openssh-server on each machine"
 
 
@@ -20,6 +25,44 @@ def check_here():
     missing = [name for name in ("parallel", "rsync", "ssh") if shutil.which(name) is None]
     if missing:
         raise Failed(f"{' and '.join(missing)} must be installed for --sshlogin: {INSTALL}")
+
+
+def ssh_words():
+    """How ssh is called."""
+    return shlex.split(os.environ.get("PARALLEL_SSH") or " ".join(("ssh", *ALIVE)))
+
+
+def why_not(login, program):
+    """Why a machine cannot decode, as a sentence, or None. It is asked by one ssh."""
+    host = login.rsplit("/", 1)[-1] if re.fullmatch(r"[0-9]+%?/.*", login) else login
+    if host == ":" or " " in host or host.startswith("@"):
+        # This machine, or what only parallel understands.
+        return None
+    asked = f"command -v rsync > /dev/null || exit 3; command -v {shlex.quote(program)} > /dev/null || exit 4"
+    try:
+        done = subprocess.run([*ssh_words(), host, asked], stdin=subprocess.DEVNULL, capture_output=True, timeout=MOST_ASK, check=False)
+    except subprocess.TimeoutExpired:
+        return f"{host} does not answer in {MOST_ASK} seconds"
+    except OSError as error:
+        return f"{host}: {error.strerror}"
+    if done.returncode == 3:
+        return f"{host} has no rsync: apt-get install rsync there"
+    if done.returncode == 4:
+        return f"{host} has no {program}: install it there, or give its path with --remote"
+    said = done.stderr.decode(errors="replace").strip().splitlines()
+    return f"{host} cannot be reached: {said[-1] if said else f'ssh ended with status {done.returncode}'}" if done.returncode else None
+
+
+def able(logins, program):
+    """The machines that can decode. The others are named; `Failed` if there is none."""
+    with concurrent.futures.ThreadPoolExecutor(len(logins)) as pool:
+        reasons = list(pool.map(lambda login: why_not(login, program), logins))
+    for reason in filter(None, reasons):
+        say(reason)
+    found = [login for login, reason in zip(logins, reasons) if reason is None]
+    if not found:
+        raise Failed("no machine of --sshlogin can decode")
+    return found
 
 
 class Machines:
@@ -64,8 +107,7 @@ class Machines:
         for number, part in enumerate(self.plan):
             self.room.write(number, part)
         numbers = "".join(f"{number}\n" for number in range(len(self.plan)))
-        ssh = os.environ.get("PARALLEL_SSH") or " ".join(("ssh", *ALIVE))
-        env = dict(os.environ, PARALLEL_SSH=ssh, LC_ALL="C", TMPDIR=self.room.folder)
+        env = dict(os.environ, PARALLEL_SSH=os.environ.get("PARALLEL_SSH") or " ".join(("ssh", *ALIVE)), LC_ALL="C", TMPDIR=self.room.folder)
         with open(os.path.join(self.room.folder, "errors"), "w+b") as errors:
             process = subprocess.Popen(
                 self.words(), cwd=self.room.folder, stdin=subprocess.PIPE, stdout=subprocess.DEVNULL, stderr=errors, env=env
@@ -121,11 +163,13 @@ def end(process):
 def workers_of(session, logins, program, tables):
     """Workers on these machines."""
     check_here()
+    logins = able(logins, program)
 
     def workers(room, count):
         contents = session.edits.contents()
         processes = 4 * len(logins)
-        plan = parts.by_packets(contents, processes) if contents.script == "-" else parts.by_frames(count, processes)
+        size = room.first.size
+        plan = parts.by_packets(contents, processes, size) if contents.script == "-" else parts.by_frames(count, processes, size)
         return plan, Machines(room, plan, logins, program, tables)
 
     return workers

@@ -5,9 +5,9 @@ import json
 import threading
 import time
 
-from . import checks, facts, live
+from . import checks, facts, ivf, live
 from .checking import Check
-from .errors import Ended, Refused
+from .errors import Ended, Lost, Refused
 from .views import Pool, View
 
 
@@ -20,25 +20,28 @@ MOST_CHECKS = 8
 class Opened(live.Live):
     """A stream with what a page needs. What is not the program's own work is answered while the program works."""
 
-    def __init__(self, options, edits=None, save=None, pad=False, save_at_end=True):
-        self.pad, self.save_at_end = pad, save_at_end
+    def __init__(self, options, edits=None, save=None, pad=False, stems=()):
+        self.pad = pad
         self.current, self.pool = None, None
         self.check_lock, self.check, self.checks, self.count = threading.Lock(), None, [], 0
-        self.originals, self.preview = {}, Preview(options)
+        # Programs beside the one of the stream: of edits that are not made, and of packets that no frame shows.
+        self.originals, self.preview, self.aside = {}, Preview(options), Preview(options)
         # What goes on: a word, how much of it is done, of how much, and since when.
         self.doing = None
-        super().__init__(options, edits, save)
+        super().__init__(options, edits, save, stems)
         threading.Thread(target=self.list_files, daemon=True).start()
 
     # Views
 
     def list_files(self):
         """Lists the headers of all packets; until that is done, no packet is known to be refused."""
-        with contextlib.suppress(OSError, Ended, live.Lost, Refused):
+        with contextlib.suppress(OSError, Ended, Lost, Refused):
             self.session.read_indexes()
             with self.lock:
                 contents = self.contents()
             contents.listed.learn()
+            # What the first edit writes to the list.
+            contents.inputs.all[0].digest()
             with self.lock:
                 if self.pool is not None and self.pool.contents is contents:
                     self.pool.refuse(contents.listed)
@@ -95,9 +98,7 @@ class Opened(live.Live):
         self.doing = ("edit", done, total, self.doing[3])
 
     def close(self):
-        if not self.save_at_end:
-            self.saved = self.revision
-        if self.saved == self.revision or self.save_path is None:
+        if self.saves.named is None or self.is_known_saved():
             interrupt(self)
         with self.check_lock:
             if self.check is not None:
@@ -106,7 +107,16 @@ class Opened(live.Live):
             interrupt(original)
             original.close()
         self.preview.close()
+        self.aside.close()
         super().close()
+
+    def is_known_saved(self):
+        """Whether there is nothing to save at the end, without waiting for a request that goes on."""
+        view = self.current
+        if view is None or view.revision != self.revision:
+            return False
+        is_edited = self.revision > 1 or len(self.session.edits) > 0
+        return not is_edited or self.saves.file_of(0, view.contents, view.streams[0]) is not None
 
     # What is beside the stream
 
@@ -161,6 +171,18 @@ class Preview:
         """The width, height and samples of a frame after these edits."""
         with self.lock:
             self.follow(lines)
+            return self.live.picture(frame)
+
+    def packet(self, lines, source, packet, frame=None):
+        """The picture of a packet of a source after these edits, without the script. `frame` is its frame in the source, if that is known."""
+        lines = [line for line in lines if not line.startswith("script")]
+        with self.lock:
+            self.follow([*lines, *([f"script source {source}"] if source else [])])
+            if frame is None:
+                contents = self.live.contents()
+                stream = contents.streams[source]
+                shown = [ivf.is_shown(contents.bytes(number, 3)) for number in stream]
+                frame = max(0, min(sum(shown[:packet]), sum(shown) - 1))
             return self.live.picture(frame)
 
     def findings(self, lines, packet):

@@ -1,90 +1,108 @@
 """wokureti open: the page of a stream, in a browser."""
 
-import contextlib
+import hashlib
 import os
-import sys
+import pathlib
 import webbrowser
 
 from . import serve
 from .errors import Ended
 from .opened import Opened
 from .pages import PageRoutes
+from .progress import say
 
 # Browsers that take over the terminal.
 TEXT_BROWSERS = ("www-browser", "links", "elinks", "lynx", "w3m")
-
-
-def free_name(path):
-    """A path that is not there yet: clip-edited.ivf, clip-edited-2.ivf, and so on."""
-    stem, ending = os.path.splitext(path)
-    found, number = path, 2
-    while os.path.lexists(found):
-        found, number = f"{stem}-{number}{ending}", number + 1
-    return found
 
 
 def is_writable(folder):
     return os.access(folder or ".", os.W_OK | os.X_OK)
 
 
-def names_beside(stream):
-    """The list of edits and the file to save to, next to the stream, or in the current folder if nothing can be written there."""
+def state_folder():
+    """The folder for what a program of this user keeps."""
+    home = os.environ.get("XDG_STATE_HOME", "")
+    return os.path.join(home if os.path.isabs(home) else os.path.expanduser("~/.local/state"), "wokureti")
+
+
+def stem_of(stream):
+    """The beginning of the names of the list of edits and of the file to save to: next to the stream, or in the state folder if nothing can be
+    written there."""
     stem = "stream" if stream == "-" else os.path.splitext(stream)[0]
-    if stream.startswith(("/dev/", "/proc/")) or not is_writable(os.path.dirname(stem)):
+    if stream.startswith(("/dev/", "/proc/")):
         stem = os.path.basename(stem)
-    return f"{stem}.edits", free_name(f"{stem}-edited.ivf")
+    if is_writable(os.path.dirname(stem)):
+        return stem
+    # Streams of other folders may have the same name.
+    mark = hashlib.sha256(os.fsencode(os.path.realpath(stem))).hexdigest()[:8]
+    return os.path.join(state_folder(), f"{os.path.basename(stem)}-{mark}")
 
 
-def drop_empty(path, is_new):
-    """A list that was made here, and that no edit was written to, goes."""
-    with contextlib.suppress(OSError):
-        if is_new and not os.path.getsize(path):
-            os.unlink(path)
-
-
-def show(url):
-    """Opens a browser, if there is one with windows. Whether it was started."""
+def show(url, folder):
+    """Opens a browser, if there is one with windows. Whether it was started. Its command line, which other users of the machine can read, has a
+    file that leads to the address, and that only this user can read."""
     if not (os.environ.get("DISPLAY") or os.environ.get("WAYLAND_DISPLAY")):
         return False
     try:
         browser = webbrowser.get()
         if getattr(browser, "name", "") in TEXT_BROWSERS:
             return False
-        return browser.open(url)
+        return browser.open(pathlib.Path(write_door(url, folder)).as_uri())
     except (webbrowser.Error, OSError):
         return False
 
 
-def run(options, titles, edits, save, port, has_browser, pad):
+def write_door(url, folder):
+    """The file that leads to the page."""
+    path = os.path.join(folder, "page.html")
+    with open(os.open(path, os.O_WRONLY | os.O_CREAT | os.O_EXCL | os.O_CLOEXEC, 0o600), "w", encoding="ascii") as file:
+        file.write(f'<!doctype html><meta charset="utf-8"><meta name="referrer" content="no-referrer"><meta http-equiv="refresh" content="0; url={url}"><title>Wokureti</title><a href="{url}">Wokureti</a>\n')
+    return path
+
+
+def run(options, titles, edits, save, port, has_browser, pad, anyway=False):
     """Serves the page until the process is interrupted, and says where the edits are."""
-    beside = names_beside(titles[0])
-    path, save_path = edits or beside[0], save or beside[1]
-    is_new = not os.path.lexists(path)
+    stems = [stem_of(title) for title in titles]
+    path = edits or f"{stems[0]}.edits"
+    if any(os.path.dirname(stem) == state_folder() for stem in stems):
+        os.makedirs(state_folder(), mode=0o700, exist_ok=True)
+        say(f"nothing can be written next to {titles[0]}: what is edited is in {path}")
     try:
-        live = Opened(options, path, save_path, pad, save_at_end=save is not None)
-    except BaseException as error:
-        drop_empty(path, is_new)
-        if isinstance(error, Ended) and ": input " in str(error):
+        live = Opened({**options, "anyway": anyway}, path, save, pad, stems)
+    except Ended as error:
+        if ": input " in str(error):
             raise Ended(error.status, f"{error}\n`wokureti repair {titles[0]} OUT` searches the packets of a damaged file") from None
         raise
     count = len(live.session.edits)
     if count:
-        print(f"{path}: {count} {'edit' if count == 1 else 'edits'} made", file=sys.stderr, flush=True)
+        say(f"{path}: {edits_text(count)} made")
     names = [os.path.basename(title) for title in titles]
 
-    def announce(address):
+    def announce(address, reading):
         print(f"{address}page/", flush=True)
-        if not has_browser or not show(f"{address}page/"):
-            print("wokureti: open this address in a browser. Ctrl-C ends it", file=sys.stderr, flush=True)
+        if not has_browser or not show(f"{address}page/", live.room.name):
+            say("open this address in a browser. Ctrl-C ends it")
 
     try:
         serve.serve_with(live, port, lambda *given: PageRoutes(*given, names), announce)
     finally:
-        lines = len(live.session.edits)
-        if lines:
-            print(f"wokureti: {lines} {'edit is' if lines == 1 else 'edits are'} in {path}: the next `wokureti open` goes on from there", file=sys.stderr)
-        drop_empty(path, is_new)
-        if live.written and lines:
-            print(f"wokureti: the edited stream was saved to {save_path}", file=sys.stderr)
+        say_where(live, titles[0], f"{stems[0]}.edits")
     return 0
 
+
+def edits_text(count):
+    return "1 edit" if count == 1 else f"{count} edits"
+
+
+def say_where(live, title, usual):
+    """Where the edits and the saved packets are."""
+    edits = live.session.edits
+    lines, written = len(edits), edits.written
+    if written:
+        how = f"`wokureti open {title}`" if edits.path == usual else f"`wokureti open {title} --edits {edits.path}`"
+        say(f"{edits_text(written)} {'is' if written == 1 else 'are'} in {edits.path}: {how} goes on from there")
+    if lines > written:
+        say(f"{edits_text(lines - written)} could not be written to {edits.path}, and {'is' if lines - written == 1 else 'are'} lost")
+    for source, done in sorted(live.saves.done.items()):
+        of = "" if source == 0 else f"of source {source} "
+        say(f"the edited packets {of}were saved to {done.path}")

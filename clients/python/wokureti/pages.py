@@ -1,11 +1,15 @@
 """The routes that `wokureti open` has more than `wokureti serve`: the files of its page, and what the page asks for."""
 
+import html
+import itertools
 import json
 import os
 import pathlib
+import re
 import time
 
 from . import ivf, records, repair
+from .clipboard import Clipboard, Gone, numbers_of, runs_of
 from .errors import Refused
 from .frames import MARK
 from .proposals import Proposals
@@ -28,6 +32,9 @@ STEPS = frozenset(("double", "sort", "hold"))
 MOST_LINES = 20000
 # Frames whose origins are told at a time, at most; seconds that one search for a frame that differs takes.
 MOST_ORIGINS, SEARCH_TIME = 4096, 0.25
+# Frames that are served together, at most.
+MOST_TOGETHER = 8
+RANGE = re.compile("([0-9]{1,15})-([0-9]{1,15})\\.y4m")
 
 
 def files_of_page():
@@ -43,6 +50,7 @@ class PageRoutes(Routes):
         super().__init__(live, server, token)
         self.titles, self.files = titles, files_of_page()
         self.posts[("preview",)] = self.preview
+        self.posts[("paste",)] = self.paste
         self.reads.update(
             {
                 ("session",): self.session,
@@ -50,7 +58,13 @@ class PageRoutes(Routes):
                 ("timeline",): self.timeline,
                 ("origins",): self.origins,
                 ("place",): self.place,
+                ("numbers",): self.numbers,
                 ("check",): self.check_of,
+                ("key",): self.key,
+                ("range",): self.range,
+                ("cut",): self.cut,
+                ("report.json",): self.report,
+                ("report.html",): self.report,
                 ("repairs",): self.repairs,
                 ("repair_all",): self.repair_all,
                 ("differs",): self.differs,
@@ -59,6 +73,11 @@ class PageRoutes(Routes):
                 ("stream.ivf",): self.stream,
             }
         )
+
+    def is_entry(self, request):
+        """The page, if a browser opens it as a page of its own: the file that leads there is of no site."""
+        is_page = request.headers.get("sec-fetch-mode") == "navigate" and request.headers.get("sec-fetch-dest") == "document"
+        return is_page and request.method == "GET" and request.parts[1:] == ["page", ""]
 
     def answer(self, request):
         """A browser reports each status of 400 and more as an error of the page: with `refusals=answers` a refusal is an answer."""
@@ -82,13 +101,17 @@ class PageRoutes(Routes):
                 return Response(200, kind, text)
         if len(parts) == 3 and parts[:2] == ("before", "frames"):
             return self.before(request, parts[2])
+        if len(parts) == 2 and parts[0] == "packets":
+            return self.packet(request, parts[1])
+        if len(parts) == 2 and parts[0] == "frames" and "-" in parts[1]:
+            return self.frames(request, parts[1])
         return super().read(request, parts)
 
     def session(self, request):
         """What the page shows of the session."""
         self.only(request)
         view = self.live.current_view()
-        first = view.timeline(0)
+        first, edits, saves = view.timeline(0), self.live.session.edits, self.saves_of(view)
         members = {
             "revision": view.revision,
             "instance": self.live.instance,
@@ -100,17 +123,29 @@ class PageRoutes(Routes):
             "source": view.source,
             "script": view.script,
             "edits_before": view.edits_before,
-            "edits": [line for line, _ in view.edits],
-            "steps": [step for _, step in view.edits],
+            "edits": [line for line, _, _ in view.edits],
+            "steps": [step for _, step, _ in view.edits],
+            "titles": {place: title for place, (_, _, title) in enumerate(view.edits) if title},
             "undone": view.undone,
-            "saved": self.live.saved == view.revision,
-            "save": self.live.save_path,
-            "list": os.fspath(self.live.edits_path),
+            "saved": all(source["saved"] for source in saves),
+            "saves": saves,
+            "list": edits.path,
+            "unwritten": max(0, len(edits) - edits.written),
+            "notices": self.live.notices,
             "listed": view.pool.is_listed,
             "restarts": len(self.live.events),
             "shown": first.frames[-1],
         }
         return as_json(members)
+
+    def saves_of(self, view):
+        """For each source whether it is edited, whether its packets are as they were opened or saved, in which file they are, and the file that
+        Save writes."""
+        saves, found = self.live.saves, []
+        for source, stream in enumerate(view.streams):
+            is_edited, path = view.contents.is_edited(source, stream), saves.file_of(source, view.contents, stream)
+            found.append({"edited": is_edited, "saved": path is not None or not is_edited, "file": path, "next": saves.path(source)})
+        return found
 
     def progress(self, request):
         """What goes on. Nothing waits here."""
@@ -163,7 +198,144 @@ class PageRoutes(Routes):
         view = self.live.current_view()
         source = self.source_of(request, view)
         packet = self.number(request, "packet", 0)
-        return as_json({"revision": view.revision, "source": source, "packet": packet, "frame": view.frame_of(source, packet)})
+        members = {"revision": view.revision, "source": source, "packet": packet, "frame": view.frame_of(source, packet)}
+        if packet < len(view.streams[source]):
+            members.update(own=self.own_frame(view, source, packet), before=self.original_frame(view, source, packet))
+        return as_json(members)
+
+    def own_frame(self, view, source, packet):
+        """The frame of a source, without the script, that shows a packet: that of the next shown packet if it is hidden."""
+        frames = view.timeline(source).frames
+        return max(0, min(frames[packet], frames[-1] - 1))
+
+    def packet(self, request, name):
+        """The picture of a packet, without the script."""
+        self.only(request, "source")
+        view = self.live.current_view()
+        source, number = self.source_of(request, view), self.y4m_number(name)
+        if number >= len(view.streams[source]):
+            raise Refuse(404, "there is no such packet")
+        with self.live.lock:
+            if self.live.revision != view.revision:
+                raise Refuse(412, "the stream was changed", revision=self.live.revision)
+            made = list(self.live.alive().edits)
+        return self.y4m(self.live.aside.packet(made, source, number, self.own_frame(view, source, number)))
+
+    def y4m_number(self, name):
+        """The number in the name of a frame."""
+        number, _, kind = name.partition(".")
+        if not number.isdecimal() or len(number) > 18 or kind != "y4m":
+            raise Refuse(404, "there is nothing here")
+        return int(number)
+
+    def frames(self, request, name):
+        """A few frames that follow each other, of one size."""
+        self.only(request)
+        found = RANGE.fullmatch(name)
+        if found is None:
+            raise Refuse(404, "there is nothing here")
+        first, last = int(found.group(1)), int(found.group(2))
+        if not 0 <= last - first < MOST_TOGETHER:
+            raise Refuse(400, f"1 to {MOST_TOGETHER} frames are served together")
+        with self.live.lock:
+            etag, rate = f'"{self.live.instance}-{self.live.revision}"', self.live.rate()
+            pictures = self.live.pictures(range(first, last + 1))
+        size = pictures[0][:2]
+        length = len(header_of(size, rate)) + sum(len(MARK) + len(samples) for _, _, samples in pictures)
+        pieces = itertools.chain([header_of(size, rate)], *((MARK, samples) for _, _, samples in pictures))
+        return Response(200, "video/x-yuv4mpeg", length=length, headers=[("ETag", etag)], pieces=pieces)
+
+    def step_of(self, request):
+        return -1 if request.query.get("step") == "-1" else 1
+
+    def key(self, request):
+        """The next key packet of a source, or the one before."""
+        self.only(request, "source", "packet", "step")
+        view = self.live.current_view()
+        source, packet = self.source_of(request, view), self.number(request, "packet", 0)
+        keys = view.timeline(source).keys
+        found = keys.find(1, packet + 1) if self.step_of(request) > 0 else keys.rfind(1, 0, min(packet, len(keys)))
+        return as_json({"revision": view.revision, "source": source, "packet": None if found < 0 else found})
+
+    def range(self, request):
+        """The frames from the first one that shows one of the packets `first` to `end` - 1 to the last: the first and the one after them, or null."""
+        self.only(request, "source", "first", "end")
+        view = self.live.current_view()
+        source = self.source_of(request, view)
+        first, end = self.number(request, "first", 0), self.number(request, "end", 0)
+        if not first <= end <= len(view.streams[source]):
+            raise Refuse(404, "there are no such packets")
+        found = view.range_of(source, first, end) or (None, None)
+        return as_json({"revision": view.revision, "first": found[0], "end": found[1]})
+
+    def cut(self, request):
+        """The next frame that does not follow the one before it in its source, or the one before: where a script joins, and its end."""
+        self.only(request, "frame", "step")
+        view = self.live.current_view()
+        frame, ends = self.number(request, "frame", 0), [0, *view.runs()[1][:-1]]
+        if self.step_of(request) > 0:
+            found = next((end for end in ends if end > frame), None)
+        else:
+            found = next((end for end in reversed(ends) if end < frame), None)
+        return as_json({"revision": view.revision, "frame": found})
+
+    def report(self, request):
+        """The findings of the current packets as a file: as objects, or as a page of their own."""
+        self.only(request)
+        revision, lines = self.live.findings()
+        name = self.safe_name()
+        if request.parts[-1] == "report.json":
+            text = json.dumps({"stream": self.titles[0], "revision": revision, "findings": lines[:-1], "summary": lines[-1] if lines else ""}, indent=1).encode() + b"\n"
+            return Response(200, "application/json", text, headers=[("Content-Disposition", f'attachment; filename="{name}-findings.json"')])
+        rows = "".join("<tr><td>{}</td><td>{}</td></tr>\n".format(*map(html.escape, line.partition(": ")[::2])) for line in lines[:-1])
+        title = html.escape(f"Findings of {self.titles[0]}")
+        text = f'<!doctype html>\n<meta charset="utf-8">\n<title>{title}</title>\n<h1>{title}</h1>\n<p>{html.escape(lines[-1] if lines else "")}</p>\n<table>\n{rows}</table>\n'
+        return Response(200, "text/html; charset=utf-8", text.encode(), headers=[("Content-Disposition", f'attachment; filename="{name}-findings.html"')])
+
+    def safe_name(self):
+        """The name of the stream in the name of a file."""
+        name = os.path.splitext(os.path.basename(self.titles[0]))[0]
+        return "".join(letter if letter.isalnum() and letter.isascii() else "-" for letter in name) or "stream"
+
+    def numbers(self, request):
+        """The numbers of packets, which stay theirs while edits move them."""
+        self.only(request, "source", "first", "count")
+        view = self.live.current_view()
+        source = self.source_of(request, view)
+        first, count = self.number(request, "first", 0), self.number(request, "count", 1)
+        found = view.streams[source][first : first + count]
+        if not count or len(found) != count:
+            raise Refuse(404, "there are no such packets")
+        return as_json({"revision": view.revision, "contents": view.contents.name, "numbers": runs_of(found)})
+
+    def paste(self, request):
+        """Inserts packets that were remembered by their numbers, as one step."""
+        self.only(request)
+        kinds = {"contents": str, "numbers": list, "source": int, "at": int, "move": bool, "revision": int}
+        members = parse_body(request.body, kinds)
+        if set(members) != set(kinds):
+            raise Refuse(400, f"the body has {', '.join(kinds)}")
+        with self.live.lock:
+            view = self.live.current_view()
+            if members["revision"] != self.live.revision:
+                raise Refuse(412, "the stream was changed", revision=self.live.revision)
+            source, at = members["source"], members["at"]
+            if source >= len(view.streams) or at > len(view.streams[source]):
+                raise Refuse(404, "there is no such packet")
+            try:
+                numbers = numbers_of(members["numbers"], MOST_LINES)
+                if view.contents.name != members["contents"] and any(number >= view.contents.of_files for number in numbers):
+                    raise Gone("the packets that were copied are gone, since vp8serve was started again")
+                board = Clipboard(view.contents, view.streams, numbers, source, at)
+            except Gone as gone:
+                raise Refuse(409, str(gone)) from None
+            except ValueError as error:
+                raise Refuse(400, str(error)) from None
+            found = board.moves() if members["move"] else board.copies()
+            lines = found.lines if source == view.source or not found.lines else [f"use {source}", *found.lines]
+            if lines:
+                self.live.run_step(lines, f"{'Move' if members['move'] else 'Copy'} {found.count} packets to {found.first}")
+            return as_json({"revision": self.live.revision, "first": found.first, "count": found.count, "deleted": found.deleted, "made": len(lines)})
 
     def lines_of(self, request, option):
         """The view, and what vp8list says of a packet: lines, and members that say why there are none."""
@@ -199,11 +371,13 @@ class PageRoutes(Routes):
         check = self.live.checked()
         first = self.number(request, "from", 0)
         is_over = check.is_over
+        findings = check.findings[first:]
         members = {
             "revision": self.live.revision,
             "check": check.number,
             "from": first,
-            "findings": check.findings[first:],
+            "findings": findings,
+            "groups": groups_of(check, findings),
             "damage": check.damage,
             "notes": check.notes,
             "done": check.done,
@@ -236,14 +410,14 @@ class PageRoutes(Routes):
         try:
             try:
                 found = repair.repair(data, *given, *others, tables=contents.tables, steps=STEPS)
-            except ivf.NotIvf:
+            except (ivf.NotIvf, repair.NoKeyFrame):
                 raise
             except ValueError:
                 # Source 1 is another stream.
                 found = repair.repair(data, *given, tables=contents.tables, steps=STEPS)
-        except ivf.NotIvf as error:
+        except (ivf.NotIvf, repair.NoKeyFrame) as error:
             raise Refuse(409, str(error)) from None
-        lines = repair.edits_of(data, found)
+        lines = repair.edits_of(data, found, *others)
         return as_json({"revision": view.revision, "lines": lines, "said": found.lines, "left": found.left})
 
     def text(self, view, source):
@@ -262,10 +436,7 @@ class PageRoutes(Routes):
         self.only(request, "source")
         view = self.live.current_view()
         source = self.source_of(request, view)
-        number, _, kind = name.partition(".")
-        if not number.isdecimal() or len(number) > 18 or kind != "y4m":
-            raise Refuse(404, "there is nothing here")
-        return self.y4m(self.live.original(source).picture(int(number)))
+        return self.y4m(self.live.original(source).picture(self.y4m_number(name)))
 
     def differs(self, request):
         """The next frame that is another one than that of the opened file, as far as a quarter of a second goes. `next` is where to go on."""
@@ -298,7 +469,7 @@ class PageRoutes(Routes):
     def preview(self, request):
         """A frame, or the findings of a group of pictures, after edits that are not made."""
         self.only(request)
-        members = parse_body(request.body, {"lines": list, "frame": int, "findings": int, "revision": int})
+        members = parse_body(request.body, {"lines": list, "frame": int, "findings": int, "packet": int, "source": int, "revision": int})
         lines, view = checked_lines(members), self.live.current_view()
         if members.get("revision", view.revision) != view.revision:
             raise Refuse(412, "the stream was changed", revision=view.revision)
@@ -307,8 +478,13 @@ class PageRoutes(Routes):
         if "findings" in members:
             found = self.live.preview.findings(made + lines, members["findings"])
             return as_json({"revision": view.revision, "findings": found})
+        if "packet" in members:
+            source, packet = members.get("source", 0), members["packet"]
+            if source >= len(view.streams):
+                raise Refuse(404, "there is no such source")
+            return self.y4m(self.live.preview.packet(made + lines, source, packet))
         if "frame" not in members:
-            raise Refuse(400, "a preview is of a frame, or of findings")
+            raise Refuse(400, "a preview is of a frame, of a packet, or of findings")
         return self.y4m(self.live.preview.picture(made + lines, members["frame"]))
 
     def stream(self, request):
@@ -317,29 +493,50 @@ class PageRoutes(Routes):
         view = self.live.current_view()
         timeline, stream = view.timeline(0), view.streams[0]
         length = ivf.HEAD.size + ivf.RECORD.size * len(stream) + sum(timeline.sizes)
-        name = os.path.splitext(os.path.basename(self.titles[0]))[0]
-        safe = "".join(letter if letter.isalnum() and letter.isascii() else "-" for letter in name) or "stream"
-        headers = [("Content-Disposition", f'attachment; filename="{safe}-edited.ivf"')]
+        headers = [("Content-Disposition", f'attachment; filename="{self.safe_name()}-edited.ivf"')]
         return Response(200, "video/x-ivf", length=length, headers=headers, pieces=until_ended(self.text(view, 0)))
 
     def change(self, request):
-        """An edit, several as one step, `undo`, `redo` or `save`."""
+        """An edit, several as one step, which may have a title, `undo`, `redo` or `save`, which may be of a source."""
         self.only(request)
-        members = parse_body(request.body, {"line": str, "lines": list, "revision": int})
+        members = parse_body(request.body, {"line": str, "lines": list, "title": str, "source": int, "revision": int})
+        if "source" in members and "lines" not in members:
+            return self.save(members)
         if "lines" not in members:
             return super().change(request)
         lines = checked_lines(members)
-        if not lines or "line" in members:
+        if not lines or {"line", "source"} & set(members):
             raise Refuse(400, "a change is of a line, or of lines")
         with self.live.lock:
             revision = members.get("revision")
             if revision is not None and revision != self.live.revision:
                 raise Refuse(412, "the stream was changed", revision=self.live.revision)
             try:
-                reply = self.live.run_step(lines)
+                reply = self.live.run_step(lines, members.get("title", ""))
             except ValueError as error:
                 raise Refuse(400, str(error)) from None
             return as_json({"reply": reply, "revision": self.live.revision})
+
+
+    def save(self, members):
+        """Saves the packets of a source."""
+        source = members["source"]
+        if members.get("line") != "save":
+            raise Refuse(400, "a source is saved")
+        with self.live.lock:
+            if source >= len(self.live.contents().streams):
+                raise Refuse(404, "there is no such source")
+            try:
+                path = self.live.make(lambda: self.live.save(source))
+            except ValueError as error:
+                raise Refuse(409, str(error)) from None
+            return as_json({"reply": path, "revision": self.live.revision})
+
+
+def groups_of(check, findings):
+    """For each finding the key packet at or before its packet, or None: what is damaged after a packet is mostly damaged with it."""
+    keys = check.view.timeline(0).keys
+    return [None if finding["packet"] is None else max(0, keys.rfind(1, 0, finding["packet"] + 1)) for finding in findings]
 
 
 def parse_body(body, kinds):
@@ -351,7 +548,7 @@ def parse_body(body, kinds):
     if not isinstance(members, dict) or not set(members) <= set(kinds):
         raise Refuse(400, f"the body is an object with {', '.join(kinds)}")
     for name, value in members.items():
-        if not isinstance(value, kinds[name]) or isinstance(value, bool) or (kinds[name] is int and not 0 <= value < 1 << 60):
+        if not isinstance(value, kinds[name]) or (isinstance(value, bool) and kinds[name] is not bool) or (kinds[name] is int and not 0 <= value < 1 << 60):
             raise Refuse(400, f"{name} is not of its kind")
     return members
 

@@ -15,6 +15,8 @@ from .errors import Refused
 
 # Parts a process: so that one long part holds up no process.
 PARTS_A_PROCESS = 4
+# Bytes of the frames of a part, at most, if key packets and the number of frames allow it.
+MOST_PART = 64 << 20
 
 
 class Part(NamedTuple):
@@ -68,14 +70,14 @@ def shown_places(contents):
     return [place for place, number in enumerate(contents.streams[0]) if ivf.is_shown(contents.bytes(number, 3))]
 
 
-def by_packets(contents, processes):
-    """The parts of source 0, cut at packets with a key tag."""
+def by_packets(contents, processes, frame_size):
+    """The parts of source 0, cut at packets with a key tag. `frame_size` is the number of bytes of a frame."""
     stream = contents.streams[0]
     sizes = [contents.size(number) for number in stream]
     share = max(1, sum(sizes) // (PARTS_A_PROCESS * processes))
     parts, begin, frame, bytes_so_far, frames = [], 0, 0, 0, 0
     for place, number in enumerate(stream):
-        if frames and bytes_so_far >= share and contents.has_key_tag(number):
+        if frames and (bytes_so_far >= share or frames * frame_size >= MOST_PART) and contents.has_key_tag(number):
             parts.append(Part(frame, frame + frames, (begin, place)))
             begin, frame, frames, bytes_so_far = place, frame + frames, 0, 0
         bytes_so_far += sizes[place]
@@ -85,9 +87,9 @@ def by_packets(contents, processes):
     return parts
 
 
-def by_frames(count, processes):
+def by_frames(count, processes, frame_size):
     """Ranges of frames."""
-    length = max(1, -(-count // (PARTS_A_PROCESS * processes)))
+    length = max(1, min(-(-count // (PARTS_A_PROCESS * processes)), MOST_PART // frame_size))
     return [Part(first, min(first + length, count), None) for first in range(0, count, length)]
 
 

@@ -12,6 +12,7 @@ import subprocess
 import time
 import weakref
 
+from . import programs
 from .frames import FrameReader
 
 AT_ONCE = 1 << 16
@@ -77,9 +78,11 @@ class Pipes:
             self.process = subprocess.Popen(
                 words, stdin=stdin, stdout=stdout, stderr=stderr, pass_fds=(*pass_fds, out), start_new_session=True
             )
-        except BaseException:
+        except BaseException as error:
             for descriptor in ends:
                 os.close(descriptor)
+            if isinstance(error, FileNotFoundError):
+                raise programs.missing(words[0]) from None
             raise
         for descriptor in (stdin, stdout, stderr, out):
             os.close(descriptor)

@@ -1,5 +1,6 @@
 """Where the programs vp8serve and vp8list are."""
 
+import errno
 import os
 import pathlib
 import shutil
@@ -14,6 +15,13 @@ def installed(name):
         if (folder / "lib/wokureti" / f"{name}-x86-64-v2").is_file() and (folder / "bin" / name).is_file():
             return str(folder / "bin" / name)
     return None
+
+
+def missing(word):
+    """The error of a program that is not there."""
+    name = "vp8list" if os.path.basename(word) == "vp8list" else "vp8serve"
+    where = f"{name} is not on the PATH" if os.sep not in word else f"there is no {word}"
+    return FileNotFoundError(errno.ENOENT, f"{where}: install it, or name it in the variable {name.upper()}")
 
 
 def find(name):

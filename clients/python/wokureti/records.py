@@ -2,9 +2,8 @@
 
 import json
 import os
-import tempfile
 
-from . import checks, facts, ivf
+from . import checks, facts, ivf, rooms
 
 
 class Refused(Exception):
@@ -38,7 +37,7 @@ def checked(lines):
 def of_packet(contents, stream, packet, option):
     """The lines of a packet of a session. The index in them, and that of a refused packet, is the packet's in the stream."""
     first = contents.group_start(stream, packet)
-    with tempfile.TemporaryDirectory(prefix="wokureti-") as folder:
+    with rooms.Room() as folder:
         path = os.path.join(folder, "packets.ivf")
         with open(path, "wb") as file:
             file.write(ivf.EMPTY.text(packet + 1 - first))

@@ -14,8 +14,14 @@ MOST_MOVE = 64
 MOST_HOLE = 10000
 # This part of the steps between shown packets is the same in a stream of a constant rate.
 CONSTANT = 0.8
+# Guesses at packets with a wrong size that are tried one after the other.
+MOST_GUESSES = 30
 # What a kind of finding means.
 DAMAGE = {"past_end": "read past its end", "unread": "not read to its end"}
+
+
+class NoKeyFrame(ValueError):
+    """No frame can be decoded."""
 
 
 class Packet(NamedTuple):
@@ -44,32 +50,71 @@ class Repair:
         # How many packets the header counts, how many changes were made, and how much is left that was not mended.
         self.counted = self.changes = self.left = 0
         self.forged = {}
+        # The packets as they are in a file, and its path.
+        self.in_file = (None, None)
+        # Packets, and what vp8list says of them.
+        self.outlined, self.checked = (None, []), (None, [])
+        # Called with what is done next.
+        self.stage = lambda text: None
 
     def say(self, text, changed=True):
         self.lines.append(text)
         self.changes += changed
 
     def outlines(self):
-        """The outlines of the packets, each by itself."""
+        """The outlines of the packets, each by itself. They are listed once, as long as the packets stay."""
+        if self.outlined[0] is not self.packets:
+            self.outlined = (self.packets, self.list_outlines())
+        return self.outlined[1]
+
+    def list_outlines(self):
         if not self.packets:
             return []
-        key = self.forge("blank", 1, 1)
-        packets = ((0, data) for packet in self.packets for data in (key, packet.data))
-        found = list(facts.outlines(facts.run_on(self.lister, packets)))[1::2]
-        return [Outline(bool(flags & facts.KEY), bool(flags & facts.SHOWN), cause) for flags, _, cause in found]
+        self.stage(f"listing {len(self.packets):,} packets")
+        found = self.list_of(self.lister_run())
+        # What is refused because of others is listed again, each after a key packet.
+        again = [place for place, outline in enumerate(found) if outline.cause in facts.OF_OTHERS]
+        if again:
+            key = self.forge("blank", 1, 1)
+            packets = ((0, data) for place in again for data in (key, self.packets[place].data))
+            listed = self.list_of(facts.run_on(self.lister, packets))[1::2]
+            for place, outline in zip(again, listed):
+                found[place] = outline
+        return found
+
+    def list_of(self, lines):
+        return [Outline(bool(flags & facts.KEY), bool(flags & facts.SHOWN), cause) for flags, _, cause in facts.outlines(lines)]
+
+    def lister_run(self, *options, statuses=(0,)):
+        """What vp8list prints of the packets: of the file, as long as they are those that are in it."""
+        packets, path = self.in_file
+        if path is not None and packets is self.packets:
+            return facts.run(self.lister, path, *options, statuses=statuses)
+        return facts.run_on(self.lister, ((packet.stamp, packet.data) for packet in self.packets), *options, statuses=statuses)
 
     def damaged(self):
         """The packets whose decoding ends too early or reads past an end, and for each of them what vp8list says."""
         if not self.packets:
             return {}
-        packets = ((packet.stamp, packet.data) for packet in self.packets)
-        options = ["--check", "--json"] + (["--tables", self.tables] if self.tables else [])
-        lines = facts.run_on(self.lister, packets, *options, statuses=(0, 1))
         found = {}
-        for finding in map(json.loads, lines):
+        for finding in self.findings():
             if finding["severity"] == "damage" and finding["packet"] is not None and finding["kind"] != "refused":
                 found.setdefault(finding["packet"], DAMAGE.get(finding["kind"], "damaged"))
         return found
+
+    def findings(self):
+        """What vp8list --check says of the packets. They are checked once, as long as they stay."""
+        if self.checked[0] is not self.packets:
+            self.stage(f"checking {len(self.packets):,} packets")
+            lines = self.lister_run(*self.check_words(), statuses=(0, 1))
+            self.checked = (self.packets, list(map(json.loads, lines)))
+        return self.checked[1]
+
+    def check_words(self):
+        return ["--check", "--json"] + (["--tables", self.tables] if self.tables else [])
+
+    def findings_of(self, packets):
+        return map(json.loads, facts.run_on(self.lister, packets, *self.check_words(), statuses=(0, 1)))
 
     def forge(self, word, width, height):
         """The bytes of a grey key frame, or of a packet that shows the last picture again and is shown by libvpx too."""
@@ -82,8 +127,8 @@ class Repair:
 
     # Reading
 
-    def read(self, data, scan=True):
-        """Takes the packets of a file."""
+    def read(self, data, scan=True, path=None):
+        """Takes the packets of a file. Its path is only for vp8list, which then reads it itself."""
         found = salvage.plain(data)
         if found is not None:
             head, packets, end = found
@@ -93,12 +138,15 @@ class Repair:
                 self.counted = int.from_bytes(data[24:28], "little")
                 if end < len(data):
                     self.say(f"byte {end}: the last {len(data) - end} bytes are no whole record: dropped")
+                elif path is not None:
+                    self.in_file = (self.packets, path)
                 return
         elif not scan:
             raise ivf.NotIvf("it is no IVF file of VP8, and its packets are not searched with --no-scan")
-        head, packets, gaps = salvage.find(data)
-        if not packets:
+        head, packets, gaps, guesses = salvage.find_all(data)
+        if not packets and not any(guesses):
             raise ivf.NotIvf("no packet of VP8 was found in it")
+        packets, gaps = self.take_guesses(packets, gaps, guesses)
         ends = {gap.after for gap in gaps}
         self.packets = [Packet(packet.stamp, packet.data, place + 1 in ends, place in ends) for place, packet in enumerate(packets)]
         if head is None:
@@ -110,6 +158,32 @@ class Repair:
                 self.say(f"byte {gap.start}: the last {gap.end - gap.start} bytes lead to no record: dropped")
             else:
                 self.say(f"byte {gap.start}: {gap.end - gap.start} bytes {where} lead to no record: read on at byte {gap.end}")
+
+    def take_guesses(self, packets, gaps, guesses):
+        """Takes packets whose records have a wrong size: those that decode to their end with all the bytes up to the next record. `guesses` has
+        those of each gap."""
+        guesses = [group for group in guesses if group]
+        if self.lister is None or not guesses:
+            return packets, gaps
+        self.stage(f"trying {len(guesses):,} records with a wrong size")
+        taken = [group[0] for group in guesses]
+        if self.wrong_ones(packets, gaps, taken):
+            # A wrong guess also makes those after it look wrong.
+            taken = []
+            for group in guesses[:MOST_GUESSES]:
+                taken += next(([guess] for guess in group if not self.wrong_ones(packets, gaps, [*taken, guess])), [])
+        found, left, places = with_guesses(packets, gaps, taken)
+        for guess, place in zip(taken, places):
+            size = len(guess.packet.data)
+            self.say(f"packet {place}: the size in its record at byte {guess.packet.place} is wrong: it has the {size} bytes up to the next record")
+        return found, left
+
+    def wrong_ones(self, packets, gaps, guesses):
+        """The guesses that do not decode to their end if these are taken."""
+        found, _, places = with_guesses(packets, gaps, guesses)
+        given = ((packet.stamp, packet.data) for packet in found)
+        damaged = {finding["packet"] for finding in self.findings_of(given) if finding["severity"] == "damage"}
+        return [guess for guess, place in zip(guesses, places) if place in damaged]
 
     def first_size(self):
         return next(filter(None, (ivf.key_size(packet.data) for packet in self.packets)), None)
@@ -126,7 +200,8 @@ class Repair:
                 self.say(f"packet {place}: packet {first} again: removed")
             else:
                 kept.append(packet)
-        self.packets = kept
+        if len(kept) < len(self.packets):
+            self.packets = kept
 
     def is_repeat(self, data, size):
         """Whether a packet only shows the last picture again: several of these may have the same time stamp and bytes."""
@@ -203,7 +278,7 @@ class Repair:
     def replace_some(self, theirs):
         """Replaces packets that are refused or damaged. Whether there was one."""
         outlines, past, found = self.outlines(), self.damaged(), False
-        ranks = collections.Counter()
+        ranks, packets = collections.Counter(), list(self.packets)
         for place, packet in enumerate(self.packets):
             group, rank = theirs.get(packet.stamp, ()), ranks[packet.stamp]
             ranks[packet.stamp] += 1
@@ -211,12 +286,14 @@ class Repair:
             if data == packet.data:
                 continue
             cause = outlines[place].cause
-            has_zeros = bytes(salvage.ZEROS) in packet.data and bytes(salvage.ZEROS) not in data
+            has_zeros = bytes(salvage.ZEROS) in bytes(packet.data) and bytes(salvage.ZEROS) not in bytes(data)
             if cause or place in past or packet.before_gap or has_zeros:
                 why = f"refused {cause}" if cause else past[place] if place in past else "zeros in it" if has_zeros else "damaged at its end"
                 self.say(f"packet {place}: {why}: the packet of the second recording with its time stamp, {packet.stamp}")
-                self.packets[place] = Packet(packet.stamp, data)
+                packets[place] = Packet(packet.stamp, data)
                 found = True
+        if found:
+            self.packets = packets
         return found
 
     def is_broken(self, data):
@@ -248,7 +325,7 @@ class Repair:
         """Holds the last picture for packets that are refused or lost, up to the next key frame."""
         outlines, past = self.outlines(), self.damaged()
         step = self.step(outlines)
-        kept, size, place = [], None, 0
+        kept, size, place, changes = [], None, 0, self.changes
         while place < len(self.packets):
             end = place + 1
             while end < len(self.packets) and not outlines[end].is_key:
@@ -271,7 +348,8 @@ class Repair:
                 more = f", {hidden} hidden ones are removed" if hidden else ""
                 self.say(f"{names}: {why}: the picture before is held{more}")
             place = end
-        self.packets = kept
+        if self.changes > changes:
+            self.packets = kept
 
     def first_lost(self, place, end, outlines, past, step):
         """The first packet of a stretch, from a key packet to the next, that cannot be decoded as it was coded, and why."""
@@ -309,15 +387,50 @@ class Repair:
         return next(filter(None, (ivf.key_size(packet.data) for packet in reversed(packets))), None)
 
     def check(self):
-        """What is still wrong."""
-        refused = [(place, found.cause) for place, found in enumerate(self.outlines()) if found.cause]
-        past = sorted(self.damaged())
-        for place, cause in refused:
+        """What is still wrong, as vp8list --check says of the packets that are written. Notes do not count."""
+        refused, inside = {}, set()
+        for finding in self.findings():
+            if finding["severity"] != "damage" or finding["packet"] is None:
+                continue
+            if finding["kind"] == "refused":
+                refused[finding["packet"]] = finding["cause"]
+            else:
+                inside.add(finding["packet"])
+        for place, cause in sorted(refused.items()):
             self.say(f"packet {place}: refused {cause}: not mended", False)
+        past = sorted(inside - set(refused))
         if past:
             names = f"packet {past[0]}" if len(past) == 1 else f"packet {past[0]} and {len(past) - 1} more"
             self.say(f"{names}: damaged inside, so the pictures up to the next key frame are not right: not mended", False)
         self.left = len(refused) + len(past)
+
+    def need_key(self, second):
+        """`NoKeyFrame` if nothing can be decoded: there is nothing to mend from."""
+        if any(found.is_key and not found.cause for found in self.outlines()):
+            return
+        more = "; a second recording of the same packets (--second) may have one" if second is None else ", and none is in the second recording either"
+        raise NoKeyFrame(f"no key frame survives, so no frame can be decoded and there is nothing to mend from{more}. Nothing was written")
+
+
+def with_guesses(packets, gaps, guesses):
+    """The packets and gaps with these guesses among them, and the index of each guess."""
+    # The packets before each gap, with the guess in the place of the last one, or after it.
+    found, places, start = [], [], 0
+    for guess in guesses:
+        gap = gaps[guess.gap]
+        found += packets[start : gap.after - guess.is_cut]
+        places.append(len(found))
+        found.append(guess.packet)
+        start = gap.after
+    found += packets[start:]
+    taken = {guess.gap: guess for guess in guesses}
+    left, more = [], 0
+    for number, gap in enumerate(gaps):
+        if number in taken:
+            more += not taken[number].is_cut
+        else:
+            left.append(gap._replace(after=gap.after + more))
+    return found, left, places
 
 
 def has_zero_tail(packets):
@@ -388,17 +501,22 @@ def packets_of(data, scan=True):
     return reader.packets
 
 
-def repair(data, program, lister, second=None, tables=None, steps=frozenset(("scan", "double", "sort", "hold"))):
-    """Mends a stream, and returns a `Repair`."""
+def repair(data, program, lister, second=None, tables=None, steps=frozenset(("scan", "double", "sort", "hold")), stage=None, path=None):
+    """Mends a stream, and returns a `Repair`. `stage` is called with what is done next, and `path` is a file with the data, if there is one."""
     found = Repair(program, lister, tables)
-    found.read(data, "scan" in steps)
+    found.stage = stage or found.stage
+    found.stage("searching the packets")
+    found.read(data, "scan" in steps, path)
     if "double" in steps:
         found.drop_doubles()
     if "sort" in steps:
         found.sort()
     if second is not None:
         found.merge(packets_of(second, "scan" in steps))
+    if not found.packets:
+        raise ivf.NotIvf("no packet is left")
     if "hold" in steps:
+        found.need_key(second)
         found.drop_beginning()
         found.hold()
     if not found.packets:
@@ -407,9 +525,12 @@ def repair(data, program, lister, second=None, tables=None, steps=frozenset(("sc
     return found
 
 
-def edits_of(data, found):
-    """The edits that make the mended stream of the file, or None if vp8serve does not read the file."""
+def edits_of(data, found, second=None):
+    """The edits that make the mended stream of the file, or None if vp8serve does not read the file. Packets of a second recording that is
+    source 1 are copied from it."""
     before = salvage.plain(data)
     if before is None:
         return None
-    return edits_between([(packet.stamp, packet.data) for packet in before[1]], [(packet.stamp, packet.data) for packet in found.packets])
+    other = salvage.plain(second) if second is not None else None
+    theirs = {(packet.stamp, packet.data): index for index, packet in enumerate(other[1])} if other else {}
+    return edits_between([(packet.stamp, packet.data) for packet in before[1]], [(packet.stamp, packet.data) for packet in found.packets], theirs)

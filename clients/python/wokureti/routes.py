@@ -6,9 +6,8 @@ import re
 import time
 
 from . import png, ranges
-from .errors import Ended, Refused
+from .errors import Ended, Lost, Refused, sentence
 from .frames import frame_of
-from .live import Lost
 from .outcomes import TooMany
 from .session import EDITS, Session
 from .virtual import ENDINGS, MODES, Cannot, Clip, header_of
@@ -22,7 +21,9 @@ WORDS = ("undo", "redo", "save")
 
 
 class Routes:
-    """What is served of a stream, below a path that has the token."""
+    """What is served of a stream, below a path that has the token; or another one, `reading`, with which nothing can be changed."""
+
+    reading = None
 
     def __init__(self, live, server, token):
         self.live, self.server, self.token = live, server, token
@@ -38,9 +39,13 @@ class Routes:
 
     def check(self, request):
         """Refuses a request before its body is read."""
-        if not hmac.compare_digest(request.parts[0].encode(), self.token.encode()) or len(request.parts) < 2:
+        given = request.parts[0].encode()
+        changes, reads = (token is not None and hmac.compare_digest(given, token.encode()) for token in (self.token, self.reading))
+        if not (changes or reads) or len(request.parts) < 2:
             raise Refuse(404, "there is nothing here")
         if request.method == "POST":
+            if not changes:
+                raise Refuse(403, "this address only reads")
             if tuple(request.parts[1:]) not in self.posts:
                 raise Refuse(405, f"only {' and '.join(path for path, in self.posts)} take a POST")
             if request.headers.get("origin") != self.server.origin:
@@ -55,6 +60,10 @@ class Routes:
         elif request.headers.get("content-length", "0") != "0":
             raise Refuse(400, f"a {request.method} has no body")
 
+    def is_entry(self, request):
+        """Whether a request is for what a person opens in a browser, from wherever."""
+        return False
+
     def answer(self, request):
         parts = tuple(request.parts[1:])
         try:
@@ -67,7 +76,7 @@ class Routes:
         except (Lost, Ended) as lost:
             raise Refuse(503, str(lost)) from None
         except OSError as error:
-            raise Refuse(500, str(error)) from None
+            raise Refuse(500, sentence(error)) from None
 
     def read(self, request, parts):
         if parts in self.reads:
@@ -189,7 +198,7 @@ class Routes:
                 "edits": list(session.edits),
                 "undone": session.edits.undone,
                 "source": session.edits.contents().current,
-                "saved": self.live.saved == self.live.revision,
+                "saved": self.live.is_saved(),
             }
         return as_json(members)
 
@@ -213,12 +222,12 @@ class Routes:
 
     def beats(self):
         """The revisions, the current one first."""
-        told, restarts, saved = None, len(self.live.events), self.live.saved
+        told, restarts, saved = None, len(self.live.events), self.live.saves.count
         while not self.server.ended:
             with self.live.lock:
-                if (told, restarts, saved) == (self.live.revision, len(self.live.events), self.live.saved):
+                if (told, restarts, saved) == (self.live.revision, len(self.live.events), self.live.saves.count):
                     self.live.changed.wait(BEAT)
-                revision, count, was_saved = self.live.revision, len(self.live.events), self.live.saved
+                revision, count, was_saved = self.live.revision, len(self.live.events), self.live.saves.count
             if revision != told:
                 yield b'event: edit\ndata: {"revision": %d}\n\n' % revision
             elif count != restarts:

@@ -2,9 +2,8 @@
 
 import os
 import subprocess
-import tempfile
 
-from . import checks, ivf
+from . import checks, ivf, programs, rooms
 from .errors import Ended
 
 # Seconds.
@@ -16,6 +15,8 @@ def run(words, lines=()):
     given = "".join(f"{line}\n" for line in lines).encode()
     try:
         done = subprocess.run(words, input=given, capture_output=True, timeout=MOST_TIME, check=False)
+    except FileNotFoundError:
+        raise programs.missing(words[0]) from None
     except subprocess.TimeoutExpired:
         raise Ended(None, f"{words[0]} took longer than {MOST_TIME} seconds") from None
     if done.returncode != 0:
@@ -25,7 +26,7 @@ def run(words, lines=()):
 
 def saved_packets(program, lines, tables=None):
     """The packets that the program saves after these requests on an empty stream."""
-    with tempfile.TemporaryDirectory() as folder:
+    with rooms.Room() as folder:
         path = os.path.join(folder, "saved.ivf")
         words = [program, "-", "-", "-", "--save", path]
         if tables is not None:
@@ -38,7 +39,7 @@ def saved_packets(program, lines, tables=None):
 
 def padded(program, pieces):
     """The text of an IVF file as the program saves it with --pad, in pieces."""
-    with tempfile.TemporaryDirectory() as folder:
+    with rooms.Room() as folder:
         before, after = os.path.join(folder, "before.ivf"), os.path.join(folder, "after.ivf")
         with open(before, "wb") as file:
             file.writelines(pieces)

@@ -39,6 +39,15 @@ class Gap(NamedTuple):
     after: int
 
 
+class Guess(NamedTuple):
+    """A packet whose record may only have a wrong size: its time stamp goes on, and it would have all bytes up to the next record. It begins with
+    a gap, whose index is `gap`; or it is in the place of the packet before that, which was cut at its size (`is_cut`)."""
+
+    gap: int
+    packet: Found
+    is_cut: bool
+
+
 def begins_packet(data, place, size):
     """Whether a packet of this size may begin at a place: its tag, its start code, and the size of its first partition."""
     if size == 0:
@@ -126,32 +135,62 @@ def head_of(data):
 
 def find(data):
     """The head or None, the packets, and the gaps between them."""
+    return find_all(data)[:3]
+
+
+def guess_at(data, place, end, last):
+    """A packet between a record whose size is wrong and the next record, or None."""
+    if place + RECORD.size > end:
+        return None
+    stamp, after = (RECORD.unpack_from(data, at)[1] for at in (place, end))
+    if not (last is None or last <= stamp) or not stamp <= after or after - stamp > MOST_STEP:
+        return None
+    if not begins_packet(data, place + RECORD.size, end - place - RECORD.size):
+        return None
+    return Found(stamp, memoryview(data)[place + RECORD.size : end], place)
+
+
+def guesses_at(data, number, gap, last, cut):
+    """The guesses at a gap, the likelier one first. `cut` is where the packet before it begins that was cut at its size, and the time stamp before
+    that, or None."""
+    found = [(guess_at(data, gap.start, gap.end, last), False)]
+    if cut is not None:
+        found.append((guess_at(data, cut[0], gap.end, cut[1]), True))
+    return [Guess(number, packet, is_cut) for packet, is_cut in found if packet is not None]
+
+
+def find_all(data):
+    """The same, and for each gap the guesses at a packet whose size is wrong."""
     head, place = head_of(data)
-    packets, gaps, last = [], [], None
+    # Packets are parts of the file, and no copies of it.
+    packets, gaps, guesses, last, view = [], [], [], None, memoryview(data)
     while place < len(data):
         found = sized_at(data, place, last)
         if found is not None:
             end = place + RECORD.size + found[0]
             # A packet may be damaged in its first bytes, if more records follow it.
             if follow(data, end, found[1], 1 if record_at(data, place, last) else CHAIN):
-                packets.append(Found(found[1], data[place + RECORD.size : end], place))
+                packets.append(Found(found[1], view[place + RECORD.size : end], place))
                 place, last = end, found[1]
                 continue
             if not begins_packet(data, place + RECORD.size, found[0]):
                 found = None
         resumed = next_place(data, place + 1 if found is None else place + RECORD.size, last)
         start = place
-        if found is not None and (resumed is None or resumed >= end):
+        is_cut = found is not None and (resumed is None or resumed >= end)
+        if is_cut:
             # The record is where the one before it leads to, and its packet ends before the next one that was found.
-            packets.append(Found(found[1], data[place + RECORD.size : end], place))
-            last, start = found[1], end
+            packets.append(Found(found[1], view[place + RECORD.size : end], place))
+            before, last, start = last, found[1], end
         stop = len(data) if resumed is None else resumed
         if stop > start:
             gaps.append(Gap(start, stop, len(packets)))
+            if resumed is not None:
+                guesses.append(guesses_at(data, len(gaps) - 1, gaps[-1], last, (place, before) if is_cut else None))
         if resumed is None:
             break
         place = resumed
-    return head, packets, gaps
+    return head, packets, gaps, guesses
 
 
 def plain(data):
@@ -160,12 +199,12 @@ def plain(data):
         head, place = ivf.parse_head(data[: ivf.HEAD.size])
     except ivf.NotIvf:
         return None
-    packets = []
+    packets, view = [], memoryview(data)
     while place + RECORD.size <= len(data):
         size, stamp = RECORD.unpack_from(data, place)
         end = place + RECORD.size + size
         if end > len(data):
             break
-        packets.append(Found(stamp, data[place + RECORD.size : end], place))
+        packets.append(Found(stamp, view[place + RECORD.size : end], place))
         place = end
     return head, packets, place

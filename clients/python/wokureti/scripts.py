@@ -12,50 +12,52 @@ negative number counts from the end, so -1 is the node that was added last. `las
     script.splice(head, tail)
 """
 
+from __future__ import annotations
+
 import operator
 
 
 class Script:
     """The nodes of a script. docs/requests.md says what each node serves."""
 
-    def __init__(self):
-        self.nodes = []
+    def __init__(self) -> None:
+        self.nodes: list[str] = []
 
     @property
-    def last(self):
+    def last(self) -> int:
         """The number of the node that was added last; 0, source 0, if there is none."""
         return len(self.nodes)
 
-    def _node(self, number):
+    def _node(self, number: int) -> int:
         number = operator.index(number)
         known = self.last + 1
         if not -known <= number < known:
             raise IndexError(f"there is no node {number}: the last one is {self.last}")
         return number % known
 
-    def _add(self, word, *numbers):
+    def _add(self, word: str, *numbers: int) -> Script:
         self.nodes.append(" ".join([word, *(str(operator.index(number)) for number in numbers)]))
         return self
 
-    def source(self, source):
+    def source(self, source: int) -> Script:
         """The frames of another source."""
         return self._add("source", source)
 
-    def trim(self, node, first, count):
+    def trim(self, node: int, first: int, count: int) -> Script:
         """At most `count` frames of a node, starting at `first`."""
         return self._add("trim", self._node(node), first, count)
 
-    def splice(self, node, other):
+    def splice(self, node: int, other: int) -> Script:
         """The frames of a node, then those of another one."""
         return self._add("splice", self._node(node), self._node(other))
 
-    def crop(self, node, x, y, width, height):
+    def crop(self, node: int, x: int, y: int, width: int, height: int) -> Script:
         """Each frame's `width` x `height` luma samples starting at column `x` and row `y`, both even."""
         return self._add("crop", self._node(node), x, y, width, height)
 
-    def fade(self, node, first, count, start, end):
+    def fade(self, node: int, first: int, count: int, start: int, end: int) -> Script:
         """Frames mixed with black: weight `start` before `first`, `end` from `first + count` on; 256 is the picture, 0 black."""
         return self._add("fade", self._node(node), first, count, start, end)
 
-    def __str__(self):
+    def __str__(self) -> str:
         return "; ".join(self.nodes) or "-"

@@ -1,7 +1,6 @@
 """wokureti serve: the edited stream on a port of this machine, for players and editors."""
 
 import secrets
-import signal
 import sys
 import threading
 
@@ -13,26 +12,23 @@ from .web import Server
 
 def serve(live, port=0, out=None):
     """Serves a stream until the process is interrupted."""
-    def announce(address):
-        print(f"{address}clip.y4m", file=out or sys.stdout, flush=True)
+    def announce(address, reading):
+        # A player's command line, which other users of the machine see, has an address that only reads.
+        print(f"{reading}clip.y4m\n{address}edits", file=out or sys.stdout, flush=True)
 
     serve_with(live, port, Routes, announce)
 
 
 def serve_with(live, port, routes, announce):
-    """Serves a stream with these routes until the process is interrupted. `announce` is called with the address."""
+    """Serves a stream with these routes until the process is interrupted. `announce` is called with the address, and the one that only reads."""
     server = Server(port)
-    token = secrets.token_urlsafe(18)
+    token, reading = secrets.token_urlsafe(18), secrets.token_urlsafe(18)
     server.routes = routes(live, server, token)
-
-    def end(number, frame):
-        raise KeyboardInterrupt
-
-    signal.signal(signal.SIGTERM, end)
+    server.routes.reading = reading
     thread = threading.Thread(target=server.serve, daemon=True)
     try:
         thread.start()
-        announce(f"{server.origin}/{token}/")
+        announce(f"{server.origin}/{token}/", f"{server.origin}/{reading}/")
         while thread.is_alive():
             thread.join(waits.LONGEST)
     except KeyboardInterrupt:

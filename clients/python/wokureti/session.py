@@ -1,17 +1,25 @@
 """A session of vp8serve that stays open: look at a frame, decide, edit, look again."""
 
+from __future__ import annotations
+
+import os
 import threading
 import time
-from typing import NamedTuple
+from typing import Any, Callable, Iterable, Iterator, NamedTuple, Optional, Union
 
 from . import checks, programs
 from .edits import REPLIES, EditList, words_of
 from .errors import Ended, Refused
-from .frames import frame_of
+from .frames import Frame, frame_of
 from .inputs import Inputs
 from .pipes import Gone, Late, Pipes, Strange
+from .scripts import Script
 
+AnyPath = Union[str, bytes, "os.PathLike[str]", "os.PathLike[bytes]"]
+AnyBytes = Union[bytes, bytearray, memoryview]
 EDITS = frozenset(("use", "insert", "replace", "delete", "move", "copy", "blank", "hold", "script"))
+# Lines and bytes that are sent at a time, at most.
+MOST_LINES, MOST_BYTES = 500, 1 << 18
 
 
 class Count(NamedTuple):
@@ -22,13 +30,15 @@ class Count(NamedTuple):
 
 
 class Session:
-    """A running vp8serve over an IVF file, or over an empty stream if `stream` is `-`.
+    """A running vp8serve over an IVF file, or over an empty stream if `stream` is `-`. Of a file in another container, such as WebM, the packets
+    are taken out first, by ffmpeg or mkvextract.
 
     `sources` are the paths of sources 1 to 7, `cache` the number of cached states, or `cache_bytes` the number of bytes that their pictures
     may take, `tables` a file that replaces the RFC's long tables, and `save` the file that gets the packets of source 0 when the session
     is closed; with `pad` players that use libvpx show the packets of `blank` and `hold` in it too. `program` is the path of vp8serve, `lister` that of vp8list, which `packets` needs.
 
-    `edits` is a file that the accepted edits are written to, each when it was accepted; if the file exists, its edits are made first.
+    `edits` is a file that the accepted edits are written to, each when it was accepted; if the file exists, its edits are made first. A list
+    of another stream is refused, unless `anyway` is true. `resume` is the list of a session that ended, with which this one goes on.
     `timeout` is the number of seconds that a call may take, if it gives none of its own. With `explain` the program says why it refuses
     a request, in `Refused.reason`.
 
@@ -40,21 +50,23 @@ class Session:
 
     def __init__(
         self,
-        stream="-",
-        sources=(),
-        cache=None,
-        tables=None,
-        save=None,
-        program=None,
-        pad=False,
-        timeout=None,
-        explain=False,
-        edits=None,
-        lister=None,
-        cache_bytes=None,
-    ):
+        stream: AnyPath = "-",
+        sources: Iterable[AnyPath] = (),
+        cache: Optional[int] = None,
+        tables: Optional[AnyPath] = None,
+        save: Optional[AnyPath] = None,
+        program: Optional[str] = None,
+        pad: bool = False,
+        timeout: Optional[float] = None,
+        explain: bool = False,
+        edits: Optional[AnyPath] = None,
+        lister: Optional[str] = None,
+        cache_bytes: Optional[int] = None,
+        anyway: bool = False,
+        resume: Optional[EditList] = None,
+    ) -> None:
         # Called with the line of each edit that was accepted, also with those of `undo` and `redo`.
-        self.on_edit = None
+        self.on_edit: Optional[Callable[[str], None]] = None
         self._lock = threading.RLock()
         self._ended = None
         self._pending = None
@@ -68,7 +80,7 @@ class Session:
             words = self._words(cache, cache_bytes, tables, save, pad)
             if edits is not None:
                 checks.outputs(edits, [*self._inputs.paths, *(path for path in (save, tables) if path is not None)], "edits")
-            self._edits = EditList(self, edits)
+            self._edits = EditList(self, edits, anyway)
             self._pipes = Pipes(words, self._inputs.shared)
         except BaseException:
             self._close_files()
@@ -77,7 +89,7 @@ class Session:
             # The reply comes once the files were read, so a file that is missing, or not IVF, is reported here.
             self.request("stats")
             self._inputs.check()
-            self._edits.load()
+            self._edits.load() if resume is None else self._edits.resume(resume)
         except BaseException:
             self.kill()
             raise
@@ -94,7 +106,7 @@ class Session:
         if tables is not None:
             words += ["--tables", checks.path(tables)]
         if cache is not None:
-            words += ["--cache", str(checks.number(cache))]
+            words += ["--cache", str(checks.states(cache))]
         if cache_bytes is not None:
             words += ["--cache-bytes", str(checks.number(cache_bytes))]
         return words + ["--pad"] * bool(pad) + ["--explain"] * bool(self._explain)
@@ -104,16 +116,16 @@ class Session:
             self._edits.close()
         self._inputs.close()
 
-    def __enter__(self):
+    def __enter__(self) -> Session:
         return self
 
-    def __exit__(self, kind, value, trace):
+    def __exit__(self, kind: object, value: object, trace: object) -> None:
         if kind is None:
             self.close()
         else:
             self.kill()
 
-    def close(self, timeout=None):
+    def close(self, timeout: Optional[float] = None) -> None:
         """Ends the session; the program then saves the packets, if that was asked for. `Ended` if it failed."""
         if not self._pipes.owner_is_here():
             return
@@ -133,7 +145,7 @@ class Session:
             if status != 0:
                 raise self._error()
 
-    def kill(self):
+    def kill(self) -> None:
         """Ends the session now. Nothing is saved."""
         if self._ended or not self._pipes.owner_is_here():
             return
@@ -163,13 +175,36 @@ class Session:
             raise Ended(None, "the session belongs to the process that opened it")
         return _Turn(self._lock, self._timeout if timeout is None else timeout)
 
-    def request(self, line, timeout=None, listed=True):
+    def request(self, line: str, timeout: Optional[float] = None, listed: bool = True) -> str:
         """The reply to a request line, without its newline. A picture that it serves is dropped.
 
         `Refused` if the reply is a refusal, `Ended` if the session is over. An edit that is not `listed` is not in the list of edits.
         """
         reply, _ = self._ask(line, timeout, listed)
         return reply
+
+    def request_all(self, lines: Iterable[str], timeout: Optional[float] = None, progress: Optional[Callable[[int], None]] = None) -> list[Union[str, Refused]]:
+        """The replies to edits, which are not listed. Many are sent together, so a reply may be a refusal, as an exception in the list: the
+        edits that were sent with it are made, and those after them are not. `progress` is called with how many were made."""
+        replies = []
+        for batch in batches(lines):
+            with self._locked(timeout) as deadline:
+                found = self._exchange(*map(checks.line, batch), deadline=deadline)
+                first, is_refused = self._lines - len(found) + 1, False
+                for number, (line, (reply, _)) in enumerate(zip(batch, found), first):
+                    if reply.startswith("refused "):
+                        # The program explains them in their order: the first one is that of the first line.
+                        replies.append(Refused(reply) if is_refused else self._refused(reply, number, deadline))
+                        is_refused = True
+                    else:
+                        replies.append(reply)
+                        if self.on_edit is not None:
+                            self.on_edit(line)
+            if progress is not None:
+                progress(len(replies))
+            if is_refused:
+                break
+        return replies
 
     def _ask(self, line, timeout=None, listed=True):
         """The reply to a request line, and the width, height and samples of its picture, if it serves one."""
@@ -224,15 +259,15 @@ class Session:
     def _number(self, line, timeout=None):
         return int(self.request(line, timeout).split()[1])
 
-    def frame(self, number, timeout=None):
+    def frame(self, number: int, timeout: Optional[float] = None) -> Frame:
         """Frame `number` of the current stream."""
         return frame_of(checks.number(number), *self.picture(number, timeout))
 
-    def picture(self, number, timeout=None):
+    def picture(self, number: int, timeout: Optional[float] = None) -> tuple[int, int, memoryview]:
         """The width, height and samples of a frame, the samples of the three planes one after the other."""
         return self._ask(f"frame {checks.number(number)}", timeout)[1]
 
-    def pictures(self, numbers, timeout=None):
+    def pictures(self, numbers: Iterable[int], timeout: Optional[float] = None) -> list[tuple[int, int, memoryview]]:
         """The pictures of several frames, as `picture` has them. All are asked for before the first is read, so the program never waits.
 
         The first one that is refused raises `Refused`.
@@ -246,120 +281,121 @@ class Session:
         return [picture for _, picture in found]
 
     @property
-    def is_over(self):
+    def is_over(self) -> bool:
         """Whether the session is known to have ended."""
         return self._ended is not None
 
-    def frames(self, numbers=None, timeout=None):
+    def frames(self, numbers: Optional[Iterable[int]] = None, timeout: Optional[float] = None) -> Iterator[Frame]:
         """The frames of a range, one after the other; without a range all of them. `timeout` is for each frame."""
         if numbers is None:
             numbers = range(self.count(timeout).frames)
         for number in numbers:
             yield self.frame(number, timeout)
 
-    def use(self, source, timeout=None):
+    def use(self, source: int, timeout: Optional[float] = None) -> int:
         """Later edits act on this source. Like every edit it returns the number of packets of the current source."""
         return self._number(f"use {checks.number(source)}", timeout)
 
-    def insert(self, at, data, stamp=0, timeout=None):
+    def insert(self, at: int, data: AnyBytes, stamp: int = 0, timeout: Optional[float] = None) -> int:
         """Inserts a packet of these bytes at an index, with this time stamp."""
         return self._number(f"insert {checks.number(at)} {checks.number(stamp)} {checks.hexadecimal(data)}", timeout)
 
-    def replace(self, at, data, timeout=None):
+    def replace(self, at: int, data: AnyBytes, timeout: Optional[float] = None) -> int:
         """Gives a packet other bytes; it keeps its time stamp."""
         return self._number(f"replace {checks.number(at)} {checks.hexadecimal(data)}", timeout)
 
-    def delete(self, at, timeout=None):
+    def delete(self, at: Union[int, range], timeout: Optional[float] = None) -> int:
         """Deletes a packet, or those of a range of indexes, which is one step for `undo`. If one is refused, none is deleted."""
-        count = None
-        with self._locked(timeout), self._edits.step():
-            # The last one comes first: if there is no such packet, nothing was deleted yet, and the others keep their indexes.
-            for index in checks.indexes(at):
-                count = self._number(f"delete {index}", timeout)
-        return self.count(timeout).packets if count is None else count
+        # The last one comes first, so the others keep their indexes.
+        lines = [f"delete {index}" for index in checks.indexes(at)]
+        if not lines:
+            return self.count(timeout).packets
+        with self._locked(timeout):
+            return int(self._edits.run_step(lines, timeout).split()[1])
 
-    def move(self, index, to, timeout=None):
+    def move(self, index: int, to: int, timeout: Optional[float] = None) -> int:
         """Removes a packet and inserts it at index `to` of the remaining ones."""
         return self._number(f"move {checks.number(index)} {checks.number(to)}", timeout)
 
-    def copy(self, source, index, at, timeout=None):
+    def copy(self, source: int, index: int, at: int, timeout: Optional[float] = None) -> int:
         """Inserts a copy of a packet of a source, which may be the current one."""
         return self._number(f"copy {checks.number(source)} {checks.number(index)} {checks.number(at)}", timeout)
 
-    def blank(self, at, width, height, timeout=None):
+    def blank(self, at: int, width: int, height: int, timeout: Optional[float] = None) -> int:
         """Inserts a grey key frame."""
         return self._number(f"blank {checks.number(at)} {checks.number(width)} {checks.number(height)}", timeout)
 
-    def hold(self, at, timeout=None):
+    def hold(self, at: int, timeout: Optional[float] = None) -> int:
         """Inserts a packet that shows the last picture again."""
         return self._number(f"hold {checks.number(at)}", timeout)
 
-    def script(self, *nodes, timeout=None):
+    def script(self, *nodes: Union[str, Script], timeout: Optional[float] = None) -> int:
         """Sets the script: a `Script`, or a text for each node, as `script("trim 0 0 50", "fade 1 25 25 256 0")`; none: no script."""
         return self._number("script " + ("; ".join(map(checks.node, nodes)) or "-"), timeout)
 
-    def count(self, timeout=None):
+    def count(self, timeout: Optional[float] = None) -> Count:
         """The number of packets and frames."""
         words = self.request("count", timeout).split()
         return Count(int(words[1]), int(words[3]))
 
-    def decoded(self, timeout=None):
+    def decoded(self, timeout: Optional[float] = None) -> int:
         """The number of packets that were decoded so far."""
         return self._number("stats", timeout)
 
     @property
-    def edits(self):
+    def edits(self) -> EditList:
         """The list of the accepted edits, an `EditList`."""
         return self._edits
 
-    def undo(self, timeout=None):
+    def undo(self, timeout: Optional[float] = None) -> list[str]:
         """Takes the last edit back, and returns its lines; an empty list if there is none."""
         with self._locked(timeout):
             return self._edits.undo(timeout)
 
-    def redo(self, timeout=None):
+    def redo(self, timeout: Optional[float] = None) -> list[str]:
         """Makes the edit again that was taken back last, and returns its lines; an empty list if there is none."""
         with self._locked(timeout):
             return self._edits.redo(timeout)
 
-    def read_indexes(self):
+    def read_indexes(self) -> None:
         """Reads where the packets of the files are. No request waits for it meanwhile, and what needs it later is answered sooner."""
         for item in self._inputs.all:
             item.records()
 
-    def packet(self, index, source=None):
+    def packet(self, index: int, source: Optional[int] = None) -> bytes:
         """The bytes of a packet of the current source, or of another one."""
         with self._locked(None):
             return self._edits.contents().packet(index, source).bytes()
 
-    def packets(self, numbers=None, source=None):
+    def packets(self, numbers: Optional[Iterable[int]] = None, source: Optional[int] = None) -> list[dict[str, Any]]:
         """The facts of the packets of a range, or of all, as `vp8list --json` has them: a dictionary for each."""
         with self._locked(None):
             return self._edits.contents().facts(numbers, source)
 
     @property
-    def rate(self):
-        """The frames a second of the frames that are served, as a pair: rate and scale of source 0, or 30 and 1 if either is 0."""
+    def rate(self) -> tuple[int, int]:
+        """The frames a second of the frames that are served, as a pair: rate and scale of source 0, or 30 and 1 if either is 0, over the median
+        step of its time stamps."""
         with self._locked(None):
             return self._edits.contents().rate
 
     @property
-    def header(self):
+    def header(self) -> bytes:
         """The first line of the frames' YUV4MPEG2 text, once a frame was served."""
         return bytes(self._pipes.reader.header)
 
     @property
-    def frame_size(self):
+    def frame_size(self) -> int:
         """The number of bytes of a frame in that text, with the word FRAME, once a frame was served."""
         return self._pipes.reader.frame_size
 
-    def shown_kinds(self):
+    def shown_kinds(self) -> Optional[list[str]]:
         """For each shown packet of source 0 `key` or `inter`: those of the frames, if there is no script. None if there is one."""
         with self._locked(None):
             contents = self._edits.contents()
             return contents.shown_kinds(0) if contents.script == "-" else None
 
-    def save(self, path, pad=False, source=0):
+    def save(self, path: AnyPath, pad: bool = False, source: int = 0) -> None:
         """Writes the current packets of a source as an IVF file now, as `--save` does at the end."""
         with self._locked(None):
             self._edits.contents().save(path, pad, source)
@@ -383,6 +419,19 @@ class _Turn:
 
     def __exit__(self, kind, value, trace):
         self.lock.release()
+
+
+def batches(lines):
+    """Request lines in groups that are sent together."""
+    batch, size = [], 0
+    for line in lines:
+        batch.append(line)
+        size += len(line)
+        if len(batch) == MOST_LINES or size >= MOST_BYTES:
+            yield batch
+            batch, size = [], 0
+    if batch:
+        yield batch
 
 
 def is_reply(reply, line):

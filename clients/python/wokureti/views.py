@@ -54,7 +54,12 @@ class Pool:
         new = range(len(self.kinds), contents.of_files + len(contents.made))
         has_bytes = False
         for number in new:
-            made = contents.made[number - contents.of_files][1]
+            made, root = contents.made[number - contents.of_files][1], contents.root(number)
+            if root != number:
+                for known in (self.sizes, self.keys, self.shown, self.kinds):
+                    known.append(known[root])
+                has_bytes = True
+                continue
             data = contents.bytes(number)
             tags = ivf.tag_of(len(data), data[0] if data else 0)
             self.sizes.append(len(data))
@@ -240,7 +245,7 @@ class View:
             before.before = None
         self.script, self.source = contents.script, contents.current
         self.edits_before = max(0, len(edits.entries) - MOST_EDITS)
-        self.edits = [(entry.line[:MOST_TEXT], entry.step) for entry in edits.entries[-MOST_EDITS:]]
+        self.edits = [(entry.line[:MOST_TEXT], entry.step, entry.title) for entry in edits.entries[-MOST_EDITS:]]
         self.undone = [line[:MOST_TEXT] for line in edits.undone[:MOST_EDITS]]
 
     def timeline(self, source):
@@ -284,6 +289,16 @@ class View:
             if other == source and first <= shown < first + count:
                 return end - count + shown - first
         return None
+
+    def range_of(self, source, first, end):
+        """The frames from the first one that shows one of these packets to the last one, or None if none does."""
+        runs, ends = self.runs()
+        shown, found = self.timeline(source).frames, []
+        for (count, other, start), stop in zip(runs, ends):
+            low, high = max(start, shown[first]), min(start + count, shown[end])
+            if other == source and low < high:
+                found.append((stop - count + low - start, stop - count + high - start))
+        return (min(found)[0], max(end for _, end in found)) if found else None
 
     @property
     def rate(self):

@@ -3,13 +3,35 @@
 import queue
 import threading
 
-from .errors import Refused
+from .errors import Lost, Refused
 from .frames import MARK, size_of
-from .live import Changed, Lost
+from .live import Changed
 
-# Frames that are asked for at a time, at most, and their bytes.
-AT_ONCE, BYTES_AT_ONCE = 8, 16 << 20
+# Frames that are asked for at a time, at most, and the bytes of those that are made for all readers together and not sent yet: a reader has
+# up to three groups of them.
+AT_ONCE, MOST_BYTES = 8, 192 << 20
 MODES = ("repeat", "black")
+
+
+class Ahead:
+    """The bytes that may be made ahead for all readers together. A reader that gets none of them has one frame at a time."""
+
+    def __init__(self):
+        self.taken, self.lock = 0, threading.Lock()
+
+    def take(self, frame_size):
+        """How many frames a group has, three of which fit; 0 if there is no room. `give` gives their bytes back."""
+        with self.lock:
+            count = min(AT_ONCE, max(0, MOST_BYTES - self.taken) // (3 * frame_size))
+            self.taken += 3 * count * frame_size
+            return count
+
+    def give(self, count, frame_size):
+        with self.lock:
+            self.taken -= 3 * count * frame_size
+
+
+AHEAD = Ahead()
 
 
 class Cannot(Exception):
@@ -65,10 +87,11 @@ class Clip:
 
     def in_order(self, first, end):
         """The samples of a range of frames, some of them made while those before them are sent."""
-        if end - first <= 2:
-            yield from self.frames(range(first, end))
+        at_once = 0 if end - first <= 2 else AHEAD.take(self.frame_size)
+        if not at_once:
+            for number in range(first, end):
+                yield from self.frames([number])
             return
-        at_once = max(1, min(AT_ONCE, BYTES_AT_ONCE // self.frame_size))
         groups = [range(place, min(place + at_once, end)) for place in range(first, end, at_once)]
         made = ahead(self.frames, groups)
         try:
@@ -76,6 +99,7 @@ class Clip:
                 yield from group
         finally:
             made.close()
+            AHEAD.give(at_once, self.frame_size)
 
     def pieces(self, start, end):
         """The bytes of a range. It stops, before the range is whole, at an edit, or if a frame cannot be made."""

@@ -15,10 +15,11 @@ import urllib.parse
 
 MOST_HEAD = 16 << 10
 MOST_BODY = 8 << 20
-MOST_CONNECTIONS = 64
+# Connections whose last request had the token, and those that have not sent one yet.
+MOST_CONNECTIONS, MOST_STRANGERS = 64, 64
 # Seconds: for the head and the body of a request; for a connection without a request; for a client that takes nothing of a response.
 READ_TIME, IDLE_TIME, WRITE_TIME = 10, 30, 600
-# A connection that made no progress for so long makes room for a new one.
+# A connection with the token that made no progress for so long makes room for another one.
 STALLED = 5
 SEND_AT_ONCE = 1 << 18
 
@@ -135,9 +136,13 @@ class Connection:
             self.close()
             self.server.forget(self)
 
-    def close(self):
+    def shut(self):
+        """Ends the connection, from another thread."""
         with contextlib.suppress(OSError):
             self.socket.shutdown(socket.SHUT_RDWR)
+
+    def close(self):
+        self.shut()
         self.socket.close()
 
     def receive(self, deadline):
@@ -184,6 +189,7 @@ class Connection:
         # What must not be answered is refused before its body is read.
         request = Request(method, target, version, headers)
         self.server.check(request)
+        self.server.admit(self)
         if length and headers.get("expect", "").lower() == "100-continue":
             self.send(b"HTTP/1.1 100 Continue\r\n\r\n")
         deadline = time.monotonic() + READ_TIME
@@ -262,7 +268,7 @@ class Server:
         self.port = self.listener.getsockname()[1]
         self.host = f"127.0.0.1:{self.port}"
         self.origin = f"http://{self.host}"
-        self.connections, self.lock = set(), threading.Lock()
+        self.connections, self.strangers, self.lock = set(), {}, threading.Lock()
         self.routes = None
         self.ended = False
 
@@ -273,7 +279,7 @@ class Server:
         origin = request.headers.get("origin")
         if origin is not None and origin != self.origin:
             raise Refuse(403, "the request comes from another site")
-        if request.headers.get("sec-fetch-site", "none") not in ("same-origin", "none"):
+        if request.headers.get("sec-fetch-site", "none") not in ("same-origin", "none") and not self.routes.is_entry(request):
             raise Refuse(403, "the request comes from another site")
         self.routes.check(request)
 
@@ -283,19 +289,35 @@ class Server:
     def forget(self, connection):
         with self.lock:
             self.connections.discard(connection)
+            self.strangers.pop(connection, None)
 
-    def make_room(self):
-        """Drops the connection that is stalled for the longest time, if there are too many."""
+    def meet(self, connection):
+        """Takes a connection that has not sent a token yet. If there are too many of these, the oldest one goes: it is no client of ours, which
+        sends its first request at once."""
+        oldest = None
         with self.lock:
-            if len(self.connections) < MOST_CONNECTIONS:
-                return True
-            oldest = min(self.connections, key=lambda one: one.moved)
-            if time.monotonic() - oldest.moved < STALLED:
-                return False
-            self.connections.discard(oldest)
-        with contextlib.suppress(OSError):
-            oldest.socket.shutdown(socket.SHUT_RDWR)
-        return True
+            if len(self.strangers) >= MOST_STRANGERS:
+                oldest = next(iter(self.strangers))
+                del self.strangers[oldest]
+            self.strangers[connection] = True
+        if oldest is not None:
+            oldest.shut()
+
+    def admit(self, connection):
+        """Gives a connection whose request has the token a place. If there is none, the one that is stalled for the longest time goes."""
+        stalled = None
+        with self.lock:
+            if connection in self.connections:
+                return
+            if len(self.connections) >= MOST_CONNECTIONS:
+                stalled = min(self.connections, key=lambda one: one.moved)
+                if time.monotonic() - stalled.moved < STALLED:
+                    raise Refuse(503, f"{MOST_CONNECTIONS} requests are answered already")
+                self.connections.discard(stalled)
+            self.strangers.pop(connection, None)
+            self.connections.add(connection)
+        if stalled is not None:
+            stalled.shut()
 
     def serve(self):
         """Takes connections until `end` is called."""
@@ -308,15 +330,8 @@ class Server:
                 # No descriptor is free: those of other clients will be.
                 time.sleep(0.05)
                 continue
-            if not self.make_room():
-                with contextlib.suppress(OSError):
-                    sock.settimeout(0.1)
-                    sock.send(b"HTTP/1.1 503 Service Unavailable\r\nContent-Length: 0\r\nConnection: close\r\n\r\n")
-                sock.close()
-                continue
             connection = Connection(self, sock)
-            with self.lock:
-                self.connections.add(connection)
+            self.meet(connection)
             try:
                 threading.Thread(target=connection.run, daemon=True).start()
             except RuntimeError:
@@ -330,7 +345,6 @@ class Server:
             self.listener.shutdown(socket.SHUT_RDWR)
         self.listener.close()
         with self.lock:
-            connections = list(self.connections)
+            connections = [*self.connections, *self.strangers]
         for connection in connections:
-            with contextlib.suppress(OSError):
-                connection.socket.shutdown(socket.SHUT_RDWR)
+            connection.shut()

@@ -2,8 +2,9 @@
 
 const find = (id) => document.getElementById(id);
 
-/** Asks for values; `fields` are objects with name, label, value, and kind or choices. Returns the values, or null. */
-export function ask(title, action, fields) {
+/** Asks for values; `fields` are objects with name, label, value, and kind or choices. `note` is a sentence below them. Returns the values, or
+ * null. */
+export function ask(title, action, fields, note = "") {
   const dialog = find("ask");
   dialog.querySelector("h2").textContent = title;
   dialog.querySelector("button[value=yes]").textContent = action;
@@ -18,6 +19,7 @@ export function ask(title, action, fields) {
     } else {
       input.type = "number";
       input.min = 0;
+      if (name === "seconds") input.step = "any";
       input.required = true;
       if (most !== undefined) input.max = most;
     }
@@ -26,6 +28,9 @@ export function ask(title, action, fields) {
     line.append(label, input);
     place.append(line);
   }
+  const below = dialog.querySelector(".note");
+  below.textContent = note;
+  below.hidden = !note;
   dialog.returnValue = "";
   dialog.showModal();
   place.querySelector("input, select")?.focus();

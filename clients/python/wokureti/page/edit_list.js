@@ -13,18 +13,29 @@ export class EditList {
 
   write() {
     const { session } = this.model;
-    const { edits, undone, steps, edits_before: before } = session;
-    const key = `${session.revision} ${session.instance} ${session.saved}`;
+    const { edits, undone, steps, titles, unwritten, edits_before: before } = session;
+    const key = `${session.revision} ${session.instance} ${unwritten} ${session.list} ${session.saves[0].next}`;
     if (key === this.key) return;
     this.key = key;
     find("edits-count").textContent = edits.length ? (before + edits.length).toLocaleString("en") : "";
-    find("edits-text").textContent = edits.length
-      ? `Each edit is in ${session.list} already. Save writes the stream to ${session.save}.`
-      : "No edits yet. Select packets in the timeline and delete, hold or drop them, or take a repair of a finding.";
+    find("edits-text").textContent = unwritten
+      ? `The last ${unwritten === 1 ? "edit is" : `${unwritten.toLocaleString("en")} edits are`} not on the disk yet: make room, and the next edit writes all to ${session.list}.`
+      : edits.length
+        ? `Each edit is in ${session.list} already. Save writes the packets to ${session.saves[0].next}.`
+        : "No edits yet. Select packets in the timeline and delete, hold or drop them, or take a repair of a finding.";
+    find("edits-text").classList.toggle("error", unwritten > 0);
     const list = find("edits-list");
     list.replaceChildren();
     if (before) list.append(note(`${before.toLocaleString("en")} edits before these`));
-    edits.forEach((line, place) => list.append(this.row(line, before + place + 1, place, steps[place] !== steps[place + 1])));
+    edits.forEach((line, place) => {
+      if (titles[place]) list.append(note(titles[place]));
+      const entry = this.row(line, before + place + 1, place, steps[place] !== steps[place + 1]);
+      if (place >= edits.length - unwritten) {
+        entry.classList.add("is-unwritten");
+        entry.querySelector("button").title = "Made, and not on the disk yet";
+      }
+      list.append(entry);
+    });
     undone.slice(0, 50).forEach((line) => list.append(this.row(line, "", null, false)));
     list.lastElementChild?.scrollIntoView({ block: "nearest" });
   }

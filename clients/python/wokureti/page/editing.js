@@ -39,14 +39,19 @@ export class Editing {
     find("redo").disabled = !session.undone.length;
     find("undo").title = session.edits.length ? `Undo: ${session.edits[session.edits.length - 1].slice(0, 60)} (Ctrl+Z)` : "Nothing to undo";
     find("redo").title = session.undone.length ? `Redo: ${session.undone[0].slice(0, 60)} (Ctrl+Shift+Z)` : "Nothing to redo";
-    find("save").disabled = session.saved;
+    find("save").disabled = session.saved && session.script === "-";
     for (const id of ["delete", "hold", "drop", "copy", "cut"]) find(id).disabled = !chosen;
     find("paste").disabled = !this.clipboard;
   }
 
   /** Makes edits one after the other. Returns whether they were made; a refusal is shown, and returned by `refused`. */
   make(lines, said, { refused = null, isQuiet = false } = {}) {
-    const turn = this.queue.then(() => this.makeNow(lines, said, refused, isQuiet));
+    return this.inTurn(() => this.makeNow(lines, said, refused, isQuiet));
+  }
+
+  /** Calls a function after those before it are done. */
+  inTurn(act) {
+    const turn = this.queue.then(act);
     this.queue = turn.catch(() => {});
     return turn;
   }
@@ -57,27 +62,29 @@ export class Editing {
     const since = performance.now();
     performance.mark("edit");
     try {
-      const answer = await server.change(lines, lines === "save" ? null : this.model.revision);
+      const answer = await server.change(lines, this.model.revision, typeof said === "string" ? said : "");
       await this.model.load();
       const text = typeof said === "function" ? said(answer.reply) : said;
       if (text && !isQuiet) this.status.say(`${text} (${Math.round(performance.now() - since)} ms)`);
       this.last = answer.reply;
       return true;
     } catch (error) {
-      if (error.status === 412) {
-        await this.model.load();
-        notice("The stream was changed in another place, so nothing was done. Look, and try again.", { isBad: true });
-        return false;
-      }
-      if (refused && (await refused(error))) return false;
-      if (error instanceof server.Refusal && error.reply) {
-        notice(`Refused, and nothing was changed: ${error.reason || error.reply}`, { isBad: true, id: "refused" });
-      } else {
-        notice(error.message, { isBad: true, id: "refused" });
-      }
-      await this.model.load().catch(() => {});
+      if (error.status !== 412 && refused && (await refused(error))) return false;
+      await this.refuse(error);
       return false;
     }
+  }
+
+  /** Says why an edit was not made. */
+  async refuse(error) {
+    if (error.status === 412) {
+      notice("The stream was changed in another place, so nothing was done. Look, and try again.", { isBad: true });
+    } else if (error instanceof server.Refusal && error.reply) {
+      notice(`Refused, and nothing was changed: ${error.reason || error.reply}`, { isBad: true, id: "refused" });
+    } else {
+      notice(error.message, { isBad: true, id: "refused" });
+    }
+    await this.model.load().catch(() => {});
   }
 
   /** Makes a step on the source that the timeline shows. */
@@ -93,10 +100,30 @@ export class Editing {
     return this.make("redo", (lines) => (lines.length ? `made again: ${named(lines)}` : "there is nothing to redo"));
   }
 
-  save() {
-    return this.make("save", (path) => {
-      notice(`Saved to ${path}`, { id: "saved" });
-      return `saved to ${path}`;
+  /** Saves packets. With a script, or with edits of other sources, it asks what. */
+  async save() {
+    const { session } = this.model;
+    const { saves, script, names } = session;
+    let source = 0;
+    if (script !== "-" || saves.some(({ edited }, number) => number && edited)) {
+      const choices = saves
+        .map(({ edited, next }, number) => [`the packets of ${names[number]}${number || script === "-" ? "" : ", without the script"}, to ${fileOf(next)}`, number, edited])
+        .filter(([, number, edited]) => edited || number === 0);
+      const note = script === "-" ? "" : `The script changes what is shown, and no packet. \`wokureti cat\` with --edits ${session.list} writes the frames that are shown.`;
+      const found = await ask("Save", "Save", [{ name: "source", label: "What", value: 0, choices }], note);
+      if (!found) return;
+      source = Number(found.source);
+    }
+    return this.inTurn(async () => {
+      try {
+        const path = await server.save(source);
+        await this.model.load();
+        const what = source === 0 && this.model.session.script !== "-" ? "The packets were saved, without the script, to" : source ? `The packets of ${names[source]} were saved to` : "Saved to";
+        notice(`${what} ${path}`, { id: "saved" });
+        this.status.say(`${what[0].toLowerCase()}${what.slice(1)} ${path}`);
+      } catch (error) {
+        await this.refuse(error);
+      }
     });
   }
 
@@ -138,46 +165,46 @@ export class Editing {
     if (chosen) return this.step(steps.dropped(chosen.first, chosen.end), `${packets(chosen)} dropped`);
   }
 
+  /** Remembers the chosen packets by their numbers on the server: edits change their indexes, and not these. */
   copy(isMove) {
-    const { chosen, source, session } = this.model;
-    if (!chosen) return;
-    this.clipboard = { ...chosen, source, isMove, revision: session.revision };
-    this.enable();
-    this.status.say(`${packets(chosen)} ${isMove ? "to move" : "to copy"}: go to a packet, and paste before it`);
-  }
-
-  async paste() {
-    const { clipboard, model } = this;
-    if (!clipboard) return;
-    const { first, end, source, isMove, revision } = clipboard;
-    const at = model.packet;
-    if (revision !== model.revision && !(await this.isStillThere(clipboard))) return;
-    if (isMove && source === model.source) {
-      const lines = steps.moved(first, end, at);
-      if (!lines.length) return this.status.say("they are there already");
-      if (await this.step(lines, `${packets(clipboard)} moved to ${at}`)) {
-        this.clipboard = null;
-        const start = at < first ? at : at - (end - first);
-        model.select(start, start + end - first);
+    const { chosen, source } = this.model;
+    if (!chosen) return null;
+    return this.inTurn(async () => {
+      try {
+        const { first, end } = chosen;
+        const { contents, numbers } = await server.members(`numbers?source=${source}&first=${first}&count=${end - first}`);
+        this.clipboard = { contents, numbers, isMove, source, count: end - first, said: packets(chosen) };
+        this.enable();
+        this.status.say(`${packets(chosen)} ${isMove ? "to move" : "to copy"}: go to a packet, and paste before it`);
+      } catch (error) {
+        notice(error.message, { isBad: true, id: "refused" });
       }
-    } else if (await this.step(steps.copied(source, first, end, at, source === model.source), `${packets(clipboard)} copied to ${at}`)) {
-      model.select(at, at + end - first);
-      if (source === model.source && at <= first) this.clipboard = { ...clipboard, first: first + end - first, end: end + end - first };
-      if (this.clipboard) this.clipboard.revision = model.revision;
-    }
-    this.enable();
+    });
   }
 
-  /** The packets that were remembered may be others after an edit. */
-  isStillThere({ end, source }) {
-    if (end <= this.model.session.sources[source]) {
-      this.clipboard.revision = this.model.revision;
-      return true;
-    }
-    this.status.say("the packets that were remembered are gone");
-    this.clipboard = null;
-    this.enable();
-    return false;
+  paste() {
+    return this.inTurn(async () => {
+      const { clipboard, model } = this;
+      if (!clipboard) return;
+      const { contents, numbers, isMove, said } = clipboard;
+      const at = model.packet;
+      const source = model.source;
+      try {
+        const found = await server.paste({ contents, numbers, source, at, move: isMove, revision: model.revision });
+        await model.load();
+        if (isMove) this.clipboard = null;
+        if (!found.made) return this.status.say("they are there already");
+        model.select(found.first, found.first + found.count);
+        const many = found.deleted === 1 ? "1 of them was" : `${found.deleted.toLocaleString("en")} of them were`;
+        const again = found.deleted ? `; ${many} deleted or replaced since, and inserted again` : "";
+        this.status.say(`${said} ${isMove ? "moved" : "copied"} to ${found.first}${again}`);
+      } catch (error) {
+        await this.refuse(error);
+        if (error.status === 409 && !error.reply) this.clipboard = null;
+      } finally {
+        this.enable();
+      }
+    });
   }
 
   async blank() {
@@ -219,6 +246,24 @@ export class Editing {
 /** Packets in words. */
 export function packets({ first, end }) {
   return end === first + 1 ? `packet ${first}` : `packets ${first} to ${end - 1}`;
+}
+
+/** The name of a file without its folder. */
+export function fileOf(path) {
+  return path.slice(path.lastIndexOf("/") + 1);
+}
+
+/** What of the stream is in which file. */
+export function savedText({ saves, script, names, edits }) {
+  const parts = [];
+  saves.forEach(({ edited, file }, source) => {
+    if (!edited && !file) return;
+    const of = source ? `${names[source]}: ` : "";
+    const without = source === 0 && file && script !== "-" ? ", without the script" : "";
+    parts.push(file ? `${of}saved to ${fileOf(file)}${without}` : `${of}not saved`);
+  });
+  if (!parts.length && edits.length) parts.push(script === "-" ? "nothing to save" : "the script is in the list of edits");
+  return parts.join(" · ");
 }
 
 function named(lines) {

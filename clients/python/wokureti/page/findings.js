@@ -72,9 +72,21 @@ export function ordered(findings) {
   return findings.map((finding, place) => ({ finding, place })).sort((one, other) => rank(one.finding) - rank(other.finding) || one.place - other.place);
 }
 
+/** Findings in groups: damage up to the next key packet is mostly that of the first packet, and notes of one kind say one thing. */
+export function grouped(list) {
+  const groups = new Map();
+  for (const { finding, place } of list) {
+    const { severity, packet, group, kind } = finding;
+    const key = severity !== "damage" ? `note ${kind}` : packet === null ? `damage ${place}` : `damage of ${group}`;
+    if (!groups.has(key)) groups.set(key, []);
+    groups.get(key).push(finding);
+  }
+  return [...groups].map(([key, found]) => ({ key, first: found[0], rest: found.slice(1) }));
+}
+
 /** A finding as a text that stays the same if the finding does. */
 function keyOf(finding) {
-  return JSON.stringify({ ...finding, frame: undefined });
+  return JSON.stringify({ ...finding, frame: undefined, group: undefined });
 }
 
 export class Findings {
@@ -84,6 +96,8 @@ export class Findings {
     this.open = null;
     this.most = STEP;
     this.kept = new Set();
+    // Which groups are unfolded, of those that were pressed.
+    this.unfolded = new Map();
     model.addEventListener("session", () => this.follow());
     find("findings-more").addEventListener("click", () => {
       this.most += STEP;
@@ -127,7 +141,7 @@ export class Findings {
           continue;
         }
       }
-      found.push(...answer.findings);
+      found.push(...answer.findings.map((finding, place) => ({ ...finding, group: answer.groups[place] })));
       const isNew = !this.check || this.check.check !== number || this.check.findings.length !== found.length || this.check.over !== answer.over;
       // Those of the stream before stay until this check is over, or has found something, or takes long.
       if (answer.over || found.length || (this.check && this.check.check === number)) {
@@ -154,6 +168,7 @@ export class Findings {
         : `Checking: ${done.toLocaleString("en")} of ${packets.toLocaleString("en")} packets, ${totals}.`;
     find("check-text").textContent = text;
     find("repair-all-line").hidden = !over || damage < 2;
+    find("report-line").hidden = !over || !(damage || notes);
     find("check-status").textContent = over ? `checked, ${totals}` : `checking ${done.toLocaleString("en")} of ${packets.toLocaleString("en")} packets`;
     const count = find("findings-count");
     count.textContent = damage || notes ? (damage || notes).toLocaleString("en") : "";
@@ -166,10 +181,31 @@ export class Findings {
     const damage = [...new Set(findings.filter(({ severity, packet }) => severity === "damage" && packet !== null).map(({ packet }) => packet))];
     this.timeline.setFindings(damage, over ? `checked ${check}` : `checking ${check} ${Math.floor(findings.length / 100)}`);
     const list = find("findings-list");
-    const all = ordered(findings);
-    list.replaceChildren(...all.slice(0, this.most).map(({ finding }) => this.row(finding)));
+    const all = grouped(ordered(findings));
+    list.replaceChildren(...all.slice(0, this.most).flatMap((group, place) => this.rows(group, place === 0)));
     find("findings-more").hidden = all.length <= this.most;
     find("findings-more").textContent = `Show more of ${all.length.toLocaleString("en")}`;
+  }
+
+  /** The rows of a group: the first finding, and the others if the group is unfolded, as the first one is. */
+  rows({ key, first, rest }, isFirst) {
+    const found = [this.row(first)];
+    if (!rest.length) return found;
+    const isUnfolded = this.unfolded.get(key) ?? (isFirst && rest.length < STEP);
+    const entry = document.createElement("li");
+    entry.className = "more";
+    const button = document.createElement("button");
+    button.className = "row";
+    button.setAttribute("aria-expanded", String(isUnfolded));
+    const many = `${rest.length.toLocaleString("en")} more`;
+    button.textContent = `${isUnfolded ? "▾" : "▸"} ${many} ${first.severity === "damage" ? "up to the next key frame" : "of this kind"}`;
+    button.addEventListener("click", () => {
+      this.unfolded.set(key, !isUnfolded);
+      this.write();
+    });
+    entry.append(button);
+    found.push(entry);
+    return isUnfolded ? [...found, ...rest.slice(0, 5 * STEP).map((finding) => this.row(finding))] : found;
   }
 
   row(finding) {
@@ -277,7 +313,7 @@ export class Findings {
         return;
       }
       const title = `${said.length.toLocaleString("en")} steps, ${lines.length.toLocaleString("en")} edits${left ? `, ${left} packets stay damaged` : ""}`;
-      await this.preview({ title, lines, packet: this.model.packet });
+      await this.preview({ title, lines, packet: this.model.packet, step: "Repair all" });
       find("preview-text").title = said.slice(0, 40).join("\n");
     } catch (error) {
       this.status.say(error.message);
@@ -291,7 +327,7 @@ export class Findings {
     if (!repair) return;
     const { packet } = repair;
     this.close();
-    const isMade = await this.editing.make(this.model.session.source === 0 ? repair.lines : ["use 0", ...repair.lines], repair.title);
+    const isMade = await this.editing.make(this.model.session.source === 0 ? repair.lines : ["use 0", ...repair.lines], repair.step || repair.title);
     await this.viewer.setPreview(null);
     if (isMade) await this.model.goPacket(Math.min(packet, this.model.packets - 1));
   }

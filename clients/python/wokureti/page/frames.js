@@ -33,6 +33,28 @@ export class Frames {
     return this.fetch(`now ${frame}`, revision, (signal) => server.frame(frame, signal));
   }
 
+  /** Frames that follow each other, fetched together. If that is refused, each one is fetched by itself. */
+  getTogether(first, count) {
+    if (count === 1) return this.get(first);
+    const { revision } = this.model;
+    const group = server.frames(first, count);
+    const one = (place) => (signal) =>
+      group.then(
+        (found) => found[place],
+        (error) => {
+          if (error instanceof server.Refusal && error.status < 500) return server.frame(first + place, signal);
+          throw error;
+        },
+      );
+    return Promise.all(Array.from({ length: count }, (_, place) => this.fetch(`now ${first + place}`, revision, one(place))));
+  }
+
+  /** The picture of a packet without the script. */
+  aside(source, packet) {
+    const { revision } = this.model;
+    return this.fetch(`aside ${source} ${packet}`, revision, (signal) => server.frameOfPacket(source, packet, signal));
+  }
+
   before(source, frame) {
     return this.fetch(`before ${source} ${frame}`, null, (signal) => server.frameBefore(source, frame, signal));
   }

@@ -55,11 +55,21 @@ function post(path, body, what, signal) {
   return ask(path, { method: "POST", headers: { "Content-Type": "application/json" }, body: JSON.stringify(body), signal }, what);
 }
 
-/** Makes edits as one step, or `undo`, `redo` or `save`, if the stream is still that of the revision. */
-export async function change(lines, revision) {
-  const body = typeof lines === "string" ? { line: lines } : { lines };
-  if (revision !== null) body.revision = revision;
-  return (await post("edits", body, lines === "save" ? "the stream to be saved" : "edit")).json();
+/** Makes edits as one step with a title, or `undo` or `redo`, if the stream is still that of the revision. */
+export async function change(lines, revision, title = "") {
+  const body = typeof lines === "string" ? { line: lines, revision } : { lines, revision };
+  if (title && typeof lines !== "string") body.title = title;
+  return (await post("edits", body, "edit")).json();
+}
+
+/** Saves the packets of a source, and returns the name of the file. */
+export async function save(source) {
+  return (await (await post("edits", { line: "save", source }, "the packets to be saved")).json()).reply;
+}
+
+/** Inserts remembered packets as one step. */
+export async function paste(members) {
+  return (await post("paste", members, "edit")).json();
 }
 
 /** A frame of a response: width, height, samples, and the revision that it is of. */
@@ -80,6 +90,16 @@ export function parseFrame(bytes) {
   return { width, height, samples };
 }
 
+/** The frames of a YUV4MPEG2 text. */
+export function parseFrames(bytes, count) {
+  const end = bytes.indexOf(10);
+  const found = /^YUV4MPEG2 W(\d+) H(\d+)/.exec(new TextDecoder().decode(bytes.subarray(0, end)));
+  const [width, height] = [Number(found[1]), Number(found[2])];
+  const size = 6 + sizeOf(width, height);
+  if (bytes.length !== end + 1 + count * size) throw new Error("frames were cut off");
+  return Array.from({ length: count }, (_, place) => ({ width, height, samples: bytes.subarray(end + 1 + place * size + 6, end + 1 + (place + 1) * size) }));
+}
+
 /** The number of samples of a frame. */
 export function sizeOf(width, height) {
   return width * height + 2 * ((width + 1) >> 1) * ((height + 1) >> 1);
@@ -89,8 +109,24 @@ export async function frame(number, signal) {
   return frameOf(await ask(`frames/${number}.y4m`, { signal }, `frame ${number}`));
 }
 
+/** Frames that follow each other and have one size. */
+export async function frames(first, count, signal) {
+  const response = await ask(`frames/${first}-${first + count - 1}.y4m`, { signal }, `frame ${first}`);
+  const revision = Number((response.headers.get("ETag") || "").replace(/"/g, "").split("-")[1] || 0);
+  return parseFrames(new Uint8Array(await response.arrayBuffer()), count).map((frame) => ({ ...frame, revision }));
+}
+
 export async function frameBefore(source, number, signal) {
   return frameOf(await ask(`before/frames/${number}.y4m?source=${source}`, { signal }, `frame ${number} before the edits`));
+}
+
+export async function frameOfPacket(source, packet, signal) {
+  return frameOf(await ask(`packets/${packet}.y4m?source=${source}`, { signal }, `packet ${packet} of source ${source}`));
+}
+
+/** The picture of a packet after edits that are not made, without the script. */
+export async function previewPacket(lines, source, packet, revision, signal) {
+  return frameOf(await post("preview", { lines, source, packet, revision }, "preview", signal));
 }
 
 export async function previewFrame(lines, number, revision, signal) {

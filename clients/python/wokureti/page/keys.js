@@ -3,8 +3,8 @@
 const find = (id) => document.getElementById(id);
 
 /** Each key has names as `KeyboardEvent.key` has them, a text, and what it does. */
-export function keysOf({ model, player, timeline, editing, findings, viewer, macroblocks, palette }) {
-  const step = (count) => () => model.go(model.frame + count);
+export function keysOf({ model, player, timeline, editing, findings, viewer, macroblocks, cutting, palette }) {
+  const step = (count) => () => model.step(count);
   const playOn = (direction) => () => {
     const same = Math.sign(player.speed) === direction;
     return player.play(same ? Math.sign(player.speed) * Math.min(8, Math.abs(player.speed) * 2) : direction);
@@ -16,8 +16,12 @@ export function keysOf({ model, player, timeline, editing, findings, viewer, mac
     { keys: ["Shift+ArrowRight"], show: "Shift →", text: "extend the selection to the right", act: () => extend(model, 1) },
     { keys: ["PageUp"], show: "Page Up", text: "back 10 frames", act: step(-10) },
     { keys: ["PageDown"], show: "Page Down", text: "forward 10 frames", act: step(10) },
-    { keys: ["Home"], show: "Home", text: "first frame", act: () => model.go(0) },
-    { keys: ["End"], show: "End", text: "last frame", act: () => model.go(model.frames - 1) },
+    { keys: ["ArrowUp"], show: "↑", text: "the key frame before", act: () => model.goKey(-1) },
+    { keys: ["ArrowDown"], show: "↓", text: "next key frame", act: () => model.goKey(1) },
+    { keys: ["Shift+PageUp"], show: "Shift Page Up", text: "the cut before, where the script joins", act: () => model.goCut(-1) },
+    { keys: ["Shift+PageDown"], show: "Shift Page Down", text: "next cut", act: () => model.goCut(1) },
+    { keys: ["Home"], show: "Home", text: "first frame", act: () => model.goEnd(true) },
+    { keys: ["End"], show: "End", text: "last frame", act: () => model.goEnd(false) },
     { keys: [" "], show: "Space", text: "play or stop", act: () => player.toggle() },
     { keys: ["j", "J"], show: "J", text: "play backward; again: faster", act: playOn(-1) },
     { keys: ["k", "K"], show: "K", text: "stop", act: () => player.stop() },
@@ -29,6 +33,9 @@ export function keysOf({ model, player, timeline, editing, findings, viewer, mac
     { keys: ["Delete", "Backspace"], show: "Delete", text: "delete the selected packets", act: () => editing.delete() },
     { keys: ["h", "H"], show: "H", text: "hold the picture before in their place", act: () => editing.hold() },
     { keys: ["d", "D"], show: "D", text: "drop them: packets of no bytes", act: () => editing.drop() },
+    { keys: ["e", "E"], show: "E", text: "show only the frames of the selection", act: () => cutting.keep() },
+    { keys: ["x", "X"], show: "X", text: "cut the frames of the selection out: no packet is changed", act: () => cutting.cutOut() },
+    { keys: ["r", "R"], show: "R", text: "fade, or show black or a frame for a time", act: () => cutting.more() },
     { keys: ["Ctrl+c"], show: "Ctrl C", text: "remember them", act: () => editing.copy(false) },
     { keys: ["Ctrl+x"], show: "Ctrl X", text: "remember them, to move them", act: () => editing.copy(true) },
     { keys: ["Ctrl+v"], show: "Ctrl V", text: "insert them before the current packet", act: () => editing.paste() },
@@ -43,13 +50,14 @@ export function keysOf({ model, player, timeline, editing, findings, viewer, mac
     { keys: ["3"], act: () => viewer.choose_view("split") },
     { keys: ["4"], act: () => viewer.choose_view("difference") },
     { keys: ["f", "F"], show: "F", text: "fit the picture", act: () => viewer.choose_size("fit") },
+    { keys: ["w", "W"], show: "W", text: "the picture on the whole screen", act: () => palette.fullScreen() },
     { keys: ["p", "P"], show: "P", text: "the loupe", act: () => viewer.loupe.toggle() },
     { keys: ["m", "M"], show: "M", text: "the overlay of macroblocks", act: () => macroblocks.toggle() },
     { keys: ["n"], show: "N", text: "next frame that differs; with Shift the one before", act: () => viewer.nextDifference(1) },
     { keys: ["N", "Shift+N"], act: () => viewer.nextDifference(-1) },
     { keys: ["."], show: ".", text: "next finding", act: () => findings.go(1) },
     { keys: [","], show: ",", text: "the finding before", act: () => findings.go(-1) },
-    { keys: ["g", "G"], show: "G", text: "type the number of a frame", act: () => find("frame").select() },
+    { keys: ["g", "G"], show: "G", text: "type a frame: a number, a step as -5, or a time as 1:02.5", act: () => find("frame").select() },
     { keys: ["?"], show: "?", text: "this list", act: () => palette.showKeys() },
   ];
 }

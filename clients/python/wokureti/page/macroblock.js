@@ -122,7 +122,7 @@ export class Macroblocks {
       return;
     }
     // The facts of one frame are not shown over another.
-    if (this.shown !== this.model.frame) this.canvas.hidden = true;
+    if (this.shown !== this.model.look) this.canvas.hidden = true;
     this.timer = setTimeout(() => this.show().catch((error) => this.say(error.message)), 40);
   }
 
@@ -144,10 +144,10 @@ export class Macroblocks {
   }
 
   async show() {
-    const { frame, revision } = this.model;
+    const { look, revision } = this.model;
     const picture = this.viewer.picture.now;
-    const origin = await this.model.origin(frame);
-    const isStale = () => frame !== this.model.frame || revision !== this.model.revision || !this.isOn;
+    const origin = await this.model.looked();
+    const isStale = () => look !== this.model.look || revision !== this.model.revision || !this.isOn;
     if (isStale()) return;
     if (!picture || !origin) {
       this.say("no picture");
@@ -164,7 +164,7 @@ export class Macroblocks {
       return;
     }
     this.records = records;
-    this.shown = frame;
+    this.shown = look;
     this.paint();
     this.writeLegend();
     await this.write();

@@ -1,6 +1,7 @@
 // Starts the page.
 
-import { Editing } from "./editing.js";
+import { Cutting } from "./cutting.js";
+import { Editing, savedText } from "./editing.js";
 import { EditList } from "./edit_list.js";
 import { Findings } from "./findings.js";
 import { Fragment, parse } from "./fragment.js";
@@ -14,6 +15,7 @@ import { PacketFacts } from "./packet_facts.js";
 import { Player } from "./player.js";
 import { ScriptPanel } from "./script.js";
 import { Status, notice } from "./status.js";
+import { frameOf, timeText } from "./times.js";
 import { Timeline } from "./timeline.js";
 import { Viewer } from "./viewer.js";
 
@@ -31,6 +33,7 @@ const findings = new Findings(model, viewer, editing, timeline, status);
 const packetFacts = new PacketFacts(model);
 const scriptPanel = new ScriptPanel(model, editing);
 const editList = new EditList(model, editing);
+const cutting = new Cutting(model, editing, status);
 editing.viewer = viewer;
 
 // Panels
@@ -83,32 +86,29 @@ document.querySelector("#viewer .tools").addEventListener("click", () => fragmen
 
 // The head, and what is current
 
-function time(frame) {
-  const milliseconds = Math.round((frame / model.rate) * 1000);
-  const seconds = Math.floor(milliseconds / 1000);
-  const parts = [Math.floor(seconds / 3600), Math.floor(seconds / 60) % 60, seconds % 60].map((part) => String(part).padStart(2, "0"));
-  return `${parts.join(":")}.${String(milliseconds % 1000).padStart(3, "0")}`;
-}
-
 function writeFrame() {
-  if (document.activeElement !== find("frame")) find("frame").value = model.frame;
-  find("time").textContent = model.session ? `of ${model.frames.toLocaleString("en")} · ${time(model.frame)}` : "";
+  if (document.activeElement !== find("frame")) find("frame").value = model.aside ? "" : model.frame;
+  if (!model.session) find("time").textContent = "";
+  else if (model.aside) find("time").textContent = `packet ${model.aside.packet}, which no frame shows`;
+  else find("time").textContent = `of ${model.frames.toLocaleString("en")} · ${timeText(model.frame, model.rate)}`;
 }
 
 function writeSelection() {
   const { selection } = model;
-  find("selection-text").textContent = selection ? `${(selection.end - selection.first).toLocaleString("en")} packets selected, ${selection.first} to ${selection.end - 1}` : "";
+  const count = selection ? selection.end - selection.first : 0;
+  find("selection-text").textContent = selection ? `${count.toLocaleString("en")} packets selected, ${selection.first} to ${selection.end - 1}, ${timeText(count, model.rate)}` : "";
 }
 
 function writeHead() {
-  const { names, rate, script, saved, sources, save, edits } = model.session;
+  const { names, rate, script, saved, sources, saves } = model.session;
   find("name").textContent = names[0];
   document.title = `${saved ? "" : "• "}${names[0]} – Wokureti`;
   const facts = [`${model.session.packets.toLocaleString("en")} packets`, `${model.frames.toLocaleString("en")} frames`, `${(rate[0] / rate[1]).toFixed(3).replace(/\.?0+$/, "")} frames a second`];
   if (script !== "-") facts.push("with a script");
   find("facts").textContent = facts.join(" · ");
-  find("saved").textContent = saved ? (edits.length ? "saved" : "") : "not saved";
-  find("save").title = `Save the edited stream to ${save} (Ctrl+S)`;
+  find("saved").textContent = savedText(model.session);
+  find("saved").title = find("saved").textContent;
+  find("save").title = `Save the edited packets to ${saves[0].next} (Ctrl+S)`;
   const label = find("source-label");
   label.hidden = sources.length < 2;
   find("replace-source").hidden = sources.length < 2;
@@ -127,8 +127,9 @@ model.addEventListener("selection", writeSelection);
 find("source").addEventListener("change", () => model.useSource(Number(find("source").value)).catch(() => {}));
 model.addEventListener("session", () => (find("source").value = model.source));
 find("frame").addEventListener("change", () => {
-  const number = Number(find("frame").value.replace(/[^\d]/g, ""));
-  if (Number.isFinite(number)) model.go(number).catch(() => {});
+  const frame = frameOf(find("frame").value, model.frame, model.rate);
+  if (frame === null) status.say("a frame is a number, as 120; a step, as -5; or a time, as 1:02.5 or 12.5");
+  else model.go(frame).catch(() => {});
 });
 find("frame").addEventListener("keydown", (event) => {
   if (event.key === "Enter" || event.key === "Escape") find("frame").blur();
@@ -158,10 +159,10 @@ find("loop").addEventListener("click", () => {
   player.restart();
 });
 for (const [id, go] of [
-  ["first", () => model.go(0)],
-  ["back", () => model.go(model.frame - 1)],
-  ["forward", () => model.go(model.frame + 1)],
-  ["last", () => model.go(model.frames - 1)],
+  ["first", () => model.goEnd(true)],
+  ["back", () => model.step(-1)],
+  ["forward", () => model.step(1)],
+  ["last", () => model.goEnd(false)],
 ]) {
   find(id).addEventListener("click", () => go().catch(() => {}));
 }
@@ -171,11 +172,13 @@ for (const [id, go] of [
 const palette = {
   escape: () => (findings.shown ? findings.leave() : model.select(null)),
   showKeys: () => find("keys").showModal(),
+  fullScreen: () => (document.fullscreenElement ? document.exitFullscreen() : find("viewer").requestFullscreen()),
 };
-const list = keys.keysOf({ model, player, timeline, editing, findings, viewer, macroblocks, palette });
+const list = keys.keysOf({ model, player, timeline, editing, findings, viewer, macroblocks, cutting, palette });
 keys.write(list);
 keys.listen(list, viewer.loupe, macroblocks);
 find("help").addEventListener("click", palette.showKeys);
+find("full").addEventListener("click", () => palette.fullScreen().catch((error) => status.say(error.message)));
 
 // What the server says
 
@@ -187,7 +190,6 @@ async function reload() {
   await model.load();
   if (!before) return;
   if (before.instance !== model.session.instance) location.reload();
-  if (before.revision !== model.session.revision) await model.go(model.frame);
 }
 
 server.listen((name) => {
@@ -202,6 +204,15 @@ server.listen((name) => {
   }
   if (name === "restarted") notice("vp8serve ended. It was started again, and all edits are there.", { id: "restarted" });
   reload().catch((error) => status.say(error.message));
+});
+
+// What the server says without being asked.
+let noticed = 0;
+model.addEventListener("session", () => {
+  for (const [number, text] of model.session.notices) {
+    if (number > noticed) notice(text, { isBad: true });
+    noticed = Math.max(noticed, number);
+  }
 });
 
 // Until all headers are listed, no packet is known to be refused.
@@ -236,8 +247,9 @@ async function begin() {
   restarts = model.session.restarts;
   if (start.source && start.source < model.session.sources.length) {
     await model.useSource(start.source);
+  } else {
+    await model.go(model.frame);
   }
-  await model.go(model.frame);
   if (start.scale) timeline.setView(start.from || 0, start.scale);
   find("timeline").focus({ focusVisible: false });
   status.say(restarts ? `vp8serve was started again ${restarts} times` : "ready");
@@ -245,7 +257,7 @@ async function begin() {
 }
 
 // For tests.
-window.wokureti = { model, frames, viewer, macroblocks, player, timeline, editing, findings, editList, scriptPanel };
+window.wokureti = { model, frames, viewer, macroblocks, player, timeline, editing, findings, editList, scriptPanel, cutting };
 begin().catch((error) => {
   status.say(error.message);
   notice(error.message, { isBad: true });

@@ -11,6 +11,12 @@ export class Model extends EventTarget {
     this.source = 0;
     // The packet that edits act on: that of the frame, or another one that was clicked.
     this.packet = 0;
+    // The packet whose own picture is looked at, since no frame shows it: another source, or a packet that the script leaves out.
+    this.aside = null;
+    this.moves = 0;
+    // Until the frame of a packet is known.
+    this.going = null;
+    this.isPlaying = false;
     this.selection = null;
     this.blocks = new Map();
     this.loading = null;
@@ -39,6 +45,7 @@ export class Model extends EventTarget {
       if (!old || old.revision !== session.revision || old.instance !== session.instance) this.blocks.clear();
       if (this.selection && this.selection.end > this.packets) this.selection = null;
       this.send("session");
+      if (old && old.revision !== session.revision && !this.isPlaying) this.stay(old.script !== session.script);
     } while (this.again);
     return this.session;
   }
@@ -62,40 +69,109 @@ export class Model extends EventTarget {
     return rate / scale;
   }
 
+  /** After an edit the picture is that of the current packet, or after another script that of the current frame. */
+  stay(isOtherScript) {
+    const move = this.moves;
+    queueMicrotask(() => {
+      if (move === this.moves) (isOtherScript ? this.go(this.frame) : this.goPacket(this.packet)).catch(() => {});
+    });
+  }
+
   /** Goes to a frame. */
   async go(frame, { keepPacket = false } = {}) {
+    this.moves++;
     const last = Math.max(0, this.frames - 1);
+    this.aside = null;
     this.frame = Math.max(0, Math.min(last, Math.floor(frame)));
     this.send("frame");
     if (!keepPacket) await this.follow();
   }
 
-  /** Makes the packet of the current frame the current packet. */
+  /** Goes on by so many frames, or by packets if the picture is that of a packet: from the packet that was asked for last. */
+  async step(count) {
+    await this.going?.catch(() => {});
+    return this.aside ? this.goPacket(this.packet + count) : this.go(this.frame + count);
+  }
+
+  /** Goes to the next key packet, or to the one before. */
+  async goKey(step) {
+    const { packet } = await server.members(`key?source=${this.source}&packet=${this.packet}&step=${step}`);
+    if (packet !== null) await this.goPacket(packet);
+  }
+
+  /** Goes to the next frame that begins something else, or to the one before. */
+  async goCut(step) {
+    await this.going?.catch(() => {});
+    const { frame } = await server.members(`cut?frame=${this.frame}&step=${step}`);
+    if (frame !== null) await this.go(frame);
+  }
+
+  /** Goes to the first frame or the last one. */
+  goEnd(isFirst) {
+    if (this.aside) return this.goPacket(isFirst ? 0 : this.packets - 1);
+    return this.go(isFirst ? 0 : this.frames - 1);
+  }
+
+  /** Makes the packet of the current frame the current packet, and shows its source. */
   async follow() {
-    const frame = this.frame;
-    const origin = await this.origin(frame);
-    if (origin && frame === this.frame && origin.source === this.source && origin.packet !== this.packet) {
+    const move = this.moves;
+    const origin = await this.origin(this.frame);
+    if (!origin || move !== this.moves) return;
+    if (origin.source !== this.source) {
+      this.source = origin.source;
+      this.packet = origin.packet;
+      this.select(null);
+      this.send("session");
+      this.send("packet");
+    } else if (origin.packet !== this.packet) {
       this.packet = origin.packet;
       this.send("packet");
     }
   }
 
-  /** Goes to a packet, and to the frame that shows it. */
-  async goPacket(packet) {
-    this.packet = Math.max(0, Math.min(Math.max(0, this.packets - 1), packet));
-    this.send("packet");
-    const asked = this.packet;
-    const place = await server.members(`place?packet=${asked}&source=${this.source}`);
-    if (this.packet === asked && place.frame !== null) await this.go(Math.min(place.frame, this.frames - 1), { keepPacket: true });
+  /** Goes to a packet, and to the frame that shows it; if there is none, to its own picture. */
+  goPacket(packet) {
+    const going = this.goPacketNow(packet).finally(() => {
+      if (this.going === going) this.going = null;
+    });
+    this.going = going;
+    return going;
   }
 
-  /** Shows another source in the timeline. */
+  async goPacketNow(packet) {
+    const move = ++this.moves;
+    this.packet = Math.max(0, Math.min(Math.max(0, this.packets - 1), packet));
+    this.send("packet");
+    if (!this.packets) return;
+    const { source } = this;
+    const asked = this.packet;
+    const place = await server.members(`place?packet=${asked}&source=${source}`);
+    if (move !== this.moves) return;
+    if (place.frame !== null) {
+      await this.go(Math.min(place.frame, this.frames - 1), { keepPacket: true });
+      return;
+    }
+    this.aside = { source, packet: asked, before: place.before, own: place.own };
+    this.send("frame");
+  }
+
+  /** Shows another source in the timeline, and its first picture. */
   useSource(source) {
     this.source = source;
     this.packet = 0;
     this.select(null);
     this.send("session");
-    return this.follow();
+    return this.goPacket(0);
+  }
+
+  /** The source and the packet that the picture is of. */
+  async looked() {
+    return this.aside || this.origin(this.frame);
+  }
+
+  /** A text that is another one if another picture is looked at. */
+  get look() {
+    return this.aside ? `packet ${this.aside.source} ${this.aside.packet}` : `frame ${this.frame}`;
   }
 
   select(first, end) {

@@ -3,7 +3,8 @@
 import * as server from "./interface.js";
 
 // Frames that are asked for at a time, and how far ahead.
-const AT_ONCE = 4;
+const AT_ONCE = 2;
+const TOGETHER_AT_ONCE = 4;
 const AHEAD = 16;
 const TOGETHER = 8;
 // Milliseconds that playback waits for its first frames.
@@ -38,6 +39,17 @@ export function orderOf(frames, direction) {
   return [...frames].sort((one, other) => group(other) - group(one) || one - other);
 }
 
+/** Frames that follow each other as pairs of the first one and how many there are, a few at most: one request for each. */
+export function groupsOf(frames) {
+  const groups = [];
+  for (const frame of frames) {
+    const last = groups.at(-1);
+    if (last && frame === last[0] + last[1] && last[1] < TOGETHER_AT_ONCE) last[1]++;
+    else groups.push([frame, 1]);
+  }
+  return groups;
+}
+
 export class Player {
   constructor(model, frames, viewer) {
     this.model = model;
@@ -70,6 +82,8 @@ export class Player {
     this.speed = speed;
     this.begin(start);
     this.viewer.isPlaying = true;
+    this.model.isPlaying = true;
+    this.model.aside = null;
     this.onchange?.();
     cancelAnimationFrame(this.asked);
     this.asked = requestAnimationFrame(() => this.tick());
@@ -104,6 +118,7 @@ export class Player {
     this.speed = 0;
     cancelAnimationFrame(this.asked);
     this.viewer.isPlaying = false;
+    this.model.isPlaying = false;
     this.onchange?.();
     this.model.go(this.model.frame).catch(() => {});
   }
@@ -173,12 +188,12 @@ export class Player {
   fetch(due, direction) {
     const step = Math.max(1, Math.round(Math.abs(this.speed)));
     const ahead = framesAhead(due, direction, AHEAD * Math.min(step, 2), this.range, this.isLoop);
-    for (const frame of orderOf(ahead, direction)) {
+    const wanted = orderOf(ahead, direction).filter((frame) => !this.frames.isAsked(frame));
+    for (const [first, count] of groupsOf(wanted)) {
       if (this.flying >= AT_ONCE) return;
-      if (this.frames.isAsked(frame)) continue;
       this.flying++;
       this.frames
-        .get(frame)
+        .getTogether(first, count)
         .catch(() => {})
         .finally(() => this.flying--);
     }

@@ -25,6 +25,12 @@ export function nodeOf(reason) {
   return found ? Number(found[1]) : null;
 }
 
+/** Whether a node is a crop with an odd number. */
+export function isOddCrop(node = "") {
+  const [word, , ...numbers] = node.split(" ");
+  return word === "crop" && numbers.some((number) => Number(number) % 2 === 1);
+}
+
 /** The first and the last character of a node in a text. */
 export function rangeOf(text, node) {
   let start = 0;
@@ -79,7 +85,8 @@ export class ScriptPanel {
     return this.editing.make([lineOf(this.text.value)], "the script is set", {
       refused: (error) => {
         if (!error.reply) return false;
-        this.complain(error.reason || error.reply);
+        const reason = error.reason || error.reply;
+        this.complain(`${reason}${isOddCrop(nodesOf(this.text.value)[(nodeOf(reason) ?? 1) - 1]) ? "; column, row, width and height of a crop are even" : ""}`);
         return true;
       },
     });

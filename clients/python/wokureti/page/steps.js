@@ -25,26 +25,6 @@ export function dropped(first, end) {
   return Array.from({ length: end - first }, (_, turn) => `replace ${first + turn} -`);
 }
 
-/** Copies packets of a source before packet `at` of the current source, which may be the same. */
-export function copied(source, first, end, at, isSame) {
-  const lines = [];
-  for (let turn = 0; turn < end - first; turn++) {
-    const packet = first + turn;
-    // Packets after the copies are further on by as many as were copied.
-    const from = isSame && packet >= at ? packet + turn : packet;
-    lines.push(`copy ${source} ${from} ${at + turn}`);
-  }
-  return lines;
-}
-
-/** Moves packets `first` to `end` - 1 before packet `at`. */
-export function moved(first, end, at) {
-  if (at >= first && at <= end) return [];
-  const count = end - first;
-  if (at < first) return Array.from({ length: count }, (_, turn) => `move ${first + turn} ${at + turn}`);
-  return Array.from({ length: count }, () => `move ${first} ${at - 1}`);
-}
-
 /** Edits of another source than the current one. */
 export function ofSource(lines, source, current) {
   return source === current ? lines : [`use ${source}`, ...lines];

@@ -2,11 +2,14 @@
 
 import { NAMES, theme } from "./kinds.js";
 import { COLUMNS, Tiles, perOf } from "./tiles.js";
+import { timeText } from "./times.js";
 import { Window, bytesText, stepOf } from "./window.js";
 
 const find = (id) => document.getElementById(id);
 const RULER = 20;
 const MARKS = 14;
+// Pixels within which a selection ends at a key packet.
+const SNAP = 6;
 
 export class Timeline {
   constructor(model) {
@@ -149,7 +152,9 @@ export class Timeline {
         return;
       }
       dragged = dragged || Math.abs(moved.clientX - begun) > 3;
-      if (dragged) model.select(Math.min(from, here), Math.max(from, here) + 1);
+      if (!dragged) return;
+      if (here < from) model.select(this.snapped(here, moved), from + 1);
+      else model.select(from, Math.max(from + 1, this.snapped(here + 1, moved)));
     };
     const end = () => {
       this.isHeld = false;
@@ -161,6 +166,17 @@ export class Timeline {
     this.box.addEventListener("pointermove", move);
     this.box.addEventListener("pointerup", end);
     this.box.addEventListener("pointercancel", end);
+  }
+
+  /** The boundary of a selection: that before a key packet, if one is near. With Alt it stays. */
+  snapped(packet, event) {
+    if (event.altKey || this.window.scale < 1) return packet;
+    for (let far = 0; far * this.window.scale <= SNAP; far++) {
+      for (const near of [packet - far, packet + far]) {
+        if (this.entry(near)?.kind === "k") return near;
+      }
+    }
+    return packet;
   }
 
   /** Drags the part of the overview that the timeline shows. */
@@ -192,7 +208,7 @@ export class Timeline {
     if (!found) return;
     const { per, first, kind, bytes, frame } = found;
     const end = Math.min(first + per, this.window.count) - 1;
-    tip.textContent = per === 1 ? `packet ${first} · frame ${frame} · ${NAMES[kind]} · ${bytesText(bytes)}` : `packets ${first} to ${end} · ${NAMES[kind]} · up to ${bytesText(bytes)}`;
+    tip.textContent = per === 1 ? `packet ${first} · frame ${frame} · ${timeText(frame, this.model.rate)} · ${NAMES[kind]} · ${bytesText(bytes)}` : `packets ${first} to ${end} · ${NAMES[kind]} · up to ${bytesText(bytes)}`;
     const pixel = this.pixel(event);
     tip.style.left = pixel > this.window.width / 2 ? "" : `${pixel + 12}px`;
     tip.style.right = pixel > this.window.width / 2 ? `${this.window.width - pixel + 12}px` : "";

@@ -7,11 +7,15 @@ import { Picture } from "./picture.js";
 
 const find = (id) => document.getElementById(id);
 
-/** A sentence on two frames of one size. */
-export function comparison({ psnr, differing, samples }) {
-  if (!differing) return "same as before the edits, sample for sample";
+function capital(text) {
+  return text[0].toUpperCase() + text.slice(1);
+}
+
+/** A sentence on two frames of one size; `other` is what the second one is called. */
+export function comparison({ psnr, differing, samples }, other = "before the edits") {
+  if (!differing) return `same as ${other}, sample for sample`;
   const values = ["y", "u", "v"].map((name) => `${name.toUpperCase()} ${Number.isFinite(psnr[name]) ? psnr[name].toFixed(2) : "∞"}`);
-  return `${differing.toLocaleString("en")} of ${samples.toLocaleString("en")} samples differ from before the edits, PSNR ${values.join("  ")} dB`;
+  return `${differing.toLocaleString("en")} of ${samples.toLocaleString("en")} samples differ from ${other}, PSNR ${values.join("  ")} dB`;
 }
 
 export class Viewer {
@@ -26,6 +30,8 @@ export class Viewer {
     this.isStale = false;
     this.showing = null;
     this.isPlaying = false;
+    // What the other picture is: the frame before the edits, or that of a source as it was opened.
+    this.against = "before";
     // Called when another picture is shown.
     this.onshown = () => {};
     model.addEventListener("frame", () => this.isPlaying || this.show());
@@ -33,6 +39,12 @@ export class Viewer {
     this.choices("view", (view) => {
       this.picture.view = view;
       find("gain-label").hidden = view !== "difference";
+      find("against-label").hidden = view === "frame";
+      this.show();
+    });
+    model.addEventListener("session", () => this.writeSources());
+    find("against").addEventListener("change", () => {
+      this.against = find("against").value;
       this.show();
     });
     this.choices("plane", (plane) => {
@@ -47,6 +59,7 @@ export class Viewer {
       this.picture.gain = Number(find("gain").value);
       this.repaint();
     });
+    find("stage").addEventListener("pointerdown", (event) => this.pan(event));
     find("loupe-switch").addEventListener("click", () => this.loupe.toggle());
     find("next-difference").addEventListener("click", () => this.nextDifference(1));
   }
@@ -77,6 +90,24 @@ export class Viewer {
     });
   }
 
+  /** Drags a picture that is larger than its place. */
+  pan(event) {
+    const stage = find("stage");
+    const isLarger = stage.scrollWidth > stage.clientWidth || stage.scrollHeight > stage.clientHeight;
+    if (event.button !== 0 || !isLarger || event.target.closest("#split-handle")) return;
+    const [left, top] = [stage.scrollLeft + event.clientX, stage.scrollTop + event.clientY];
+    stage.setPointerCapture(event.pointerId);
+    const move = (moved) => stage.scrollTo(left - moved.clientX, top - moved.clientY);
+    const end = () => {
+      stage.removeEventListener("pointermove", move);
+      stage.removeEventListener("pointerup", end);
+      stage.removeEventListener("pointercancel", end);
+    };
+    stage.addEventListener("pointermove", move);
+    stage.addEventListener("pointerup", end);
+    stage.addEventListener("pointercancel", end);
+  }
+
   get needsBefore() {
     return this.picture.view !== "frame";
   }
@@ -92,34 +123,54 @@ export class Viewer {
     this.loupe.show();
   }
 
+  /** The sources that the picture can be compared with. */
+  writeSources() {
+    const select = find("against");
+    const { names } = this.model.session;
+    if (select.options.length === names.length + 1) return;
+    select.replaceChildren(new Option("before the edits", "before"), ...names.map((name, number) => new Option(`source ${number}: ${name}, as it was opened`, number)));
+    select.value = this.against;
+  }
+
+  /** What the other picture is called. */
+  get other() {
+    return this.against === "before" ? "before the edits" : `source ${this.against}`;
+  }
+
   /** Shows the current frame. While one is fetched, others wait, and only the last of them is fetched then. */
   show() {
     this.isStale = true;
-    this.showing ??= this.catchUp().finally(() => (this.showing = null));
+    if (!this.showing) this.showing = this.catchUp();
     return this.showing;
   }
 
   async catchUp() {
-    while (this.isStale) {
-      this.isStale = false;
-      await this.showNow();
+    try {
+      while (this.isStale) {
+        this.isStale = false;
+        await this.showNow();
+      }
+    } finally {
+      // In the same moment in which nothing is stale any more: a call that comes later begins again.
+      this.showing = null;
     }
   }
 
   async showNow() {
-    const { frame, frames } = this.model;
+    const { frame, frames, look, aside } = this.model;
     const png = find("png");
+    png.hidden = Boolean(aside);
     png.href = `../frames/${frame}.png`;
     png.download = `frame-${frame}.png`;
     if (!this.model.session) return;
-    if (!frames) {
+    if (!frames && !aside) {
       this.picture.now = null;
       this.picture.refuse("The stream has no frame to show.", "No frames");
       find("picture-text").textContent = "";
       return;
     }
-    const [now, before] = await Promise.all([this.nowOf(frame), this.needsBefore || this.preview ? this.beforeOf(frame) : null]);
-    if (this.isPlaying || (this.isStale && frame !== this.model.frame)) return;
+    const [now, before] = await Promise.all([this.nowOf(frame, aside), this.needsBefore || this.preview ? this.beforeOf(frame, aside) : null]);
+    if (this.isPlaying || (this.isStale && look !== this.model.look)) return;
     if (now.frame) {
       this.picture.show(now.frame, this.needsBefore ? (before?.frame ?? null) : null);
     } else {
@@ -129,32 +180,44 @@ export class Viewer {
       this.picture.refuse(now.text, now.title);
     }
     this.loupe.show();
-    this.note(before);
-    this.describe(frame, now, before);
+    this.note(before, aside);
+    this.describe(frame, now, before, aside);
     this.onshown();
   }
 
-  /** Says on the picture why it is not compared. */
-  note(before) {
+  /** Says on the picture which packet it is of, if no frame shows that, and why it is not compared. */
+  note(before, aside) {
     const box = find("stage-note");
     const isMissing = this.needsBefore && before && (!before.frame || (this.picture.now && !this.picture.isPaired && this.picture.view !== "pair"));
-    box.hidden = !isMissing;
-    if (isMissing) box.textContent = before.frame ? "Not compared: the sizes differ" : `Not compared. Before the edits: ${before.text}`;
+    const parts = [];
+    if (aside) parts.push(`${this.nameOf(aside)}: no frame shows it, so this is its own picture, without the script`);
+    if (isMissing) parts.push(before.frame ? "Not compared: the sizes differ" : `Not compared. ${capital(this.other)}: ${before.text}`);
+    box.hidden = !parts.length;
+    box.textContent = parts.join(". ");
+  }
+
+  nameOf({ source, packet }) {
+    const { names } = this.model.session;
+    return names.length > 1 ? `Packet ${packet} of source ${source} (${names[source]})` : `Packet ${packet}`;
   }
 
   /** The frame, or why there is none. */
-  async nowOf(frame) {
+  async nowOf(frame, aside) {
     try {
-      if (this.preview) return { frame: await this.preview.picture(frame) };
-      return { frame: await this.frames.get(frame) };
+      if (this.preview) return { frame: await (aside ? this.preview.packet(aside) : this.preview.picture(frame)) };
+      return { frame: await (aside ? this.frames.aside(aside.source, aside.packet) : this.frames.get(frame)) };
     } catch (error) {
       return refusalOf(error);
     }
   }
 
-  async beforeOf(frame) {
+  async beforeOf(frame, aside) {
     try {
-      const origin = await this.model.origin(frame);
+      if (this.against !== "before") {
+        const number = aside ? aside.own : frame;
+        return { frame: await this.frames.before(Number(this.against), number), number };
+      }
+      const origin = aside || (await this.model.origin(frame));
       if (!origin || origin.before === null) return { text: "nothing was here before the edits" };
       return { frame: await this.frames.before(origin.source, origin.before), number: origin.before };
     } catch (error) {
@@ -162,16 +225,18 @@ export class Viewer {
     }
   }
 
-  describe(frame, now, before) {
+  describe(frame, now, before, aside) {
     const parts = [];
-    if (now.frame) parts.push(`frame ${frame}, ${now.frame.width}x${now.frame.height}`);
-    else parts.push(`frame ${frame}: ${now.text}`);
+    const name = aside ? `${this.nameOf(aside)}, without the script` : `frame ${frame}`;
+    if (now.frame) parts.push(`${name}, ${now.frame.width}x${now.frame.height}`);
+    else parts.push(`${name}: ${now.text}`);
     if (this.needsBefore && before) {
-      if (!before.frame) parts.push(`before the edits: ${before.text}`);
-      else if (!now.frame) parts.push(`before the edits: frame ${before.number}`);
-      else if (this.picture.isPaired) parts.push(`${before.number === frame ? "" : `frame ${before.number} before the edits: `}${comparison(compared(now.frame, before.frame))}`);
-      else parts.push(`before the edits ${before.frame.width}x${before.frame.height}: the sizes differ`);
-      find("before-caption").textContent = before.frame ? `before the edits, frame ${before.number}` : "before the edits";
+      const number = aside ? aside.own : frame;
+      if (!before.frame) parts.push(`${this.other}: ${before.text}`);
+      else if (!now.frame) parts.push(`${this.other}: frame ${before.number}`);
+      else if (this.picture.isPaired) parts.push(`${before.number === number ? "" : `frame ${before.number} ${this.other}: `}${comparison(compared(now.frame, before.frame), this.other)}`);
+      else parts.push(`${this.other} ${before.frame.width}x${before.frame.height}: the sizes differ`);
+      find("before-caption").textContent = before.frame ? `${this.other}, frame ${before.number}` : this.other;
     }
     find("picture-text").textContent = parts.join("  ·  ");
     this.picture.canvas.setAttribute("aria-label", parts.join(", "));
@@ -183,7 +248,11 @@ export class Viewer {
       this.preview = null;
     } else {
       const revision = this.model.revision;
-      this.preview = { lines, picture: (frame) => server.previewFrame(lines, frame, revision) };
+      this.preview = {
+        lines,
+        picture: (frame) => server.previewFrame(lines, frame, revision),
+        packet: ({ source, packet }) => server.previewPacket(lines, source, packet, revision),
+      };
     }
     return this.show();
   }

@@ -1,0 +1,137 @@
+// Cuts, fades and stills by the script: frames vanish or are shown again, no packet is changed, and so nothing after them breaks.
+
+import { ask } from "./ask.js";
+import * as server from "./interface.js";
+import { nodesOf } from "./script.js";
+import { timeText } from "./times.js";
+
+const find = (id) => document.getElementById(id);
+// Frames of a still, at most.
+const MOST_STILL = 100000;
+
+/** The nodes of a script, and the number of the last one: node 0 is the stream. */
+function base(script) {
+  const nodes = script === "-" ? [] : nodesOf(script);
+  return [nodes, nodes.length];
+}
+
+/** Only frames `first` to `end` - 1 are shown. */
+export function kept(script, { first, end }) {
+  const [nodes, last] = base(script);
+  return [...nodes, `trim ${last} ${first} ${end - first}`];
+}
+
+/** The others are shown. */
+export function without(script, count, { first, end }) {
+  const [nodes, last] = base(script);
+  if (first === 0) return [...nodes, `trim ${last} ${end} ${count - end}`];
+  const found = [...nodes, `trim ${last} 0 ${first}`];
+  if (end >= count) return found;
+  return [...found, `trim ${last} ${end} ${count - end}`, `splice ${last + 1} ${last + 2}`];
+}
+
+/** Puts the node that was added last between frames before `first` and those from `end` on, as far as there are any. */
+function between(nodes, last, count, { first, end }) {
+  const found = [...nodes];
+  let middle = found.length;
+  if (first > 0) {
+    found.push(`trim ${last} 0 ${first}`);
+    found.push(`splice ${found.length} ${middle}`);
+    middle = found.length;
+  }
+  if (end < count) {
+    found.push(`trim ${last} ${end} ${count - end}`);
+    found.push(`splice ${middle} ${found.length}`);
+  }
+  return found;
+}
+
+/** Frames are faded in from black, or out to black; those before and after them stay. */
+export function faded(script, count, { first, end }, isIn) {
+  const [nodes, last] = base(script);
+  const length = end - first;
+  const found = [...nodes, `trim ${last} ${first} ${length}`, `fade ${last + 1} 0 ${length} ${isIn ? "0 256" : "256 0"}`];
+  return between(found, last, count, { first, end });
+}
+
+/** Before frame `at` the frame before it, or black, is shown for some frames. */
+export function still(script, count, at, length, isBlack) {
+  const [nodes, last] = base(script);
+  const found = [...nodes, `trim ${last} ${Math.max(0, at - 1)} 1`];
+  for (let made = 1; made < length; made *= 2) found.push(`splice ${found.length} ${found.length}`);
+  found.push(`trim ${found.length} 0 ${length}`);
+  if (isBlack) found.push(`fade ${found.length} 0 0 0 0`);
+  return between(found, last, count, { first: at, end: at });
+}
+
+export class Cutting {
+  constructor(model, editing, status) {
+    Object.assign(this, { model, editing, status });
+    find("keep").addEventListener("click", () => this.keep());
+    find("cut-out").addEventListener("click", () => this.cutOut());
+    find("frames-more").addEventListener("click", () => this.more());
+    for (const name of ["session", "selection"]) model.addEventListener(name, () => this.enable());
+  }
+
+  enable() {
+    const { session, selection } = this.model;
+    for (const id of ["keep", "cut-out"]) find(id).disabled = !session || !selection;
+    find("frames-more").disabled = !session || !session.frames;
+  }
+
+  /** The frames from the first one that shows a selected packet to the last, or null. */
+  async range() {
+    const { selection, source } = this.model;
+    if (!selection) return null;
+    const found = await server.members(`range?source=${source}&first=${selection.first}&end=${selection.end}`);
+    if (found.first === null || found.end <= found.first) {
+      this.status.say("no frame shows a selected packet");
+      return null;
+    }
+    return found;
+  }
+
+  /** Sets a script, and goes to a frame. */
+  async set(nodes, said, frame) {
+    if (!(await this.editing.make([`script ${nodes.join("; ")}`], said))) return;
+    this.model.select(null);
+    await this.model.go(frame);
+  }
+
+  async keep() {
+    const range = await this.range();
+    if (range) await this.set(kept(this.model.session.script, range), `only frames ${range.first} to ${range.end - 1} are shown`, 0);
+  }
+
+  async cutOut() {
+    const range = await this.range();
+    const { session, frames } = this.model;
+    if (!range) return;
+    if (range.end - range.first >= frames) this.status.say("these are all frames");
+    else await this.set(without(session.script, frames, range), `frames ${range.first} to ${range.end - 1} are cut out`, Math.max(0, range.first - 1));
+  }
+
+  async more() {
+    const { model } = this;
+    const { frame, frames, rate, session, selection } = model;
+    const choices = [
+      ["show the frame before", "hold"],
+      ["show black", "black"],
+    ];
+    if (selection) choices.unshift(["fade in the selected frames", "in"], ["fade out the selected frames", "out"]);
+    const fields = [
+      { name: "what", label: "What", value: choices[0][1], choices },
+      { name: "seconds", label: `Seconds, before frame ${frame}`, value: 1 },
+    ];
+    const found = await ask("Frames by the script", "Do it", fields, `Frame ${frame} is at ${timeText(frame, rate)}. No packet is changed. A fade takes the selection.`);
+    if (!found) return;
+    if (found.what === "in" || found.what === "out") {
+      const range = await this.range();
+      if (range) await this.set(faded(session.script, frames, range, found.what === "in"), `frames ${range.first} to ${range.end - 1} fade ${found.what}`, range.first);
+      return;
+    }
+    const length = Math.max(1, Math.min(MOST_STILL, Math.round(Number(found.seconds) * rate)));
+    const what = found.what === "black" ? "black is" : "the frame before is";
+    await this.set(still(session.script, frames, frame, length, found.what === "black"), `${what} shown for ${length} frames before frame ${frame}`, frame);
+  }
+}
