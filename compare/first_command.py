@@ -33,14 +33,14 @@ all)
     for crate in $(ls crates); do
         [ -e "$CALLS.fails" ] && { echo "low: a goal is open"; exit 1; }
         mkdir -p crates/$crate/out
-        [ -e crates/$crate/out/proved ] || { sleep "$PAUSE"; echo "proved $crate" >> "$CALLS"; : > crates/$crate/out/proved; }
+        [ -e crates/$crate/out/proved ] || { sleep "$PAUSE"; : > crates/$crate/out/proved; echo "proved $crate" >> "$CALLS"; }
         echo "== $crate"
     done ;;
 check)
     crate=$(basename "$PWD")
     [ -e "$CALLS.fails" ] && { echo "$crate: a goal is open"; exit 1; }
     mkdir -p out
-    [ -e out/proved ] || { sleep "$PAUSE"; echo "proved $crate" >> "$CALLS"; : > out/proved; } ;;
+    [ -e out/proved ] || { sleep "$PAUSE"; : > out/proved; echo "proved $crate" >> "$CALLS"; } ;;
 run) mkdir -p out; printf '#!/bin/sh\\necho "$0"\\n' > "out/$(basename "$PWD")"; : > "out/$(basename "$PWD").o"; echo "built $(basename "$PWD")" >> "$CALLS" ;;
 esac
 """

@@ -716,6 +716,10 @@ class Hostile(ServerCase):
         wanted = self.ask("/clip.y4m")[2]
         with mock.patch.object(virtual, "AHEAD", made), mock.patch.object(virtual, "MOST_BYTES", 0):
             self.assertEqual(self.ask("/clip.y4m")[2], wanted)
+        # The server gives back what it took after the last byte was read.
+        limit = time.monotonic() + SLOW
+        while virtual.AHEAD.taken != 0 and time.monotonic() < limit:
+            time.sleep(0.01)
         self.assertEqual(virtual.AHEAD.taken, 0)
 
     def test_clients_that_do_not_read(self):
