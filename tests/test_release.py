@@ -106,7 +106,7 @@ def check_pip(folder, wheel):
     environment = {name: value for name, value in os.environ.items() if name not in ("VP8SERVE", "VP8LIST", "PYTHONPATH")}
     check_installed(prefix, environment)
     check_launcher(prefix)
-    expect("a session of the installed client", ran(prefix / "bin/python", "-c", SESSION, env=environment, cwd=folder)[:2], (0, f"{VERSION} 48 320 240\n"))
+    expect("a session of the installed client", ran(prefix / "bin/python", "-c", SESSION, env=environment, cwd=folder)[:2], (0, f"{VERSION} 48 320 180\n"))
     expect("pip uninstall", ran(prefix / "bin/pip", "uninstall", "-q", "-y", "wokureti")[0], 0)
     expect("what is left", [path.name for path in (prefix / "bin").iterdir() if path.name in COMMANDS], [])
 
