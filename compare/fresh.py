@@ -20,7 +20,7 @@ TOP = pathlib.Path(__file__).resolve().parent.parent
 FRAME = "37d20bd18336c72aa8d9f7e695c8433c"
 COMMANDS = ("sh", "env", "python3", "dirname", "basename", "readlink", "uname", "cat", "sed", "grep", "sleep", "true", "false", "seq", "printf", "head", "wc", "tee", "rm", "mkdir", "kill", "ps")
 FIRST = ["./serve.sh", "examples/mandelbrot.ivf", "examples/frame-0.txt", "frame.y4m"]
-MOUNT = "mount -t proc proc {0}/proc && mount --rbind /dev {0}/dev && mount -t tmpfs tmpfs {0}/tmp && exec chroot {0} /usr/bin/env -i PATH=/usr/bin:/bin HOME=/root sh -c"
+MOUNT = "ip link set lo up && mount -t proc proc {0}/proc && mount --rbind /dev {0}/dev && mount -t tmpfs tmpfs {0}/tmp && exec chroot {0} /usr/bin/env -i PATH=/usr/bin:/bin HOME=/root sh -c"
 
 
 def clone(to):
