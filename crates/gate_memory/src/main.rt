@@ -1,4 +1,4 @@
-//! Makes each call of a packet list, a live run and a session that takes memory, and makes it again if memory is refused: it must
+//! Makes each call of a packet list, a live run and a session that takes memory, also in worked lists of requests, and makes it again if memory is refused: it must
 //! then answer as if it had not been made before.
 //!
 //! It prints the same with ample memory and with one refused request (`compare/growths.py`). That script also counts
@@ -9,6 +9,7 @@ mod fault;
 mod frames;
 mod lists;
 mod live;
+mod rows;
 mod sessions;
 
 use fault::Fault;
@@ -34,7 +35,8 @@ fn make_all<O: Write>(alloc: Global, output: &mut O) -> Result<(), Fault> {
     lists::grow(alloc, output)?;
     live::run(alloc, output)?;
     let mut session = sessions::start(alloc)?;
-    run_session(alloc, &mut session, output)
+    run_session(alloc, &mut session, output)?;
+    rows::answer_all(alloc, output)
 }
 
 fn main(rt: HostRuntime) -> ExitCode {

@@ -14,7 +14,7 @@ use vp8_tables::Tables;
 const CAPACITY: u16 = 8;
 
 /// A key packet of 16x16 samples.
-const KEY: &[u8] = &[0x10, 0, 0, 0x9D, 0x01, 0x2A, 16, 0, 16, 0];
+pub const KEY: &[u8] = &[0x10, 0, 0, 0x9D, 0x01, 0x2A, 16, 0, 16, 0];
 
 /// A session over the stream, in one attempt.
 fn try_start(alloc: Global) -> Result<Result<Session, NoMemory>, Fault> {
@@ -34,7 +34,7 @@ pub fn start(alloc: Global) -> Result<Session, Fault> {
 }
 
 /// Frame `n`.
-fn frame(session: &mut Session, n: u64) -> Result<Picture, Refusal> {
+pub fn frame(session: &mut Session, n: u64) -> Result<Picture, Refusal> {
     match session.frame(n) {
         Err(Refusal::NoMemory) => session.frame(n),
         served => served,
@@ -65,14 +65,14 @@ fn stepped(alloc: Global, state: &State) -> Result<(State, Picture), StepFault> 
 }
 
 /// Prints the number of packets and of frames.
-fn print_count<O: Write>(output: &mut O, name: &str, session: &Session) -> Result<(), Fault> {
+pub fn print_count<O: Write>(output: &mut O, name: &str, session: &Session) -> Result<(), Fault> {
     let (packets, frames) = session.count();
     writeln!(output, "{name}: {packets} packets, {frames} frames")?;
     Ok(())
 }
 
 /// Prints a frame.
-fn print_frame<O: Write>(
+pub fn print_frame<O: Write>(
     output: &mut O,
     name: &str,
     session: &mut Session,
@@ -114,13 +114,13 @@ pub fn decode<O: Write>(alloc: Global, session: &mut Session, output: &mut O) ->
     print_frame(output, "frame 3 after that", session, 3)
 }
 
-/// Inserts a packet of no bytes.
-fn insert(alloc: Global, session: &mut Session, at: u64) -> Result<u64, Fault> {
+/// Inserts a packet of these bytes.
+pub fn insert(alloc: Global, session: &mut Session, at: u64, packet: &[u8]) -> Result<u64, Fault> {
     let edit = || -> Result<Edit, Fault> {
         Ok(Edit::Insert {
             at,
             stamp: 9,
-            bytes: copied(alloc, &[])?,
+            bytes: copied(alloc, packet)?,
         })
     };
     match session.edit(edit()?) {
@@ -130,7 +130,7 @@ fn insert(alloc: Global, session: &mut Session, at: u64) -> Result<u64, Fault> {
 }
 
 /// Inserts a grey key frame.
-fn insert_blank(session: &mut Session, at: u64) -> Result<u64, Refusal> {
+pub fn insert_blank(session: &mut Session, at: u64) -> Result<u64, Refusal> {
     let (width, height) = (16, 16);
     match session.edit(Edit::Blank { at, width, height }) {
         Err(Refusal::NoMemory) => session.edit(Edit::Blank { at, width, height }),
@@ -139,7 +139,7 @@ fn insert_blank(session: &mut Session, at: u64) -> Result<u64, Refusal> {
 }
 
 /// Inserts a packet that repeats the picture.
-fn insert_hold(session: &mut Session, at: u64) -> Result<u64, Refusal> {
+pub fn insert_hold(session: &mut Session, at: u64) -> Result<u64, Refusal> {
     match session.edit(Edit::Hold { at }) {
         Err(Refusal::NoMemory) => session.edit(Edit::Hold { at }),
         inserted => inserted,
@@ -152,7 +152,7 @@ pub fn insert_all<O: Write>(
     session: &mut Session,
     output: &mut O,
 ) -> Result<(), Fault> {
-    insert(alloc, session, 4)?;
+    insert(alloc, session, 4, &[])?;
     print_count(output, "a dropped frame inserted", session)?;
     print_frame(output, "frame 4", session, 4)?;
     insert_blank(session, 5)?;
@@ -163,7 +163,7 @@ pub fn insert_all<O: Write>(
 }
 
 /// Sets a script.
-fn set_script(session: &mut Session, text: &[u8]) -> Result<u64, Refusal> {
+pub fn set_script(session: &mut Session, text: &[u8]) -> Result<u64, Refusal> {
     match session.set_script(text) {
         Err(Refusal::NoMemory) => session.set_script(text),
         set => set,
