@@ -1,8 +1,9 @@
 -- The packets of one frame show its picture.
-use Rattle.std.proofs.Common.{◌≡◌, ℕ, zero, suc, ◌+◌, ◌-◌, ◌≤◌, ◌<◌, max, ◌==◌, ◌||◌, Bool, true, false, not, cond, List, [], ◌∷◌, ◌++◌, length, take, drop, slice_get, Option, Some, None, Ok, refl, sym, ap, subst, ◌∙◌, arith, inl, inr, nat_lt, if◌then◌else◌}
+use Rattle.std.proofs.Common.{◌≡◌, ℕ, zero, suc, ◌+◌, ◌-◌, ◌≤◌, ◌<◌, max, ◌==◌, ◌||◌, Bool, true, false, not, cond, List, [], ◌∷◌, ◌++◌, length, take, drop, slice_get, Option, Some, None, Result, Ok, Err, refl, sym, ap, subst, ◌∙◌, arith, inl, inr, nat_lt, if◌then◌else◌}
 use Rattle.std.specs.Prelude.{slice_range}
 use Rattle.std.proofs.Math.Dec.{eqb-suc-zero}
 use Rattle.std.proofs.lemmas.Bool.{and_parts, cases_Bool, cases_lt, eqb-true, ltb-true}
+use Rattle.std.specs.Result.{result_unwrap_or}
 use Rattle.vp8_tables.specs.declared.tables.Tables.{Tables}
 use Rattle.frame_header.specs.Outlines.{OutlinesAreHeaders}
 use Rattle.frame_header.specs.Tags.{has_key_tag, is_shown}
@@ -10,15 +11,16 @@ use Rattle.pixel_planes.specs.Pictures.{IsWholePicture, PictureSamples}
 use Rattle.packet_edits.specs.Sizes.{key_tag_at}
 use Rattle.packet_forge.specs.Laws.{AreBytes, AreUpdates, HasLast}
 use Rattle.packet_forge.specs.Packets.{hold_of}
+use Rattle.packet_forge.specs.declared.faults.ForgeFault.{ForgeFault}
 use Rattle.reference_frames.specs.Steps.{step_of}
 use Rattle.reference_frames.specs.declared.states.State.{State}
 use Rattle.state_cache.specs.Decoding.{outcomes}
 use Rattle.step_laws.specs.Holds.{unbiased}
-use Rattle.lossless_cuts.specs.Exports.{HasBytes, IsDecoded, IsForged}
+use Rattle.lossless_cuts.specs.Exports.{HasBytes, IsDecoded}
 use Rattle.lossless_cuts.specs.declared.targets.Target.{Target}
-use Rattle.lossless_cuts.specs.Plans.{continues, first_place, frame_packets, has_bytes, held, hidden, is_held, key_place, last_key, leaves_last, packet_at, place_after, repeats, uses_hold}
+use Rattle.lossless_cuts.specs.Plans.{continues, first_place, frame_packets, has_bytes, held, hidden, is_held, key_place, last_key, leaves_last, packet_at, place_after, repeats}
 use Rattle.lossless_cuts.proofs.Keys.{IsLastKey, finds_at, finds_none, finds_key, key_place-is}
-use Rattle.lossless_cuts.proofs.Leads.{Holds, Laws, Like, Ready, alike_as, alike_cleared, hold_like, ready_after, ready_key}
+use Rattle.lossless_cuts.proofs.Leads.{Holds, Laws, Like, Ready, alike_as, alike_cleared, hold_like, other_is, ready_after, ready_key}
 use Rattle.lossless_cuts.proofs.Plays.{Plays, plays_append, shown_before}
 use Rattle.lossless_cuts.proofs.Runs.{FromKey, FromState, from_key, from_state, never_reached}
 use Rattle.lossless_cuts.proofs.Views.{HasPictureSize, has_bytes-cons, last_is_picture, sized}
@@ -39,9 +41,6 @@ plays_led tables own last after packets packet picture front back = plays_append
 
 -- ---- a hold
 
-held-is : (tables : Tables) (target : Target) (packet : List ℕ) → hold_of tables target.width target.height ≡ Ok packet → held tables target ≡ packet
-held-is tables target packet forged = rw forged refl
-
 -- the last reference can be held if it is a picture that can
 has_last : (state : State) (picture : PictureSamples) → state.references.last ≡ picture → HasBytes picture → HasLast state
 has_last state picture last can = record {
@@ -51,16 +50,41 @@ has_last state picture last can = record {
   cr = subst (λ (p : PictureSamples). AreBytes p.cr) (sym last) can.cr;
 }
 
--- a hold packet of a frame whose picture is the last reference
-hold_shown : Laws → (tables : Tables) (own : Option State) (target : Target) (d : State × PictureSamples) → AreUpdates tables → HasBytes d.1 → IsForged tables target → HasPictureSize d → d.1.width ≡ target.width → d.1.height ≡ target.height → d.0.references.last ≡ d.1 → Like own (Some d.0)
-    → Plays tables own (held tables target ∷ []) (d.1 ∷ []) (Some (unbiased d.0))
-hold_shown laws tables own target d updates bytes can size wide high last like =
-    let forged : hold_of tables d.0.references.last.width d.0.references.last.height ≡ Ok can.0 =
-    ap (λ (w : ℕ). hold_of tables w d.0.references.last.height) (size.wide ∙ wide) ∙ ap (λ (h : ℕ). hold_of tables target.width h) (size.high ∙ high) ∙ can.1 in
-    let h : Holds tables own d.0 can.0 = hold_like laws tables own d.0 can.0 updates (has_last d.0 d.1 last bytes) like forged in
-    let one : Plays tables own (can.0 ∷ []) (d.0.references.last ∷ []) (Some (unbiased d.0)) = plays_one tables own can.0 (unbiased d.0, d.0.references.last) h.shown h.is in
-    let same : Plays tables own (can.0 ∷ []) (d.1 ∷ []) (Some (unbiased d.0)) = subst (λ (p : PictureSamples). Plays tables own (can.0 ∷ []) (p ∷ []) (Some (unbiased d.0))) last one in
-    subst (λ (held_bytes : List ℕ). Plays tables own (held_bytes ∷ []) (d.1 ∷ []) (Some (unbiased d.0))) (sym (held-is tables target can.0 can.1)) same
+-- a packet that is held in its place: a hold packet, or, if none can be forged, a dropped frame, which shows the last reference too
+dropped_step : (tables : Tables) (state : State) → step_of tables (Some state) [] ≡ Ok (state, state.references.last)
+unfolding step_of
+dropped_step tables state = refl
+
+none_forged : (tables : Tables) (own : Option State) (d : State × PictureSamples) → d.0.references.last ≡ d.1 → Like own (Some d.0) → Shown tables own ([] ∷ []) d.1 d.0
+none_forged tables own d last (alike_as e) =
+    let is : step_of tables own [] ≡ Ok (d.0, d.0.references.last) = ap (λ (s : Option State). step_of tables s []) e ∙ dropped_step tables d.0 in
+    let one : Plays tables own ([] ∷ []) (d.0.references.last ∷ []) (Some d.0) = plays_one tables own [] (d.0, d.0.references.last) refl is in
+    record { last = Some d.0; like = alike_as refl; plays = subst (λ (p : PictureSamples). Plays tables own ([] ∷ []) (p ∷ []) (Some d.0)) last one }
+none_forged tables own d last (alike_cleared other e f) =
+    let whole : other ≡ d.0 = other_is other d.0 e in
+    let own_is : own ≡ Some (unbiased d.0) = f ∙ ap (λ (s : State). let o : Option State = Some (unbiased s) in o) whole in
+    let is : step_of tables own [] ≡ Ok (unbiased d.0, d.0.references.last) = ap (λ (s : Option State). step_of tables s []) own_is ∙ dropped_step tables (unbiased d.0) in
+    let one : Plays tables own ([] ∷ []) (d.0.references.last ∷ []) (Some (unbiased d.0)) = plays_one tables own [] (unbiased d.0, d.0.references.last) refl is in
+    record { last = Some (unbiased d.0); like = alike_cleared d.0 refl refl; plays = subst (λ (p : PictureSamples). Plays tables own ([] ∷ []) (p ∷ []) (Some (unbiased d.0))) last one }
+
+one_forged : Laws → (tables : Tables) (own : Option State) (target : Target) (d : State × PictureSamples) (packet : List ℕ) → AreUpdates tables → HasBytes d.1 → hold_of tables target.width target.height ≡ Ok packet → HasPictureSize d → d.1.width ≡ target.width → d.1.height ≡ target.height → d.0.references.last ≡ d.1
+    → Like own (Some d.0) → Shown tables own (packet ∷ []) d.1 d.0
+one_forged laws tables own target d packet updates bytes made size wide high last like =
+    let forged : hold_of tables d.0.references.last.width d.0.references.last.height ≡ Ok packet =
+    ap (λ (w : ℕ). hold_of tables w d.0.references.last.height) (size.wide ∙ wide) ∙ ap (λ (h : ℕ). hold_of tables target.width h) (size.high ∙ high) ∙ made in
+    let h : Holds tables own d.0 packet = hold_like laws tables own d.0 packet updates (has_last d.0 d.1 last bytes) like forged in
+    let one : Plays tables own (packet ∷ []) (d.0.references.last ∷ []) (Some (unbiased d.0)) = plays_one tables own packet (unbiased d.0, d.0.references.last) h.shown h.is in
+    record { last = Some (unbiased d.0); like = alike_cleared d.0 refl refl; plays = subst (λ (p : PictureSamples). Plays tables own (packet ∷ []) (p ∷ []) (Some (unbiased d.0))) last one }
+
+-- the packet that holds a frame whose picture is the last reference
+held_by : Laws → (tables : Tables) (own : Option State) (target : Target) (d : State × PictureSamples) (made : Result (List ℕ) ForgeFault) → hold_of tables target.width target.height ≡ made → AreUpdates tables → HasBytes d.1 → HasPictureSize d → d.1.width ≡ target.width → d.1.height ≡ target.height
+    → d.0.references.last ≡ d.1 → Like own (Some d.0) → Shown tables own (result_unwrap_or made [] ∷ []) d.1 d.0
+held_by laws tables own target d (Ok packet) is updates bytes size wide high last like = one_forged laws tables own target d packet updates bytes is size wide high last like
+held_by laws tables own target d (Err fault) is updates bytes size wide high last like = none_forged tables own d last like
+
+hold_shown : Laws → (tables : Tables) (own : Option State) (target : Target) (d : State × PictureSamples) → AreUpdates tables → HasBytes d.1 → HasPictureSize d → d.1.width ≡ target.width → d.1.height ≡ target.height → d.0.references.last ≡ d.1 → Like own (Some d.0)
+    → Shown tables own (held tables target ∷ []) d.1 d.0
+hold_shown laws tables own target d updates bytes size wide high last like = held_by laws tables own target d (hold_of tables target.width target.height) refl updates bytes size wide high last like
 
 -- ---- the packet at an index
 
@@ -194,21 +218,16 @@ some_is (byte ∷ bytes) some = eqb-suc-zero (length bytes)
 abbrev own_of : (tables : Tables) (packets : List (List ℕ)) (target : Target) (picture : PictureSamples) → IsDecoded tables packets target picture → Own tables packets target
 own_of tables packets target picture h = record { packet = h.packet; d = (h.state, picture); here = h.here; accepted = h.accepted }
 
-held_case : Laws → OutlinesAreHeaders → (tables : Tables) (mine : Option State) (packets : List (List ℕ)) (before : Option Target) (target : Target) (picture : PictureSamples) → AreUpdates tables → (uses_hold packets before target ≡ true → IsForged tables target) → (h : IsDecoded tables packets target picture) → is_held packets before target ≡ true → Like mine (Some h.state)
+held_case : Laws → OutlinesAreHeaders → (tables : Tables) (mine : Option State) (packets : List (List ℕ)) (before : Option Target) (target : Target) (picture : PictureSamples) → AreUpdates tables → (h : IsDecoded tables packets target picture) → is_held packets before target ≡ true → Like mine (Some h.state)
     → Shown tables mine (frame_packets tables packets before target) picture h.state
-held_case laws outlines tables mine packets before target picture updates forged h is like =
+held_case laws outlines tables mine packets before target picture updates h is like =
     let d : State × PictureSamples = (h.state, picture) in
     let step : AnyStep tables h.packet d = any_step tables packets target (own_of tables packets target picture h) in
     let parts = and_parts (repeats before target) (leaves_last (packet_at packets target.place)) is in
     let leaves : leaves_last h.packet ≡ true = ap leaves_last (sym (packet-is packets target.place h.packet h.here)) ∙ parts.1 in
     let last : h.state.references.last ≡ picture = last_is_picture outlines tables step.from h.packet d leaves step.is in
-    let uses : uses_hold packets before target ≡ true = ap (λ (b : Bool). b || not (has_bytes (packet_at packets target.place))) is in
-    let plays = hold_shown laws tables mine target d updates h.bytes (forged uses) (sized tables step.from h.packet d step.is) h.wide h.high last like in
-    record {
-      last = Some (unbiased h.state);
-      like = alike_cleared h.state refl refl;
-      plays = subst (λ (ps : List (List ℕ)). Plays tables mine ps (picture ∷ []) (Some (unbiased h.state))) (sym (frame-held tables packets before target is)) plays;
-    }
+    let one : Shown tables mine (held tables target ∷ []) picture h.state = hold_shown laws tables mine target d updates h.bytes (sized tables step.from h.packet d step.is) h.wide h.high last like in
+    record { last = one.last; like = one.like; plays = subst (λ (ps : List (List ℕ)). Plays tables mine ps (picture ∷ []) one.last) (sym (frame-held tables packets before target is)) one.plays }
 
 bytes_case : Laws → (tables : Tables) (mine : Option State) (packets : List (List ℕ)) (before : Option Target) (target : Target) (picture : PictureSamples) → (h : IsDecoded tables packets target picture) → is_held packets before target ≡ false → has_bytes h.packet ≡ true
     → Ready tables mine (slice_range packets (first_place packets before target) target.place) h.packet (h.state, picture) → Shown tables mine (frame_packets tables packets before target) picture h.state
@@ -225,23 +244,17 @@ bytes_case laws tables mine packets before target picture h off bytes r =
       plays = subst (λ (ps : List (List ℕ)). Plays tables mine ps (picture ∷ []) (Some h.state)) (sym is) all;
     }
 
-dropped_case : Laws → (tables : Tables) (mine : Option State) (packets : List (List ℕ)) (before : Option Target) (target : Target) (picture : PictureSamples) → AreUpdates tables → (uses_hold packets before target ≡ true → IsForged tables target) → (h : IsDecoded tables packets target picture) → is_held packets before target ≡ false → has_bytes h.packet ≡ false
+dropped_case : Laws → (tables : Tables) (mine : Option State) (packets : List (List ℕ)) (before : Option Target) (target : Target) (picture : PictureSamples) → AreUpdates tables → (h : IsDecoded tables packets target picture) → is_held packets before target ≡ false → has_bytes h.packet ≡ false
     → Ready tables mine (slice_range packets (first_place packets before target) target.place) h.packet (h.state, picture) → Shown tables mine (frame_packets tables packets before target) picture h.state
-dropped_case laws tables mine packets before target picture updates forged h off none r =
+dropped_case laws tables mine packets before target picture updates h off none r =
     let d : State × PictureSamples = (h.state, picture) in
     let at : packet_at packets target.place ≡ h.packet = packet-is packets target.place h.packet h.here in
-    let empty : packet_at packets target.place ≡ [] = at ∙ empty_is h.packet none in
     let step : AnyStep tables h.packet d = any_step tables packets target (own_of tables packets target picture h) in
     let known = r.dropped (empty_is h.packet none) in
-    let uses : uses_hold packets before target ≡ true = ap (λ (p : List ℕ). is_held packets before target || not (has_bytes p)) empty ∙ ap (λ (b : Bool). b || true) off in
-    let one : Plays tables r.last (held tables target ∷ []) (picture ∷ []) (Some (unbiased h.state)) = hold_shown laws tables r.last target d updates h.bytes (forged uses) (sized tables step.from h.packet d step.is) h.wide h.high known.1 known.0 in
-    let all : Plays tables mine (hidden (slice_range packets (first_place packets before target) target.place) ++ held tables target ∷ []) (picture ∷ []) (Some (unbiased h.state)) = plays_led tables mine r.last (Some (unbiased h.state)) (hidden (slice_range packets (first_place packets before target) target.place)) (held tables target) picture r.plays one in
+    let one : Shown tables r.last (held tables target ∷ []) picture h.state = hold_shown laws tables r.last target d updates h.bytes (sized tables step.from h.packet d step.is) h.wide h.high known.1 known.0 in
+    let all : Plays tables mine (hidden (slice_range packets (first_place packets before target) target.place) ++ held tables target ∷ []) (picture ∷ []) one.last = plays_led tables mine r.last one.last (hidden (slice_range packets (first_place packets before target) target.place)) (held tables target) picture r.plays one.plays in
     let is : frame_packets tables packets before target ≡ hidden (slice_range packets (first_place packets before target) target.place) ++ held tables target ∷ [] = frame-free tables packets before target false off (ap has_bytes at ∙ none) in
-    record {
-      last = Some (unbiased h.state);
-      like = alike_cleared h.state refl refl;
-      plays = subst (λ (ps : List (List ℕ)). Plays tables mine ps (picture ∷ []) (Some (unbiased h.state))) (sym is) all;
-    }
+    record { last = one.last; like = one.like; plays = subst (λ (ps : List (List ℕ)). Plays tables mine ps (picture ∷ []) one.last) (sym is) all }
 
 -- a frame that is held has the outcome of the frame before
 same_outcome : (tables : Tables) (packets : List (List ℕ)) (p q : ℕ) (e d : State × PictureSamples) → q ≡ p → slice_get (outcomes tables packets) q ≡ Some (Ok e) → slice_get (outcomes tables packets) p ≡ Some (Ok d) → e ≡ d
@@ -259,16 +272,16 @@ held_like tables mine packets (Some before) target picture h again knows =
     let same : earlier.e ≡ (h.state, picture) = same_outcome tables packets target.place before.place earlier.e (h.state, picture) place earlier.accepted h.accepted in
     subst (λ (e : State × PictureSamples). Like mine (Some e.0)) same earlier.like
 
-pub frame_shown : Laws → OutlinesAreHeaders → (tables : Tables) (mine : Option State) (packets : List (List ℕ)) (before : Option Target) (target : Target) (picture : PictureSamples) → AreUpdates tables → (uses_hold packets before target ≡ true → IsForged tables target) → (h : IsDecoded tables packets target picture) → Knows tables mine packets before target
+pub frame_shown : Laws → OutlinesAreHeaders → (tables : Tables) (mine : Option State) (packets : List (List ℕ)) (before : Option Target) (target : Target) (picture : PictureSamples) → AreUpdates tables → (h : IsDecoded tables packets target picture) → Knows tables mine packets before target
     → Shown tables mine (frame_packets tables packets before target) picture h.state
-frame_shown laws outlines tables mine packets before target picture updates forged h knows = elim (cases_Bool (is_held packets before target)) [
+frame_shown laws outlines tables mine packets before target picture updates h knows = elim (cases_Bool (is_held packets before target)) [
   | inl is ↦
       let again : repeats before target ≡ true = (and_parts (repeats before target) (leaves_last (packet_at packets target.place)) is).0 in
-      held_case laws outlines tables mine packets before target picture updates forged h is (held_like tables mine packets before target picture h again knows)
+      held_case laws outlines tables mine packets before target picture updates h is (held_like tables mine packets before target picture h again knows)
   | inr off ↦
       let r = ready laws tables mine packets before target (own_of tables packets target picture h) knows in
       elim (cases_Bool (has_bytes h.packet)) [
         | inl bytes ↦ bytes_case laws tables mine packets before target picture h off bytes r
-        | inr none ↦ dropped_case laws tables mine packets before target picture updates forged h off none r
+        | inr none ↦ dropped_case laws tables mine packets before target picture updates h off none r
       ]
 ]

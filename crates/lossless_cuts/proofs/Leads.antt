@@ -156,7 +156,7 @@ pub record Holds (tables : TableEntries) (own : Option State) (state : State) (p
   pub is : step_of tables own packet ≡ Ok (unbiased state, state.references.last)
   pub shown : is_shown packet ≡ true
 
-other_is : (other state : State) → ◌≡◌ {A = Option State} (Some state) (Some other) → other ≡ state
+pub other_is : (other state : State) → ◌≡◌ {A = Option State} (Some state) (Some other) → other ≡ state
 other_is other state e = cc
 
 pub hold_like : Laws → (tables : TableEntries) (own : Option State) (state : State) (packet : List ℕ) → AreUpdates tables → HasLast state → Like own (Some state) → hold_of tables state.references.last.width state.references.last.height ≡ Ok packet → Holds tables own state packet

@@ -7,3 +7,4 @@ pub mod Leads
 pub mod Frames
 pub mod AllFrames
 pub mod Pushed
+pub mod RowBytes

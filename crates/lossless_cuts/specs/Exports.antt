@@ -6,10 +6,9 @@ use Rattle.pixel_planes.specs.Pictures.{IsWholePicture, PictureSamples}
 use Rattle.reference_frames.specs.declared.states.State.{State}
 use Rattle.packet_edits.specs.Shown.{shown_indexes}
 use Rattle.packet_forge.specs.Laws.{AreBytes}
-use Rattle.packet_forge.specs.Packets.{hold_of}
 use Rattle.state_cache.specs.Decoding.{Outcome, outcomes}
 use Rattle.lossless_cuts.specs.declared.targets.Target.{Target}
-use Rattle.lossless_cuts.specs.Plans.{stream_at, uses_hold}
+use Rattle.lossless_cuts.specs.Plans.{stream_at}
 
 -- a picture is whole, and its samples are bytes
 pub record HasBytes (picture : PictureSamples) : Type 0 where
@@ -17,16 +16,6 @@ pub record HasBytes (picture : PictureSamples) : Type 0 where
   pub luma : AreBytes picture.luma
   pub cb : AreBytes picture.cb
   pub cr : AreBytes picture.cr
-
--- a hold packet of a frame's size can be forged
-abbrev pub IsForged : Tables → Target → Type 0
-IsForged tables target = (packet : List ℕ) × (hold_of tables target.width target.height ≡ Ok packet)
-
--- and so it is for each frame that a hold packet shows
-abbrev pub AreForged : Tables → List (List (List ℕ)) → Option Target → List Target → Type 0
-AreForged tables streams before [] = Unit {0}
-AreForged tables streams before (target ∷ targets) =
-    (uses_hold (stream_at streams target.source) before target ≡ true → IsForged tables target) × AreForged tables streams (Some target) targets
 
 -- a frame's packet is shown, and decoding its source accepts it, with this picture
 pub record IsDecoded (tables : Tables) (packets : List (List ℕ)) (target : Target) (picture : PictureSamples) : Type 0 where

@@ -2,14 +2,13 @@
 use Rattle.std.specs.Prelude.{ℕ, List, None}
 use Rattle.vp8_tables.specs.declared.tables.Tables.{Tables}
 use Rattle.pixel_planes.specs.Pictures.{PictureSamples}
-use Rattle.packet_forge.specs.Laws.{AreUpdates}
-use Rattle.lossless_cuts.specs.Exports.{AreDecoded, AreForged, ShowsExactly}
+use Rattle.lossless_cuts.specs.Exports.{AreDecoded, ShowsExactly}
 use Rattle.lossless_cuts.specs.declared.targets.Target.{Target}
 use Rattle.lossless_cuts.specs.Plans.{exported}
 
 -- the packets of frames that decoding accepts show exactly these frames: no packet is refused, and frame n has the picture of frame n,
 -- sample for sample
-abbrev pub ExportsShowTheirFrames : Type 0
-ExportsShowTheirFrames =
-    (tables : Tables) (streams : List (List (List ℕ))) (targets : List Target) (pictures : List PictureSamples) → AreUpdates tables
-    → AreForged tables streams None targets → AreDecoded tables streams targets pictures → ShowsExactly tables (exported tables streams None targets) pictures
+abbrev pub ExportsShowTheirFrames : Tables → Type 0
+ExportsShowTheirFrames tables =
+    (streams : List (List (List ℕ))) (targets : List Target) (pictures : List PictureSamples) → AreDecoded tables streams targets pictures
+    → ShowsExactly tables (exported tables streams None targets) pictures

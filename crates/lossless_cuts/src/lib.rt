@@ -6,8 +6,10 @@ mod exports;
 mod faults;
 pub mod laws;
 mod targets;
+mod whole;
 
 pub use cuts::push_frame;
 pub use exports::export_packets;
 pub use faults::CutFault;
 pub use targets::Target;
+pub use whole::prove_bytes;

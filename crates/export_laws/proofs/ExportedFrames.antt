@@ -1,0 +1,168 @@
+-- The packets of a script's frames show the frames that the session serves.
+use Rattle.std.proofs.Common.{◌≡◌, ℕ, zero, suc, ◌+◌, ◌-◌, ◌*◌, ◌/◌, ◌≤◌, ◌<◌, ◌==◌, ◌&&◌, Bool, true, false, List, [], ◌∷◌, length, map, slice_get, Option, Some, None, Result, Ok, Err, refl, sym, ap, subst, ◌∙◌, arith, zero-add, if◌then◌else◌}
+use Rattle.std.specs.Prelude.{nat_le, option_and_then}
+use Rattle.std.specs.List.{list_all}
+use Rattle.std.proofs.lemmas.Bool.{and_from, and_parts, eqb-true, le-leb}
+use Rattle.vp8_tables.specs.declared.tables.Tables.{Tables}
+use Rattle.pixel_planes.specs.Pictures.{PictureSamples, plane_of, side_of}
+use Rattle.pixel_planes.specs.Samples.{sample_at}
+use Rattle.pixel_planes.specs.declared.pictures.Component.{Component}
+use Rattle.pixel_planes.specs.declared.pictures.Component.TheVariants.{Luma, Cb, Cr}
+use Rattle.packet_edits.specs.Edits.{Listing}
+use Rattle.packet_edits.specs.Shown.{shown_indexes, stream_of}
+use Rattle.state_cache.specs.Decoding.{Outcome, outcomes}
+use Rattle.lossless_cuts.specs.Exports.{AreDecoded, IsDecoded}
+use Rattle.lossless_cuts.specs.Laws.{ExportsShowTheirFrames}
+use Rattle.lossless_cuts.specs.Plans.{exported, stream_at}
+use Rattle.lossless_cuts.specs.declared.targets.Target.{Target}
+use Rattle.script_nodes.specs.Frames.{after_steps}
+use Rattle.script_nodes.specs.Shown.{Shown, Shows, black, cut_to, faded_to, is_inside, position_in, shown_in, step_shown, steps_shown, use_step, weighed}
+use Rattle.script_nodes.specs.declared.nodes.Area.{Area}
+use Rattle.script_nodes.specs.declared.traces.Step.{Step}
+use Rattle.script_nodes.specs.declared.traces.Step.TheVariants.{Cut, Weigh}
+use Rattle.frame_session.specs.Edits.{list_at}
+use Rattle.export_laws.specs.Exported.{AreTargets, IsExport, IsFrame, IsTarget, ScriptsAreExported, keeps_samples, streams_in}
+use Rattle.frame_session.specs.Sessions.{Now, fitted, frame_count, frame_from, frame_made, outcome_of, picture_from}
+
+-- ---- steps that change no sample
+
+-- what a step makes of a picture that shows this
+record Made (step : Step) (picture : PictureSamples) (shown : Shown) : Type 0 where
+  made : Shown
+  is : step_shown step shown ≡ Some made
+  shows : Shows picture made
+
+at_zero : (component : Component) (place x : ℕ) → place ≡ 0 → position_in component place + x ≡ x
+at_zero Luma place x is = omega (arith, is)
+at_zero Cb place x is = omega (arith, is)
+at_zero Cr place x is = omega (arith, is)
+
+whole_weight : (dark sample : ℕ) → (256 * sample + 0 * dark + 128) / 256 ≡ sample
+whole_weight dark sample = omega arith
+
+weighed_whole : (weight dark sample : ℕ) → weight ≡ 256 → weighed weight dark sample ≡ sample
+weighed_whole weight dark sample is = ap (λ (w : ℕ). weighed w dark sample) is ∙ whole_weight dark sample
+
+record WholeCut (area : Area) (width height : ℕ) : Type 0 where
+  left : area.x ≡ 0
+  top : area.y ≡ 0
+  wide : area.width ≡ width
+  high : area.height ≡ height
+
+whole_cut : (area : Area) (width height : ℕ) → keeps_samples width height (Cut area) ≡ true → WholeCut area width height
+whole_cut area width height keeps =
+    let all = and_parts ((area.x == 0) && (area.y == 0) && (area.width == width)) (area.height == height) keeps in
+    let three = and_parts ((area.x == 0) && (area.y == 0)) (area.width == width) all.0 in
+    let two = and_parts (area.x == 0) (area.y == 0) three.0 in
+    record { left = eqb-true area.x 0 two.0; top = eqb-true area.y 0 two.1; wide = eqb-true area.width width three.1; high = eqb-true area.height height all.1 }
+
+cut_kept : (area : Area) (picture : PictureSamples) (shown : Shown) → WholeCut area picture.width picture.height → Shows picture shown → Made (Cut area) picture shown
+cut_kept area picture shown whole shows =
+    let wide : picture.width ≡ shown.width = shows.wide in
+    let high : picture.height ≡ shown.height = shows.high in
+    let fits_wide : area.x + area.width ≤ shown.width = omega (arith, whole.left, whole.wide, wide) in
+    let fits_high : area.y + area.height ≤ shown.height = omega (arith, whole.top, whole.high, high) in
+    let inside : is_inside area shown.width shown.height ≡ true = and_from (nat_le (area.x + area.width) shown.width) (nat_le (area.y + area.height) shown.height) (le-leb (area.x + area.width) shown.width fits_wide) (le-leb (area.y + area.height) shown.height fits_high) in
+    record {
+      made = cut_to area shown;
+      is = ap (λ (b : Bool). if b then Some (cut_to area shown) else None) inside;
+      shows = record {
+        wide = sym whole.wide;
+        high = sym whole.high;
+        each = λ component x y less below.
+            shows.each component x y less below
+            ∙ ap (λ (column : ℕ). shown.sample component column y) (sym (at_zero component area.x x whole.left))
+            ∙ ap (λ (row : ℕ). shown.sample component (position_in component area.x + x) row) (sym (at_zero component area.y y whole.top));
+      };
+    }
+
+faded_kept : (weight : ℕ) (picture : PictureSamples) (shown : Shown) → weight ≡ 256 → Shows picture shown → Made (Weigh weight) picture shown
+faded_kept weight picture shown is shows = record {
+  made = faded_to weight shown;
+  is = refl;
+  shows = record {
+    wide = shows.wide;
+    high = shows.high;
+    each = λ component x y less below. shows.each component x y less below ∙ sym (weighed_whole weight (black component) (shown.sample component x y) is);
+  };
+}
+
+step_kept : (step : Step) (picture : PictureSamples) (shown : Shown) → keeps_samples picture.width picture.height step ≡ true → Shows picture shown → Made step picture shown
+step_kept (Cut area) picture shown keeps shows = cut_kept area picture shown (whole_cut area picture.width picture.height keeps) shows
+step_kept (Weigh weight) picture shown keeps shows = faded_kept weight picture shown (eqb-true weight 256 keeps) shows
+
+-- what all steps make of it
+record AllMade (steps : List Step) (picture : PictureSamples) (shown : Shown) : Type 0 where
+  made : Shown
+  is : after_steps use_step steps (Some shown) ≡ Some made
+  shows : Shows picture made
+
+steps_kept : (steps : List Step) (picture : PictureSamples) (shown : Shown) → list_all (keeps_samples picture.width picture.height) steps ≡ true → Shows picture shown → AllMade steps picture shown
+steps_kept [] picture shown keeps shows = record { made = shown; is = refl; shows = shows }
+steps_kept (step ∷ steps) picture shown keeps shows =
+    let parts = and_parts (keeps_samples picture.width picture.height step) (list_all (keeps_samples picture.width picture.height) steps) keeps in
+    let one : Made step picture shown = step_kept step picture shown parts.0 shows in
+    let rest : AllMade steps picture one.made = steps_kept steps picture one.made parts.1 one.shows in
+    record { made = rest.made; is = ap (after_steps use_step steps) one.is ∙ rest.is; shows = rest.shows }
+
+-- ---- a frame
+
+shows_itself : (picture : PictureSamples) → Shows picture (shown_in picture)
+shows_itself picture = record { wide = refl; high = refl; each = λ component x y less below. refl }
+
+pub is_frame : (now : Now) (n : ℕ) (target : Target) (picture : PictureSamples) → IsTarget now n target picture → IsFrame now n picture
+is_frame now n target picture t =
+    let free : Now = record now { size = None } in
+    let stream : List (List ℕ) = stream_of (list_at now.lists target.source) in
+    let keeps : list_all (keeps_samples picture.width picture.height) t.from.steps ≡ true =
+    ap (λ (w : ℕ). list_all (keeps_samples w picture.height) t.from.steps) t.decoded.wide ∙ ap (λ (h : ℕ). list_all (keeps_samples target.width h) t.from.steps) t.decoded.high ∙ t.keeps in
+    let all : AllMade t.from.steps picture (shown_in picture) = steps_kept t.from.steps picture (shown_in picture) keeps (shows_itself picture) in
+    let outcome : outcome_of now t.from.source t.from.frame ≡ Some (Ok (t.decoded.state, picture)) =
+    ap (λ (s : ℕ). outcome_of now s t.from.frame) t.source
+    ∙ ap (λ (o : Option ℕ). option_and_then (λ (place : ℕ). slice_get (outcomes now.tables stream) place) o) t.place
+    ∙ t.decoded.accepted in
+    let frame : frame_from free (Some t.from) ≡ Ok all.made =
+    ap (λ (o : Option Outcome). frame_made None t.from.steps (picture_from t.from.source o)) outcome ∙ ap (fitted None) all.is in
+    (all.made, ap (frame_from free) t.traces ∙ frame, all.shows)
+
+-- ---- all frames
+
+stream_listed : (lists : List Listing) (source : ℕ) → stream_at (map stream_of lists) source ≡ stream_of (list_at lists source)
+stream_listed [] source = refl
+stream_listed (list ∷ lists) zero = refl
+stream_listed (list ∷ lists) (suc source) = stream_listed lists source
+
+are_decoded : (now : Now) (n : ℕ) (targets : List Target) (pictures : List PictureSamples) → AreTargets now n targets pictures → AreDecoded now.tables (streams_in now) targets pictures
+are_decoded now n [] [] t = tt
+are_decoded now n [] (picture ∷ pictures) t = absurd t
+are_decoded now n (target ∷ targets) [] t = absurd t
+are_decoded now n (target ∷ targets) (picture ∷ pictures) t =
+    (subst (λ (packets : List (List ℕ)). IsDecoded now.tables packets target picture) (sym (stream_listed now.lists target.source)) t.0.decoded, are_decoded now (n + 1) targets pictures t.1)
+
+are_frames : (now : Now) (n : ℕ) (targets : List Target) (pictures : List PictureSamples) → AreTargets now n targets pictures → (k : ℕ) (picture : PictureSamples) → slice_get pictures k ≡ Some picture → IsFrame now (n + k) picture
+are_frames now n [] [] t k picture found = cc
+are_frames now n [] (first ∷ pictures) t k picture found = absurd t
+are_frames now n (target ∷ targets) [] t k picture found = absurd t
+are_frames now n (target ∷ targets) (first ∷ pictures) t zero picture found =
+    let same : first ≡ picture = cc in
+    let here : n ≡ n + 0 = omega arith in
+    subst (λ (m : ℕ). IsFrame now m picture) here (subst (λ (p : PictureSamples). IsFrame now n p) same (is_frame now n target first t.0))
+are_frames now n (target ∷ targets) (first ∷ pictures) t (suc k) picture found =
+    let moved : n + 1 + k ≡ n + suc k = omega arith in
+    subst (λ (m : ℕ). IsFrame now m picture) moved (are_frames now (n + 1) targets pictures t.1 k picture found)
+
+same_count : (now : Now) (n : ℕ) (targets : List Target) (pictures : List PictureSamples) → AreTargets now n targets pictures → length pictures ≡ length targets
+same_count now n [] [] t = refl
+same_count now n [] (picture ∷ pictures) t = absurd t
+same_count now n (target ∷ targets) [] t = absurd t
+same_count now n (target ∷ targets) (picture ∷ pictures) t = ap suc (same_count now (n + 1) targets pictures t.1)
+
+pub scripts_are_exported : (tables : Tables) → ExportsShowTheirFrames tables → ScriptsAreExported tables
+scripts_are_exported tables law now targets pictures same t count =
+    let own : ExportsShowTheirFrames now.tables = subst ExportsShowTheirFrames (sym same) law in
+    record {
+      pictures = pictures;
+      shows = own (streams_in now) targets pictures (are_decoded now 0 targets pictures t);
+      count = same_count now 0 targets pictures t ∙ count;
+      each = λ n picture found. subst (λ (m : ℕ). IsFrame now m picture) (zero-add n) (are_frames now 0 targets pictures t n picture found);
+    }
