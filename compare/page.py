@@ -329,6 +329,8 @@ def find_and_repair(page, clip, place):
     browser.key("Control", "Shift", "Z")
     browser.wait("document.getElementById('refusal').hidden")
     browser.key("Control", "z")
+    # Taken, undone, made again, undone: an edit closes what was open.
+    browser.wait(f"wokureti.model.revision === {revision + 4} && !wokureti.findings.following")
     browser.wait("wokureti.findings.check && wokureti.findings.check.over && wokureti.findings.check.damage === 1 && document.querySelector('#findings-list li')")
     browser.click("#findings-list li .row")
     browser.wait("document.querySelectorAll('.repairs button').length > 3")
@@ -893,6 +895,27 @@ def asides(browser, room, clip, other):
     say("packets that no frame shows: their own pictures, of another source and without a script; two sources are compared")
 
 
+def along(page, clip):
+    """Small pictures and a curve along the timeline."""
+    browser = page.browser
+    keys = sum(ivf.is_key(data) for _, data in ivf.read_packets(clip)[1])
+    browser.wait("Number(document.getElementById('thumbs').dataset.pictures) > 10", seconds=30)
+    stored = browser.run("return [...wokureti.thumbs.found.values()].filter((picture) => picture).length")
+    expect(stored == keys, f"{stored} small pictures of {keys} key packets")
+    browser.run("const select = document.getElementById('curve'); select.value = 'quantizer'; select.dispatchEvent(new Event('change'))")
+    browser.wait("wokureti.timeline.curve")
+    found = browser.run("return wokureti.timeline.curve.lines.flat().map(([packet, part]) => [Math.floor(packet), Math.round(part * 127)])")
+    wanted = [[fact["packet"], fact["quantizer"]] for fact in page.members("packets?count=10000")["packets"] if fact["quantizer"] is not None]
+    expect(found == wanted and len(found) > 200, f"the curve has {found[:3]}, not {wanted[:3]}")
+    browser.run("const select = document.getElementById('curve'); select.value = 'none'; select.dispatchEvent(new Event('change'))")
+    browser.wait("!wokureti.timeline.curve")
+    browser.click("#thumbs-switch")
+    browser.wait("document.getElementById('thumbs').hidden")
+    browser.click("#thumbs-switch")
+    page.quiet("pictures and curves")
+    say(f"along the timeline: small pictures of {keys} key packets, and the quantizer of {len(found)} packets")
+
+
 def door(browser, room, clip):
     """The file that a browser is started with leads to the page."""
     starter = room / "starter"
@@ -1095,6 +1118,7 @@ def main():
         overlays(page, room)
         page.quiet("overlays")
         save_and_reload(page, room / "saved.ivf", clip)
+        along(page, clip)
         two_tabs(page)
         kill(page)
         reachable(page)

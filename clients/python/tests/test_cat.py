@@ -91,6 +91,8 @@ class Texts(Case):
 
 
 class Paths(Case):
+    LIMIT = 60
+
     def setUp(self):
         super().setUp()
         self.room = self.folder() / "a folder of 'clips' $x"

@@ -379,6 +379,16 @@ class Going(PageCase):
             self.assertEqual(after, next((key for key in keys if key > packet), None), packet)
             self.assertEqual(before, next((key for key in reversed(keys) if key < packet), None), packet)
         self.assertEqual(self.members("/key?packet=0&source=1")["packet"], next((place for place, data in enumerate(packets_of(SMALL)) if place and ivf.is_key(data)), None))
+        found = self.members("/keys?packets=0,3,15,16,31,99")
+        self.assertEqual((found["packets"], found["numbers"]), ([0, 0, 4, 16, 16, keys[-1]], [0, 0, 4, 16, 16, keys[-1]]))
+        self.assertEqual(found["frames"], found["packets"])
+        self.step("delete 0", "delete 0")
+        # A number stays that of the packet.
+        found = self.members("/keys?packets=0,2,13,14")
+        self.assertEqual((found["packets"], found["numbers"]), ([None, 2, 2, 14], [None, 4, 4, 16]))
+        self.change("undo")
+        for query in ("packets=x", "packets=1,-1", "packets=" + ",".join("1" * 201), "source=2"):
+            self.assertIn(self.ask(f"/keys?{query}")[0], (400, 404), query)
         self.change("script trim 0 0 10; trim 0 20 5; splice 1 2; source 1; splice 3 4")
         for frame, before, after in ((0, None, 10), (9, 0, 10), (10, 0, 15), (12, 10, 15), (15, 10, None), (26, 15, None)):
             self.assertEqual([self.members(f"/cut?frame={frame}&step={step}")["frame"] for step in (-1, 1)], [before, after], frame)

@@ -319,6 +319,8 @@ class Commands(RepairCase):
 
 
 class NoKeyFrames(RepairCase):
+    LIMIT = 120
+
     def broken(self, *others):
         """The stream without a sound key frame."""
         packets = list(self.packets)

@@ -713,14 +713,16 @@ class Hostile(ServerCase):
             made.give(count, frame)
         self.assertEqual((made.taken, made.take(most)), (0, 0))
         # Those who get none are served too.
-        wanted = self.ask("/clip.y4m")[2]
+        wanted, other = self.ask("/clip.y4m")[2], virtual.Ahead()
         with mock.patch.object(virtual, "AHEAD", made), mock.patch.object(virtual, "MOST_BYTES", 0):
             self.assertEqual(self.ask("/clip.y4m")[2], wanted)
-        # The server gives back what it took after the last byte was read.
-        limit = time.monotonic() + SLOW
-        while virtual.AHEAD.taken != 0 and time.monotonic() < limit:
-            time.sleep(0.01)
-        self.assertEqual(virtual.AHEAD.taken, 0)
+        # What a reader took is given back after its last byte.
+        with mock.patch.object(virtual, "AHEAD", other):
+            self.assertEqual(self.ask("/clip.y4m")[2], wanted)
+            limit = time.monotonic() + 10 * SLOW
+            while other.taken:
+                self.assertLess(time.monotonic(), limit)
+                time.sleep(0.02)
 
     def test_clients_that_do_not_read(self):
         script = Script().splice(0, 0)

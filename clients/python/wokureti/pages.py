@@ -32,8 +32,8 @@ STEPS = frozenset(("double", "sort", "hold"))
 MOST_LINES = 20000
 # Frames whose origins are told at a time, at most; seconds that one search for a frame that differs takes.
 MOST_ORIGINS, SEARCH_TIME = 4096, 0.25
-# Frames that are served together, at most.
-MOST_TOGETHER = 8
+# Frames that are served together, at most; packets whose key packets are asked for.
+MOST_TOGETHER, MOST_KEYS = 8, 200
 RANGE = re.compile("([0-9]{1,15})-([0-9]{1,15})\\.y4m")
 
 
@@ -61,6 +61,7 @@ class PageRoutes(Routes):
                 ("numbers",): self.numbers,
                 ("check",): self.check_of,
                 ("key",): self.key,
+                ("keys",): self.keys,
                 ("range",): self.range,
                 ("cut",): self.cut,
                 ("report.json",): self.report,
@@ -256,6 +257,21 @@ class PageRoutes(Routes):
         keys = view.timeline(source).keys
         found = keys.find(1, packet + 1) if self.step_of(request) > 0 else keys.rfind(1, 0, min(packet, len(keys)))
         return as_json({"revision": view.revision, "source": source, "packet": None if found < 0 else found})
+
+    def keys(self, request):
+        """For each of some packets the key packet at or before it, its number in the pool, and its frame in the source; null if there is none."""
+        self.only(request, "source", "packets")
+        view = self.live.current_view()
+        source = self.source_of(request, view)
+        words = [word for word in request.query.get("packets", "").split(",") if word]
+        if len(words) > MOST_KEYS or not all(word.isdecimal() and len(word) <= 15 for word in words):
+            raise Refuse(400, f"packets are at most {MOST_KEYS} numbers with commas between them")
+        keys, stream = view.timeline(source).keys, view.streams[source]
+        found = [keys.rfind(1, 0, int(word) + 1) for word in words]
+        packets = [None if packet < 0 else packet for packet in found]
+        numbers = [None if packet is None else stream[packet] for packet in packets]
+        frames = [None if packet is None else self.own_frame(view, source, packet) for packet in packets]
+        return as_json({"revision": view.revision, "contents": view.contents.name, "packets": packets, "numbers": numbers, "frames": frames})
 
     def range(self, request):
         """The frames from the first one that shows one of the packets `first` to `end` - 1 to the last: the first and the one after them, or null."""

@@ -15,8 +15,11 @@ class Room(tempfile.TemporaryDirectory):
 
     def __init__(self, folder=None):
         super().__init__(prefix=PREFIX, dir=folder)
-        self.lock = os.open(os.path.join(self.name, LOCK), os.O_RDWR | os.O_CREAT | os.O_CLOEXEC, 0o600)
+        # The file gets its name when it is locked: else another program could take the lock, and the folder, before.
+        new = os.path.join(self.name, f"{LOCK}.new")
+        self.lock = os.open(new, os.O_RDWR | os.O_CREAT | os.O_CLOEXEC, 0o600)
         fcntl.flock(self.lock, fcntl.LOCK_EX | fcntl.LOCK_NB)
+        os.rename(new, os.path.join(self.name, LOCK))
 
     def cleanup(self):
         super().cleanup()

@@ -87,7 +87,8 @@ class Clip:
 
     def in_order(self, first, end):
         """The samples of a range of frames, some of them made while those before them are sent."""
-        at_once = 0 if end - first <= 2 else AHEAD.take(self.frame_size)
+        budget = AHEAD
+        at_once = 0 if end - first <= 2 else budget.take(self.frame_size)
         if not at_once:
             for number in range(first, end):
                 yield from self.frames([number])
@@ -99,7 +100,7 @@ class Clip:
                 yield from group
         finally:
             made.close()
-            AHEAD.give(at_once, self.frame_size)
+            budget.give(at_once, self.frame_size)
 
     def pieces(self, start, end):
         """The bytes of a range. It stops, before the range is whole, at an edit, or if a frame cannot be made."""

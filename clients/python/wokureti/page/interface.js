@@ -124,6 +124,11 @@ export async function frameOfPacket(source, packet, signal) {
   return frameOf(await ask(`packets/${packet}.y4m?source=${source}`, { signal }, `packet ${packet} of source ${source}`));
 }
 
+/** The picture of a path for a small one: nobody waits for it. */
+export async function small(path) {
+  return frameOf(await ask(path, {}, ""));
+}
+
 /** The picture of a packet after edits that are not made, without the script. */
 export async function previewPacket(lines, source, packet, revision, signal) {
   return frameOf(await post("preview", { lines, source, packet, revision }, "preview", signal));

@@ -1,5 +1,6 @@
 // Starts the page.
 
+import { Curves } from "./curves.js";
 import { Cutting } from "./cutting.js";
 import { Editing, savedText } from "./editing.js";
 import { EditList } from "./edit_list.js";
@@ -16,6 +17,7 @@ import { Player } from "./player.js";
 import { ScriptPanel } from "./script.js";
 import { Status, notice } from "./status.js";
 import { frameOf, timeText } from "./times.js";
+import { Thumbs } from "./thumbs.js";
 import { Timeline } from "./timeline.js";
 import { Viewer } from "./viewer.js";
 
@@ -33,6 +35,12 @@ const findings = new Findings(model, viewer, editing, timeline, status);
 const packetFacts = new PacketFacts(model);
 const scriptPanel = new ScriptPanel(model, editing);
 const editList = new EditList(model, editing);
+const thumbs = new Thumbs(model, timeline, player);
+const curves = new Curves(model, timeline, status);
+timeline.ondraw = () => {
+  thumbs.soon();
+  curves.soon();
+};
 const cutting = new Cutting(model, editing, status);
 editing.viewer = viewer;
 
@@ -257,7 +265,7 @@ async function begin() {
 }
 
 // For tests.
-window.wokureti = { model, frames, viewer, macroblocks, player, timeline, editing, findings, editList, scriptPanel, cutting };
+window.wokureti = { model, frames, viewer, macroblocks, player, timeline, editing, findings, editList, scriptPanel, cutting, thumbs, curves };
 begin().catch((error) => {
   status.say(error.message);
   notice(error.message, { isBad: true });

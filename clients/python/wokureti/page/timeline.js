@@ -243,6 +243,7 @@ export class Timeline {
     if (whole && !this.isDrawn) performance.mark("first timeline");
     this.isDrawn = this.isDrawn || whole !== null;
     this.drawn = performance.now() - started;
+    this.ondraw?.();
   }
 
   wholeTile() {
@@ -297,10 +298,32 @@ export class Timeline {
         label = number;
       }
     }
+    if (this.curve) this.drawCurve(context, base, room);
     this.drawNumbers(context, labels, base, height);
     this.drawFindings(context);
     this.drawSelection(context, base);
     this.drawCursor(context, height, base);
+  }
+
+  /** A number of each packet: the top is its greatest value. */
+  drawCurve(context, base, room) {
+    const { window, theme: colours } = this;
+    for (const [wide, colour] of [[4, colours.panel], [1.75, colours.cursor]]) {
+      context.strokeStyle = colour;
+      context.lineWidth = wide;
+      context.lineJoin = "round";
+      context.beginPath();
+      for (const line of this.curve.lines) {
+        line.forEach(([packet, part], place) => {
+          const [x, y] = [window.pixelOf(packet), base - part * room];
+          if (place) context.lineTo(x, y);
+          else context.moveTo(x, y);
+        });
+        // A packet by itself.
+        if (line.length === 1) context.lineTo(window.pixelOf(line[0][0]) + 1, base - line[0][1] * room);
+      }
+      context.stroke();
+    }
   }
 
   drawGrid(context, most, base, room) {
