@@ -62,6 +62,7 @@ def words_of_sources():
     for pattern in (*SOURCES, *SCRIPTS):
         for path in TOP.glob(pattern):
             if path.is_file() and "out" not in path.parts:
+                found.add(path.stem)
                 found |= set(WORD.findall(path.read_text(encoding="utf-8", errors="replace")))
     return found
 
