@@ -140,9 +140,13 @@ export class Editing {
     const { chosen } = this.model;
     if (!chosen) return;
     const { first, end } = chosen;
+    const { selection, packet } = this.model;
+    // After the edit the picture is that of this packet: whoever goes to another one meanwhile stays there.
+    this.model.packet = first;
     if (await this.step(steps.deleted(first, end), `${packets(chosen)} deleted`)) {
-      this.model.select(null);
-      await this.model.goPacket(Math.min(first, this.model.packets - 1));
+      if (this.model.selection === selection) this.model.select(null);
+    } else if (this.model.packet === first) {
+      this.model.packet = packet;
     }
   }
 
