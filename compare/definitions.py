@@ -58,7 +58,7 @@ FIGURES = (
 
 @functools.lru_cache(maxsize=None)
 def words_of_sources():
-    found = {path.name for path in (TOP / "crates").iterdir()} | set(FOLDERS)
+    found = {path.name for path in (TOP / "crates").iterdir()} | {path.stem for path in (TOP / "tests").glob("*.py")} | set(FOLDERS)
     for pattern in (*SOURCES, *SCRIPTS):
         for path in TOP.glob(pattern):
             if path.is_file() and "out" not in path.parts:
