@@ -98,6 +98,20 @@ def list_of(path):
     return re.sub(r"\A# wokureti: edits of \d+ packets, \d+ bytes, sha256 [0-9a-f]{64}\n", "", path.read_text())
 
 
+def parent_of(pid):
+    """The number of a process's parent, or nothing if the process is gone."""
+    try:
+        with open(f"/proc/{pid}/stat") as file:
+            return int(file.read().rsplit(")", 1)[1].split()[1])
+    except OSError:
+        return None
+
+
+def children_of(pid):
+    """The processes that this one started and that run."""
+    return [int(name) for name in os.listdir("/proc") if name.isdigit() and parent_of(name) == pid]
+
+
 def process_of(session):
     return session._pipes.process.pid
 

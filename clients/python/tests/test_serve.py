@@ -17,7 +17,7 @@ import unittest
 import zlib
 from unittest import mock
 
-from support import DATA, ODD, SLOW, SMALL, Case, is_alive, list_of, packets_of, process_of, start, start_unwaking, whole_text, write_packets
+from support import DATA, ODD, SLOW, SMALL, Case, children_of, is_alive, list_of, packets_of, process_of, start, start_unwaking, whole_text, write_packets
 from test_edits import edit
 from wokureti import Refused, Script, Session, edit_files, ivf, virtual, web
 from wokureti.live import Live
@@ -800,7 +800,7 @@ class TheCommand(Case):
                 response = one.getresponse()
                 self.assertEqual((response.status, response.read()[:9]), (status, b'{"error":' if status == 403 else b'{"reply":'))
             one.close()
-            children = [int(pid) for pid in subprocess.run(["pgrep", "-P", str(process.pid)], capture_output=True, text=True, check=False).stdout.split()]
+            children = children_of(process.pid)
             self.assertEqual(len(children), 1)
             self.assertEqual(self.end(process, ending), b"")
             self.assertFalse(is_alive(children[0]))
