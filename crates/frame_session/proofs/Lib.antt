@@ -12,3 +12,4 @@ pub mod LiveReads
 pub mod LiveLines
 pub mod LiveRuns
 pub mod ToldKept
+pub mod ExportedFrames

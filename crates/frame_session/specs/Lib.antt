@@ -11,3 +11,4 @@ pub mod Laws
 pub mod Live
 pub mod LiveSteps
 pub mod Told
+pub mod Exported

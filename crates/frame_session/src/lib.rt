@@ -20,6 +20,6 @@ pub use observer::{Observer, Unobserved};
 pub use refusal::Refusal;
 pub use request_lines::Edit;
 pub use serving::{RunFault, run, run_over};
-pub use session::Session;
+pub use session::{ExportFault, Session};
 pub use settings::Settings;
 pub use size::Size;

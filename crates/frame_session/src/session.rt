@@ -13,12 +13,14 @@ ghost use Rattle.frame_session.specs.Sessions.{head_of_first, spare_of};
 ghost use Rattle.frame_session.specs.IsOrNoMemory.{IsOrNoMemory, IsFrameOrNoMemory};
 ghost use Rattle.frame_session.specs.Edits.{EditAnswers, WrittenAnswers};
 
+mod exports;
 mod known;
 
 use crate::keeping::{edit_cached, picture_at};
 use crate::refusal::Refusal;
 use crate::size::Size;
 use arrayvec::ArrayVec;
+pub use exports::ExportFault;
 use packet_edits::Store;
 use pixel_planes::{NoMemory, Picture};
 use request_lines::{Edit, Hex};

@@ -1,5 +1,5 @@
 -- The packets of a script's frames show the frames that the session serves.
-use Rattle.std.proofs.Common.{◌≡◌, ℕ, zero, suc, ◌+◌, ◌-◌, ◌*◌, ◌/◌, ◌≤◌, ◌<◌, ◌==◌, ◌&&◌, Bool, true, false, List, [], ◌∷◌, length, map, slice_get, Option, Some, None, Result, Ok, Err, refl, sym, ap, subst, ◌∙◌, arith, zero-add, if◌then◌else◌}
+use Rattle.std.proofs.Common.{◌≡◌, ℕ, zero, suc, ◌+◌, ◌-◌, ◌*◌, ◌/◌, ◌≤◌, ◌<◌, ◌==◌, ◌&&◌, Bool, true, false, List, [], ◌∷◌, ◌++◌, length, map, slice_get, Option, Some, None, Result, Ok, Err, refl, sym, ap, subst, ◌∙◌, arith, zero-add, if◌then◌else◌}
 use Rattle.std.specs.Prelude.{nat_le, option_and_then}
 use Rattle.std.specs.List.{list_all}
 use Rattle.std.proofs.lemmas.Bool.{and_from, and_parts, eqb-true, le-leb}
@@ -11,18 +11,23 @@ use Rattle.pixel_planes.specs.declared.pictures.Component.TheVariants.{Luma, Cb,
 use Rattle.packet_edits.specs.Edits.{Listing}
 use Rattle.packet_edits.specs.Shown.{shown_indexes, stream_of}
 use Rattle.state_cache.specs.Decoding.{Outcome, outcomes}
-use Rattle.lossless_cuts.specs.Exports.{AreDecoded, IsDecoded}
+use Rattle.lossless_cuts.specs.Exports.{AreDecoded, HasBytes, IsDecoded}
 use Rattle.lossless_cuts.specs.Laws.{ExportsShowTheirFrames}
-use Rattle.lossless_cuts.specs.Plans.{exported, stream_at}
+use Rattle.lossless_cuts.specs.Plans.{exported, stream_at, streams_of}
 use Rattle.lossless_cuts.specs.declared.targets.Target.{Target}
-use Rattle.script_nodes.specs.Frames.{after_steps}
+use Rattle.script_nodes.specs.Frames.{after_steps, traced}
 use Rattle.script_nodes.specs.Shown.{Shown, Shows, black, cut_to, faded_to, is_inside, position_in, shown_in, step_shown, steps_shown, use_step, weighed}
 use Rattle.script_nodes.specs.declared.nodes.Area.{Area}
 use Rattle.script_nodes.specs.declared.traces.Step.{Step}
 use Rattle.script_nodes.specs.declared.traces.Step.TheVariants.{Cut, Weigh}
 use Rattle.frame_session.specs.Edits.{list_at}
-use Rattle.export_laws.specs.Exported.{AreTargets, IsExport, IsFrame, IsTarget, ScriptsAreExported, keeps_samples, streams_in}
-use Rattle.frame_session.specs.Sessions.{Now, fitted, frame_count, frame_from, frame_made, outcome_of, picture_from}
+use Rattle.frame_session.specs.Exported.{AreTargets, HasTarget, HaveTargets, IsExport, IsFrame, IsTarget, ScriptsAreExported, keeps_samples, streams_in}
+use Rattle.frame_session.specs.Sessions.{Now, fitted, frame_count, frame_from, frame_made, outcome_of, picture_from, shown_counts}
+use Rattle.frame_session.specs.Cached.{lists_of}
+use Rattle.packet_edits.specs.Marks.{StoreValue}
+use Rattle.packet_edits.specs.Laws.{IsShownList}
+use Rattle.reference_frames.specs.declared.states.State.{State}
+use Rattle.script_nodes.specs.Scripts.{origin_of}
 
 -- ---- steps that change no sample
 
@@ -166,3 +171,71 @@ scripts_are_exported tables law now targets pictures same t count =
       count = same_count now 0 targets pictures t ∙ count;
       each = λ n picture found. subst (λ (m : ℕ). IsFrame now m picture) (zero-add n) (are_frames now 0 targets pictures t n picture found);
     }
+
+-- ---- targets, one after another
+
+pub have_more : (now : Now) (n : ℕ) (targets : List Target) (target : Target) → HaveTargets now n targets → HasTarget now (n + length targets) target → HaveTargets now n (targets ++ target ∷ [])
+have_more now n [] target have has = (let here : n + 0 ≡ n = omega arith in subst (λ (m : ℕ). HasTarget now m target) here has, tt)
+have_more now n (first ∷ targets) target have has =
+    let moved : n + suc (length targets) ≡ n + 1 + length targets = omega arith in
+    (have.0, have_more now (n + 1) targets target have.1 (subst (λ (m : ℕ). HasTarget now m target) moved has))
+
+pub pictures_of : (now : Now) (n : ℕ) (targets : List Target) → HaveTargets now n targets → (pictures : List PictureSamples) × AreTargets now n targets pictures
+pictures_of now n [] have = ([], tt)
+pictures_of now n (target ∷ targets) have =
+    let rest = pictures_of now (n + 1) targets have.1 in
+    (have.0.0 ∷ rest.0, (have.0.1, rest.1))
+
+-- the number of steps made does not matter
+pub target_kept : (now : Now) (decoded n : ℕ) (target : Target) → HasTarget (record now { decoded = decoded }) n target → HasTarget now n target
+target_kept now decoded n target has =
+    let t = has.1 in
+    (has.0, record { from = t.from; traces = t.traces; source = t.source; place = t.place; keeps = t.keeps; decoded = t.decoded })
+
+pub target_before : (now mid : Now) (n : ℕ) (target : Target) → mid ≡ record now { decoded = mid.decoded } → HasTarget mid n target → HasTarget now n target
+target_before now mid n target same has = target_kept now mid.decoded n target (subst (λ (m : Now). HasTarget m n target) same has)
+
+picture_got : (source : ℕ) (o : Option Outcome) (picture : PictureSamples) → picture_from source o ≡ Ok picture → (state : State) × (o ≡ Some (Ok (state, picture)))
+picture_got source None picture is = cc
+picture_got source (Some (Err broken)) picture is = cc
+picture_got source (Some (Ok d)) picture is =
+    let same : d.1 ≡ picture = cc in
+    (d.0, ap (λ (p : PictureSamples). let o : Option Outcome = Some (Ok (d.0, p)) in o) same)
+
+-- the target of a frame, from what is found of it
+pub target_is : (now : Now) (n source frame : ℕ) (target : Target) (steps : List Step) (picture : PictureSamples) → IsShownList → traced (shown_counts now) now.script n ≡ Some (origin_of source frame steps) → target.source ≡ source
+    → slice_get (shown_indexes (stream_of (list_at now.lists source))) frame ≡ Some target.place → picture_from source (slice_get (outcomes now.tables (stream_of (list_at now.lists source))) target.place) ≡ Ok picture
+    → list_all (keeps_samples target.width target.height) steps ≡ true → picture.width ≡ target.width → picture.height ≡ target.height → HasBytes picture → HasTarget now n target
+target_is now n source frame target steps picture listed traces same place got keeps wide high bytes =
+    let stream : ℕ → List (List ℕ) = λ s. stream_of (list_at now.lists s) in
+    let shown = listed.each_is_shown (stream_of (list_at now.lists source)) frame target.place place in
+    let accepted = picture_got source (slice_get (outcomes now.tables (stream_of (list_at now.lists source))) target.place) picture got in
+    let decoded : IsDecoded now.tables (stream_of (list_at now.lists source)) target picture = record { packet = shown.0; here = shown.1; shown = shown.2; state = accepted.0; accepted = accepted.1; wide = wide; high = high; bytes = bytes } in (
+      picture,
+      record {
+        from = origin_of source frame steps;
+        traces = traces;
+        source = sym same;
+        place = subst (λ (s : ℕ). slice_get (shown_indexes (stream_of (list_at now.lists s))) frame ≡ Some target.place) (sym same) place;
+        keeps = keeps;
+        decoded = subst (λ (s : ℕ). IsDecoded now.tables (stream_of (list_at now.lists s)) target picture) (sym same) decoded;
+      },
+    )
+
+-- the packets of all targets
+pub export_is : (tables : Tables) (old new : Now) (targets : List Target) (packets : List (List ℕ)) → ExportsShowTheirFrames tables → old.tables ≡ tables → new ≡ record old { decoded = new.decoded } → HaveTargets old 0 targets → length targets ≡ frame_count old
+    → packets ≡ exported new.tables (streams_in new) None targets → IsExport old packets
+export_is tables old new targets packets law same after have count is =
+    let shown = pictures_of old 0 targets have in
+    let whole : IsExport old (exported old.tables (streams_in old) None targets) = scripts_are_exported tables law old targets shown.0 same shown.1 count in
+    let first : packets ≡ exported old.tables (streams_in old) None targets = is ∙ ap (λ (m : Now). exported m.tables (streams_in m) None targets) after in
+    subst (λ (ps : List (List ℕ)). IsExport old ps) (sym first) whole
+
+-- the packets of all stores
+pub streams_same : (stores : List StoreValue) → streams_of stores ≡ map stream_of (lists_of stores)
+streams_same [] = refl
+streams_same (store ∷ stores) = ap (λ (ss : List (List (List ℕ))). stream_of store.list ∷ ss) (streams_same stores)
+
+-- only the number of steps made changes
+pub steps_only : (old mid new : Now) → mid ≡ record old { decoded = mid.decoded } → new ≡ record mid { decoded = new.decoded } → new ≡ record old { decoded = new.decoded }
+steps_only old mid new first second = second ∙ ap (λ (m : Now). let n : Now = record m { decoded = new.decoded } in n) first

@@ -56,3 +56,11 @@ abbrev pub ScriptsAreExported : Tables → Type 0
 ScriptsAreExported tables =
     (now : Now) (targets : List Target) (pictures : List PictureSamples) → now.tables ≡ tables → AreTargets now 0 targets pictures → length targets ≡ frame_count now
     → IsExport now (exported now.tables (streams_in now) None targets)
+
+-- frame n can be exported from this packet, whatever its picture is; and so can consecutive frames, the first of which is frame n
+abbrev pub HasTarget : Now → ℕ → Target → Type 0
+HasTarget now n target = (picture : PictureSamples) × IsTarget now n target picture
+
+abbrev pub HaveTargets : Now → ℕ → List Target → Type 0
+HaveTargets now n [] = Unit {0}
+HaveTargets now n (target ∷ targets) = HasTarget now n target × HaveTargets now (n + 1) targets

@@ -1,0 +1,29 @@
+use Rattle.std.proofs.Common.{◌≡◌, ◌+◌, ℕ, List, length, refl, ap, sym, subst, arith}
+use Rattle.std.proofs.lemmas.List.{length_push}
+use Rattle.lossless_cuts.specs.declared.targets.Target.{Target}
+use Rattle.frame_session.specs.Exported.{HasTarget, HaveTargets}
+use Rattle.frame_session.specs.Sessions.{Now}
+use Rattle.frame_session.proofs.ExportedFrames.{have_more, steps_only, target_before}
+use Rattle.frame_session.proofs.session.Session.export_targets.Goals as goal
+
+pub frames-init : goal.frames-init
+frames-init c = record {
+  same = refl;
+  has = subst (λ (targets : List Target). HaveTargets c.args.self.now.now 0 targets) (sym c.no_targets-targets.ensures) tt;
+  count = ap length c.no_targets-targets.ensures;
+}
+
+pub frames-preserved : goal.frames-preserved
+frames-preserved c =
+    let old : Now = c.args.self.now.now in
+    let target : Target = c.in_ok-target.target in
+    let at : c.frames.n ≡ 0 + length c.frames.targets.items = omega (arith, c.frames.invariant.count) in
+    let here : HasTarget old (0 + length c.frames.targets.items) target = subst (λ (m : ℕ). HasTarget old m target) at (target_before old c.frames.self.now c.frames.n target c.frames.invariant.same c.in_ok-target.ensures.target) in
+    record {
+      same = steps_only old c.frames.self.now c.export_target.new.self.now c.frames.invariant.same c.in_ok-target.ensures.after;
+      has = subst (λ (targets : List Target). HaveTargets old 0 targets) (sym c.in-Ok.ensures.items) (have_more old 0 c.frames.targets.items target c.frames.invariant.has here);
+      count = omega (arith, ap length c.in-Ok.ensures.items, length_push c.frames.targets.items target, c.frames.invariant.count);
+    }
+
+pub returns-in_err-target-clause-after : goal.returns-in_err-target-clause-after
+returns-in_err-target-clause-after c = steps_only c.args.self.now.now c.frames.self.now c.export_target.new.self.now c.frames.invariant.same c.in_err-target.ensures.after
