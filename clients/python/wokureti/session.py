@@ -5,13 +5,13 @@ import time
 from typing import NamedTuple
 
 from . import checks, programs
-from .edits import REPLIES, EditList, words_of
+from .edits import EditList, begins_reply, is_edit, words_of
 from .errors import Ended, Refused
 from .frames import frame_of
 from .inputs import Inputs
 from .pipes import Gone, Late, Pipes, Strange
 
-EDITS = frozenset(("use", "insert", "replace", "delete", "move", "copy", "blank", "hold", "script"))
+EDITS = frozenset(("use", "insert", "replace", "delete", "move", "copy", "blank", "hold", "hide", "show", "script"))
 
 
 class Count(NamedTuple):
@@ -178,7 +178,7 @@ class Session:
             [(reply, picture)] = self._exchange(text, deadline=deadline)
             if reply.startswith("refused "):
                 raise self._refused(reply, self._lines, deadline)
-            if line.split()[0] in EDITS:
+            if is_edit(line) and line.split()[0] in EDITS:
                 if self.on_edit is not None:
                     self.on_edit(line)
                 if listed:
@@ -387,8 +387,7 @@ class _Turn:
 
 def is_reply(reply, line):
     """Whether a reply may be that of a line: a refusal, or one that begins as this request's does."""
-    word = line.strip(b" \r").split(b" ")[0].decode(errors="replace")
-    return reply.split(" ")[0] in ("refused", REPLIES.get(word, "ok"))
+    return reply.split(" ")[0] in ("refused", begins_reply(line.decode(errors="replace")))
 
 
 def _shown(text):

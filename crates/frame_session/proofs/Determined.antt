@@ -28,6 +28,7 @@ given want (Err refusals.Source) enough returned = returned
 given want (Err refusals.Place) enough returned = returned
 given want (Err refusals.Full) enough returned = returned
 given want (Err refusals.Spent) enough returned = returned
+given want (Err refusals.NoBit) enough returned = returned
 given want (Err refusals.Size) enough returned = returned
 given want (Err refusals.TooLarge) enough returned = returned
 given want (Err refusals.NoSuchFrame) enough returned = returned
@@ -92,6 +93,7 @@ written_given old (edits.Move from to) answer enough returned = sym returned
 written_given old (edits.Copy source from at) answer enough returned = given _ answer enough returned
 written_given old (edits.Blank at width height) answer enough returned = given _ answer enough returned
 written_given old (edits.Hold at) answer enough returned = given _ answer enough returned
+written_given old (edits.ShowBit at shown) answer enough returned = given _ answer enough returned
 
 one_edit : (old : Now) (steps : ℕ) (edit : Edit (List ℕ)) (edited edited' : Result ℕ Refusal) (answer answer' : Answer) (new new' : Now) → WrittenAnswers old.tables old.lists (current_list old) edit edited → WrittenAnswers old.tables old.lists (current_list old) edit edited' → AnswersEdit old edit edited answer new → AnswersEdit (counted old steps) edit edited' answer' new' → (answer.reply ≡ refused_line refusals.NoMemory → ⊥) → (answer'.reply ≡ refused_line refusals.NoMemory → ⊥) → (answer' ≡ answer) × (new' ≡ counted new new'.decoded)
 one_edit old steps edit edited edited' answer answer' new new' returned gives' first second enough enough' =

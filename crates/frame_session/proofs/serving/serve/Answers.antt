@@ -90,6 +90,18 @@ returns-in-Stats-clause-frame_first g c =
     let f = g.F.Write.contents c.args.frames.now in
     rw c.in-Stats.is (inr (serves_reply c.args.session.now.now f f None None requests.Stats _ (refl, refl) tt))
 
+pub returns-in-Ask-clause-serves : goal.returns-in-Ask-clause-serves
+returns-in-Ask-clause-serves g c =
+    let f = g.F.Write.contents c.args.frames.now in
+    let r = g.P.Write.contents c.args.replies.now in
+    let r' = g.P.Write.contents c.answer.new.w in
+    rw c.in-Ask.is (on_ok_weaker c.answer.result (λ said. serves_reply c.args.session.now.now f f r r' (requests.Ask c.in-Ask.question) _ (refl, refl) said) c.answer.ensures.wrote)
+
+pub returns-in-Ask-clause-frame_first : goal.returns-in-Ask-clause-frame_first
+returns-in-Ask-clause-frame_first g c =
+    let f = g.F.Write.contents c.args.frames.now in
+    rw c.in-Ask.is (inr (serves_reply c.args.session.now.now f f None None (requests.Ask c.in-Ask.question) _ (refl, refl) tt))
+
 pub returns-in-Lost-clause-serves : goal.returns-in-Lost-clause-serves
 returns-in-Lost-clause-serves g c =
     let f = g.F.Write.contents c.args.frames.now in

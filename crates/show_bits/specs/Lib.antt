@@ -1,0 +1,3 @@
+pub mod ShowBits
+pub mod Faults
+pub mod Laws
