@@ -88,7 +88,8 @@ fn write_digits<W: Write>(w: &mut W, bytes: &[u8]) -> io::Result<()>
     ensures { OnOk result (Appends (W.contents w.old) (W.contents w.new) (encode_lower bytes.now)) }
 {
     for byte in bytes {
-        w.write_all(&hex_digits(*byte))?;
+        let digits = hex_digits(*byte);
+        w.write_all(&digits)?;
     }
     Ok(())
 }
@@ -97,8 +98,8 @@ fn write_digits<W: Write>(w: &mut W, bytes: &[u8]) -> io::Result<()>
 pub fn write_hex_word<W: Write>(w: &mut W, bytes: &[u8]) -> io::Result<()>
     ensures { OnOk result (Appends (W.contents w.old) (W.contents w.new) (hex_word bytes.now)) }
 {
-    match bytes {
-        [] => w.write_all(b"-"),
-        _ => write_digits(w, bytes),
+    match bytes.split_first() {
+        None => w.write_all(b"-"),
+        Some(_) => write_digits(w, bytes),
     }
 }
