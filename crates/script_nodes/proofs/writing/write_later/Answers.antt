@@ -18,7 +18,7 @@ loop-node-preserved g c =
     record {
       done = done ++ later_text x;
       whole = append_assoc done (later_text x) (flat_map later_text rest) ∙ ap (λ (ys : List Node). done ++ flat_map later_text ys) (sym at) ∙ c.loop-node.invariant.whole;
-      said = Appends-trans _ _ _ _ _ c.loop-node.invariant.said (Appends-trans _ _ _ _ _ c.in_ok-write_all.ensures c.in_ok-write_node.ensures);
+      said = Appends-trans _ _ _ _ _ c.loop-node.invariant.said (Appends-trans _ _ _ _ _ c.in_ok-write_all.ensures.bytes c.in_ok-write_node.ensures);
     }
 
 pub returns : goal.returns
