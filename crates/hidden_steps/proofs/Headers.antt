@@ -24,7 +24,7 @@ use Rattle.frame_header.specs.declared.start.Start.{Start}
 use Rattle.frame_header.specs.declared.tag_fields.Tag.{Tag}
 use Rattle.show_bits.specs.Laws.{tag_showing}
 use Rattle.show_bits.specs.ShowBits.{byte_showing, with_show_bit}
-use Rattle.show_bits.proofs.Bits.{HasThree, has_three, with-cons, with-short}
+use Rattle.show_bits.proofs.ByteBits.{HasThree, has_three, with-cons, with-short}
 use Rattle.show_bits.proofs.Tags.{key_tag_stays, tag_has_show_bit}
 
 -- a header and a start with another show bit

@@ -28,7 +28,7 @@ use Rattle.reference_frames.specs.Unfiltered.{unfiltered}
 use Rattle.reference_frames.specs.declared.references.References.{References}
 use Rattle.reference_frames.specs.declared.states.State.{State}
 use Rattle.show_bits.specs.ShowBits.{with_show_bit}
-use Rattle.show_bits.proofs.Bits.{with-short}
+use Rattle.show_bits.proofs.ByteBits.{with-short}
 use Rattle.show_bits.proofs.Tags.{only_the_bit_changes}
 use Rattle.hidden_steps.specs.StepLaws.{StepsSkipTheBit}
 use Rattle.hidden_steps.proofs.Headers.{IsSameButShown, changed, header_showing, same_but_shown}

@@ -1,2 +1,2 @@
-pub mod Bits
+pub mod ByteBits
 pub mod Tags

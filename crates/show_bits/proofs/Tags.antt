@@ -7,7 +7,7 @@ use Rattle.frame_header.specs.Tags.{has_key_tag, has_start_code, height_of, is_s
 use Rattle.frame_header.specs.declared.tag_fields.Tag.{Tag}
 use Rattle.show_bits.specs.ShowBits.{byte_showing, has_show_bit, with_show_bit}
 use Rattle.show_bits.specs.Laws.{LeavesTheRest, tag_showing}
-use Rattle.show_bits.proofs.Bits.{HasThree, bit_of, bit-cons, has_three, showing-is, with-cons, with-short}
+use Rattle.show_bits.proofs.ByteBits.{HasThree, bit_of, bit-cons, has_three, showing-is, with-cons, with-short}
 
 -- the tag of a number by its bits: those below the show bit, the show bit, and those above it
 abbrev pub tag_with : ℕ → ℕ → ℕ → Tag

@@ -21,7 +21,7 @@ loop-byte-preserved g c =
     record {
       done = done ++ text;
       whole = append_assoc done text (encode_lower rest) ∙ ap (λ (zs : List ℕ). done ++ zs) (sym (digits_more x rest)) ∙ ap (λ (ys : List ℕ). done ++ encode_lower ys) (sym at) ∙ c.loop-byte.invariant.whole;
-      said = subst (λ (zs : List ℕ). Appends (g.W.Write.contents c.args.w.now) (g.W.Write.contents c.write_all.new.self) (done ++ zs)) c.hex_digits.ensures (Appends-trans _ _ _ _ _ c.loop-byte.invariant.said c.in_ok-write_all.ensures.bytes);
+      said = subst (λ (zs : List ℕ). Appends (g.W.Write.contents c.args.w.now) (g.W.Write.contents c.write_all.new.self) (done ++ zs)) c.hex_digits-digits.ensures (Appends-trans _ _ _ _ _ c.loop-byte.invariant.said c.in_ok-write_all.ensures.bytes);
     }
 
 pub returns : goal.returns
