@@ -20,12 +20,19 @@ use Rattle.frame_header.specs.declared.cause.Cause.TheVariants.{ShortPacket, Ver
 use Rattle.frame_header.specs.declared.context.Context.{Context}
 use Rattle.frame_header.specs.declared.header.Header.{Header}
 use Rattle.frame_header.specs.declared.places.Place.{Place}
-use Rattle.frame_header.specs.declared.start.Start.{Start}
 use Rattle.frame_header.specs.declared.tag_fields.Tag.{Tag}
 use Rattle.show_bits.specs.Laws.{tag_showing}
 use Rattle.show_bits.specs.ShowBits.{byte_showing, with_show_bit}
 use Rattle.show_bits.proofs.ByteBits.{HasThree, has_three, with-cons, with-short}
 use Rattle.show_bits.proofs.Tags.{key_tag_stays, tag_has_show_bit}
+
+-- the type of the value of a result
+abbrev value_type : {A E : Type 0} → Result A E → Type 0
+value_type {A} r = A
+
+-- the start of a frame: frame_header does not export its type
+abbrev pub Start : Type 0
+Start = value_type (start_of None [])
 
 -- a header and a start with another show bit
 abbrev pub header_showing : Bool → Header → Header
