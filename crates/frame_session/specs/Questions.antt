@@ -1,5 +1,5 @@
 -- The answers to questions.
-use Rattle.std.specs.Prelude.{◌≡◌, ℕ, Bool, true, false, List, slice_get}
+use Rattle.std.specs.Prelude.{ℕ, Bool, true, false, List, slice_get}
 use Rattle.std.specs.Option.{option_map_or}
 use Rattle.packet_edits.specs.Edits.{Listing}
 use Rattle.request_lines.specs.declared.lines.Line.{Line}

@@ -13,6 +13,7 @@ use std::io::Write;
 use stream_files::WriteFault;
 
 /// Writes the packet at index `at` of a source, or that there is none.
+#[tactic(auto, using(crate::proofs::Asked::packet_wrote, crate::proofs::Asked::none_wrote))]
 fn write_packet_at<W: Write>(
     w: &mut W,
     store: &Store,
