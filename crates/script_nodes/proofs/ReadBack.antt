@@ -28,15 +28,15 @@ use Rattle.script_nodes.proofs.Uses.{both}
 
 -- ---- numbers
 
-own : IsNumeralModel (λ word. list_all is_ascii_digit word ≡ true) (digits_value 10)
-own = numerals_by_value _ (search rules)
+digits_own : IsNumeralModel (λ word. list_all is_ascii_digit word ≡ true) (digits_value 10)
+digits_own = numerals_by_value _ (search rules)
 
 -- a number that is written is read
 number_read : (n : ℕ) → n < 2 ^ 32 → short_number_of (decimal n) ≡ Some n
 number_read n small =
     let wide : n < 2 ^ 64 = omega (arith, small) in
-    let digits : list_all is_ascii_digit (decimal n) ≡ true = digits_decimal own n wide in
-    let value : digits_value 10 (decimal n) ≡ n = digits_value-decimal own n wide in
+    let digits : list_all is_ascii_digit (decimal n) ≡ true = digits_decimal digits_own n wide in
+    let value : digits_value 10 (decimal n) ≡ n = digits_value-decimal digits_own n wide in
     let short : length (decimal n) ≤ 10 = length-decimal-le 10 n (omega arith) (omega (arith, small)) wide in
     let some : 0 < length (decimal n) = decimal_nonempty n wide in
     rw (le-leb (length (decimal n)) 10 short, lt-ltb 0 (length (decimal n)) some, le-leb (length (decimal n)) 20 (omega (arith, short)), digits, value, lt-ltb n (2 ^ 64) wide) refl
@@ -48,7 +48,7 @@ with_read n next words small = ap (λ (o : Option ℕ). option_map_or (λ value.
 number_lacks : (c n : ℕ) → (IsInRange 48 57 c → ⊥) → n < 2 ^ 32 → All (λ b. (b == c) ≡ false) (decimal n)
 number_lacks c n other small =
     let wide : n < 2 ^ 64 = omega (arith, small) in
-    All-from_get_or (λ b. (b == c) ≡ false) (decimal n) 0 (λ i within. ne_eqb _ c (not_in_digits own (decimal n) c (digits_decimal own n wide) other i within))
+    All-from_get_or (λ b. (b == c) ≡ false) (decimal n) 0 (λ i within. ne_eqb _ c (not_in_digits digits_own (decimal n) c (digits_decimal digits_own n wide) other i within))
 
 -- ---- words
 
@@ -70,19 +70,39 @@ number_word n small = record {
 }
 
 source_word : IsWord (codes "source")
-source_word = record { some = omega arith; spaces = All-from_recursion _ _ (search rules); semicolons = All-from_recursion _ _ (search rules) }
+source_word = record {
+  some = omega arith;
+  spaces = All-from_recursion (λ b. (b == 32) ≡ false) (codes "source") (search rules);
+  semicolons = All-from_recursion (λ b. (b == 59) ≡ false) (codes "source") (search rules);
+}
 
 trim_word : IsWord (codes "trim")
-trim_word = record { some = omega arith; spaces = All-from_recursion _ _ (search rules); semicolons = All-from_recursion _ _ (search rules) }
+trim_word = record {
+  some = omega arith;
+  spaces = All-from_recursion (λ b. (b == 32) ≡ false) (codes "trim") (search rules);
+  semicolons = All-from_recursion (λ b. (b == 59) ≡ false) (codes "trim") (search rules);
+}
 
 splice_word : IsWord (codes "splice")
-splice_word = record { some = omega arith; spaces = All-from_recursion _ _ (search rules); semicolons = All-from_recursion _ _ (search rules) }
+splice_word = record {
+  some = omega arith;
+  spaces = All-from_recursion (λ b. (b == 32) ≡ false) (codes "splice") (search rules);
+  semicolons = All-from_recursion (λ b. (b == 59) ≡ false) (codes "splice") (search rules);
+}
 
 crop_word : IsWord (codes "crop")
-crop_word = record { some = omega arith; spaces = All-from_recursion _ _ (search rules); semicolons = All-from_recursion _ _ (search rules) }
+crop_word = record {
+  some = omega arith;
+  spaces = All-from_recursion (λ b. (b == 32) ≡ false) (codes "crop") (search rules);
+  semicolons = All-from_recursion (λ b. (b == 59) ≡ false) (codes "crop") (search rules);
+}
 
 fade_word : IsWord (codes "fade")
-fade_word = record { some = omega arith; spaces = All-from_recursion _ _ (search rules); semicolons = All-from_recursion _ _ (search rules) }
+fade_word = record {
+  some = omega arith;
+  spaces = All-from_recursion (λ b. (b == 32) ≡ false) (codes "fade") (search rules);
+  semicolons = All-from_recursion (λ b. (b == 59) ≡ false) (codes "fade") (search rules);
+}
 
 abbrev is_some_word : List ℕ → Bool
 is_some_word word = not (length word == 0)
@@ -124,11 +144,11 @@ AreShort [] = Unit {0}
 AreShort (node ∷ nodes) = IsShort node × AreShort nodes
 
 node_are_words : (node : Node) → IsShort node → AreWords (node_words node)
-node_are_words (Source number) s = (source_word, number_word number s, tt)
-node_are_words (Trim clip first count) s = (trim_word, number_word clip s.0, number_word first s.1, number_word count s.2, tt)
-node_are_words (Splice front back) s = (splice_word, number_word front s.0, number_word back s.1, tt)
-node_are_words (Crop clip area) s = (crop_word, number_word clip s.0, number_word area.x s.1, number_word area.y s.2, number_word area.width s.3, number_word area.height s.4, tt)
-node_are_words (Fade clip ramp) s = (fade_word, number_word clip s.0, number_word ramp.first s.1, number_word ramp.count s.2, number_word ramp.start s.3, number_word ramp.end s.4, tt)
+node_are_words (Source number) s = (source_word, (number_word number s, tt))
+node_are_words (Trim clip first count) s = (trim_word, (number_word clip s.0, (number_word first s.1, (number_word count s.2, tt))))
+node_are_words (Splice front back) s = (splice_word, (number_word front s.0, (number_word back s.1, tt)))
+node_are_words (Crop clip area) s = (crop_word, (number_word clip s.0, (number_word area.x s.1, (number_word area.y s.2, (number_word area.width s.3, (number_word area.height s.4, tt))))))
+node_are_words (Fade clip ramp) s = (fade_word, (number_word clip s.0, (number_word ramp.first s.1, (number_word ramp.count s.2, (number_word ramp.start s.3, (number_word ramp.end s.4, tt))))))
 
 -- the node of the words that are written
 node_by_own_words : (node : Node) → IsShort node → node_by_words (node_words node) ≡ Some node
@@ -211,8 +231,8 @@ node_short own sources (Trim clip first count) few many uses source numbers =
     let two = both _ _ numbers in
     (below clip own few uses, below first (2 ^ 32) (omega arith) two.0, below count (2 ^ 32) (omega arith) two.1)
 node_short own sources (Splice front back) few many uses source numbers = let two = both _ _ uses in (below front own few two.0, below back own few two.1)
-node_short own sources (Crop clip area) few many uses source numbers = (below clip own few uses, area_short area numbers)
-node_short own sources (Fade clip ramp) few many uses source numbers = (below clip own few uses, ramp_short ramp numbers)
+node_short own sources (Crop clip area) few many uses source numbers = let a = area_short area numbers in (below clip own few uses, a.0, a.1, a.2, a.3)
+node_short own sources (Fade clip ramp) few many uses source numbers = let r = ramp_short ramp numbers in (below clip own few uses, r.0, r.1, r.2, r.3)
 
 all_short : (own sources : ℕ) (nodes : List Node) → own + length nodes ≤ 2 ^ 32 → sources ≤ 2 ^ 32 → all_use_below own nodes ≡ true → list_all (has_source sources) nodes ≡ true → list_all has_numbers nodes ≡ true → AreShort nodes
 all_short own sources [] few many uses source numbers = tt
