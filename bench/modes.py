@@ -1,118 +1,61 @@
-"""Writes the input of modes.sh and the checksum of the modes that a plain reader finds in it."""
-import random, struct, sys
+"""Writes the input of modes.sh and the checksum of the modes that the parser of the conformance streams finds in it."""
+import pathlib
+import random
+import struct
+import sys
+
+sys.path.insert(0, str(pathlib.Path(__file__).resolve().parent.parent / "conformance"))
+
+from vp8 import bits, parser, tables  # noqa: E402
 
 COLUMNS, ROWS = 120, 68
-KEY_Y = ([-4, 2, 4, 6, 0, -1, -2, -3], [145, 156, 163, 128])
-UV = ([0, 2, -1, 4, -2, -3], [142, 114, 183])
-SUB = [0, 2, -1, 4, -2, 6, 8, 12, -3, 10, -5, -6, -4, 14, -7, 16, -8, -9]
-COUNTERPART = [0, 2, 3, 1]
-B = 4
+SKIP = 200
 
 
-class Encoder:
-    def __init__(self):
-        self.low, self.range, self.shifts = 0, 255, 0
+class Reader(bits.Reader):
+    """A reader that keeps the probabilities with which it reads."""
 
-    def bit(self, bit, prob):
-        split = 1 + ((self.range - 1) * prob >> 8)
-        if bit:
-            self.low += split
-            self.range -= split
-        else:
-            self.range = split
-        while self.range < 128:
-            self.low *= 2
-            self.range *= 2
-            self.shifts += 1
+    def __init__(self, text):
+        super().__init__(text)
+        self.probabilities = []
 
-    def number(self, value, count):
-        for k in reversed(range(count)):
-            self.bit(value >> k & 1, 128)
-
-    def text(self):
-        pad = -self.shifts % 8
-        return (self.low << pad).to_bytes((self.shifts + 8 + pad) // 8, "big")
+    def next(self, probability):
+        self.probabilities.append(probability)
+        return super().next(probability)
 
 
-class Reader:
-    def __init__(self, data):
-        self.data, self.place, self.d, self.range = data, 8, data[0], 255
-        self.probs = []
-
-    def bit(self, prob):
-        self.probs.append(prob)
-        split = 1 + ((self.range - 1) * prob >> 8)
-        bit = self.d >= split
-        if bit:
-            self.d -= split
-            self.range -= split
-        else:
-            self.range = split
-        while self.range < 128:
-            byte = self.data[self.place // 8] if self.place // 8 < len(self.data) else 0
-            self.d = 2 * self.d + (byte >> (7 - self.place % 8) & 1)
-            self.place += 1
-            self.range *= 2
-        return int(bit)
-
-    def leaf(self, tree, probs):
-        node = 0
-        while True:
-            entry = tree[node + self.bit(probs[node // 2])]
-            if entry <= 0:
-                return -entry
-            node = entry
+def header(updates):
+    """The fields of a key frame, all of them 0, without updates."""
+    writer = bits.Writer()
+    writer.literal(0, 2 + 1 + 1 + 6 + 3 + 1 + 2 + 7 + 5 + 1)
+    for probability in updates:
+        writer.bit(0, probability)
+    writer.flag(1)
+    writer.literal(SKIP, 8)
+    return writer.text()
 
 
-def header(updates, skip):
-    code = Encoder()
-    for _ in range(2 + 1 + 1 + 6 + 3 + 1 + 2 + 7 + 5 + 1):
-        code.bit(0, 128)
-    for prob in updates:
-        code.bit(0, prob)
-    code.bit(1, 128)
-    code.number(skip, 8)
-    return code.text()
+def values_of(macroblocks):
+    """The numbers of the checksum: sub block modes are 0 in a macroblock without them."""
+    for found in macroblocks:
+        yield from (found.skip, found.y_mode, *(found.subs if found.y_mode == parser.B else [0] * 16), found.uv_mode)
 
 
-def read_modes(reader, key_subs, skip):
-    values = []
-    above = [[0] * 4 for _ in range(COLUMNS)]
-    for _ in range(ROWS):
-        left = [0] * 4
-        for column in range(COLUMNS):
-            over = above[column]
-            is_skipped = reader.bit(skip)
-            y = reader.leaf(*KEY_Y)
-            subs = [0] * 16
-            if y == B:
-                for n in range(16):
-                    a, l = over[n % 4], left[n // 4]
-                    start = (a * 10 + l) * 9
-                    subs[n] = over[n % 4] = left[n // 4] = reader.leaf(SUB, key_subs[start:start + 9])
-            else:
-                over[:] = left[:] = [COUNTERPART[y]] * 4
-            values += [is_skipped, y, *subs, reader.leaf(*UV)]
-    return values
-
-
-def main(tables, out):
-    text = open(tables, "rb").read() if tables else bytes([128] * 3012)
-    skip = 200
-    first = header(text[1056:2112], skip) + random.Random(1).randbytes(60000)
+def main(path, out):
+    text = pathlib.Path(path).read_bytes() if path else bytes([128] * 3012)
+    tables.UPDATES, tables.KEY_SUBS = text[1056:2112], text[2112:]
+    first = header(tables.UPDATES) + random.Random(1).randbytes(60000)
     packet = (len(first) << 5 | 0x10).to_bytes(3, "little") + bytes.fromhex("9d012a") + struct.pack("<HH", 1920, 1080) + first
-    reader = Reader(first)
-    for _ in range(29):
-        reader.bit(128)
-    for prob in text[1056:2112]:
-        reader.bit(prob)
-    for _ in range(9):
-        reader.bit(128)
-    reader.probs = []
+    fields, start = parser.start_of(packet, False)
+    reader, context = Reader(packet[start:]), parser.default_context()
+    parser.read_first_fields(reader, fields, context)
+    parser.read_last_fields(reader, fields, context)
+    reader.probabilities = []
+    macroblocks = parser.Modes(reader, fields, context, COLUMNS, ROWS, [0] * (COLUMNS * ROWS)).read()
     checksum = 0
-    for value in read_modes(reader, text[2112:], skip):
-        checksum = (checksum * 31 + value) % 2 ** 32
-    open(out, "wb").write(struct.pack("<I", len(packet)) + text + packet + bytes(reader.probs))
+    for value in values_of(macroblocks):
+        checksum = (checksum * 31 + value) % 2**32
+    pathlib.Path(out).write_bytes(struct.pack("<I", len(packet)) + text + packet + bytes(reader.probabilities))
     print(checksum)
 
 

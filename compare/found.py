@@ -2,7 +2,7 @@
 """Counts how much damage `vp8list --check` finds, next to vpxdec and ffmpeg.
 
 Run manually, not in the gate: found.py [--sound] STREAMS [SEED] [FILE ..]. It damages the files (by default the example and the clips
-of gate_clips with 4,000 bytes or more) in one of seven ways, drawn at random, and asks of each stream that shows another frame than
+of gate_clips with 4,000 bytes or more) in one of eleven ways, drawn at random, and asks of each stream that shows another frame than
 before, or none, who says so: vp8list by its exit status, vpxdec by its exit status or a word on standard error, ffmpeg with
 `-err_detect explode` by a word on standard error. VP8LIST_BEFORE names an earlier vp8list to count too. With --sound it asks the same
 of the files as they are. It needs the built program (see README.md), vpxdec (Debian's vpx-tools) and ffmpeg.
@@ -84,6 +84,33 @@ def exchanged(text, choose):
     return rewritten(text, rows)
 
 
+def twice(text, choose):
+    rows = list(records(text))
+    place = choose.randrange(len(rows))
+    rows.insert(place, rows[place])
+    return rewritten(text, rows)
+
+
+def dropped(text, choose):
+    rows = list(records(text))
+    del rows[choose.randrange(len(rows))]
+    return rewritten(text, rows)
+
+
+def records_exchanged(text, choose):
+    rows = list(records(text))
+    place = choose.randrange(len(rows) - 1)
+    rows[place : place + 2] = rows[place + 1], rows[place]
+    return rewritten(text, rows)
+
+
+def tag_bit(text, choose):
+    """A bit of a tag, or of a key frame's start code."""
+    begins, size = choose.choice([place for place in positions(text) if place[1] > 20])
+    place = begins + choose.randrange(3 if text[begins] & 1 else 6)
+    return text[:place] + bytes([text[place] ^ 1 << choose.randrange(8)]) + text[place + 1 :]
+
+
 KINDS = {
     "one bit": one_bit,
     "one byte": changed(1),
@@ -92,6 +119,10 @@ KINDS = {
     "a packet cut": cut,
     "bytes inserted": inserted,
     "two packets exchanged": exchanged,
+    "a record twice": twice,
+    "a record dropped": dropped,
+    "two records exchanged": records_exchanged,
+    "a bit of the tag": tag_bit,
 }
 
 

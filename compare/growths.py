@@ -11,6 +11,9 @@ text. Over a key packet and three others, P, P, P:
 - frame 3 again makes none, so a script without steps copies no picture;
 - after a replacement of packet 1 frame 3 makes fewer than three steps do, so decoding stops where the states converge.
 
+Of vp8list it counts the requests for the macroblocks of key frames of 1, 2, 4 and 8 token partitions that are alike else: as many more for each
+further one, so room for all of them is reserved at once.
+
 It prints nothing and ends with status 0 if all this holds. It takes the program that `rt ci` built; it needs Linux on x86-64.
 """
 
@@ -21,9 +24,12 @@ import tempfile
 from dataclasses import dataclass
 
 sys.dont_write_bytecode = True
+from library.conformance import generator  # noqa: E402
+from library.ivf import ivf  # noqa: E402
 from library.traced import Program, traced  # noqa: E402
 
-GROWTHS = pathlib.Path(__file__).resolve().parent.parent / "crates/gate_memory"
+TOP = pathlib.Path(__file__).resolve().parent.parent
+GROWTHS = TOP / "crates/gate_memory"
 
 
 @dataclass
@@ -36,11 +42,11 @@ class Ran:
     requests: int
 
 
-def run(program, refuses, changes=None):
-    """Runs the program without input."""
+def run(program, refuses, changes=None, words=()):
+    """Runs the program with these arguments, without input."""
     with open(os.devnull, "rb") as nothing, tempfile.TemporaryFile() as output, tempfile.TemporaryFile() as errors:
         files = {0: nothing.fileno(), 1: output.fileno(), 2: errors.fileno()}
-        ended = traced(program, [], files, refuses, changes)
+        ended = traced(program, words, files, refuses, changes)
         output.seek(0)
         errors.seek(0)
         return Ran(ended.status, output.read(), errors.read().decode(errors="replace"), ended.requests)
@@ -85,6 +91,27 @@ def refusal_faults(program, whole, requests):
             yield f"request {first} is refused: status {ran.status}, {len(ran.output)} bytes, standard error {ran.errors!r}"
 
 
+def alike(count):
+    """A key frame of 32x32 samples without tokens, and with so many token partitions."""
+    stream = generator.Stream(generator.Chooser(1))
+    stream.chooser.rare = 0
+    fixed = {name: 0 for name in ("color_space", "clamping_type", "segmentation_enabled", "filter_type", "loop_filter_level", "sharpness_level", "loop_filter_adj_enable")}
+    fixed |= {"y_ac_qi": 0, "refresh_entropy_probs": 1, "mb_no_coeff_skip": 1, "prob_skip_false": 1, "mb_skip_coeff": 1, "key intra_y_mode": 0, "key intra_uv_mode": 0}
+    fixed |= {f"{name}_delta": lambda chooser: None for name in ("y_dc", "y2_dc", "y2_ac", "uv_dc", "uv_ac")}
+    stream.frame((32, 32), log2_nbr_of_dct_partitions=count.bit_length() - 1, **fixed)
+    return stream.packets[0]
+
+
+def list_faults(program):
+    """What is wrong with the numbers of requests of vp8list."""
+    with tempfile.TemporaryDirectory() as room:
+        path = pathlib.Path(room, "in.ivf")
+        path.write_bytes(ivf(32, 32, [alike(count) for count in (1, 1, 2, 4, 8)]))
+        one, two, four, eight = (run(program, lambda n: False, words=[path, "--macroblocks", packet]).requests for packet in (1, 2, 3, 4))
+    if not eight - four == 2 * (four - two) == 4 * (two - one):
+        yield f"key frames of 1, 2, 4 and 8 token partitions take {one}, {two}, {four} and {eight} requests for memory"
+
+
 def all_faults(program):
     """What is wrong, and the numbers of requests and of runs."""
     whole = (GROWTHS / "stdout").read_bytes()
@@ -96,8 +123,10 @@ def all_faults(program):
 def main():
     program = Program(sys.argv[1] if len(sys.argv) > 1 else str(GROWTHS / "out/gate_memory"))
     found, _, _ = all_faults(program)
+    listed = os.environ.get("VP8LIST") or str(TOP / "crates/vp8list/out/vp8list")
+    found = [f"gate_memory: {fault}" for fault in found] + [f"vp8list: {fault}" for fault in list_faults(Program(listed))]
     for fault in found:
-        print(f"gate_memory: {fault}")
+        print(fault)
     return 1 if found else 0
 
 

@@ -3,7 +3,7 @@
 
 The gate runs it after `rt ci`; it prints nothing if all is as it should be. The streams are those of gate_checks, the damaged one of
 vp8list and one of 640x360 with a packet of 7,303 bytes, so each call is made with ample memory for a stream of that size. Lists and findings are compared with those that listed.py and checked.py find from headers, objects with the lines, and hashes
-with the samples that vp8serve serves, and macroblocks and headers with those that macroblocks.py parses. VP8LIST and VP8SERVE name other programs than those that `rt ci` built.
+with the samples that vp8serve serves, and macroblocks and headers with those of the parser of the conformance streams. VP8LIST and VP8SERVE name other programs than those that `rt ci` built.
 """
 
 import hashlib
@@ -16,7 +16,9 @@ import tempfile
 
 from checked import PARTITION, lines as findings
 from listed import lines as listed
-from macroblocks import cell, rows_of, wanted
+from library.conformance import objects
+from library.ivf import packets_of
+from macroblocks import cell, rows_of
 
 TOP = pathlib.Path(__file__).resolve().parent.parent
 
@@ -78,13 +80,13 @@ def check_findings(path):
 
 
 def check_details(path):
-    macroblocks, headers = wanted(path.read_bytes())
+    headers, macroblocks = objects.objects_of(packets_of(path.read_bytes()))
     status, text, errors = ran(path, "--macroblocks", "all", "--json")
-    shown = [json.loads(line) for line in text.splitlines()]
-    expect(f"{path.name} --macroblocks all --json", (status, [one for one in shown if "column" in one], errors), (0, macroblocks, ""))
+    expect(f"{path.name} --macroblocks all --json", (status, [json.loads(line) for line in text.splitlines()], errors), (0, macroblocks, ""))
     status, text, errors = ran(path, "--header", "all", "--json")
     shown = [json.loads(line) for line in text.splitlines()]
-    expect(f"{path.name} --header all --json", (status, [one for one in shown if "version" in one or "probability" in one], errors), (0, headers, ""))
+    expect(f"{path.name} --header all --json", (status, shown, errors), (0, headers, ""))
+    macroblocks, headers = [one for one in macroblocks if "column" in one], [one for one in headers if "version" in one or "probability" in one]
     others = [one["packet"] for one in shown if "version" not in one and "probability" not in one]
     count = len(list(listed(path.read_bytes()))) - 1
     expect(f"{path.name} packets without a header", sorted(others + [one["packet"] for one in headers if "version" in one]), list(range(count)))
@@ -190,10 +192,39 @@ def check_errors():
         expect(f"{words}", (status, text, errors.splitlines()[:1]), (2, "", ["vp8list: command line"]))
 
 
+def check_full():
+    """A full disk: each output ends with the error of the writer, also if it is longer than the buffer."""
+    asked = [["--json"], ["--hash"], ["--check"], ["--check", "--json"], ["--macroblocks", "all"], ["--header", "all", "--json"], []]
+    told = "vp8list: cannot write\n"
+    with open("/dev/full", "wb") as full:
+        for words in [[path, *options] for path in (LARGE, DATA / "short.ivf") for options in asked] + [["--help"], ["--version"]]:
+            done = subprocess.run([LIST, *map(str, words)], stdout=full, stderr=subprocess.PIPE, timeout=60, check=False)
+            expect(f"a full disk {words}", (done.returncode, done.stderr.decode()), (2, told))
+        for words, lines in (([LARGE], b"count\n"), ([LARGE, "-", "/dev/full"], b"frame 0\n")):
+            done = subprocess.run([SERVE, *map(str, words)], input=lines, stdout=full, stderr=subprocess.PIPE, timeout=60, check=False)
+            expect(f"a full disk, vp8serve {words}", (done.returncode, done.stderr.decode()), (1, "vp8serve: cannot write\n"))
+
+
+def check_lines_of_messages():
+    """A newline of a path or of a file is no line of a message."""
+    name = "..\nline 9: x"
+    expect("a path of two lines", ran(name), (2, "", "vp8list: cannot read ..?line 9: x\n"))
+    with tempfile.TemporaryDirectory() as folder:
+        texts = {"a\nb.webm": b"\x1a\x45\xdf\xa3" + bytes(40), "c\nd.ivf": b"DKIF\0\0\x20\0V\nX8\x10\0\x10\0\x1e\0\0\0\x01" + bytes(11)}
+        for name, text in texts.items():
+            (pathlib.Path(folder) / name).write_bytes(text)
+        done = subprocess.run([LIST, "a\nb.webm"], cwd=folder, capture_output=True, timeout=60, check=False)
+        said = "vp8list: input Magic\na?b.webm is a WebM or Matroska file: ffmpeg -i a?b.webm -an -c copy -copyts out.ivf\n"
+        expect("a WebM file of two lines", (done.returncode, done.stdout, done.stderr.decode()), (2, b"", said))
+        done = subprocess.run([SERVE, "c\nd.ivf", "--explain"], cwd=folder, input=b"", capture_output=True, timeout=60, check=False)
+        said = "c?d.ivf has the codec V?X8, not VP80, and has to be coded again, which changes each frame: ffmpeg -i c?d.ivf -an -c:v libvpx out.ivf"
+        expect("a codec of two lines", (done.returncode, done.stderr.decode().splitlines()), (1, ["vp8serve: input FourCc", said]))
+
+
 def check_help():
     status, text, errors = ran("--help")
     expect("--help", (status, errors, "--macroblocks" in text, "Exit status" in text), (0, "", True, True))
-    expect("--version", ran("--version"), (0, "vp8list 0.1.0\n", ""))
+    expect("--version", ran("--version"), (0, "vp8list 0.9.0\n", ""))
 
 
 def main():
@@ -205,6 +236,8 @@ def main():
     check_formats()
     check_help()
     check_errors()
+    check_full()
+    check_lines_of_messages()
     print(*wrong, sep="\n", end="\n" if wrong else "")
     return 1 if wrong else 0
 

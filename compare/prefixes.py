@@ -14,7 +14,6 @@ import sys
 import tempfile
 
 from damaged import decoded
-from library.bits import Reader
 from library.damage import padded, partition_count
 from library.ivf import has_key_tag, ivf, packets_of
 from library.programs import CLIPS, VP8SERVE
@@ -32,7 +31,7 @@ def cause_of(packet, place):
     end = start + (struct.unpack("<I", packet[:3] + b"\0")[0] >> 5)
     if end > len(packet):
         return "FirstPartition"
-    count = partition_count(Reader(packet[start:end]), has_key_tag(packet))
+    count = partition_count(packet[start:end], has_key_tag(packet))
     at = end + 3 * (count - 1)
     if at > len(packet):
         return "TokenSizes"

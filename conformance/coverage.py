@@ -1,27 +1,59 @@
 #!/usr/bin/env python3
-"""Says which points of vp8/points.py each stream reaches: coverage.py [--missing] [--points STREAM] [FOLDER]
+"""Says which points of vp8/points.py each stream reaches: coverage.py [--missing] [--points STREAM] [--streams POINT]
 
-Each stream is parsed anew by the plain decoder, so the count does not rest on what make.py meant to write. The table has a row a group:
-points, points reached, points that no stream can reach, and what is missing. --missing names what is missing; --points STREAM names what one
-stream reaches. points.json and points.md are written next to this script.
+Each stream is parsed anew by the plain decoder, so the count does not rest on what make.py meant to write. A point that rests on a rule for
+which bugs.py has a bug counts for a stream only if the bug changes an MD5 of that stream: effects.txt has those streams, and planted.py writes
+it. The table has a row a group: points, points reached, points that no stream can reach, and what is missing. --missing names what is missing;
+--points names what one stream reaches, --streams the streams that reach points whose names have this text. points/ has a file a group.
 """
 
 import argparse
 import concurrent.futures
-import json
+import functools
 import pathlib
+import re
 
+from bugs import BUGS
 from vp8 import ivf
 from vp8.points import GROUPS, Watch, all_points
 
 HERE = pathlib.Path(__file__).resolve().parent
+STREAMS, EFFECTS = HERE / "streams", HERE / "effects.txt"
 
 
-def reached_by(path):
+@functools.lru_cache(maxsize=None)
+def effects():
+    """For each bug, the streams of which it changes an MD5."""
+    lines = (line.split() for line in EFFECTS.read_text().splitlines() if line and not line.startswith("#")) if EFFECTS.is_file() else ()
+    return {name: set(streams) for name, *streams in lines}
+
+
+@functools.lru_cache(maxsize=None)
+def bugs_of(point):
+    """The bugs that break the rule of a point."""
+    group, name = point
+    return [bug[0] for bug in BUGS if any(group == other and re.fullmatch(pattern, name) for other, pattern in bug[5])]
+
+
+def seen_by(path):
+    """The points of the values and the situations of a stream."""
     watch = Watch()
     for packet in ivf.read(path):
         watch.packet(packet)
-    return path.stem, watch.found
+    return watch.found
+
+
+def reached_by(path):
+    """Those whose rule, if it is broken, changes an MD5 of the stream, where a bug breaks it."""
+    shows = effects()
+    return path.stem, {point for point in seen_by(path) if all(path.stem in shows.get(bug, {path.stem}) for bug in bugs_of(point))}
+
+
+@functools.lru_cache(maxsize=None)
+def reached_by_all():
+    """The points of each stream."""
+    with concurrent.futures.ProcessPoolExecutor() as pool:
+        return dict(pool.map(reached_by, sorted(STREAMS.rglob("*.ivf"))))
 
 
 def table(found):
@@ -36,36 +68,33 @@ def table(found):
 
 
 def write_points(by_stream):
-    """points.json has for each group its section, its points and the streams that reach each; points.md the list to read."""
-    streams = {}
-    for name, found in sorted(by_stream.items()):
-        for key in found:
-            streams.setdefault(key, []).append(name)
-    record = {
-        group: {"section": section, "points": {name: streams.get((group, name), []) for name in dict.fromkeys(points())}, "impossible": impossible}
-        for group, (section, points, impossible) in GROUPS.items()
-    }
-    (HERE / "points.json").write_text(json.dumps(record, indent=0, sort_keys=False) + "\n")
-    lines = ["# Points", "", "What the streams reach, by group. Written by `coverage.py`. `points.json` names the streams for each point."]
+    """A file a group, a line a point: its name, and the first stream that reaches it; those of beyond/ come last."""
+    order = sorted(by_stream, key=lambda name: (not (STREAMS / f"{name}.ivf").is_file(), name))
+    (HERE / "points").mkdir(exist_ok=True)
     for group, (section, points, impossible) in GROUPS.items():
         names = list(dict.fromkeys(points()))
-        lines += ["", f"## {group[0].upper()}{group[1:]} (RFC 6386, section {section}): {len(names)}", ""]
-        lines += [", ".join(names) + "."]
-        lines += [f"\nNot to be reached: {name}: {why}." for name, why in impossible.items()]
-    (HERE / "points.md").write_text("\n".join(lines) + "\n")
+        lines = [f"# {group} (RFC 6386, section {section}): {len(names)} points, each with the first stream that reaches it"]
+        for name in names:
+            stream = next((stream for stream in order if (group, name) in by_stream[stream]), None)
+            lines.append(f"{name}\t{stream or '-'}" + (f"\t{impossible[name]}" if name in impossible else ""))
+        (HERE / "points" / f"{group.replace(' ', '-')}.txt").write_text("\n".join(lines) + "\n")
 
 
 def main():
     parser = argparse.ArgumentParser(description=__doc__.splitlines()[0])
     parser.add_argument("--missing", action="store_true")
-    parser.add_argument("--points")
-    parser.add_argument("folder", nargs="?", default=HERE / "streams", type=pathlib.Path)
+    parser.add_argument("--points", metavar="STREAM")
+    parser.add_argument("--streams", metavar="POINT")
     asked = parser.parse_args()
-    with concurrent.futures.ProcessPoolExecutor() as pool:
-        by_stream = dict(pool.map(reached_by, sorted(asked.folder.rglob("*.ivf"))))
+    by_stream = reached_by_all()
     if asked.points:
         for group, name in sorted(by_stream[asked.points]):
             print(f"{group}: {name}")
+        return
+    if asked.streams:
+        for group, name in all_points():
+            if asked.streams in f"{group}: {name}":
+                print(f"{group}: {name}: {' '.join(stream for stream, found in by_stream.items() if (group, name) in found) or '-'}")
         return
     found = set().union(*by_stream.values())
     unknown = sorted(found - set(all_points()))

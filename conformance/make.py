@@ -308,6 +308,87 @@ def fractions(version):
     return frames
 
 
+def zero_runs(chooser):
+    """Blocks of zeros up to the last place, blocks without tokens, and blocks of one coefficient."""
+    _, kind, band, _, after = chooser.name
+    if after:
+        return 0
+    if band == (1 if kind == 0 else 0):
+        return chooser.random.choices((0, 11, 1), (4, 5, 1))[0]
+    return 11
+
+
+def zero_tokens(stream, chooser):
+    """Blocks whose tokens are all 0: they have tokens for the contexts of other blocks, and for the inner edges."""
+    for filter_type in (0, 1):
+        fixed = dict(filter_type=filter_type, loop_filter_level=24, sharpness_level=0, segmentation_enabled=0, loop_filter_adj_enable=0, y_ac_qi=40, mb_skip_coeff=0)
+        stream.frame((48, 48), token=zero_runs, **fixed)
+        # Macroblocks of which no block has another token.
+        stream.frame(token=lambda chooser: 0 if chooser.name[1] == 1 or chooser.name[4] else 11, **fixed)
+        stream.frame(token=zero_runs, **fixed)
+
+
+def versions(stream, chooser):
+    """Each version after each other one, from frame to frame."""
+    stream.frame((32, 32), 0)
+    for version in (1, 2, 3, 0, 2, 1, 3, 2, 0, 3, 1, 0):
+        stream.frame(None, version, prob_intra=250, is_inter_mb=1, mv_mode=drawn_from(3, 4), mv_long=0, refresh_last=1)
+
+
+def bounds(stream, chooser):
+    """Probabilities of 0 and of 255."""
+    for value in (0, 255):
+        some = {("coeff_prob_update", place): int(place % 97 == 0) for place in range(len(tables.UPDATES))}
+        fixed = {"segmentation_enabled": 1, "update_mb_segmentation_map": 1, "update_segment_feature_data": 1, "segment_prob_update": 1, "segment_prob": value, "mb_no_coeff_skip": 1, "prob_skip_false": value, "coeff_prob": value, "also": some}
+        stream.frame((48, 32), **fixed)
+        for _ in range(3):
+            updates = {"intra_16x16_prob_update_flag": 1, "intra_chroma_prob_update_flag": 1, "mv_prob_update": 1, "mv_prob": value // 2}
+            stream.frame(prob_intra=value, prob_last=value, prob_gf=value, intra_16x16_prob=value, intra_chroma_prob=value, **updates, **fixed)
+
+
+def first_token(token):
+    """This token at the first place of a block or none, and no other."""
+
+    def chosen(chooser):
+        _, kind, band, context, after = chooser.name
+        return chooser.random.choice((token, 11)) if band == (1 if kind == 0 else 0) and not after else 11
+
+    return chosen
+
+
+def largest_tokens(stream, chooser):
+    """Tokens of each category with all its extra bits set, one a block."""
+    for token in range(5, 11):
+        for size in ((16, 16), None):
+            stream.frame(size, token=first_token(token), extra_bit=1, y_ac_qi=0, segmentation_enabled=0, mb_skip_coeff=0, y_dc_delta=absent, y2_dc_delta=absent, uv_dc_delta=absent)
+
+
+def delta_bounds(stream, chooser):
+    """Each change of the filter level at its bounds."""
+    stream.frame((32, 32), loop_filter_level=0)
+    for name in ("ref_frame_delta", "mb_mode_delta"):
+        for place in range(4):
+            for value in (-63, 63):
+                others = {(other, at): 0 for other in ("ref_frame_delta", "mb_mode_delta") for at in range(4)} | {(name, place): value}
+                modes = {"mv_mode": 4} if (name, place) == ("mb_mode_delta", 3) else {}
+                stream.frame(loop_filter_level=30, sharpness_level=0, filter_type=0, segmentation_enabled=0, loop_filter_adj_enable=1, mode_ref_lf_delta_update=1, prob_intra=100, also=others, **modes)
+
+
+def far_in_wide_pictures(stream, chooser):
+    """Vectors that grow from macroblock to macroblock, to the right and then down."""
+    skipped = {"mb_no_coeff_skip": 1, "prob_skip_false": 1, "segmentation_enabled": 0}
+    for component, size in ((1, (6400, 16)), (0, (16, 6400))):
+        stream.frame(size, token=no_tokens, y_ac_qi=60, mb_skip_coeff=drawn_from(0, 1, 1, 1), **{"key intra_y_mode": drawn_from(0, 1, 2, 3)}, **skipped)
+        grows = {("mv_long", component): 1, ("mv_long", 1 - component): 0, ("mv_short", 1 - component): 0}
+        stream.frame(prob_intra=1, is_inter_mb=1, prob_last=255, mb_ref_frame_sel1=0, mv_mode=3, mv_long_bit=1, mv_sign=0, mb_skip_coeff=1, also=grows, **skipped)
+
+
+def largest_y2(stream, chooser):
+    """Coefficients of Y2 whose sums leave 16 bits."""
+    for size in ((16, 16), None, None):
+        stream.frame(size, token=lambda chooser: 10 if chooser.name[1] == 1 else 11, extra_bit=1, y_ac_qi=127, segmentation_enabled=0, mb_skip_coeff=0, **{"key intra_y_mode": 0, "coefficient sign": drawn_from(0, 0, 0, 1)})
+
+
 def make(folder):
     maker = Maker(folder)
     everything = ("token", "key intra_b_mode", "sub_mv_mode", "mv_mode", "mv_short", "mv_split_mode", "extra_bit", "intra_b_mode", "segment_id")
@@ -357,6 +438,14 @@ def make(folder):
     maker.stream("partitions-of-ones", (32, 32), all_ones, beyond=True)
     maker.stream("first-partition-of-ones", (16, 16), first_of_ones, beyond=True)
     maker.stream("residuals-past-16-bits", (32, 32), key_and_inters((32, 32), 3, 0, y_ac_qi=127, token=drawn_from(10, 10, 1, 11), extra_bit=drawn_from(0, 1)), beyond=True)
+    # Streams that were added later: those above stay the same bytes.
+    maker.stream("zero-tokens", (48, 48), zero_tokens)
+    maker.stream("versions", (32, 32), versions)
+    maker.stream("probabilities-at-bounds", (48, 32), bounds, rare=0.0)
+    maker.stream("largest-tokens", (16, 16), largest_tokens)
+    maker.stream("filter-deltas-at-bounds", (32, 32), delta_bounds)
+    maker.stream("vectors-past-16-bits", (6400, 16), far_in_wide_pictures, beyond=True)
+    maker.stream("sums-of-y2-past-16-bits", (16, 16), largest_y2, beyond=True)
     return maker
 
 

@@ -16,7 +16,6 @@ if a stream differs.
 import argparse
 import concurrent.futures
 import hashlib
-import json
 import os
 import pathlib
 import re
@@ -25,6 +24,7 @@ import sys
 import tempfile
 import xml.etree.ElementTree as xml
 
+import coverage
 from vp8 import ivf
 from vp8.decoder import Decoder, Refused
 from vp8.parser import B, INTRA, SPLIT
@@ -159,19 +159,19 @@ def difference(path, command, asked):
 
 def points_of(differing, run):
     """The points that only streams that differ reach, of those that were run: first those that most of them reach."""
-    found = []
-    for group, record in json.loads((HERE / "points.json").read_text()).items():
-        for point, streams in record["points"].items():
-            reaching = set(streams) & run
-            if reaching and reaching <= differing:
-                found.append((len(reaching), f"{group}: {point}"))
+    reaching = {}
+    for stream, points in coverage.reached_by_all().items():
+        for point in points if stream in run else ():
+            reaching.setdefault(point, set()).add(stream)
+    found = [(len(streams), f"{group}: {name}") for (group, name), streams in sorted(reaching.items()) if streams <= differing]
     return [name for _, name in sorted(found, key=lambda pair: -pair[0])]
 
 
 def reached(names):
     """How many points streams of these names reach, and how many all do."""
-    lists = [streams for record in json.loads((HERE / "points.json").read_text()).values() for streams in record["points"].values()]
-    return sum(bool(set(streams) & names) for streams in lists), sum(bool(streams) for streams in lists)
+    by_stream = coverage.reached_by_all()
+    some = set().union(*(points for stream, points in by_stream.items() if stream in names)) if names else set()
+    return len(some), len(set().union(*by_stream.values()))
 
 
 def write_junit(path, name, results):

@@ -2,7 +2,7 @@
 
 import struct
 
-from .bits import Reader
+from .conformance import bits, parser
 
 # How many zeros `padded` puts after each partition.
 PADDING = 4000
@@ -31,24 +31,11 @@ def damage(packets, choose):
     return packets
 
 
-def partition_count(reader, is_key):
+def partition_count(first, is_key):
     """How many token partitions a first partition says that there are."""
-    reader.number(2 if is_key else 0)
-    if reader.number(1):
-        updates_map, updates_data = reader.number(1), reader.number(1)
-        reader.number(updates_data)
-        for size in ([7] * 4 + [6] * 4) * updates_data:
-            if reader.number(1):
-                reader.number(size + 1)
-        for _ in range(3 * updates_map):
-            if reader.number(1):
-                reader.number(8)
-    reader.number(10)
-    if reader.number(1) and reader.number(1):
-        for _ in range(8):
-            if reader.number(1):
-                reader.number(7)
-    return 1 << reader.number(2)
+    header = parser.Header(is_key=is_key)
+    parser.read_first_fields(bits.Reader(first), header, parser.default_context())
+    return 1 << header.log2_nbr_of_dct_partitions
 
 
 def partitions_of(packet):
@@ -65,7 +52,7 @@ def partitions_of(packet):
     if end > len(packet):
         return None
     first = packet[start:end]
-    count = partition_count(Reader(first), not tag & 1)
+    count = partition_count(first, not tag & 1)
     place = end + 3 * (count - 1)
     if place > len(packet):
         return None

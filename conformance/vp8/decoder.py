@@ -76,7 +76,7 @@ def dequantised(block, pair):
     return [signed16(value * pair[place > 0]) for place, value in enumerate(block)] if block else [0] * 16
 
 
-def inverse_wht(values):
+def inverse_wht(values, events):
     """Section 14.3: columns, then rows."""
     middle = [0] * 16
     for i in range(4):
@@ -86,9 +86,13 @@ def inverse_wht(values):
     out = [0] * 16
     for i in range(0, 16, 4):
         row = [signed16(value) for value in middle[i : i + 4]]
+        if row != middle[i : i + 4]:
+            events.add("Y2: first pass leaves 16 bits")
         a1, b1, c1, d1 = row[0] + row[3], row[1] + row[2], row[1] - row[2], row[0] - row[3]
         for place, value in enumerate((a1 + b1, c1 + d1, a1 - b1, d1 - c1)):
             out[i + place] = signed16((value + 3) >> 3)
+            if not -32768 <= value + 3 <= 32767:
+                events.add("Y2: second pass leaves 16 bits")
     return out
 
 
@@ -128,7 +132,7 @@ def residual_of(macroblock, header, context, events):
     y1, y2, uv = factors(header, context, macroblock.segment)
     blocks = [dequantised(block, y1 if number < 16 else uv) for number, block in enumerate(macroblock.blocks[:24])]
     if macroblock.has_y2:
-        for block, value in zip(blocks, inverse_wht(dequantised(macroblock.blocks[24], y2))):
+        for block, value in zip(blocks, inverse_wht(dequantised(macroblock.blocks[24], y2), events)):
             block[0] = value
     return [inverse_dct(block, events) if any(block) else None for block in blocks]
 

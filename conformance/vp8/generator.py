@@ -123,11 +123,11 @@ class Stream:
         self.context, self.segment_map, self.size = None, None, None
         self.packets = []
 
-    def frame(self, size=None, version=0, shown=True, scales=(0, 0), tail=(), first_cut=0, **forced):
-        """Adds a frame: a key frame of this size, or an inter frame without one. `forced` has fields of the header by name; `tail` has
+    def frame(self, size=None, version=0, shown=True, scales=(0, 0), tail=(), first_cut=0, also=(), **forced):
+        """Adds a frame: a key frame of this size, or an inter frame without one. `forced` has fields of the header by name, `also` values by their whole names; `tail` has
         functions of the token partitions' bytes, to cut or change them; `first_cut` bytes are missing at the end of the first one."""
         chooser = self.chooser
-        before, chooser.forced = chooser.forced, {**chooser.forced, **forced}
+        before, chooser.forced = chooser.forced, {**chooser.forced, **forced, **dict(also)}
         header = Header(is_key=size is not None, version=version, show_frame=int(shown))
         if header.is_key:
             (header.width, header.height), self.size = size, size

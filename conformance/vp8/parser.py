@@ -542,3 +542,33 @@ def parse(packet, before, size, segment_map, saw=None):
     for place, macroblock in enumerate(macroblocks):
         tokens.read(macroblock, place % columns, place // columns)
     return Frame(header, context, after, columns, rows, macroblocks, segment_map, partitions, [reader, *tokens.readers], header_bits, asked, modes.events)
+
+
+class Parsing:
+    """Parses one packet after another, without samples. After a packet that is refused, packets are refused up to the next key tag."""
+
+    def __init__(self):
+        self.context, self.segment_map, self.size, self.broken = None, None, None, None
+
+    def packet(self, packet):
+        """The frame of a packet, None for a packet of no bytes; raises Refused."""
+        if len(packet) >= 3 and not packet[0] & 1:
+            self.context, self.segment_map, self.broken = None, None, None
+        if self.broken:
+            raise Refused(self.broken)
+        try:
+            return self.frame(packet)
+        except Refused as refused:
+            self.broken = str(refused)
+            raise
+
+    def frame(self, packet):
+        if not packet:
+            if self.context is None:
+                raise Refused("NoKeyFrame")
+            return None
+        frame = parse(packet, self.context, self.size, self.segment_map)
+        if frame.header.is_key:
+            self.size = frame.header.width, frame.header.height
+        self.context, self.segment_map = frame.context_after, frame.segment_map
+        return frame

@@ -20,6 +20,7 @@ FLAGS = (
     " loop_filter_adj_enable mode_ref_lf_delta_update refresh_entropy_probs refresh_golden_frame refresh_alternate_frame sign_bias_golden"
     " sign_bias_alternate refresh_last mb_no_coeff_skip intra_16x16_prob_update_flag intra_chroma_prob_update_flag"
 ).split()
+PROBABILITIES = ("prob_skip_false", "prob_intra", "prob_last", "prob_gf")
 EDGES = ["corner", "first row", "first column", "inside"]
 
 
@@ -43,6 +44,9 @@ def field_points():
     for which in ("horizontal", "vertical"):
         yield from (f"{which} scale {value}" for value in range(4))
     yield from (f"version {version} {kind}" for version in range(4) for kind in ("key", "inter"))
+    yield from (f"version {version} after {before}" for before in range(4) for version in range(4) if version != before)
+    yield from (f"{name} {value}" for name in PROBABILITIES for value in (0, 255))
+    yield from (f"segment_prob {place} {value}" for place in range(3) for value in (0, 255))
 
 
 def update_points():
@@ -53,6 +57,9 @@ def update_points():
             yield from (f"mv_prob_update {component} {place} {value}" for value in (0, 1))
     for name, count in (("intra_16x16_prob", 4), ("intra_chroma_prob", 3)):
         yield from (f"{name} {place}" for place in range(count))
+        yield from (f"{name} {place} {value}" for place in range(count) for value in (0, 255))
+    yield from (f"coeff_prob {value}" for value in (0, 255))
+    yield from (f"mv_prob {component} {place} {value}" for component in range(2) for place in range(19) for value in (0, 127))
 
 
 def mode_points():
@@ -86,6 +93,7 @@ def token_points():
         yield from (f"cat{category} bit {bit} {value}" for bit in range(len(probabilities)) for value in (0, 1))
         yield f"cat{category} all bits 1"
     yield from (f"{name} sign {value}" for name in KINDS for value in (0, 1))
+    yield from (f"{name}: zeros up to the last place" for name in KINDS)
 
 
 def vector_points():
@@ -99,6 +107,7 @@ def vector_points():
         yield from (f"{component} short {size}" for size in range(8))
         yield from (f"{component} long bit {bit} {value}" for bit in range(10) for value in (0, 1))
         yield f"{component} long bit 3 not read"
+    yield from (f"{component} past 16 bits" for component in COMPONENTS)
     yield "sign bias turns a neighbour's vector"
     yield "three different neighbours, the third like the first"
     yield from (f"{which} vector is clamped" for which in ("nearest", "near", "best"))
@@ -126,6 +135,7 @@ def residual_points():
     yield from ("macroblock without tokens, not skipped", "skipped with Y2", "skipped without Y2")
     yield from (f"{kind} factor {name}" for kind in ("Y", "Y2", "chroma") for name in ("least DC", "greatest DC", "least AC", "greatest AC"))
     yield from ("clamped at 0", "clamped at 255", "DC alone", "Y2 DC alone", "first pass leaves 16 bits", "second pass leaves 16 bits", "coefficient times factor leaves 16 bits")
+    yield from (f"Y2: {which} pass leaves 16 bits" for which in ("first", "second"))
 
 
 def filter_points():
@@ -135,7 +145,7 @@ def filter_points():
     yield from (f"key frame, variance threshold {value}" for value in range(3))
     yield from (f"inter frame, variance threshold {value}" for value in range(4))
     yield from (f"interior limit {value}" for value in range(1, 64))
-    yield from (f"{name}: inner edges {value}" for name in ("normal", "simple") for value in ("filtered", "not filtered"))
+    yield from (f"{name}: inner edges {value}" for name in ("normal", "simple") for value in ("filtered", "not filtered", "filtered for tokens that are all 0"))
 
 
 def prediction_points():
@@ -210,6 +220,7 @@ class Watch:
         self.decoder = Decoder(self.saw)
         self.category = []
         self.had_segments_off = False
+        self.version = None
 
     def add(self, group, point):
         """Takes note of a point; of values between their bounds there is none."""
@@ -227,8 +238,13 @@ class Watch:
             self.add("header fields", " ".join(map(str, (kind, *rest, value))))
         elif kind in ("coeff_prob_update", "mv_prob_update"):
             self.add("probability updates", " ".join(map(str, (kind, *rest, value))))
-        elif kind in ("intra_16x16_prob", "intra_chroma_prob"):
-            self.add("probability updates", f"{kind} {rest[0]}")
+        elif kind in ("intra_16x16_prob", "intra_chroma_prob", "mv_prob"):
+            self.add("probability updates", " ".join(map(str, (kind, *rest))))
+            self.add("probability updates", " ".join(map(str, (kind, *rest, value))))
+        elif kind == "coeff_prob":
+            self.add("probability updates", f"{kind} {value}")
+        elif kind in PROBABILITIES or kind == "segment_prob":
+            self.add("header fields", " ".join(map(str, (kind, *rest, value))))
         else:
             self.saw_macroblock(kind, rest, value)
 
@@ -313,6 +329,9 @@ class Watch:
         header = frame.header
         kind = "key" if header.is_key else "inter"
         self.add("header fields", f"version {header.version} {kind}")
+        if not header.is_key and header.version != self.version:
+            self.add("header fields", f"version {header.version} after {self.version}")
+        self.version = header.version
         if not header.show_frame:
             self.add("references", "hidden frame")
         if header.is_key:
@@ -406,7 +425,10 @@ class Watch:
             self.add("loop filter", f"{'key' if header.is_key else 'inter'} frame, variance threshold {threshold}")
             self.add("loop filter", f"interior limit {interior}")
             inside = macroblock.has_tokens or not macroblock.has_y2
-            self.add("loop filter", f"{'simple' if header.filter_type else 'normal'}: inner edges {'filtered' if inside else 'not filtered'}")
+            name = "simple" if header.filter_type else "normal"
+            self.add("loop filter", f"{name}: inner edges {'filtered' if inside else 'not filtered'}")
+            if macroblock.has_tokens and macroblock.has_y2 and not any(any(block or ()) for block in macroblock.blocks):
+                self.add("loop filter", f"{name}: inner edges filtered for tokens that are all 0")
 
     def residual(self, frame, macroblock):
         header, context = frame.header, frame.context
@@ -433,6 +455,8 @@ class Watch:
             pair = pairs[1 if number == 24 else 0 if number < 16 else 2]
             if block and any(abs(value * pair[place > 0]) > 32767 for place, value in enumerate(block)):
                 self.add("residuals", "coefficient times factor leaves 16 bits")
+            if block and not any(block):
+                self.add("tokens", f"{KINDS[1 if number == 24 else 2 if number > 15 else 0 if macroblock.has_y2 else 3]}: zeros up to the last place")
             if block and block[0] and not any(block[1:]):
                 self.add("residuals", "Y2 DC alone" if number == 24 else "DC alone")
 
@@ -455,6 +479,11 @@ class Watch:
         split = macroblock.vector_mode == SPLIT
         if split and len(set(macroblock.vectors)) == 16:
             self.add("prediction", "sixteen different vectors in a macroblock")
+        for vector in macroblock.vectors:
+            for component, value in zip(COMPONENTS, vector):
+                # libvpx's vectors count halves of a quarter.
+                if not -32768 <= 2 * value <= 32767:
+                    self.add("vectors", f"{component} past 16 bits")
         for block in range(16) if split else (15,):
             down, across = (2 * component for component in macroblock.vectors[block])
             self.add("prediction", f"{taps}: luma {'4x4' if split else '16x16'}, fraction {across & 7},{down & 7}")

@@ -67,8 +67,8 @@ class Repair:
         lines = facts.run_on(self.lister, packets, *options, statuses=(0, 1))
         found = {}
         for finding in map(json.loads, lines):
-            if finding["severity"] == "damage" and finding["packet"] is not None and finding["kind"] != "refused":
-                found.setdefault(finding["packet"], DAMAGE.get(finding["kind"], "damaged"))
+            if finding["packet"] is not None and finding["kind"] in DAMAGE:
+                found.setdefault(finding["packet"], DAMAGE[finding["kind"]])
         return found
 
     def forge(self, word, width, height):

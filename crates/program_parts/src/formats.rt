@@ -3,6 +3,7 @@ ghost use Rattle.std.specs.Prelude.{◌≡◌, OnOk};
 ghost use Rattle.std.specs.Io.KnownBytes.{Appends};
 ghost use Rattle.program_parts.specs.Formats.{container_text, format_of, format_text, is_avi, is_mp4, is_webm, is_y4m, line_text};
 
+use crate::in_line::write_in_line;
 use std::io::{self, Write};
 
 /// The format of a file.
@@ -69,23 +70,21 @@ pub fn format_of(bytes: &[u8]) -> Option<Format>
 fn write_container<E: Write>(errors: &mut E, path: &str, name: &str) -> io::Result<()>
     ensures { OnOk result (Appends (E.contents errors.old) (E.contents errors.new) (container_text path.now name.now)) }
 {
-    writeln!(
-        errors,
-        "{path} is {name}; if its video is VP8: ffmpeg -i {path} -an -c copy out.ivf"
-    )?;
-    writeln!(
-        errors,
-        "any other video has to be coded again, which changes each frame: ffmpeg -i {path} -an -c:v libvpx out.ivf"
-    )
+    write_in_line(errors, path)?;
+    write!(errors, " is {name}; if its video is VP8: ffmpeg -i ")?;
+    write_in_line(errors, path)?;
+    errors.write_all(b" -an -c copy out.ivf\nany other video has to be coded again, which changes each frame: ffmpeg -i ")?;
+    write_in_line(errors, path)?;
+    errors.write_all(b" -an -c:v libvpx out.ivf\n")
 }
 
 fn write_line<E: Write>(errors: &mut E, path: &str, name: &str, options: &str) -> io::Result<()>
     ensures { OnOk result (Appends (E.contents errors.old) (E.contents errors.new) (line_text path.now name.now options.now)) }
 {
-    writeln!(
-        errors,
-        "{path} is {name}: ffmpeg -i {path} {options} out.ivf"
-    )
+    write_in_line(errors, path)?;
+    write!(errors, " is {name}: ffmpeg -i ")?;
+    write_in_line(errors, path)?;
+    writeln!(errors, " {options} out.ivf")
 }
 
 /// Writes which format the file at `path` has, and the `ffmpeg` command that makes an IVF file of it.

@@ -14,4 +14,4 @@ returns g c =
     let rows : c.macroblocks-2.result ≡ macroblocks (height_of c.args.header.now before) = c.macroblocks-2.ensures.value ∙ ap (λ (n : ℕ). macroblocks n) c.size_of-width.ensures.height in
     let modes = ap (λ (m : FrameModes). m.records) c.in_ok-records.ensures.modes in
     let facts = c.in_ok-records.ensures.facts in
-    on_ok_weaker c.write_frame.result (λ p. Appends-trans _ _ _ _ _ (rw c.read_header_bits.ensures at c.in_ok-write_comment.ensures) p) (rw (columns, rows, modes, facts) at c.write_frame.ensures)
+    on_ok_weaker c.write_frame.result (λ p. Appends-trans _ _ _ _ _ (rw c.read_coded.ensures at c.in_ok-write_comment.ensures) p) (rw (columns, rows, modes, facts) at c.write_frame.ensures)

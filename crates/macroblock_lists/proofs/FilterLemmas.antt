@@ -1,0 +1,46 @@
+-- The filter of a listed macroblock.
+use Rattle.std.proofs.Common.{◌≡◌, ℕ, zero, suc, ◌+◌, ◌<◌, ◌/◌, ◌%◌, Bool, true, false, List, length, map, slice_get, Some, None, refl, ap, sym, ◌∙◌, arith, inl, inr}
+use Rattle.std.specs.Prelude.{◌==◌, ◌||◌, if◌then◌else◌, slice_index_or, Option}
+use Rattle.std.specs.List.{range_with_len}
+use Rattle.std.specs.Option.{option_map}
+use Rattle.std.proofs.lemmas.List.FromFn.{get_or-map-range_with_len}
+use Rattle.std.proofs.lemmas.Option.{slice_get_cases}
+use Rattle.frame_header.specs.declared.header.Header.{Header}
+use Rattle.mode_parser.specs.declared.records.MbMode.{MbMode}
+use Rattle.loop_filter.specs.Frames.{has_subblock_modes, strength_at, strength_of}
+use Rattle.loop_filter.specs.Levels.{level_of}
+use Rattle.loop_filter.specs.Strengths.{limits_of}
+use Rattle.loop_filter.specs.declared.edge_limits.Limits.{Limits}
+use Rattle.loop_filter.specs.declared.strengths.Strength.{Strength}
+use Rattle.reference_frames.specs.FrameTokens.{TokenState, flag_at, flag_with, flags_of, token_state, tokens_at}
+use Rattle.macroblock_lists.specs.FilterLaws.{FiltersAreUsed}
+
+-- by the level alone
+by-level : (is_zero : Bool) (level : ℕ) (limits : ℕ → Limits) (modes flag other : Bool) → flag ≡ other
+    → let listed : ℕ = if is_zero then 0 else level in
+    option_map {A = Limits} {B = Strength} (λ l. record { limits = l; has_inner_edges = if listed == 0 then false else modes || flag }) (if listed == 0 then None else Some (limits listed))
+    ≡ (if is_zero then None else if level == 0 then None else Some (record { limits = limits level; has_inner_edges = modes || other }))
+by-level true level limits modes flag other same = refl
+by-level false zero limits modes flag other same = refl
+by-level false (suc n) limits modes flag other same = rw same refl
+
+below-length : (modes : List MbMode) (place : ℕ) (mode : MbMode) → slice_get modes place ≡ Some mode → place < length modes
+below-length modes place mode found = elim (slice_get_cases modes place).1 [
+  | inl known ↦ known.1
+  | inr none ↦ absurd (let both = sym found ∙ none.1 in cc)
+]
+
+-- the flag of the macroblock
+flag-here : (header : Header) (columns : ℕ) (start : TokenState) (modes : List MbMode) (place : ℕ) (mode : MbMode) → slice_get modes place ≡ Some mode
+    → flag_with mode (tokens_at header.context.probabilities.coefficients (token_state header columns start modes place) (place % columns) (place / columns) mode).0
+    ≡ slice_index_or (flags_of header columns start modes) place false
+unfolding flag_at
+flag-here header columns start modes place mode found =
+    let there : slice_index_or (flags_of header columns start modes) place false ≡ flag_at header columns start modes place =
+    get_or-map-range_with_len (flag_at header columns start modes) 0 (length modes) place place false (below-length modes place mode found) (omega arith) in
+    sym (there ∙ rw found refl)
+
+pub filters_are_used : FiltersAreUsed
+unfolding strength_at strength_of
+filters_are_used header columns start marks modes place mode facts found =
+    rw found (by-level (header.filter.level == 0) (level_of header mode) (λ level. limits_of level header.filter.sharpness header.is_key) (has_subblock_modes mode.y_mode) _ _ (flag-here header columns start modes place mode found))
