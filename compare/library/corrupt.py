@@ -2,7 +2,7 @@
 
 import ctypes
 
-from .headers import fields
+from .damage import partition_count
 
 ABI = 12
 FRAME_CORRUPTED = 257
@@ -47,7 +47,7 @@ def padded(packet, zeros):
     start = 3 if tag & 1 else 10
     first = tag >> 5
     rest = packet[start + first :]
-    count = fields(packet, not tag & 1, first)[0]
+    count = partition_count(packet[start : start + first], not tag & 1)
     sizes = [int.from_bytes(rest[3 * k : 3 * k + 3], "little") for k in range(count - 1)]
     rest, tokens = rest[3 * (count - 1) :], []
     for size in sizes:

@@ -46,6 +46,8 @@ class Proposals:
                 found += self.of_hole(packet, finding["before"], finding["stamp"])
             elif kind in ("stamp_repeats", "stamp_goes_back", "breaks_step"):
                 found += self.of_doubles(packet)
+            elif kind == "comes_twice" and packet + 1 < len(self.stream):
+                found += self.of_doubles(packet + 1)
         found = [proposal for proposal in found if len(proposal.lines) <= MOST_EDITS]
         return [*found, Proposal("keep", "Keep it as it is", [], packet or 0)]
 
