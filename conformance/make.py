@@ -329,10 +329,11 @@ def zero_tokens(stream, chooser):
 
 
 def versions(stream, chooser):
-    """Each version after each other one, from frame to frame."""
-    stream.frame((32, 32), 0)
+    """Each version after each other one, from frame to frame, without segments and copies, in which decoders are known to differ."""
+    stream.frame((32, 32), 0, segmentation_enabled=0)
+    plain = dict(segmentation_enabled=0, copy_buffer_to_golden=0, copy_buffer_to_alternate=0)
     for version in (1, 2, 3, 0, 2, 1, 3, 2, 0, 3, 1, 0):
-        stream.frame(None, version, prob_intra=250, is_inter_mb=1, mv_mode=drawn_from(3, 4), mv_long=0, refresh_last=1)
+        stream.frame(None, version, prob_intra=250, is_inter_mb=1, mv_mode=drawn_from(3, 4), mv_long=0, refresh_last=1, **plain)
 
 
 def bounds(stream, chooser):

@@ -1,6 +1,5 @@
 -- The copies of an accepted header are those of its coded numbers.
-use Rattle.std.proofs.Common.{◌≡◌, ℕ, ◌+◌, ◌-◌, Bool, true, false, List, length, nat_lt, Option, Some, None, if◌then◌else◌, refl}
-use Rattle.std.specs.Prelude.{◌==◌}
+use Rattle.std.proofs.Common.{◌≡◌, ℕ, ◌+◌, ◌-◌, Bool, true, false, List, length, nat_lt, Option, if◌then◌else◌, refl}
 use Rattle.vp8_tables.specs.Tables.{TableEntries}
 use Rattle.bool_coder.specs.Reader.{Reader, started}
 use Rattle.bool_coder.specs.Reading.{flag}
@@ -18,7 +17,6 @@ use Rattle.frame_header.specs.declared.header.Header.{Header}
 use Rattle.frame_header.proofs.KeyLemmas.{IfOk-then, IfOk-following}
 use Rattle.header_bits.specs.Bits.{first_text}
 use Rattle.header_bits.specs.Copies.{AreNamed, CopiesAreNamed, altref_source, copies_in, copy_number, copy_numbers, golden_source, inter_copies, no_copies}
-use Rattle.header_bits.specs.declared.copies.CopyNumbers.{CopyNumbers}
 use Rattle.header_bits.proofs.GroupLemmas.{fields-ends, quantizers-ends}
 use Rattle.header_bits.proofs.PacketLemmas.{end_known, start_known}
 
