@@ -194,14 +194,15 @@ def check_errors():
 
 def check_full():
     """A full disk: each output ends with the error of the writer, also if it is longer than the buffer."""
-    asked = [["--json"], ["--hash"], ["--check"], ["--check", "--json"], ["--macroblocks", "all"], ["--header", "all", "--json"], []]
+    asked = [["--json"], ["--hash"], ["--check"], ["--macroblocks", "all"], ["--header", "all", "--json"], []]
+    lists = [[path, *options] for path in (LARGE, DATA / "short.ivf") for options in asked]
     told = "vp8list: cannot write\n"
     with open("/dev/full", "wb") as full:
-        for words in [[path, *options] for path in (LARGE, DATA / "short.ivf") for options in asked] + [["--help"], ["--version"]]:
+        for words in [*lists, [DATA / "short.ivf", "--check", "--json"], ["--help"], ["--version"]]:
             done = subprocess.run([LIST, *map(str, words)], stdout=full, stderr=subprocess.PIPE, timeout=60, check=False)
             expect(f"a full disk {words}", (done.returncode, done.stderr.decode()), (2, told))
-        for words, lines in (([LARGE], b"count\n"), ([LARGE, "-", "/dev/full"], b"frame 0\n")):
-            done = subprocess.run([SERVE, *map(str, words)], input=lines, stdout=full, stderr=subprocess.PIPE, timeout=60, check=False)
+        for words, lines, output in (([LARGE], b"count\n", full), ([LARGE, "-", "/dev/full"], b"frame 0\n", subprocess.DEVNULL)):
+            done = subprocess.run([SERVE, *map(str, words)], input=lines, stdout=output, stderr=subprocess.PIPE, timeout=60, check=False)
             expect(f"a full disk, vp8serve {words}", (done.returncode, done.stderr.decode()), (1, "vp8serve: cannot write\n"))
 
 

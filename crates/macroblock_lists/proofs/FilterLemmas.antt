@@ -1,6 +1,6 @@
 -- The filter of a listed macroblock.
 use Rattle.std.proofs.Common.{◌≡◌, ℕ, zero, suc, ◌+◌, ◌<◌, ◌/◌, ◌%◌, Bool, true, false, List, length, map, slice_get, Some, None, refl, ap, sym, ◌∙◌, arith, inl, inr}
-use Rattle.std.specs.Prelude.{◌==◌, ◌||◌, if◌then◌else◌, slice_index_or, Option}
+use Rattle.std.specs.Prelude.{◌×◌, ◌==◌, ◌||◌, if◌then◌else◌, slice_index_or, Option}
 use Rattle.std.specs.List.{range_with_len}
 use Rattle.std.specs.Option.{option_map}
 use Rattle.std.proofs.lemmas.List.FromFn.{get_or-map-range_with_len}
@@ -11,18 +11,19 @@ use Rattle.loop_filter.specs.Frames.{has_subblock_modes, strength_at, strength_o
 use Rattle.loop_filter.specs.Levels.{level_of}
 use Rattle.loop_filter.specs.Strengths.{limits_of}
 use Rattle.loop_filter.specs.declared.edge_limits.Limits.{Limits}
-use Rattle.loop_filter.specs.declared.strengths.Strength.{Strength}
 use Rattle.reference_frames.specs.FrameTokens.{TokenState, flag_at, flag_with, flags_of, token_state, tokens_at}
 use Rattle.macroblock_lists.specs.FilterLaws.{FiltersAreUsed}
 
 -- by the level alone
-by-level : (is_zero : Bool) (level : ℕ) (limits : ℕ → Limits) (modes flag other : Bool) → flag ≡ other
+by-level : {S : Type 0} (limits-in : S → Limits) (inner-in : S → Bool) (strength : S) (is_zero : Bool) (level : ℕ) (limits : ℕ → Limits) (modes flag other : Bool)
+    → limits-in strength ≡ limits level → inner-in strength ≡ (modes || other) → flag ≡ other
     → let listed : ℕ = if is_zero then 0 else level in
-    option_map {A = Limits} {B = Strength} (λ l. record { limits = l; has_inner_edges = if listed == 0 then false else modes || flag }) (if listed == 0 then None else Some (limits listed))
-    ≡ (if is_zero then None else if level == 0 then None else Some (record { limits = limits level; has_inner_edges = modes || other }))
-by-level true level limits modes flag other same = refl
-by-level false zero limits modes flag other same = refl
-by-level false (suc n) limits modes flag other same = rw same refl
+    let used : Option S = if is_zero then None else if level == 0 then None else Some strength in
+    let own : Option Limits = if listed == 0 then None else Some (limits listed) in
+    (option_map limits-in used ≡ own) × (option_map inner-in used ≡ option_map (λ _. if listed == 0 then false else modes || flag) own)
+by-level limits-in inner-in strength true level limits modes flag other its inner same = (refl, refl)
+by-level limits-in inner-in strength false zero limits modes flag other its inner same = (refl, refl)
+by-level limits-in inner-in strength false (suc n) limits modes flag other its inner same = (ap Some its, ap Some (inner ∙ ap (λ (b : Bool). modes || b) (sym same)))
 
 below-length : (modes : List MbMode) (place : ℕ) (mode : MbMode) → slice_get modes place ≡ Some mode → place < length modes
 below-length modes place mode found = elim (slice_get_cases modes place).1 [
@@ -43,4 +44,4 @@ flag-here header columns start modes place mode found =
 pub filters_are_used : FiltersAreUsed
 unfolding strength_at strength_of
 filters_are_used header columns start marks modes place mode facts found =
-    rw found (by-level (header.filter.level == 0) (level_of header mode) (λ level. limits_of level header.filter.sharpness header.is_key) (has_subblock_modes mode.y_mode) _ _ (flag-here header columns start modes place mode found))
+    rw found (by-level _ _ _ (header.filter.level == 0) (level_of header mode) (λ level. limits_of level header.filter.sharpness header.is_key) (has_subblock_modes mode.y_mode) _ _ refl refl (flag-here header columns start modes place mode found))

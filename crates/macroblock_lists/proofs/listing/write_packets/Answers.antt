@@ -29,7 +29,7 @@ loop-place-preserved g c =
     ap (λ (k : ℕ). flat_map text (range_with_len first k)) one ∙ texts_more text first (n - first) n at ∙ ap (λ (t : List ℕ). flat_map text (range_with_len first (n - first)) ++ t) (sym here) in
     record {
       said = subst (λ (t : List ℕ). Appends (g.W.Write.contents c.args.w.now) (g.W.Write.contents c.write_packet.new.w) t) (sym more)
-          (Appends-trans _ _ _ _ _ c.loop-place.invariant.said (rw bytes at c.in_ok-write_packet.ensures));
+          (Appends-trans _ _ _ _ _ c.loop-place.invariant.said (rw bytes at c.in_ok-write_packet.ensures.written));
       before = progress_next c.args.tables.now 0 c.args.packets.now n n packet c.loop-place.progress c.in_ok-progress.progress below (omega arith) c.index-packets-place.is c.loop-place.invariant.before
           (subst (λ (b : List ℕ). c.in_ok-progress.progress ≡ progress_after c.args.tables.now n c.loop-place.progress b) bytes c.in_ok-progress.ensures);
     }
