@@ -2,7 +2,7 @@
 
 import struct
 
-from .bits import Reader
+from .conformance import bits
 
 SOURCES = [
     "mandelbrot",
@@ -19,7 +19,7 @@ SIZES = [(176, 144), (64, 64), (33, 17), (160, 96), (1, 1), (97, 51), (16, 16), 
 def kinds_of(packet):
     """What a packet's header says, as words."""
     tag = struct.unpack("<I", packet[:3] + b"\0")[0]
-    reader = Reader(packet[3 if tag & 1 else 10 :][: tag >> 5])
+    reader = bits.Reader(packet[3 if tag & 1 else 10 :][: tag >> 5])
     reader.number(0 if tag & 1 else 2)
     segments = reader.number(1)
     yield "inter frame" if tag & 1 else "key frame"

@@ -1,5 +1,5 @@
 -- Fronts of texts.
-use Rattle.std.proofs.Common.{◌≡◌, ℕ, zero, suc, ◌+◌, List, [], ◌∷◌, ◌++◌, Option, refl, ap, sym, ◌∙◌, append_assoc, append-nil, arith}
+use Rattle.std.proofs.Common.{◌≡◌, ℕ, zero, suc, ◌+◌, ◌-◌, ◌<◌, ◌≤◌, List, [], ◌∷◌, ◌++◌, Option, refl, ap, sym, ◌∙◌, append_assoc, append-nil, arith}
 use Rattle.std.proofs.KnownBytes.{Appends-nil, Appends-trans}
 use Rattle.std.proofs.lemmas.Grind.{flat_map-append}
 use Rattle.std.specs.List.{flat_map, range_with_len}
@@ -56,3 +56,14 @@ texts-split f a (suc n) m =
     ∙ ap (λ (t : List ℕ). f a ++ t) (texts-split f (a + 1) n m)
     ∙ sym (append_assoc (f a) (flat_map f (range_with_len (a + 1) n)) (flat_map f (range_with_len (a + 1 + n) m)))
     ∙ ap (λ (k : ℕ). (f a ++ flat_map f (range_with_len (a + 1) n)) ++ flat_map f (range_with_len k m)) next
+
+-- the text of the one at `n`, and those before and after it
+pub texts-around : (f : ℕ → List ℕ) (a m n : ℕ) → a ≤ n → n < a + m
+    → flat_map f (range_with_len a m) ≡ flat_map f (range_with_len a (n - a)) ++ (f n ++ flat_map f (range_with_len (n + 1) (m - (n - a) - 1)))
+texts-around f a m n from below =
+    let parts : m ≡ n - a + suc (m - (n - a) - 1) = omega (arith, from, below) in
+    let here : a + (n - a) ≡ n = omega (arith, from) in
+    ap (λ (k : ℕ). flat_map f (range_with_len a k)) parts
+    ∙ texts-split f a (n - a) (suc (m - (n - a) - 1))
+    ∙ ap (λ (k : ℕ). flat_map f (range_with_len a (n - a)) ++ flat_map f (range_with_len k (suc (m - (n - a) - 1)))) here
+

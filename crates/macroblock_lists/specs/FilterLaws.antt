@@ -1,5 +1,5 @@
 -- The filter of a listed macroblock is the one that decoding uses, as a law.
-use Rattle.std.specs.Prelude.{◌≡◌, ◌×◌, ℕ, ◌/◌, ◌%◌, ◌==◌, if◌then◌else◌, List, slice_get, Some, None}
+use Rattle.std.specs.Prelude.{◌≡◌, ℕ, ◌/◌, ◌%◌, ◌==◌, if◌then◌else◌, List, slice_get, Some, None}
 use Rattle.std.specs.Option.{option_map}
 use Rattle.frame_header.specs.declared.header.Header.{Header}
 use Rattle.mode_parser.specs.declared.record_facts.RecordFacts.{RecordFacts}
