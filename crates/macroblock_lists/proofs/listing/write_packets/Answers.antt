@@ -33,3 +33,21 @@ loop-place-preserved g c =
       before = progress_next c.args.tables.now 0 c.args.packets.now n n packet c.loop-place.progress c.in_ok-progress.progress below (omega arith) c.index-packets-place.is c.loop-place.invariant.before
           (subst (λ (b : List ℕ). c.in_ok-progress.progress ≡ progress_after c.args.tables.now n c.loop-place.progress b) bytes c.in_ok-progress.ensures);
     }
+
+pub returns-in_err-write_packet-clause-early : goal.returns-in_err-write_packet-clause-early
+returns-in_err-write_packet-clause-early g c =
+    let n = c.loop-place.place in
+    let first = c.args.wanted.first in
+    let count = c.args.wanted.count in
+    let text : ℕ → List ℕ = text_at c.args.wanted.what c.args.wanted.form c.args.tables.now c.args.packets.now in
+    let done : List ℕ = flat_map text (range_with_len first (n - first)) in
+    let packet : Packet = c.index-packets-place.result in
+    let bytes : c.as_slice-packet.result.now ≡ packet.bytes = c.as_slice-packet.ensures ∙ ap (λ (p : Packet). p.bytes) (sym c.index-packets-place.is) in
+    let below : n < length c.args.packets.now = omega arith in
+    let found : slice_get c.args.packets.now n ≡ Some packet = slice_get_read c.args.packets.now (length c.args.packets.now) n packet refl below c.index-packets-place.is in
+    let here = packet_here c.args.wanted.what c.args.wanted.form c.args.tables.now c.args.packets.now n packet c.loop-place.progress found c.loop-place.invariant.before in
+    let whole : flat_map text (range_with_len first count) ≡ done ++ (text n ++ flat_map text (range_with_len (n + 1) (count - (n - first) - 1))) = texts-around text first count n (omega arith) (omega arith) in
+    ?
+
+pub returns-in_err-progress-clause-early : goal.returns-in_err-progress-clause-early
+returns-in_err-progress-clause-early g c = ?
