@@ -1,16 +1,19 @@
 -- Why the program exits with requests that are answered as they come.
-use Rattle.std.proofs.Common.{◌≡◌, ◌⊎◌, inl, inr, ℕ, List, Option, refl, sym}
+use Rattle.std.proofs.Common.{◌≡◌, inl, inr, ℕ, List, Option, is_some, false, refl, sym}
 use Rattle.std.specs.Borrow.{Bor}
+use Rattle.std.proofs.KnownBytes.{Keeps-refl}
+use Rattle.vp8_tables.specs.Rfc.{rfc_entries}
 use Rattle.vp8_tables.specs.Tables.{TableEntries}
 use Rattle.program_parts.specs.declared.fault.FileFault.{FileFault}
 use Rattle.serve_arguments.specs.Readings.{AreNamed, IsInputFault}
 use Rattle.serve_arguments.specs.Statuses.{file_fault}
 use Rattle.serve_arguments.specs.declared.fault.Fault.{Fault}
 use Rattle.serve_arguments.specs.declared.fault.Fault.TheVariants.{CommandLine, NamedTwice, CannotRead, TooLong, Tables, Input, CannotWrite, NoMemory}
+use Rattle.frame_session.specs.Sessions.{Now}
 use Rattle.frame_session.specs.declared.live.LiveFault.{LiveFault}
 use Rattle.frame_session.specs.declared.live.LiveFault.TheVariants as lives
-use Rattle.serve_program.specs.Endings.{IsEnded, IsInput, IsInterrupted, IsLiveEnded, IsLiveFault, IsLiveRefused, IsSaveFault, IsUnopened, fault_by_live}
-use Rattle.serve_program.proofs.Ended.{run_ended, save_ended, unread_ended}
+use Rattle.serve_program.specs.Endings.{AreLiveReplied, IsInput, IsInterrupted, IsLiveEnded, IsLiveFault, IsLiveRefused, IsSaveFault, fault_by_live}
+use Rattle.serve_program.proofs.Ended.{unread_ended}
 
 module _ (tables : TableEntries) (sources : List (List ℕ)) (requests : List ℕ) (path : Bor (List ℕ)) (left given replies replies' : Option (List ℕ)) (theirs : path.now ≡ requests) (input : IsInput requests left given) where
   interrupted : (why : LiveFault) → IsInterrupted tables sources given replies replies' why → IsLiveRefused tables sources requests left replies replies' (fault_by_live path why)
@@ -21,35 +24,50 @@ module _ (tables : TableEntries) (sources : List (List ℕ)) (requests : List �
   requests_refused why fault is refused = rw is (by_fault why refused)
     where
       by_fault : (why : LiveFault) → IsLiveFault tables sources given replies replies' why → IsLiveRefused tables sources requests left replies replies' (fault_by_live path why)
-      by_fault (lives.Ivf source fault) refused = inl (refused.0, tt, refused.1)
+      by_fault (lives.Ivf source fault) refused = inl (refused.0, refused.1)
       by_fault lives.Read refused = interrupted lives.Read refused
       by_fault lives.TooLong refused = interrupted lives.TooLong refused
       by_fault lives.Endless refused = interrupted lives.Endless refused
-      by_fault lives.Write refused = inl tt
-      by_fault lives.NoMemory refused = inl (tt, refused)
+      by_fault lives.Write (inl kept) = inl (inl kept)
+      by_fault lives.Write (inr stopped) = inl (inr (inl (given, input, stopped)))
+      by_fault lives.NoMemory refused = inl (inl refused)
 
 -- the file of the requests was not opened
 pub unopened : (tables : TableEntries) (sources : List (List ℕ)) (requests : List ℕ) (path : Bor (List ℕ)) (left replies : Option (List ℕ)) → path.now ≡ requests → IsLiveRefused tables sources requests left replies replies (CannotRead path)
 unopened tables sources requests path left replies theirs = inr (inl (theirs, refl))
 
+module _ (tables : TableEntries) (sources : List (List ℕ)) (requests : List ℕ) (left replies : Option (List ℕ)) where
+  -- out of memory before the first reply
+  pub live_memory : (fault : Fault) → fault ≡ NoMemory → IsLiveRefused tables sources requests left replies replies fault
+  live_memory fault is = rw is (inl (inl (Keeps-refl replies)))
+
+  -- the save was not begun
+  pub live_unbegun : (fault : Fault) → IsSaveFault fault → IsLiveRefused tables sources requests left replies replies fault
+  live_unbegun CommandLine why = absurd why
+  live_unbegun (NamedTwice same) why = absurd why
+  live_unbegun (CannotRead path) why = absurd why
+  live_unbegun (TooLong path) why = absurd why
+  live_unbegun Tables why = absurd why
+  live_unbegun (Input source fault) why = absurd why
+  live_unbegun CannotWrite why = inl (inl (Keeps-refl replies))
+  live_unbegun NoMemory why = inl (inl (Keeps-refl replies))
+
+  -- the packets were not saved
+  pub live_unsaved : (replies' : Option (List ℕ)) (end : Now) (fault : Fault) → AreLiveReplied requests left replies replies' end tables sources → IsSaveFault fault → IsLiveRefused tables sources requests left replies replies' fault
+  live_unsaved replies' end CommandLine replied why = absurd why
+  live_unsaved replies' end (NamedTwice same) replied why = absurd why
+  live_unsaved replies' end (CannotRead path) replied why = absurd why
+  live_unsaved replies' end (TooLong path) replied why = absurd why
+  live_unsaved replies' end Tables replied why = absurd why
+  live_unsaved replies' end (Input source fault) replied why = absurd why
+  live_unsaved replies' end CannotWrite replied why = inl (inr (inr (end, replied)))
+  live_unsaved replies' end NoMemory replied why = inl (inr (end, replied))
+
 -- a file that comes before the requests was not read
 pub files_ended : (unnamed : List ℕ) (named : Option (List ℕ)) (names : List (List ℕ)) (requests : List ℕ) (left replies : Option (List ℕ)) (fault : FileFault) → ((left : Option (List ℕ)) → IsInputFault named names requests left left fault) → IsLiveEnded unnamed named names requests left left replies replies (file_fault fault)
 files_ended unnamed named names requests left replies fault why = inl (unread_ended unnamed named names requests left left replies fault (why left))
 
-unopened_ended : (unnamed : List ℕ) (named : Option (List ℕ)) (names : List (List ℕ)) (requests : List ℕ) (left left' replies replies' : Option (List ℕ)) (fault : Fault) → IsUnopened requests replies replies' fault → IsEnded unnamed named names requests left left' replies replies' fault
-unopened_ended unnamed named names requests left left' replies replies' (CannotRead path) why = (inr (sym why.0), why.1)
-unopened_ended unnamed named names requests left left' replies replies' (TooLong path) why = absurd why
-unopened_ended unnamed named names requests left left' replies replies' Tables why = absurd why
-unopened_ended unnamed named names requests left left' replies replies' (Input source fault) why = absurd why
-unopened_ended unnamed named names requests left left' replies replies' CannotWrite why = absurd why
-unopened_ended unnamed named names requests left left' replies replies' NoMemory why = absurd why
-unopened_ended unnamed named names requests left left' replies replies' CommandLine why = absurd why
-unopened_ended unnamed named names requests left left' replies replies' (NamedTwice same) why = absurd why
-
-module _ (unnamed : List ℕ) (named : Option (List ℕ)) (names : List (List ℕ)) (requests : List ℕ) (left left' replies replies' : Option (List ℕ)) (fault : Fault) where
-  -- the requests were not answered, or the packets not saved
-  pub live_ended : (tables : TableEntries) (sources : List (List ℕ)) → AreNamed unnamed names sources → IsLiveRefused tables sources requests left replies replies' fault ⊎ IsSaveFault fault → IsLiveEnded unnamed named names requests left left' replies replies' fault
-  live_ended tables sources are (inl (inl refused)) = inl (run_ended unnamed named names requests left left' replies replies' sources fault are refused)
-  live_ended tables sources are (inl (inr (inl shut))) = inl (unopened_ended unnamed named names requests left left' replies replies' fault shut)
-  live_ended tables sources are (inl (inr (inr cut))) = inr (tables, sources, are, cut)
-  live_ended tables sources are (inr unsaved) = inl (save_ended unnamed named names requests left left' replies replies' fault unsaved)
+-- the requests were not answered, or the packets not saved
+pub live_ended : (unnamed : List ℕ) (named : Option (List ℕ)) (names : List (List ℕ)) (requests : List ℕ) (left left' replies replies' : Option (List ℕ)) (fault : Fault) (entries : TableEntries) (sources : List (List ℕ)) → AreNamed unnamed names sources → (is_some named ≡ false → entries ≡ rfc_entries) → IsLiveRefused entries sources requests left replies replies' fault → IsLiveEnded unnamed named names requests left left' replies replies' fault
+live_ended unnamed named names requests left left' replies replies' fault entries sources are rfc refused =
+    inr (record { tables = entries; sources = sources; holds = refused; named = are; rfc = rfc })

@@ -1,5 +1,5 @@
 -- The results of the parts of a run.
-use Rattle.std.specs.Prelude.{◌≡◌, ◌⊎◌, Bool, false, ℕ, ◌==◌, List, [], ◌∷◌, ◌++◌, Option, None, IfSome, IsSome, codes, slice_index_or, if◌then◌else◌}
+use Rattle.std.specs.Prelude.{◌≡◌, ◌⊎◌, Bool, false, ℕ, ◌==◌, List, [], ◌∷◌, ◌++◌, Option, None, IfSome, IsSome, is_some, codes, slice_index_or, if◌then◌else◌}
 use Rattle.std.specs.Fmt.{decimal}
 use Rattle.std.specs.Io.KnownBytes.{Keeps}
 use Rattle.vp8_tables.specs.Rfc.{rfc_entries}
@@ -9,8 +9,8 @@ use Rattle.packet_edits.specs.Saved.{packets_of, padded_packets_of}
 use Rattle.frame_session.specs.Edits.{list_at}
 use Rattle.std.specs.Borrow.{Bor}
 use Rattle.stream_files.specs.declared.ivf.Ivf.{Ivf}
-use Rattle.frame_session.specs.Answers.{AreIvfs, Means, SourceRefuses}
-use Rattle.frame_session.specs.Live.{CutsOff, LiveMeans}
+use Rattle.frame_session.specs.Answers.{AreIvfs, Means, Runs, SourceRefuses, Stops, requests_of}
+use Rattle.frame_session.specs.Live.{CutsOff, LiveMeans, LiveRefuses}
 use Rattle.frame_session.specs.Sessions.{Now, start}
 use Rattle.frame_session.specs.declared.live.LiveFault.{LiveFault}
 use Rattle.frame_session.specs.declared.live.LiveFault.TheVariants as lives
@@ -66,23 +66,59 @@ pub record IsServed (unnamed : List ℕ) (names : List (List ℕ)) (has_tables :
   pub rfc : has_tables ≡ false → tables ≡ rfc_entries
   pub cached : AreStates capacity (stream_in sources) states
 
--- why the requests were not answered over the files of these bytes: except for a writer's error, nothing was written
-abbrev pub IsRefused : List (List ℕ) → (frames frames' replies replies' : Option (List ℕ)) → Fault → Type 0
-IsRefused sources frames frames' replies replies' (Input source fault) = SourceRefuses sources source fault × Keeps frames frames' × Keeps replies replies'
-IsRefused sources frames frames' replies replies' NoMemory = Keeps frames frames' × Keeps replies replies'
-IsRefused sources frames frames' replies replies' CannotWrite = Unit {0}
-IsRefused sources frames frames' replies replies' _ = ⊥
+-- a writer returned an error: the requests of this text were answered over the files of these bytes up to a line whose answer it refused, or all of
+-- them. No reply begins before its whole frame is written
+pub record AnswersSome (tables : TableEntries) (sources : List (List ℕ)) (requests : List ℕ) (frames frames' replies replies' : Option (List ℕ)) : Type 0 where
+  pub files : List Ivf
+  pub are : AreIvfs sources files
+  pub answers : Stops (start tables files) (requests_of requests) frames frames' replies replies' ⊎ ((end : Now) × Runs (start tables files) (requests_of requests) frames frames' replies replies' end)
+
+-- why the requests were not all answered over the files of these bytes: except for a writer's error, nothing was written
+abbrev pub IsRefused : (tables : TableEntries) → (sources : List (List ℕ)) → (requests : List ℕ) → (frames frames' replies replies' : Option (List ℕ)) → Fault → Type 0
+IsRefused tables sources requests frames frames' replies replies' (Input source fault) = SourceRefuses sources source fault × Keeps frames frames' × Keeps replies replies'
+IsRefused tables sources requests frames frames' replies replies' NoMemory = Keeps frames frames' × Keeps replies replies'
+IsRefused tables sources requests frames frames' replies replies' CannotWrite = AnswersSome tables sources requests frames frames' replies replies'
+IsRefused tables sources requests frames frames' replies replies' _ = ⊥
+
+-- so much of the requests was answered; it is not known where the frames went
+abbrev pub IsPartReplied : (tables : TableEntries) → (sources : List (List ℕ)) → (requests : List ℕ) → (replies replies' : Option (List ℕ)) → Type 0
+IsPartReplied tables sources requests replies replies' =
+    (frames : Option (List ℕ)) × (frames' : Option (List ℕ)) × AnswersSome tables sources requests frames frames' replies replies'
+
+-- why a run over the files of these bytes exits with an error: before the first reply, while a writer takes the answers, or while the packets are saved
+abbrev pub IsUnanswered : (tables : TableEntries) → (sources : List (List ℕ)) → (requests : List ℕ) → (replies replies' : Option (List ℕ)) → Fault → Type 0
+IsUnanswered tables sources requests replies replies' (Input source fault) = SourceRefuses sources source fault × Keeps replies replies'
+IsUnanswered tables sources requests replies replies' NoMemory = Keeps replies replies' ⊎ ((end : Now) × IsReplied tables sources requests replies replies' end)
+IsUnanswered tables sources requests replies replies' CannotWrite = Keeps replies replies' ⊎ IsPartReplied tables sources requests replies replies'
+IsUnanswered tables sources requests replies replies' _ = ⊥
+
+-- what the requests with this name were is known as in `AreReplied`
+abbrev pub ArePartReplied : (requests : List ℕ) → (left replies replies' : Option (List ℕ)) → (tables : TableEntries) → (sources : List (List ℕ)) → Type 0
+ArePartReplied requests left replies replies' tables sources =
+    (lines : List ℕ) × (requests ≡ codes "-" → IfSome left (λ bytes. lines ≡ bytes)) × IsPartReplied tables sources lines replies replies'
+
+abbrev pub AreAllReplied : (requests : List ℕ) → (left replies replies' : Option (List ℕ)) → (tables : TableEntries) → (sources : List (List ℕ)) → Type 0
+AreAllReplied requests left replies replies' tables sources = (end : Now) × AreReplied requests left replies replies' end tables sources
+
+-- this holds of the tables and of the bytes of the sources with these names, known as in `IsServed`
+pub record IsOver (unnamed : List ℕ) (names : List (List ℕ)) (has_tables : Bool) (Holds : TableEntries → List (List ℕ) → Type 0) : Type 0 where
+  pub tables : TableEntries
+  pub sources : List (List ℕ)
+  pub holds : Holds tables sources
+  pub named : AreNamed unnamed names sources
+  pub rfc : has_tables ≡ false → tables ≡ rfc_entries
 
 -- why the program exits without an answer to all requests, in the order of its parts: a reading error comes before the first reply, a reading error of
--- the tables or a source before the first byte of the requests is read, and an error in a source's bytes before the first reply
+-- the tables or a source before the first byte of the requests is read, and an error in a source's bytes before the first reply. Out of memory it exits
+-- before the first reply or after the last, and with a writer's error where that writer refused to go on
 abbrev pub IsEnded : (unnamed : List ℕ) → (tables : Option (List ℕ)) → (names : List (List ℕ)) → (requests : List ℕ) → (left left' replies replies' : Option (List ℕ)) → Fault → Type 0
 IsEnded unnamed tables names requests left left' replies replies' (CannotRead path) = IsUnread tables names requests left left' path.now × (replies' ≡ replies)
 IsEnded unnamed tables names requests left left' replies replies' (TooLong path) = IsUnread tables names requests left left' path.now × (replies' ≡ replies)
 IsEnded unnamed tables names requests left left' replies replies' Tables = IsSome tables × (left' ≡ left) × (replies' ≡ replies)
 IsEnded unnamed tables names requests left left' replies replies' (Input source fault) =
     (sources : List (List ℕ)) × AreNamed unnamed names sources × SourceRefuses sources source fault × Keeps replies replies'
-IsEnded unnamed tables names requests left left' replies replies' CannotWrite = Unit {0}
-IsEnded unnamed tables names requests left left' replies replies' NoMemory = Unit {0}
+IsEnded unnamed tables names requests left left' replies replies' CannotWrite = Keeps replies replies' ⊎ IsOver unnamed names (is_some tables) (ArePartReplied requests left replies replies')
+IsEnded unnamed tables names requests left left' replies replies' NoMemory = Keeps replies replies' ⊎ IsOver unnamed names (is_some tables) (AreAllReplied requests left replies replies')
 IsEnded unnamed tables names requests left left' replies replies' _ = ⊥
 
 -- Requests that are answered as they come. `given` is what their reader gives, if it is known.
@@ -112,10 +148,20 @@ pub record IsInterrupted (tables : TableEntries) (sources : List (List ℕ)) (gi
   pub frames' : Option (List ℕ)
   pub cut : CutsOff (start tables files) given given' frames frames' replies replies' fault
 
+-- a writer returned an error: the lines that the reader gave were answered over the files of these bytes up to the one whose answer it refused, and no line
+-- was read after it
+pub record IsLiveStopped (tables : TableEntries) (sources : List (List ℕ)) (given replies replies' : Option (List ℕ)) : Type 0 where
+  pub files : List Ivf
+  pub are : AreIvfs sources files
+  pub given' : Option (List ℕ)
+  pub frames : Option (List ℕ)
+  pub frames' : Option (List ℕ)
+  pub refuses : LiveRefuses (start tables files) given given' frames frames' replies replies'
+
 -- why not all lines were answered, if it is not known where frames went
 abbrev pub IsLiveFault : (tables : TableEntries) → (sources : List (List ℕ)) → (given replies replies' : Option (List ℕ)) → LiveFault → Type 0
 IsLiveFault tables sources given replies replies' (lives.Ivf source fault) = SourceRefuses sources source fault × Keeps replies replies'
-IsLiveFault tables sources given replies replies' lives.Write = Unit {0}
+IsLiveFault tables sources given replies replies' lives.Write = Keeps replies replies' ⊎ IsLiveStopped tables sources given replies replies'
 IsLiveFault tables sources given replies replies' lives.NoMemory = Keeps replies replies'
 IsLiveFault tables sources given replies replies' fault = IsInterrupted tables sources given replies replies' fault
 
@@ -143,14 +189,31 @@ abbrev pub IsUnopened : (requests : List ℕ) → (replies replies' : Option (Li
 IsUnopened requests replies replies' (CannotRead path) = (path.now ≡ requests) × (replies' ≡ replies)
 IsUnopened requests replies replies' _ = ⊥
 
--- why not all requests with this name were answered: as for requests in a list, or they were interrupted
+-- all lines of the requests with this name were answered
+abbrev pub AreAllLiveReplied : (requests : List ℕ) → (left replies replies' : Option (List ℕ)) → (tables : TableEntries) → (sources : List (List ℕ)) → Type 0
+AreAllLiveReplied requests left replies replies' tables sources = (end : Now) × AreLiveReplied requests left replies replies' end tables sources
+
+-- the lines of the requests with this name were answered up to a writer's error
+abbrev pub AreLiveStopped : (requests : List ℕ) → (left replies replies' : Option (List ℕ)) → (tables : TableEntries) → (sources : List (List ℕ)) → Type 0
+AreLiveStopped requests left replies replies' tables sources = (given : Option (List ℕ)) × IsInput requests left given × IsLiveStopped tables sources given replies replies'
+
+-- why a live run over the files of these bytes exits with an error that is not of the requests: before the first reply, while a writer takes the answers, or
+-- while the packets are saved
+abbrev pub IsLiveUnanswered : (tables : TableEntries) → (sources : List (List ℕ)) → (requests : List ℕ) → (left replies replies' : Option (List ℕ)) → Fault → Type 0
+IsLiveUnanswered tables sources requests left replies replies' (Input source fault) = SourceRefuses sources source fault × Keeps replies replies'
+IsLiveUnanswered tables sources requests left replies replies' NoMemory = Keeps replies replies' ⊎ AreAllLiveReplied requests left replies replies' tables sources
+IsLiveUnanswered tables sources requests left replies replies' CannotWrite =
+    Keeps replies replies' ⊎ AreLiveStopped requests left replies replies' tables sources ⊎ AreAllLiveReplied requests left replies replies' tables sources
+IsLiveUnanswered tables sources requests left replies replies' _ = ⊥
+
+-- why not all requests with this name were answered: an error that is not theirs, their file was not opened, or they were interrupted
 abbrev pub IsLiveRefused : (tables : TableEntries) → (sources : List (List ℕ)) → (requests : List ℕ) → (left replies replies' : Option (List ℕ)) → Fault → Type 0
 IsLiveRefused tables sources requests left replies replies' fault =
-    IsRefused sources None None replies replies' fault ⊎ IsUnopened requests replies replies' fault ⊎ IsCutShort tables sources requests left replies replies' fault
+    IsLiveUnanswered tables sources requests left replies replies' fault ⊎ IsUnopened requests replies replies' fault ⊎ IsCutShort tables sources requests left replies replies' fault
 
--- why the program exits before it answered all requests that come one after another: as for requests in a list, or the requests were interrupted,
--- and the lines before that were answered
+-- why the program exits before it answered all requests that come one after another: a file was not read or is not a stream, as for requests in a list, or
+-- the lines were not all answered
 abbrev pub IsLiveEnded : (unnamed : List ℕ) → (tables : Option (List ℕ)) → (names : List (List ℕ)) → (requests : List ℕ) → (left left' replies replies' : Option (List ℕ)) → Fault → Type 0
 IsLiveEnded unnamed tables names requests left left' replies replies' fault =
     IsEnded unnamed tables names requests left left' replies replies' fault
-    ⊎ ((entries : TableEntries) × (sources : List (List ℕ)) × AreNamed unnamed names sources × IsCutShort entries sources requests left replies replies' fault)
+    ⊎ IsOver unnamed names (is_some tables) (λ entries sources. IsLiveRefused entries sources requests left replies replies' fault)

@@ -1,10 +1,10 @@
 // Requests that are answered as they come.
-ghost use Rattle.std.specs.Prelude.{◌≡◌, ◌≤◌, ◌⊎◌, IfErr, IfOk, is_some, length, map, option_map};
+ghost use Rattle.std.specs.Prelude.{◌≡◌, ◌≤◌, IfErr, IfOk, is_some, length, map, option_map};
 ghost use Rattle.std.specs.Rc.{rc_slice_items};
 ghost use Rattle.serve_arguments.specs.CachedStates.{AreStates};
 ghost use Rattle.serve_arguments.specs.Capacities.{IsGiven};
 ghost use Rattle.serve_arguments.specs.CommandLines.{source_names};
-ghost use Rattle.serve_program.specs.Endings.{AreLiveReplied, IsLiveEnded, IsLiveFault, IsLiveRefused, IsLiveReplied, IsSaveFault, IsServed, stream_in};
+ghost use Rattle.serve_program.specs.Endings.{AreLiveReplied, IsLiveEnded, IsLiveFault, IsLiveRefused, IsLiveReplied, IsServed, stream_in};
 
 use crate::messages::Messages;
 use crate::program::{BYTES_AT_ONCE, finish, taken_by};
@@ -148,7 +148,7 @@ fn answer_files<'a, R: Files + AllocGlobal, I: Read, O: Write, E: Write>(
     requires sources { (1 ≤ length files.sources.items) × (length files.sources.items ≤ 8) }
     ensures replied { IfOk result (λ session. AreLiveReplied line.now.words.requests.now (I.remaining input.old) (O.contents output.old) (O.contents output.new) session.now files.tables (map (λ bytes. bytes.items) files.sources.items)) }
     ensures capacity { IfOk result (λ session. AreStates line.now.capacity (stream_in (map (λ bytes. bytes.items) files.sources.items)) session.cache.capacity) }
-    ensures refused { IfErr result (λ fault. IsLiveRefused files.tables (map (λ bytes. bytes.items) files.sources.items) line.now.words.requests.now (I.remaining input.old) (O.contents output.old) (O.contents output.new) fault ⊎ IsSaveFault fault) }
+    ensures refused { IfErr result (IsLiveRefused files.tables (map (λ bytes. bytes.items) files.sources.items) line.now.words.requests.now (I.remaining input.old) (O.contents output.old) (O.contents output.new)) }
 {
     let FilesRead { tables, sources } = files;
     let sources = shared(rt.alloc(), sources)?;

@@ -1,5 +1,5 @@
 // The program over a reader and two writers.
-ghost use Rattle.std.specs.Prelude.{◌≡◌, ◌≤◌, ℕ, [], IfOk, IfErr, List, None, OnOk, Option, is_some, length, map, option_map};
+ghost use Rattle.std.specs.Prelude.{◌≡◌, ◌≤◌, [], IfOk, IfErr, OnOk, is_some, length, map, option_map};
 ghost use Rattle.std.specs.Io.Buffered.{writer_buffer};
 ghost use Rattle.std.specs.Io.KnownBytes.{Appends};
 ghost use Rattle.std.specs.Rc.{rc_slice_items};
@@ -8,7 +8,7 @@ ghost use Rattle.serve_arguments.specs.CachedStates.{AreStates};
 ghost use Rattle.serve_arguments.specs.Capacities.{IsGiven};
 ghost use Rattle.serve_arguments.specs.CommandLines.{source_names};
 ghost use Rattle.serve_arguments.specs.Readings.{AreNamed};
-ghost use Rattle.serve_program.specs.Endings.{AreReplied, IsEnded, IsRefused, IsReplied, IsSaveFault, IsServed, spare_text, stream_in};
+ghost use Rattle.serve_program.specs.Endings.{AreReplied, IsEnded, IsRefused, IsReplied, IsSaveFault, IsServed, IsUnanswered, spare_text, stream_in};
 
 use crate::explain::{explain_end, explain_fault, is_asked};
 use crate::live::answer_live;
@@ -34,6 +34,7 @@ pub const BYTES_AT_ONCE: usize = 65_536;
 
 /// Runs the requests over the files of the sources, 1 to 8, whose bytes are borrowed or shared, and flushes both writers. The packets of
 /// shared bytes are not copied. Returns the session after the last request.
+#[tactic(auto, using(crate::proofs::Ended::run_refused))]
 pub fn run_to<B: FileBytes, F: Write, P: Write, V: Observer>(
     alloc: Global,
     settings: Settings,
@@ -47,7 +48,7 @@ pub fn run_to<B: FileBytes, F: Write, P: Write, V: Observer>(
     requires sources { (1 ≤ length sources.now) × (length sources.now ≤ 8) }
     ensures answered { IfOk result (λ session. Means settings.tables (map B.bytes sources.now) requests.now (F.contents frames.old) (F.contents frames.new) (P.contents replies.old) (P.contents replies.new) session.now) }
     ensures capacity { IfOk result (λ session. session.cache.capacity ≡ settings.capacity) }
-    ensures refused { IfErr result (IsRefused (map B.bytes sources.now) (F.contents frames.old) (F.contents frames.new) (P.contents replies.old) (P.contents replies.new)) }
+    ensures refused { IfErr result (IsRefused settings.tables (map B.bytes sources.now) requests.now (F.contents frames.old) (F.contents frames.new) (P.contents replies.old) (P.contents replies.new)) }
 {
     let session = match run_over(
         alloc, settings, sources, requests, frames, replies, observer,
@@ -61,6 +62,7 @@ pub fn run_to<B: FileBytes, F: Write, P: Write, V: Observer>(
 }
 
 /// Runs the requests with frames that go to the file at `path`, which is created now, or nowhere.
+#[tactic(auto, using(crate::proofs::Ended::refused_unanswered))]
 fn run_to_path<R: Files + AllocGlobal, P: Write, E: Write>(
     rt: &R,
     settings: Settings,
@@ -74,7 +76,7 @@ fn run_to_path<R: Files + AllocGlobal, P: Write, E: Write>(
     requires sources { (1 ≤ length sources.now) × (length sources.now ≤ 8) }
     ensures replied { IfOk result (λ session. IsReplied settings.tables (map rc_slice_items sources.now) requests.now (P.contents replies.old) (P.contents replies.new) session.now) }
     ensures capacity { IfOk result (λ session. session.cache.capacity ≡ settings.capacity) }
-    ensures refused { IfErr result (IsRefused (map rc_slice_items sources.now) None None (P.contents replies.old) (P.contents replies.new)) }
+    ensures refused { IfErr result (IsUnanswered settings.tables (map rc_slice_items sources.now) requests.now (P.contents replies.old) (P.contents replies.new)) }
 {
     let alloc = rt.alloc();
     if path == NO_FILE {
@@ -167,7 +169,7 @@ pub fn finish<R: Files + AllocGlobal, E: Write>(
 
 /// Answers the requests over what was read, and saves the packets of source 0 if that is asked for. Returns the session after the
 /// last request.
-#[tactic(auto, using(crate::proofs::Ended::run_ended, crate::proofs::Ended::save_ended))]
+#[tactic(auto, using(crate::proofs::Ended::save_unanswered, crate::proofs::Ended::memory_unanswered))]
 fn answer_inputs<R: Files + AllocGlobal, O: Write, E: Write>(
     rt: &R,
     line: &Accepted<'_>,
@@ -180,7 +182,7 @@ fn answer_inputs<R: Files + AllocGlobal, O: Write, E: Write>(
     requires named { AreNamed EMPTY (source_names line.now) (map (λ bytes. bytes.items) inputs.files.sources.items) }
     ensures replied { IfOk result (λ session. IsReplied inputs.files.tables (map (λ bytes. bytes.items) inputs.files.sources.items) inputs.requests.items (O.contents output.old) (O.contents output.new) session.now) }
     ensures capacity { IfOk result (λ session. AreStates line.now.capacity (stream_in (map (λ bytes. bytes.items) inputs.files.sources.items)) session.cache.capacity) }
-    ensures ended { IfErr result (λ fault. (left : Option (List ℕ)) → (left' : Option (List ℕ)) → IsEnded EMPTY (option_map (λ path. path.now) line.now.words.tables) (source_names line.now) line.now.words.requests.now left left' (O.contents output.old) (O.contents output.new) fault) }
+    ensures ended { IfErr result (IsUnanswered inputs.files.tables (map (λ bytes. bytes.items) inputs.files.sources.items) inputs.requests.items (O.contents output.old) (O.contents output.new)) }
 {
     let Inputs { files, requests } = inputs;
     let FilesRead { tables, sources } = files;
