@@ -37,6 +37,26 @@ fn tells_each_fault(rt: HostRuntime) {
         2,
         "vp8serve: command line: OUT /dev/stdout is standard output, so replies would be among the frames: name /dev/fd/3 3>&1 >replies\n",
     );
+    let saved = SameFile {
+        written: Argument::Save,
+        ..among
+    };
+    expect_told(
+        &rt,
+        Fault::NamedTwice(saved),
+        2,
+        "vp8serve: command line: --save /dev/stdout is standard output, so replies would be among the packets: name /dev/fd/3 3>&1 >replies\n",
+    );
+    let told = SameFile {
+        other: Argument::Errors,
+        ..among
+    };
+    expect_told(
+        &rt,
+        Fault::NamedTwice(told),
+        2,
+        "vp8serve: command line: OUT /dev/stdout is standard error, so messages would be among the frames: name another file for OUT\n",
+    );
     expect_told(&rt, Fault::CommandLine, 2, "vp8serve: command line\n");
     expect_told(&rt, Fault::NamedTwice(same), 2, twice);
     expect_told(

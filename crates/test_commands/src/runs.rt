@@ -228,3 +228,28 @@ fn serves_sources(rt: HostRuntime) -> Result<(), Fail> {
     clear(&rt, "first.ivf second.ivf");
     Ok(())
 }
+
+/// Checks the frames of sources 1 and 2.
+fn expect_apart<R: Abort + Files + AllocGlobal>(rt: &R, line: &str, first: &[u8], second: &[u8]) {
+    let replies = "ok 0\nserved 0\n";
+    expect(rt, line, "script source 1\nframe 0\n", replies, "", 0);
+    check(rt, "apart.y4m", first);
+    expect(rt, line, "script source 2\nframe 0\n", replies, "", 0);
+    check(rt, "apart.y4m", second);
+}
+
+/// Each source has the bytes of its own path, in both orders of two paths.
+#[test]
+fn tells_sources_apart(rt: HostRuntime) -> Result<(), Fail> {
+    put(&rt, "apart-1.ivf", ONE);
+    put(&rt, "apart-2.ivf", CODED);
+    let coded = frame_with(rt.alloc(), Tables::rfc())?;
+    let mut grey = Vec::from_slice(rt.alloc(), OPENING)?;
+    push_frame(&mut grey)?;
+    let line = "vp8serve - - apart.y4m --sources apart-1.ivf:apart-2.ivf";
+    expect_apart(&rt, line, grey.as_slice(), coded.as_slice());
+    let line = "vp8serve - - apart.y4m --sources apart-2.ivf:apart-1.ivf";
+    expect_apart(&rt, line, coded.as_slice(), grey.as_slice());
+    clear(&rt, "apart-1.ivf apart-2.ivf apart.y4m");
+    Ok(())
+}

@@ -183,3 +183,49 @@ fn flushes_a_frame_before_its_reply(rt: HostRuntime) -> Result<(), Fail> {
     assert!(rt; noted.get() == OPENING.len() + 2 * 390);
     Ok(())
 }
+
+/// A writer of replies. At each flush it notes how many bytes of frames have left their buffer.
+#[derive(Drop)]
+struct Flushed<'a> {
+    frames: &'a Cell<usize>,
+    noted: &'a Cell<usize>,
+}
+
+impl Write for Flushed<'_> {
+    fn write(&mut self, buf: &[u8]) -> io::Result<usize> {
+        Ok(buf.len())
+    }
+
+    fn flush(&mut self) -> io::Result<()> {
+        self.noted.set(self.frames.get());
+        Ok(())
+    }
+}
+
+/// After a run that is not live the bytes of the frames have left a buffered writer when the replies are flushed.
+#[test]
+fn flushes_the_frames_before_the_replies(rt: HostRuntime) -> Result<(), Fail> {
+    let taken = Cell::new(0);
+    let noted = Cell::new(0);
+    let mut frames = BufWriter::with_capacity(rt.alloc(), 65_536, Counted { taken: &taken })?;
+    let mut replies = Flushed {
+        frames: &taken,
+        noted: &noted,
+    };
+    let settings = Settings {
+        tables: Tables::rfc(),
+        capacity: 1,
+    };
+    let run = run_to(
+        rt.alloc(),
+        settings,
+        &[ONE],
+        b"frame 0\n",
+        &mut frames,
+        &mut replies,
+        &mut Unobserved {},
+    );
+    assert!(rt; run.is_ok());
+    assert!(rt; noted.get() == OPENING.len() + 390);
+    Ok(())
+}
