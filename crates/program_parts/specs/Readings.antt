@@ -1,5 +1,7 @@
 -- Why a file that a command line names was not read.
-use Rattle.std.specs.Prelude.{◌≡◌, ◌≢◌, ℕ, ◌<◌, List, length, Option, Some, IfSome, IsSome}
+use Rattle.std.specs.Prelude.{◌≡◌, ◌≢◌, ℕ, ◌<◌, List, length, Option, Some, None, IfSome, IsSome, Ok}
+use Rattle.vp8_tables.specs.Rfc.{rfc_entries}
+use Rattle.vp8_tables.specs.Tables.{TableEntries, entries_of}
 use Rattle.program_parts.specs.declared.fault.FileFault.{FileFault}
 use Rattle.program_parts.specs.declared.fault.FileFault.TheVariants.{CannotRead, TooLong, Tables, NoMemory}
 
@@ -13,6 +15,11 @@ IsReadFault name left (CannotRead path) = path.now ≡ name
 IsReadFault name left (TooLong path) = (path.now ≡ name) × IfSome left (λ bytes. limit < length bytes)
 IsReadFault name left Tables = ⊥
 IsReadFault name left NoMemory = Unit {0}
+
+-- the tables of the file with this name are those of its bytes, where the bytes at a path are known; without a name they are those of RFC 6386
+abbrev pub AreTables : (known : List ℕ → Option (List ℕ)) → Option (List ℕ) → TableEntries → Type 0
+AreTables known None tables = tables ≡ rfc_entries
+AreTables known (Some path) tables = IfSome (known path) (λ bytes. entries_of bytes ≡ Ok tables)
 
 -- why the bytes of a text are not tables
 abbrev pub IsTableFault : List ℕ → FileFault → Type 0

@@ -1,13 +1,14 @@
 // The files that a command line names.
-ghost use Rattle.std.specs.Prelude.{◌≡◌, ◌≢◌, ◌≤◌, IfErr, IfOk, IfSome, None, Ok, codes, false, is_some, option_map, vec_len};
+ghost use Rattle.std.specs.Prelude.{◌≡◌, ◌≢◌, ◌≤◌, ℕ, List, Option, IfErr, IfOk, IfSome, None, Ok, Some, codes, false, is_some, option_map, vec_len};
+ghost use Rattle.std.specs.Io.KnownBytes.{IsAtEnd};
 ghost use Rattle.vp8_tables.specs.Rfc.{rfc_entries};
 ghost use Rattle.vp8_tables.specs.Tables.{entries_of};
-ghost use Rattle.program_parts.specs.Readings.{IsReadFault, IsTableFault, IsTablesFault, limit};
+ghost use Rattle.program_parts.specs.Readings.{AreTables, IsReadFault, IsTableFault, IsTablesFault, limit};
 
 use crate::fault::FileFault;
 use std::alloc::Global;
 use std::fs::File;
-use std::io::Read;
+use std::io::{self, Read, Write};
 use std::rt::Files;
 use stream_files::{ReadFault, read_all};
 use vp8_tables::Tables;
@@ -17,6 +18,47 @@ pub const NO_FILE: &str = "-";
 
 /// The most bytes that a file may have.
 const LIMIT: usize = 1_073_741_824;
+
+/// The files that a program reads and makes by their paths.
+///
+/// The kit's files have no model. A contract over this trait says which bytes a path gave, where they are known, and which file was made at a
+/// path and what it took: the system's files say nothing of this, and files in memory may say all.
+pub trait NamedFiles: Files {
+    /// The bytes of the file at a path, where they are known.
+    ghost bytes_at: { Self → List ℕ → Option (List ℕ) } = { λ _ _. None };
+
+    /// A file that is open.
+    type Opened: Read + Drop;
+
+    /// Opens the file at a path to read it.
+    fn open_named(&self, path: &str) -> io::Result<Self::Opened>
+        ensures { IfOk result (λ file. IfSome (bytes_at self.now path.now) (λ bytes. Self.Opened.remaining file ≡ Some bytes)) };
+
+    /// A file that was made.
+    type Made: Write + Drop;
+
+    /// The file that was made at a path.
+    ghost is_made_at: { Self → List ℕ → Self.Made → Type 0 } = { λ _ _ _. Unit {0} };
+
+    /// Makes the file at a path, or makes it empty.
+    fn make_named(&self, path: &str) -> io::Result<Self::Made>
+        ensures made { IfOk result (is_made_at self.now path.now) }
+        ensures empty { IfOk result (λ file. IsAtEnd (Self.Made.contents file)) };
+}
+
+impl NamedFiles for HostRuntime {
+    type Opened = File;
+
+    fn open_named(&self, path: &str) -> io::Result<File> {
+        File::open(self, path)
+    }
+
+    type Made = File;
+
+    fn make_named(&self, path: &str) -> io::Result<File> {
+        File::create(self, path)
+    }
+}
 
 /// All bytes of a reader that the command line names `path`.
 fn read_whole<'a, I: Read>(
@@ -39,14 +81,16 @@ fn read_whole<'a, I: Read>(
 /// The bytes of a file.
 ///
 /// `CannotRead`, `TooLong` if it has more than 1,073,741,824 bytes, `NoMemory`.
-pub fn read_file<'a, R: Files + AllocGlobal>(
+#[tactic(auto, using(crate::proofs::Known::known_whole))]
+pub fn read_file<'a, R: NamedFiles + AllocGlobal>(
     rt: &R,
     path: &'a str,
 ) -> Result<Vec<u8>, FileFault<'a>>
     ensures within { IfOk result (λ all. vec_len all ≤ limit) }
+    ensures whole { IfOk result (λ all. IfSome (R.bytes_at rt.now path.now) (λ bytes. all.items ≡ bytes)) }
     ensures fault { IfErr result (IsReadFault path.now None) }
 {
-    match File::open(rt, path) {
+    match rt.open_named(path) {
         Ok(mut file) => read_whole(rt.alloc(), &mut file, path),
         Err(_) => Err(FileFault::CannotRead(path)),
     }
@@ -55,13 +99,14 @@ pub fn read_file<'a, R: Files + AllocGlobal>(
 /// The bytes of a file, or of `input` if the path is `-`. Nothing is read from `input` otherwise.
 ///
 /// `CannotRead`, `TooLong` if there are more than 1,073,741,824 bytes, `NoMemory`.
-pub fn read_input<'a, R: Files + AllocGlobal, I: Read>(
+pub fn read_input<'a, R: NamedFiles + AllocGlobal, I: Read>(
     rt: &R,
     path: &'a str,
     input: &mut I,
 ) -> Result<Vec<u8>, FileFault<'a>>
     ensures within { IfOk result (λ all. vec_len all ≤ limit) }
     ensures input { path.now ≡ codes "-" → IfOk result (λ all. IfSome (I.remaining input.old) (λ left. all.items ≡ left)) }
+    ensures named { path.now ≢ codes "-" → IfOk result (λ all. IfSome (R.bytes_at rt.now path.now) (λ bytes. all.items ≡ bytes)) }
     ensures unread { path.now ≢ codes "-" → I.remaining input.new ≡ I.remaining input.old }
     ensures fault { IfErr result (IsReadFault path.now None) }
 {
@@ -83,10 +128,12 @@ fn tables_of(bytes: &[u8]) -> Result<Tables, FileFault<'static>>
 /// The tables of a file, or the tables of RFC 6386 if none is given.
 ///
 /// The errors of `read_file`, and `Tables` if it does not have 3012 bytes.
-pub fn read_tables<'a, R: Files + AllocGlobal>(
+#[tactic(auto, using(crate::proofs::Known::known_tables))]
+pub fn read_tables<'a, R: NamedFiles + AllocGlobal>(
     rt: &R,
     path: Option<&'a str>,
 ) -> Result<Tables, FileFault<'a>>
+    ensures tables { IfOk result (AreTables (R.bytes_at rt.now) (option_map (λ path. path.now) path.entry)) }
     ensures rfc { is_some path.entry ≡ false → result ≡ Ok rfc_entries }
     ensures fault { IfErr result (IsTablesFault (option_map (λ path. path.now) path.entry)) }
 {

@@ -1,6 +1,6 @@
 -- Lists with one element for each path of `--sources`.
 use Rattle.std.proofs.Common.{◌≡◌, ℕ, zero, suc, ◌+◌, ◌<◌, List, [], ◌∷◌, ◌++◌, Option, length, take, refl, sym, subst, arith}
-use Rattle.std.specs.Prelude.{Contains, codes, slice_index_or}
+use Rattle.std.specs.Prelude.{Contains, slice_index_or}
 use Rattle.std.specs.Borrow.{Bor}
 use Rattle.std.proofs.lemmas.List.{map_more}
 use Rattle.std.proofs.lemmas.List.Elements.{AllZip-push}
@@ -8,13 +8,13 @@ use Rattle.serve_arguments.specs.CommandLines.{names_of}
 use Rattle.program_parts.specs.Readings.{IsReadFault}
 use Rattle.program_parts.specs.declared.fault.FileFault.{FileFault}
 use Rattle.program_parts.specs.declared.fault.FileFault.TheVariants.{CannotRead, TooLong, Tables, NoMemory}
-use Rattle.serve_arguments.specs.Readings.{AreNamed, AreUnread}
+use Rattle.serve_arguments.specs.Readings.{AreNamed, AreUnread, Contents, IsNamed}
 
 -- the bytes of one more source
-pub named_more : (unnamed first : List ℕ) (more : List (Bor (List ℕ))) (n : ℕ) (d : Bor (List ℕ)) (sources : List (List ℕ)) (bytes : List ℕ) → n < length more → AreNamed unnamed (first ∷ names_of (take n more)) sources → ((slice_index_or more n d).now ≡ codes "-" → bytes ≡ unnamed) → AreNamed unnamed (first ∷ names_of (take (n + 1) more)) (sources ++ bytes ∷ [])
-named_more unnamed first more n d sources bytes within named is =
-    subst (λ (names : List (List ℕ)). AreNamed unnamed (first ∷ names) (sources ++ bytes ∷ [])) (sym (map_more (λ (path : Bor (List ℕ)). path.now) more n d within))
-    (AllZip-push (λ (name bytes : List ℕ). name ≡ codes "-" → bytes ≡ unnamed) (first ∷ names_of (take n more)) sources (slice_index_or more n d).now bytes named is)
+pub named_more : (contents : Contents) (first : List ℕ) (more : List (Bor (List ℕ))) (n : ℕ) (d : Bor (List ℕ)) (sources : List (List ℕ)) (bytes : List ℕ) → n < length more → AreNamed contents (first ∷ names_of (take n more)) sources → IsNamed contents (slice_index_or more n d).now bytes → AreNamed contents (first ∷ names_of (take (n + 1) more)) (sources ++ bytes ∷ [])
+named_more contents first more n d sources bytes within named is =
+    subst (λ (names : List (List ℕ)). AreNamed contents (first ∷ names) (sources ++ bytes ∷ [])) (sym (map_more (λ (path : Bor (List ℕ)). path.now) more n d within))
+    (AllZip-push (IsNamed contents) (first ∷ names_of (take n more)) sources (slice_index_or more n d).now bytes named is)
 
 -- a path is the name of a source
 pub named_at : (first : List ℕ) (more : List (Bor (List ℕ))) (n : ℕ) (d : Bor (List ℕ)) → n < length more → Contains (first ∷ names_of more) (slice_index_or more n d).now

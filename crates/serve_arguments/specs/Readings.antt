@@ -1,12 +1,29 @@
 -- Why the files that the program reads were not read.
-use Rattle.std.specs.Prelude.{◌≡◌, ◌⊎◌, ℕ, List, Contains, Option, Some, IsSome, codes}
+use Rattle.std.specs.Prelude.{◌≡◌, ◌≢◌, ◌⊎◌, ℕ, List, Contains, Option, Some, IfSome, IsSome, codes}
 use Rattle.std.specs.List.{AllZip}
 use Rattle.program_parts.specs.declared.fault.FileFault.{FileFault}
 use Rattle.program_parts.specs.declared.fault.FileFault.TheVariants.{CannotRead, TooLong, Tables, NoMemory}
 
--- the bytes of the files with these names, one for each: a file that is not named has the bytes `unnamed`
-abbrev pub AreNamed : (unnamed : List ℕ) → (names sources : List (List ℕ)) → Type 0
-AreNamed unnamed names sources = AllZip (λ name bytes. name ≡ codes "-" → bytes ≡ unnamed) names sources
+-- the bytes of files: those at a path, where they are known, and those of a source that is not named
+pub record Contents : Type 0 where
+  pub known : List ℕ → Option (List ℕ)
+  pub unnamed : List ℕ
+
+abbrev pub contents_of : (List ℕ → Option (List ℕ)) → List ℕ → Contents
+contents_of known unnamed = record { known = known; unnamed = unnamed }
+
+-- these are the bytes of the source with this name
+abbrev pub IsNamed : Contents → (name bytes : List ℕ) → Type 0
+IsNamed contents name bytes = (name ≡ codes "-" → bytes ≡ contents.unnamed) × (name ≢ codes "-" → IfSome (contents.known name) (λ there. bytes ≡ there))
+
+-- the bytes of the sources with these names, one for each
+abbrev pub AreNamed : Contents → (names sources : List (List ℕ)) → Type 0
+AreNamed contents names sources = AllZip (IsNamed contents) names sources
+
+-- these are the requests with this name: those that are not named are the rest of the input
+abbrev pub AreRequests : Contents → (name : List ℕ) → (left : Option (List ℕ)) → (lines : List ℕ) → Type 0
+AreRequests contents name left lines =
+    (name ≡ codes "-" → IfSome left (λ bytes. lines ≡ bytes)) × (name ≢ codes "-" → IfSome (contents.known name) (λ there. lines ≡ there))
 
 -- why one of the files with these names was not read
 abbrev pub AreUnread : List (List ℕ) → FileFault → Type 0

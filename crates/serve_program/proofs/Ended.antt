@@ -1,13 +1,11 @@
 -- Why the program exits, part by part.
-use Rattle.std.proofs.Common.{◌≡◌, ℕ, List, Option, is_some, false, codes, inl, inr, refl}
-use Rattle.std.specs.Prelude.{IfSome}
-use Rattle.std.specs.Io.KnownBytes.{Keeps}
+use Rattle.std.proofs.Common.{◌≡◌, ℕ, List, Option, inl, inr, refl}
 use Rattle.std.proofs.KnownBytes.{Keeps-refl}
-use Rattle.vp8_tables.specs.Rfc.{rfc_entries}
 use Rattle.vp8_tables.specs.Tables.{TableEntries}
+use Rattle.program_parts.specs.Readings.{AreTables}
 use Rattle.program_parts.specs.declared.fault.FileFault.{FileFault}
 use Rattle.program_parts.specs.declared.fault.FileFault.TheVariants as files
-use Rattle.serve_arguments.specs.Readings.{AreNamed, IsInputFault}
+use Rattle.serve_arguments.specs.Readings.{AreNamed, AreRequests, Contents, IsInputFault}
 use Rattle.serve_arguments.specs.Statuses.{file_fault}
 use Rattle.serve_arguments.specs.declared.fault.Fault.{Fault}
 use Rattle.serve_arguments.specs.declared.fault.Fault.TheVariants.{CommandLine, NamedTwice, CannotRead, TooLong, Tables, Input, CannotWrite, NoMemory}
@@ -58,17 +56,17 @@ module _ (tables : TableEntries) (sources : List (List ℕ)) (requests : List �
   pub memory_unanswered : (replies : Option (List ℕ)) (fault : Fault) → fault ≡ NoMemory → IsUnanswered tables sources requests replies replies fault
   memory_unanswered replies fault is = rw is (inl (Keeps-refl replies))
 
-module _ (unnamed : List ℕ) (tables : Option (List ℕ)) (names : List (List ℕ)) (requests : List ℕ) where
+module _ (contents : Contents) (tables : Option (List ℕ)) (names : List (List ℕ)) (requests : List ℕ) where
   -- a file was not read
-  pub unread_ended : (left left' replies : Option (List ℕ)) (fault : FileFault) → IsInputFault tables names requests left left' fault → IsEnded unnamed tables names requests left left' replies replies (file_fault fault)
+  pub unread_ended : (left left' replies : Option (List ℕ)) (fault : FileFault) → IsInputFault tables names requests left left' fault → IsEnded contents tables names requests left left' replies replies (file_fault fault)
   unread_ended left left' replies (files.CannotRead path) why = (why, refl)
   unread_ended left left' replies (files.TooLong path) why = (why, refl)
   unread_ended left left' replies files.Tables why = (why.0, why.1, refl)
   unread_ended left left' replies files.NoMemory why = inl (Keeps-refl replies)
 
-  module _ (entries : TableEntries) (sources : List (List ℕ)) (lines : List ℕ) (named : AreNamed unnamed names sources) (rfc : is_some tables ≡ false → entries ≡ rfc_entries) where
+  module _ (entries : TableEntries) (sources : List (List ℕ)) (lines : List ℕ) (named : AreNamed contents names sources) (read : AreTables contents.known tables entries) where
     -- the requests were not all answered, or the packets not saved
-    pub unanswered_ended : (left left' replies replies' : Option (List ℕ)) (fault : Fault) → (requests ≡ codes "-" → IfSome left (λ bytes. lines ≡ bytes)) → IsUnanswered entries sources lines replies replies' fault → IsEnded unnamed tables names requests left left' replies replies' fault
+    pub unanswered_ended : (left left' replies replies' : Option (List ℕ)) (fault : Fault) → AreRequests contents requests left lines → IsUnanswered entries sources lines replies replies' fault → IsEnded contents tables names requests left left' replies replies' fault
     unanswered_ended left left' replies replies' CommandLine input why = absurd why
     unanswered_ended left left' replies replies' (NamedTwice same) input why = absurd why
     unanswered_ended left left' replies replies' (CannotRead path) input why = absurd why
@@ -76,6 +74,6 @@ module _ (unnamed : List ℕ) (tables : Option (List ℕ)) (names : List (List �
     unanswered_ended left left' replies replies' Tables input why = absurd why
     unanswered_ended left left' replies replies' (Input source fault) input why = (sources, named, why.0, why.1)
     unanswered_ended left left' replies replies' CannotWrite input (inl kept) = inl kept
-    unanswered_ended left left' replies replies' CannotWrite input (inr part) = inr (record { tables = entries; sources = sources; holds = (lines, input, part); named = named; rfc = rfc })
+    unanswered_ended left left' replies replies' CannotWrite input (inr part) = inr (record { tables = entries; sources = sources; holds = (lines, input, part); named = named; read = read })
     unanswered_ended left left' replies replies' NoMemory input (inl kept) = inl kept
-    unanswered_ended left left' replies replies' NoMemory input (inr all) = inr (record { tables = entries; sources = sources; holds = (all.0, lines, input, all.1); named = named; rfc = rfc })
+    unanswered_ended left left' replies replies' NoMemory input (inr all) = inr (record { tables = entries; sources = sources; holds = (all.0, lines, input, all.1); named = named; read = read })

@@ -1,3 +1,4 @@
-pub mod Flushed
 pub mod Ended
+pub mod Finished
+pub mod Flushed
 pub mod LiveEnded

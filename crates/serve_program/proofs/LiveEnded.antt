@@ -1,11 +1,11 @@
 -- Why the program exits with requests that are answered as they come.
-use Rattle.std.proofs.Common.{◌≡◌, inl, inr, ℕ, List, Option, is_some, false, refl, sym}
+use Rattle.std.proofs.Common.{◌≡◌, inl, inr, ℕ, List, Option, refl, sym}
 use Rattle.std.specs.Borrow.{Bor}
 use Rattle.std.proofs.KnownBytes.{Keeps-refl}
-use Rattle.vp8_tables.specs.Rfc.{rfc_entries}
 use Rattle.vp8_tables.specs.Tables.{TableEntries}
+use Rattle.program_parts.specs.Readings.{AreTables}
 use Rattle.program_parts.specs.declared.fault.FileFault.{FileFault}
-use Rattle.serve_arguments.specs.Readings.{AreNamed, IsInputFault}
+use Rattle.serve_arguments.specs.Readings.{AreNamed, Contents, IsInputFault}
 use Rattle.serve_arguments.specs.Statuses.{file_fault}
 use Rattle.serve_arguments.specs.declared.fault.Fault.{Fault}
 use Rattle.serve_arguments.specs.declared.fault.Fault.TheVariants.{CommandLine, NamedTwice, CannotRead, TooLong, Tables, Input, CannotWrite, NoMemory}
@@ -15,15 +15,15 @@ use Rattle.frame_session.specs.declared.live.LiveFault.TheVariants as lives
 use Rattle.serve_program.specs.Endings.{AreLiveReplied, IsInput, IsInterrupted, IsLiveEnded, IsLiveFault, IsLiveRefused, IsSaveFault, fault_by_live}
 use Rattle.serve_program.proofs.Ended.{unread_ended}
 
-module _ (tables : TableEntries) (sources : List (List ℕ)) (requests : List ℕ) (path : Bor (List ℕ)) (left given replies replies' : Option (List ℕ)) (theirs : path.now ≡ requests) (input : IsInput requests left given) where
-  interrupted : (why : LiveFault) → IsInterrupted tables sources given replies replies' why → IsLiveRefused tables sources requests left replies replies' (fault_by_live path why)
+module _ (contents : Contents) (tables : TableEntries) (sources : List (List ℕ)) (requests : List ℕ) (path : Bor (List ℕ)) (left given replies replies' : Option (List ℕ)) (theirs : path.now ≡ requests) (input : IsInput contents requests left given) where
+  interrupted : (why : LiveFault) → IsInterrupted tables sources given replies replies' why → IsLiveRefused contents tables sources requests left replies replies' (fault_by_live path why)
   interrupted why is = inr (inr (record { path = path; is_theirs = theirs; why = why; reported = refl; given = given; input = input; interrupted = is }))
 
   -- the lines of a reader were not all answered
-  pub requests_refused : (why : LiveFault) (fault : Fault) → fault ≡ fault_by_live path why → IsLiveFault tables sources given replies replies' why → IsLiveRefused tables sources requests left replies replies' fault
+  pub requests_refused : (why : LiveFault) (fault : Fault) → fault ≡ fault_by_live path why → IsLiveFault tables sources given replies replies' why → IsLiveRefused contents tables sources requests left replies replies' fault
   requests_refused why fault is refused = rw is (by_fault why refused)
     where
-      by_fault : (why : LiveFault) → IsLiveFault tables sources given replies replies' why → IsLiveRefused tables sources requests left replies replies' (fault_by_live path why)
+      by_fault : (why : LiveFault) → IsLiveFault tables sources given replies replies' why → IsLiveRefused contents tables sources requests left replies replies' (fault_by_live path why)
       by_fault (lives.Ivf source fault) refused = inl (refused.0, refused.1)
       by_fault lives.Read refused = interrupted lives.Read refused
       by_fault lives.TooLong refused = interrupted lives.TooLong refused
@@ -33,16 +33,16 @@ module _ (tables : TableEntries) (sources : List (List ℕ)) (requests : List �
       by_fault lives.NoMemory refused = inl (inl refused)
 
 -- the file of the requests was not opened
-pub unopened : (tables : TableEntries) (sources : List (List ℕ)) (requests : List ℕ) (path : Bor (List ℕ)) (left replies : Option (List ℕ)) → path.now ≡ requests → IsLiveRefused tables sources requests left replies replies (CannotRead path)
-unopened tables sources requests path left replies theirs = inr (inl (theirs, refl))
+pub unopened : (contents : Contents) (tables : TableEntries) (sources : List (List ℕ)) (requests : List ℕ) (path : Bor (List ℕ)) (left replies : Option (List ℕ)) → path.now ≡ requests → IsLiveRefused contents tables sources requests left replies replies (CannotRead path)
+unopened contents tables sources requests path left replies theirs = inr (inl (theirs, refl))
 
-module _ (tables : TableEntries) (sources : List (List ℕ)) (requests : List ℕ) (left replies : Option (List ℕ)) where
+module _ (contents : Contents) (tables : TableEntries) (sources : List (List ℕ)) (requests : List ℕ) (left replies : Option (List ℕ)) where
   -- out of memory before the first reply
-  pub live_memory : (fault : Fault) → fault ≡ NoMemory → IsLiveRefused tables sources requests left replies replies fault
+  pub live_memory : (fault : Fault) → fault ≡ NoMemory → IsLiveRefused contents tables sources requests left replies replies fault
   live_memory fault is = rw is (inl (inl (Keeps-refl replies)))
 
   -- the save was not begun
-  pub live_unbegun : (fault : Fault) → IsSaveFault fault → IsLiveRefused tables sources requests left replies replies fault
+  pub live_unbegun : (fault : Fault) → IsSaveFault fault → IsLiveRefused contents tables sources requests left replies replies fault
   live_unbegun CommandLine why = absurd why
   live_unbegun (NamedTwice same) why = absurd why
   live_unbegun (CannotRead path) why = absurd why
@@ -53,7 +53,7 @@ module _ (tables : TableEntries) (sources : List (List ℕ)) (requests : List �
   live_unbegun NoMemory why = inl (inl (Keeps-refl replies))
 
   -- the packets were not saved
-  pub live_unsaved : (replies' : Option (List ℕ)) (end : Now) (fault : Fault) → AreLiveReplied requests left replies replies' end tables sources → IsSaveFault fault → IsLiveRefused tables sources requests left replies replies' fault
+  pub live_unsaved : (replies' : Option (List ℕ)) (end : Now) (fault : Fault) → AreLiveReplied contents requests left replies replies' end tables sources → IsSaveFault fault → IsLiveRefused contents tables sources requests left replies replies' fault
   live_unsaved replies' end CommandLine replied why = absurd why
   live_unsaved replies' end (NamedTwice same) replied why = absurd why
   live_unsaved replies' end (CannotRead path) replied why = absurd why
@@ -64,10 +64,10 @@ module _ (tables : TableEntries) (sources : List (List ℕ)) (requests : List �
   live_unsaved replies' end NoMemory replied why = inl (inr (end, replied))
 
 -- a file that comes before the requests was not read
-pub files_ended : (unnamed : List ℕ) (named : Option (List ℕ)) (names : List (List ℕ)) (requests : List ℕ) (left replies : Option (List ℕ)) (fault : FileFault) → ((left : Option (List ℕ)) → IsInputFault named names requests left left fault) → IsLiveEnded unnamed named names requests left left replies replies (file_fault fault)
-files_ended unnamed named names requests left replies fault why = inl (unread_ended unnamed named names requests left left replies fault (why left))
+pub files_ended : (contents : Contents) (named : Option (List ℕ)) (names : List (List ℕ)) (requests : List ℕ) (left replies : Option (List ℕ)) (fault : FileFault) → ((left : Option (List ℕ)) → IsInputFault named names requests left left fault) → IsLiveEnded contents named names requests left left replies replies (file_fault fault)
+files_ended contents named names requests left replies fault why = inl (unread_ended contents named names requests left left replies fault (why left))
 
 -- the requests were not answered, or the packets not saved
-pub live_ended : (unnamed : List ℕ) (named : Option (List ℕ)) (names : List (List ℕ)) (requests : List ℕ) (left left' replies replies' : Option (List ℕ)) (fault : Fault) (entries : TableEntries) (sources : List (List ℕ)) → AreNamed unnamed names sources → (is_some named ≡ false → entries ≡ rfc_entries) → IsLiveRefused entries sources requests left replies replies' fault → IsLiveEnded unnamed named names requests left left' replies replies' fault
-live_ended unnamed named names requests left left' replies replies' fault entries sources are rfc refused =
-    inr (record { tables = entries; sources = sources; holds = refused; named = are; rfc = rfc })
+pub live_ended : (contents : Contents) (named : Option (List ℕ)) (names : List (List ℕ)) (requests : List ℕ) (left left' replies replies' : Option (List ℕ)) (fault : Fault) (entries : TableEntries) (sources : List (List ℕ)) → AreNamed contents names sources → AreTables contents.known named entries → IsLiveRefused contents entries sources requests left replies replies' fault → IsLiveEnded contents named names requests left left' replies replies' fault
+live_ended contents named names requests left left' replies replies' fault entries sources are read refused =
+    inr (record { tables = entries; sources = sources; holds = refused; named = are; read = read })

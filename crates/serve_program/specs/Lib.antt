@@ -1,2 +1,3 @@
+pub mod Done
 pub mod Endings
 pub mod Frames

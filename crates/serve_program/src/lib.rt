@@ -11,4 +11,4 @@ mod saving;
 
 pub use explain::{name_explain, name_help};
 pub use program::{run_to, serve};
-pub use serve_arguments::{Argument, Fault, SameFile};
+pub use serve_arguments::{Argument, Fault, SameFile, parse};

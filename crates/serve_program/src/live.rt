@@ -1,27 +1,26 @@
 // Requests that are answered as they come.
-ghost use Rattle.std.specs.Prelude.{◌≡◌, ◌≤◌, IfErr, IfOk, is_some, length, map, option_map};
+ghost use Rattle.std.specs.Prelude.{◌≡◌, ◌≤◌, IfErr, IfOk, length, map, option_map};
 ghost use Rattle.std.specs.Rc.{rc_slice_items};
 ghost use Rattle.serve_arguments.specs.CachedStates.{AreStates};
 ghost use Rattle.serve_arguments.specs.Capacities.{IsGiven};
 ghost use Rattle.serve_arguments.specs.CommandLines.{source_names};
-ghost use Rattle.serve_program.specs.Endings.{AreLiveReplied, IsLiveEnded, IsLiveFault, IsLiveRefused, IsLiveReplied, IsServed, stream_in};
+ghost use Rattle.serve_arguments.specs.Readings.{contents_of};
+ghost use Rattle.serve_program.specs.Endings.{AreLiveReplied, IsLiveEnded, IsLiveFault, IsLiveRefused, IsLiveReplied, IsOut, IsServed, stream_in};
 
 use crate::messages::Messages;
-use crate::program::{BYTES_AT_ONCE, finish, taken_by};
+use crate::program::{BYTES_AT_ONCE, finish, flush_buffer, taken_by};
 use crate::runs::{live_fault, settings_over, shared};
 use crate::saving::{abandon_save, begin_save};
 use frame_session::{LiveFault, Session, Settings, run_live_over};
 use output_files::Counted;
-use program_parts::NO_FILE;
+use program_parts::{NO_FILE, NamedFiles};
 use serve_arguments::{Accepted, Fault, FilesRead, read_files};
-use std::fs::File;
 use std::io::{self, BufRead, BufReader, BufWriter, Read, Write};
 use std::rc::RcSlice;
-use std::rt::Files;
 use stream_files::EMPTY;
 
 /// Answers the lines of `requests` with frames that go to the file at `path`, which is created now, or nowhere.
-fn run_to_path<R: Files + AllocGlobal, I: BufRead, P: Write, E: Write>(
+fn run_to_path<R: NamedFiles + AllocGlobal, I: BufRead, P: Write, E: Write>(
     rt: &R,
     settings: Settings,
     sources: &[RcSlice<u8>],
@@ -32,7 +31,7 @@ fn run_to_path<R: Files + AllocGlobal, I: BufRead, P: Write, E: Write>(
 ) -> Result<Session, LiveFault>
     requires capacity { (1 ≤ settings.capacity) × (settings.capacity ≤ 4096) }
     requires sources { (1 ≤ length sources.now) × (length sources.now ≤ 8) }
-    ensures replied { IfOk result (λ session. IsLiveReplied settings.tables (map rc_slice_items sources.now) (I.remaining requests.old) (P.contents replies.old) (P.contents replies.new) session.now) }
+    ensures replied { IfOk result (λ session. IsLiveReplied (IsOut R.Made.contents (R.is_made_at rt.now) path.now) settings.tables (map rc_slice_items sources.now) (I.remaining requests.old) (P.contents replies.old) (P.contents replies.new) session.now) }
     ensures capacity { IfOk result (λ session. session.cache.capacity ≡ settings.capacity) }
     ensures fault { IfErr result (IsLiveFault settings.tables (map rc_slice_items sources.now) (I.remaining requests.old) (P.contents replies.old) (P.contents replies.new)) }
 {
@@ -48,7 +47,7 @@ fn run_to_path<R: Files + AllocGlobal, I: BufRead, P: Write, E: Write>(
             messages,
         );
     }
-    let file = match File::create(rt, path) {
+    let file = match rt.make_named(path) {
         Ok(file) => file,
         Err(error) => {
             messages.cannot_create(error);
@@ -67,14 +66,20 @@ fn run_to_path<R: Files + AllocGlobal, I: BufRead, P: Write, E: Write>(
         replies,
         messages,
     );
-    if answered.is_err() {
-        messages.taken = Some(taken_by(&mut frames));
+    match answered {
+        Ok(session) => {
+            flush_buffer(&mut frames).map_err(|_| LiveFault::Write)?;
+            Ok(session)
+        }
+        Err(fault) => {
+            messages.taken = Some(taken_by(&mut frames));
+            Err(fault)
+        }
     }
-    answered
 }
 
 /// Answers the lines of a reader that is not buffered, through a buffer.
-fn run_over<R: Files + AllocGlobal, I: Read, P: Write, E: Write>(
+fn run_over<R: NamedFiles + AllocGlobal, I: Read, P: Write, E: Write>(
     rt: &R,
     settings: Settings,
     sources: &[RcSlice<u8>],
@@ -85,7 +90,7 @@ fn run_over<R: Files + AllocGlobal, I: Read, P: Write, E: Write>(
 ) -> Result<Session, LiveFault>
     requires capacity { (1 ≤ settings.capacity) × (settings.capacity ≤ 4096) }
     requires sources { (1 ≤ length sources.now) × (length sources.now ≤ 8) }
-    ensures replied { IfOk result (λ session. IsLiveReplied settings.tables (map rc_slice_items sources.now) (I.remaining reader.old) (P.contents replies.old) (P.contents replies.new) session.now) }
+    ensures replied { IfOk result (λ session. IsLiveReplied (IsOut R.Made.contents (R.is_made_at rt.now) path.now) settings.tables (map rc_slice_items sources.now) (I.remaining reader.old) (P.contents replies.old) (P.contents replies.new) session.now) }
     ensures capacity { IfOk result (λ session. session.cache.capacity ≡ settings.capacity) }
     ensures fault { IfErr result (IsLiveFault settings.tables (map rc_slice_items sources.now) (I.remaining reader.old) (P.contents replies.old) (P.contents replies.new)) }
 {
@@ -103,7 +108,7 @@ fn run_over<R: Files + AllocGlobal, I: Read, P: Write, E: Write>(
 
 /// Answers the request lines as they come: those of `input` if no file is given.
 #[tactic(auto, using(crate::proofs::LiveEnded::requests_refused))]
-fn run_requests<'a, R: Files + AllocGlobal, I: Read, P: Write, E: Write>(
+fn run_requests<'a, R: NamedFiles + AllocGlobal, I: Read, P: Write, E: Write>(
     rt: &R,
     line: &Accepted<'a>,
     settings: Settings,
@@ -114,9 +119,9 @@ fn run_requests<'a, R: Files + AllocGlobal, I: Read, P: Write, E: Write>(
 ) -> Result<Session, Fault<'a>>
     requires capacity { (1 ≤ settings.capacity) × (settings.capacity ≤ 4096) }
     requires sources { (1 ≤ length sources.now) × (length sources.now ≤ 8) }
-    ensures replied { IfOk result (λ session. AreLiveReplied line.now.words.requests.now (I.remaining input.old) (P.contents replies.old) (P.contents replies.new) session.now settings.tables (map rc_slice_items sources.now)) }
+    ensures replied { IfOk result (λ session. AreLiveReplied (contents_of (R.bytes_at rt.now) EMPTY) (IsOut R.Made.contents (R.is_made_at rt.now) line.now.words.frames.now) line.now.words.requests.now (I.remaining input.old) (P.contents replies.old) (P.contents replies.new) session.now settings.tables (map rc_slice_items sources.now)) }
     ensures capacity { IfOk result (λ session. session.cache.capacity ≡ settings.capacity) }
-    ensures refused { IfErr result (IsLiveRefused settings.tables (map rc_slice_items sources.now) line.now.words.requests.now (I.remaining input.old) (P.contents replies.old) (P.contents replies.new)) }
+    ensures refused { IfErr result (IsLiveRefused (contents_of (R.bytes_at rt.now) EMPTY) settings.tables (map rc_slice_items sources.now) line.now.words.requests.now (I.remaining input.old) (P.contents replies.old) (P.contents replies.new)) }
 {
     let path = line.words.requests;
     let frames = line.words.frames;
@@ -126,7 +131,7 @@ fn run_requests<'a, R: Files + AllocGlobal, I: Read, P: Write, E: Write>(
             Err(fault) => Err(live_fault(fault, path)),
         };
     }
-    let mut file = File::open(rt, path).map_err(|_| Fault::CannotRead(path))?;
+    let mut file = rt.open_named(path).map_err(|_| Fault::CannotRead(path))?;
     match run_over(rt, settings, sources, &mut file, frames, replies, messages) {
         Ok(session) => Ok(session),
         Err(fault) => Err(live_fault(fault, path)),
@@ -136,7 +141,7 @@ fn run_requests<'a, R: Files + AllocGlobal, I: Read, P: Write, E: Write>(
 /// Answers the request lines over the files that were read, as they come, and saves the packets of source 0 if that is asked for: the
 /// new file is made before the first line is read.
 /// Returns the session after the last line.
-fn answer_files<'a, R: Files + AllocGlobal, I: Read, O: Write, E: Write>(
+fn answer_files<'a, R: NamedFiles + AllocGlobal, I: Read, O: Write, E: Write>(
     rt: &R,
     line: &Accepted<'a>,
     files: FilesRead,
@@ -146,9 +151,9 @@ fn answer_files<'a, R: Files + AllocGlobal, I: Read, O: Write, E: Write>(
 ) -> Result<Session, Fault<'a>>
     requires capacity { IsGiven line.now.capacity }
     requires sources { (1 ≤ length files.sources.items) × (length files.sources.items ≤ 8) }
-    ensures replied { IfOk result (λ session. AreLiveReplied line.now.words.requests.now (I.remaining input.old) (O.contents output.old) (O.contents output.new) session.now files.tables (map (λ bytes. bytes.items) files.sources.items)) }
+    ensures replied { IfOk result (λ session. AreLiveReplied (contents_of (R.bytes_at rt.now) EMPTY) (IsOut R.Made.contents (R.is_made_at rt.now) line.now.words.frames.now) line.now.words.requests.now (I.remaining input.old) (O.contents output.old) (O.contents output.new) session.now files.tables (map (λ bytes. bytes.items) files.sources.items)) }
     ensures capacity { IfOk result (λ session. AreStates line.now.capacity (stream_in (map (λ bytes. bytes.items) files.sources.items)) session.cache.capacity) }
-    ensures refused { IfErr result (IsLiveRefused files.tables (map (λ bytes. bytes.items) files.sources.items) line.now.words.requests.now (I.remaining input.old) (O.contents output.old) (O.contents output.new)) }
+    ensures refused { IfErr result (IsLiveRefused (contents_of (R.bytes_at rt.now) EMPTY) files.tables (map (λ bytes. bytes.items) files.sources.items) line.now.words.requests.now (I.remaining input.old) (O.contents output.old) (O.contents output.new)) }
 {
     let FilesRead { tables, sources } = files;
     let sources = shared(rt.alloc(), sources)?;
@@ -176,7 +181,7 @@ fn answer_files<'a, R: Files + AllocGlobal, I: Read, O: Write, E: Write>(
 }
 
 /// Does what an accepted command line with `--live` asks for. Returns the session after the last line.
-pub fn answer_live<'a, R: Files + AllocGlobal, I: Read, O: Write, E: Write>(
+pub fn answer_live<'a, R: NamedFiles + AllocGlobal, I: Read, O: Write, E: Write>(
     rt: &R,
     line: &Accepted<'a>,
     input: &mut I,
@@ -185,8 +190,8 @@ pub fn answer_live<'a, R: Files + AllocGlobal, I: Read, O: Write, E: Write>(
 ) -> Result<Session, Fault<'a>>
     requires capacity { IsGiven line.now.capacity }
     requires paths { length line.now.more.items ≤ 7 }
-    ensures served { IfOk result (λ session. IsServed EMPTY (source_names line.now) (is_some line.now.words.tables) line.now.capacity session.cache.capacity (AreLiveReplied line.now.words.requests.now (I.remaining input.old) (O.contents output.old) (O.contents output.new) session.now)) }
-    ensures ended { IfErr result (IsLiveEnded EMPTY (option_map (λ path. path.now) line.now.words.tables) (source_names line.now) line.now.words.requests.now (I.remaining input.old) (I.remaining input.new) (O.contents output.old) (O.contents output.new)) }
+    ensures served { IfOk result (λ session. IsServed (contents_of (R.bytes_at rt.now) EMPTY) (source_names line.now) (option_map (λ path. path.now) line.now.words.tables) line.now.capacity session.cache.capacity (AreLiveReplied (contents_of (R.bytes_at rt.now) EMPTY) (IsOut R.Made.contents (R.is_made_at rt.now) line.now.words.frames.now) line.now.words.requests.now (I.remaining input.old) (O.contents output.old) (O.contents output.new) session.now)) }
+    ensures ended { IfErr result (IsLiveEnded (contents_of (R.bytes_at rt.now) EMPTY) (option_map (λ path. path.now) line.now.words.tables) (source_names line.now) line.now.words.requests.now (I.remaining input.old) (I.remaining input.new) (O.contents output.old) (O.contents output.new)) }
 {
     let files = read_files(rt, line)?;
     answer_files(rt, line, files, input, output, messages)

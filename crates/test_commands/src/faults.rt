@@ -1,16 +1,15 @@
 // Errors that end the program: their texts, their statuses, and which of two is reported.
 use crate::expected::{Broken, ONE, check, clear, expect, expect_fault, put};
-use program_parts::tell;
+use program_parts::{NamedFiles, tell};
 use serve_arguments::{Argument, Fault, SameFile};
 use std::fs::hard_link;
 use std::os::unix::fs::symlink;
 use std::process::Abort;
-use std::rt::Files;
 use std::test::Fail;
 use stream_files::{EMPTY, IvfFault};
 
 /// Checks the message of an error, and its status also where the message cannot be written.
-fn expect_told<R: Abort + Files + AllocGlobal>(rt: &R, fault: Fault<'_>, status: u8, text: &str) {
+fn expect_told<R: Abort + NamedFiles + AllocGlobal>(rt: &R, fault: Fault<'_>, status: u8, text: &str) {
     let mut errors = Vec::new(rt.alloc());
     assert!(rt; tell(fault, &mut errors) == status, "{text}");
     assert!(rt; errors.as_slice() == text.as_bytes(), "{text}");
@@ -87,7 +86,7 @@ fn tells_each_fault(rt: HostRuntime) {
 }
 
 /// Checks each line of a table: a command line, and the text of its error.
-fn expect_table<R: Abort + Files + AllocGlobal>(rt: &R, table: &str) {
+fn expect_table<R: Abort + NamedFiles + AllocGlobal>(rt: &R, table: &str) {
     for case in table.lines() {
         let (line, text) = case.split_once(" => ").expect(rt, "a case");
         expect_fault(rt, line, text);
@@ -206,7 +205,7 @@ fn finds_faults_in_order(rt: HostRuntime) {
 }
 
 /// Checks the word of a header whose byte at an index is another one.
-fn expect_word<R: Abort + Files + AllocGlobal>(rt: &R, at: usize, byte: u8, text: &str) {
+fn expect_word<R: Abort + NamedFiles + AllocGlobal>(rt: &R, at: usize, byte: u8, text: &str) {
     let mut file = EMPTY;
     if at < file.len() {
         file[at] = byte;

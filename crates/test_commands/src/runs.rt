@@ -3,9 +3,9 @@ use crate::expected::{
     Broken, CODED, NONE, ONE, OPENING, check, clear, expect, push_frame, put, run_line,
 };
 use frame_session::{RunFault, run};
+use program_parts::NamedFiles;
 use std::alloc::Global;
 use std::process::Abort;
-use std::rt::Files;
 use std::test::Fail;
 use vp8_tables::Tables;
 
@@ -179,7 +179,7 @@ fn frame_with(alloc: Global, tables: Tables) -> Result<Vec<u8>, RunFault> {
 }
 
 /// Serves the frame of `CODED` with tables whose entries are all the same, and returns it.
-fn coded_frame<R: Abort + Files + AllocGlobal>(rt: &R, entry: u8) -> Result<Vec<u8>, Fail> {
+fn coded_frame<R: Abort + NamedFiles + AllocGlobal>(rt: &R, entry: u8) -> Result<Vec<u8>, Fail> {
     let frame = frame_with(rt.alloc(), Tables::read(&[entry; 3012])?)?;
     put(rt, "entries.bin", &[entry; 3012]);
     let line = "vp8serve coded.ivf - coded.y4m --tables entries.bin";
@@ -230,7 +230,7 @@ fn serves_sources(rt: HostRuntime) -> Result<(), Fail> {
 }
 
 /// Checks the frames of sources 1 and 2.
-fn expect_apart<R: Abort + Files + AllocGlobal>(rt: &R, line: &str, first: &[u8], second: &[u8]) {
+fn expect_apart<R: Abort + NamedFiles + AllocGlobal>(rt: &R, line: &str, first: &[u8], second: &[u8]) {
     let replies = "ok 0\nserved 0\n";
     expect(rt, line, "script source 1\nframe 0\n", replies, "", 0);
     check(rt, "apart.y4m", first);

@@ -1,17 +1,17 @@
 // Readers and writers that fail.
 use crate::expected::{Broken, ONE, OPENING, run_line};
 use frame_session::{LiveFault, Settings, Unobserved, run_live};
+use program_parts::NamedFiles;
 use serve_program::{Fault, run_to};
 use std::cell::Cell;
 use std::io::{self, BufWriter, Read, Write};
 use std::process::Abort;
-use std::rt::Files;
 use std::test::Fail;
 use stream_files::EMPTY;
 use vp8_tables::Tables;
 
 /// Checks the message of a run whose replies go to this writer.
-fn expect_failing<R: Abort + Files + AllocGlobal, I: Read, O: Write>(
+fn expect_failing<R: Abort + NamedFiles + AllocGlobal, I: Read, O: Write>(
     rt: &R,
     line: &str,
     requests: &mut I,
@@ -51,7 +51,7 @@ fn tells_a_reader_and_writers_that_fail(rt: HostRuntime) {
 }
 
 /// The error of a run over the file of one frame, whose frame 0 is served.
-fn fault_of<R: Abort + Files + AllocGlobal, F: Write, P: Write>(
+fn fault_of<R: Abort + NamedFiles + AllocGlobal, F: Write, P: Write>(
     rt: &R,
     frames: &mut F,
     replies: &mut P,
