@@ -1,0 +1,2 @@
+pub mod Middle
+pub mod AddedUp

@@ -1,0 +1,4 @@
+pub mod Durations
+pub mod Medians
+pub mod Stamps
+pub mod Examples
