@@ -7,10 +7,11 @@ use Rattle.std.specs.Option.{option_map_or}
 use Rattle.std.specs.Prelude.{IsSome}
 use Rattle.std.specs.Result.{result_unwrap_or}
 use Rattle.vp8_tables.specs.declared.tables.Tables.{Tables}
+use Rattle.packet_times.specs.declared.durations.Duration.{Duration}
 use Rattle.packet_edits.specs.declared.entry.Entry.{Entry}
 use Rattle.stream_files.specs.declared.ivf.Ivf.{Ivf}
 use Rattle.packet_edits.specs.declared.fault.EditFault.TheVariants as faults
-use Rattle.packet_edits.specs.Edits.{Listing, copied, inserted, refused_copy, refused_insertion}
+use Rattle.packet_edits.specs.Edits.{Listing, copied, inserted_for, refused_copy, refused_insertion}
 use Rattle.packet_edits.specs.Laws.{HasOwnIds}
 use Rattle.packet_edits.specs.Marks.{StoreValue, marks_inserted}
 use Rattle.packet_forge.specs.Packets.{blank_of}
@@ -176,17 +177,17 @@ module _ (tables : Tables) where
       of_packets = λ id some. s.of_packets id (subst IsSome (same id) some);
     }
 
-    inserted_sound : (at stamp : ℕ) (bytes : List ℕ) (store : StoreValue) (kept : View) → IsMarked store → HasOwnIds store.list → IsSourceSound store kept → IsSourceSound (after_insertion at stamp bytes store) kept
-    inserted_sound at stamp bytes store kept marked own s =
+    inserted_sound : (duration : Duration) (at stamp : ℕ) (bytes : List ℕ) (store : StoreValue) (kept : View) → IsMarked store → HasOwnIds store.list → IsSourceSound store kept → IsSourceSound (after_insertion duration at stamp bytes store) kept
+    inserted_sound duration at stamp bytes store kept marked own s =
         let none : kept store.list.next_id ≡ None = next store.list kept own s.of_packets in
         record {
-          coherent = coherence.insertions store kept at stamp bytes marked none s.coherent;
-          of_packets = ids.insertions store.list kept at stamp bytes s.of_packets;
+          coherent = coherence.insertions store kept duration at stamp bytes marked none s.coherent;
+          of_packets = ids.insertions store.list kept duration at stamp bytes s.of_packets;
         }
 
     pub edited_source : (lists : List Listing) (edit : Edit (List ℕ)) (store : StoreValue) (old new : View) → IsMarked store → HasOwnIds store.list → refused_edit tables lists store.list edit ≡ None → IsSourceSound store old → IsViewWithout (leaving edit store.list) old new
         → IsSourceSound (store_edited tables lists edit store) new
-    edited_source lists (Insert at stamp bytes) store old new marked own allowed s without = same_view (after_insertion at stamp bytes store) old new without (inserted_sound at stamp bytes store old marked own s)
+    edited_source lists (Insert at stamp bytes) store old new marked own allowed s without = same_view (after_insertion store.list.usual at stamp bytes store) old new without (inserted_sound store.list.usual at stamp bytes store old marked own s)
     edited_source lists (Replace at bytes) store old new marked own allowed s without = record {
       coherent = coherence.replacements store old new at bytes marked (next store.list old own s.of_packets) without s.coherent;
       of_packets = ids.replacements store.list old new at bytes without s.of_packets;
@@ -201,11 +202,11 @@ module _ (tables : Tables) where
     })
     edited_source lists (Copy source from at) store old new marked own allowed s without =
         let packet = copy_exists lists store.list source from at allowed in
-        let is : copied at (list_at lists source) from store.list ≡ inserted at packet.0.stamp packet.0.bytes store.list = ap (λ (o : Option Entry). option_map_or (λ (entry : Entry). inserted at entry.stamp entry.bytes store.list) o store.list) packet.1 in
+        let is : copied at (list_at lists source) from store.list ≡ inserted_for packet.0.duration at packet.0.stamp packet.0.bytes store.list = ap (λ (o : Option Entry). option_map_or (λ (entry : Entry). inserted_for entry.duration at entry.stamp entry.bytes store.list) o store.list) packet.1 in
         subst (λ (l : Listing). IsSourceSound (record { list = l; marks = marks_inserted at store.marks }) new) (sym is)
-        (same_view (after_insertion at packet.0.stamp packet.0.bytes store) old new without (inserted_sound at packet.0.stamp packet.0.bytes store old marked own s))
-    edited_source lists (Blank at width height) store old new marked own allowed s without = same_view _ old new without (inserted_sound at (stamp_before at store.list) (result_unwrap_or (blank_of tables width height) []) store old marked own s)
-    edited_source lists (Hold at) store old new marked own allowed s without = same_view _ old new without (inserted_sound at (stamp_before at store.list) (result_unwrap_or (hold_bytes_at tables store.list at) []) store old marked own s)
+        (same_view (after_insertion packet.0.duration at packet.0.stamp packet.0.bytes store) old new without (inserted_sound packet.0.duration at packet.0.stamp packet.0.bytes store old marked own s))
+    edited_source lists (Blank at width height) store old new marked own allowed s without = same_view _ old new without (inserted_sound store.list.usual at (stamp_before at store.list) (result_unwrap_or (blank_of tables width height) []) store old marked own s)
+    edited_source lists (Hold at) store old new marked own allowed s without = same_view _ old new without (inserted_sound store.list.usual at (stamp_before at store.list) (result_unwrap_or (hold_bytes_at tables store.list at) []) store old marked own s)
     edited_source lists (ShowBit at shown) store old new marked own allowed s without = same_view (after_show_bit at shown store) old new without (record {
       coherent = coherence.show_bits store old at shown s.coherent;
       of_packets = ids.show_bits store.list old at shown s.of_packets;

@@ -5,13 +5,13 @@ use Rattle.std.proofs.Math.ListN.{get_or-map}
 use Rattle.std.proofs.Math.Seq.{map-set_same}
 use Rattle.vp8_tables.specs.declared.tables.Tables.{Tables}
 use Rattle.stream_files.specs.declared.ivf.Ivf.{Ivf}
-use Rattle.packet_edits.specs.Edits.{Listing, copied, starting_with}
+use Rattle.packet_edits.specs.Edits.{Listing, copied}
 use Rattle.packet_edits.specs.Marks.{StoreValue, marks_inserted}
 use Rattle.packet_edits.specs.Shown.{shown_indexes, stream_of}
 use Rattle.request_lines.specs.declared.edit.Edit.{Edit}
 use Rattle.frame_session.specs.declared.refusal.Refusal.{Refusal}
 use Rattle.frame_session.specs.Edits.{after_edit, edited, list_at}
-use Rattle.frame_session.specs.Sessions.{Now, now_after_edit}
+use Rattle.frame_session.specs.Sessions.{Now, list_of_file, now_after_edit}
 use Rattle.frame_session.specs.Cached.{lists_of, marks_after, marks_edited, shown_counts_of, store_at, store_of_file, store_copied, store_edited, stores_after}
 
 -- the packets of one source after those of one were replaced
@@ -120,6 +120,6 @@ counts_same [] = refl
 counts_same (s ∷ stores) = ap (λ (l : List ℕ). length (shown_indexes (stream_of s.list)) ∷ l) (counts_same stores)
 
 -- the lists of new stores
-pub begun_lists : (files : List Ivf) → lists_of (map store_of_file files) ≡ map (λ file. starting_with file.packets) files
+pub begun_lists : (files : List Ivf) → lists_of (map store_of_file files) ≡ map list_of_file files
 begun_lists [] = refl
-begun_lists (file ∷ files) = ap (λ (l : List Listing). starting_with file.packets ∷ l) (begun_lists files)
+begun_lists (file ∷ files) = ap (λ (l : List Listing). list_of_file file ∷ l) (begun_lists files)

@@ -2,7 +2,8 @@
 use Rattle.std.specs.Prelude.{◌≡◌, ℕ, ◌<◌, ◌≤◌, Bool, true, false, [], List, length, map, slice_get, slice_index_or, slice_set, Option, Some, None, Result, Ok, Err, option_and_then, option_map}
 use Rattle.vp8_tables.specs.declared.tables.Tables.{Tables}
 use Rattle.stream_files.specs.declared.ivf.Ivf.{Ivf}
-use Rattle.packet_edits.specs.Edits.{Listing, copied, starting_with, starting}
+use Rattle.packet_times.specs.Durations.{one_frame}
+use Rattle.packet_edits.specs.Edits.{Listing, copied, starting}
 use Rattle.packet_edits.specs.Marks.{StoreValue, marks_deleted, marks_inserted, marks_moved, marks_pushed, marks_replaced}
 use Rattle.packet_edits.specs.Shown.{shown_indexes, stream_of}
 use Rattle.pixel_planes.specs.Pictures.{PictureSamples}
@@ -17,11 +18,11 @@ use Rattle.request_lines.specs.declared.edit.Edit.TheVariants.{Insert, Replace, 
 use Rattle.frame_session.specs.declared.refusal.Refusal.{Refusal}
 use Rattle.frame_session.specs.declared.refusal.Refusal.TheVariants as refusals
 use Rattle.frame_session.specs.Edits.{edited, list_at}
-use Rattle.frame_session.specs.Sessions.{Now, shown_counts, start}
+use Rattle.frame_session.specs.Sessions.{Now, list_of_file, shown_counts, start}
 
 -- the packets of a source with their marks; a source that does not exist has no packets
 abbrev pub store_at : List StoreValue → ℕ → StoreValue
-store_at stores source = slice_index_or stores source (record { list = starting 0; marks = [] })
+store_at stores source = slice_index_or stores source (record { list = starting 0 one_frame; marks = [] })
 
 -- the packet lists of stores
 abbrev pub lists_of : List StoreValue → List Listing
@@ -36,7 +37,7 @@ pub record SessionValue : Type 0 where
 
 -- the packets of a file, none of them marked
 abbrev pub store_of_file : Ivf → StoreValue
-store_of_file file = record { list = starting_with file.packets; marks = marks_pushed file.packets [] }
+store_of_file file = record { list = list_of_file file; marks = marks_pushed file.packets [] }
 
 -- a new session: no packet is marked, and no outcome is cached
 abbrev pub begun : Tables → ℕ → List Ivf → SessionValue

@@ -3,6 +3,7 @@ use Rattle.std.specs.Prelude.{ℕ, ◌-◌, ◌==◌, [], List, length, nat_lt, 
 use Rattle.std.specs.Option.{option_map_or}
 use Rattle.std.specs.Result.{result_unwrap_or}
 use Rattle.vp8_tables.specs.declared.tables.Tables.{Tables}
+use Rattle.packet_times.specs.Durations.{one_frame}
 use Rattle.packet_edits.specs.declared.fault.EditFault.{EditFault}
 use Rattle.packet_edits.specs.declared.fault.EditFault.TheVariants as faults
 use Rattle.packet_edits.specs.Edits.{Listing, copied, deleted, inserted, refused_copy, refused_deletion, refused_insertion, refused_move, refused_replacement, refused_show_bit, replaced, starting, with_move, with_show_bit_at}
@@ -18,7 +19,7 @@ use Rattle.frame_session.specs.IsOrNoMemory.{IsOrNoMemory}
 
 -- the packet list of a source; a source that does not exist has no packets
 abbrev pub list_at : List Listing → ℕ → Listing
-list_at lists source = slice_index_or lists source (starting 0)
+list_at lists source = slice_index_or lists source (starting 0 one_frame)
 
 -- the refusal of a request whose edit has an error
 abbrev pub refusal_by : EditFault → Refusal

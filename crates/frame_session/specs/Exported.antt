@@ -11,6 +11,11 @@ use Rattle.script_nodes.specs.Frames.{Origin, traced}
 use Rattle.script_nodes.specs.Shown.{Shown, Shows}
 use Rattle.script_nodes.specs.declared.traces.Step.{Step}
 use Rattle.script_nodes.specs.declared.traces.Step.TheVariants.{Cut, Weigh}
+use Rattle.packet_times.specs.Durations.{units_in}
+use Rattle.packet_times.specs.Stamps.{stamped}
+use Rattle.stream_files.specs.declared.ivf.Head.{Head}
+use Rattle.std.specs.Option.{option_map_or}
+use Rattle.frame_session.specs.declared.session.exports.Export.{Export}
 use Rattle.frame_session.specs.Edits.{list_at}
 use Rattle.frame_session.specs.Sessions.{Now, frame_count, frame_of, shown_counts}
 
@@ -64,3 +69,22 @@ HasTarget now n target = (picture : PictureSamples) × IsTarget now n target pic
 abbrev pub HaveTargets : Now → ℕ → List Target → Type 0
 HaveTargets now n [] = Unit {0}
 HaveTargets now n (target ∷ targets) = HasTarget now n target × HaveTargets now (n + 1) targets
+
+-- how long the packet of a frame is shown, in the units of the head of source 0
+abbrev pub units_at : Now → Target → ℕ
+units_at now target = option_map_or (λ entry. units_in now.head entry.duration) (slice_get (list_at now.lists target.source).entries target.place) 0
+
+-- the rate and scale of a head, and the size of the first frame, 0x0 if there is none
+abbrev pub export_head : Head → List Target → Head
+export_head head [] = record head { width = 0; height = 0 }
+export_head head (target ∷ targets) = record head { width = target.width; height = target.height }
+
+-- a file that shows exactly the frames of a session, each as long as its packet is shown
+pub record IsExportFile (now : Now) (file : Export) : Type 0 where
+  pub packets : List (List ℕ)
+  pub shows : IsExport now packets
+  pub targets : List Target
+  pub frames : HaveTargets now 0 targets
+  pub all : length targets ≡ frame_count now
+  pub stamps : file.packets ≡ stamped 0 (map (units_at now) targets) packets
+  pub head : file.head ≡ export_head now.head targets

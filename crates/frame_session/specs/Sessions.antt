@@ -10,6 +10,7 @@ use Rattle.frame_session.specs.declared.refusal.Refusal.TheVariants as refusals
 use Rattle.frame_session.specs.declared.size.Size.{Size}
 use Rattle.request_lines.specs.declared.edit.Edit.{Edit}
 use Rattle.state_cache.specs.Decoding.{Outcome, outcomes}
+use Rattle.packet_times.specs.Medians.{usual_of}
 use Rattle.packet_edits.specs.Edits.{Listing, starting_with}
 use Rattle.packet_edits.specs.Shown.{shown_indexes, stream_of}
 use Rattle.script_nodes.specs.declared.nodes.Node.{Node}
@@ -47,12 +48,16 @@ most_spare = 2 ^ 64 - 1
 abbrev pub spare_of : List Ivf → ℕ
 spare_of files = min (sum (map (λ file. file.spare) files)) most_spare
 
+-- the packets of a file, with ids starting at 0; a packet that has no duration of its own has the median step of the file
+abbrev pub list_of_file : Ivf → Listing
+list_of_file file = starting_with (usual_of file.head file.packets) file.packets
+
 -- a new session over these files: one source for each
 abbrev pub start : Tables → List Ivf → Now
 start tables files = record {
   tables = tables;
   head = head_of_first files;
-  lists = map (λ file. starting_with file.packets) files;
+  lists = map list_of_file files;
   current = 0;
   script = [];
   spare = spare_of files;

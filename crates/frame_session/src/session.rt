@@ -2,7 +2,7 @@ ghost use Rattle.std.specs.Prelude.{◌≡◌, ◌<◌, ◌≤◌, IfOk, IfSome,
 ghost use Rattle.std.specs.List.{All};
 ghost use Rattle.std.specs.Io.KnownBytes.{Appends};
 ghost use Rattle.stream_files.specs.Texts.{written_text};
-ghost use Rattle.packet_edits.specs.Saved.{packets_of, padded_packets_of};
+ghost use Rattle.packet_edits.specs.Saved.{packets_of, padded_packets_of, restamped};
 ghost use Rattle.packet_edits.specs.Shown.{shown_indexes, stream_of};
 ghost use Rattle.state_cache.specs.Decoding.{outcomes};
 ghost use Rattle.state_cache.specs.Costs.{Costs};
@@ -21,8 +21,9 @@ use crate::keeping::{edit_cached, picture_at};
 use crate::refusal::Refusal;
 use crate::size::Size;
 use arrayvec::ArrayVec;
-pub use exports::ExportFault;
+pub use exports::{Export, ExportFault};
 use packet_edits::Store;
+use packet_times::usual_duration;
 use pixel_planes::{NoMemory, Picture};
 use request_lines::{Edit, Hex};
 use script_nodes::{Script, apply};
@@ -341,6 +342,19 @@ impl Session {
         self.stores[0].save_padded(w, self.head)
     }
 
+    /// Writes the current packets of source 0 as an IVF file with new time stamps, in the units of the head of its file:
+    /// the first shown packet has time stamp 0, and each other shown one that of the shown packet before it plus its
+    /// duration. A hidden packet has the time stamp of the next shown one. A packet is shown for as long as in the file
+    /// that it was read from, and any other packet for the median step of source 0. With `pads` packets are padded as in
+    /// [`save_padded`](Session::save_padded). No memory is taken, and the session does not change.
+    ///
+    /// `Write` if the writer returns an error; part of the file may have been written.
+    pub fn save_restamped<W: Write>(&self, w: &mut W, pads: bool) -> Result<(), WriteFault>
+        ensures { OnOk result (Appends (W.contents w.old) (W.contents w.new) (written_text self.now.now.head (restamped pads self.now.now.head (list_at self.now.now.lists 0).entries))) }
+    {
+        self.stores[0].save_restamped(w, self.head, pads)
+    }
+
     /// The number of trailing bytes after the last whole record of each file, of all files together.
     pub fn spare(&self) -> u64
         ensures { result ≡ self.now.now.spare }
@@ -390,7 +404,8 @@ fn store_of_file(alloc: Global, file: Ivf) -> Result<Store, NoMemory>
     requires { length file.packets ≤ 1048576 }
     ensures { IfOk result (λ store. store ≡ store_of_file file) }
 {
-    let mut store = Store::starting(alloc, 0);
+    let usual = usual_duration(alloc, file.head, file.packets.as_slice())?;
+    let mut store = Store::starting(alloc, 0, usual);
     match store.push_all(file.packets) {
         Ok(()) => Ok(store),
         Err(_) => Err(NoMemory),

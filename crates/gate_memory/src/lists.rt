@@ -3,6 +3,7 @@ ghost use Rattle.std.specs.Prelude.{◌≤◌, IfOk, length};
 
 use crate::fault::Fault;
 use packet_edits::{EditFault, Store};
+use packet_times::Duration;
 use std::alloc::Global;
 use std::io::Write;
 use stream_files::{Bytes, Ivf, IvfFault, ivf_read};
@@ -20,6 +21,13 @@ const STREAM: [u8; 99] = [
     3, 0, 0, 0, 2, 0, 0, 0, 0, 0, 0, 0, 0x11, 0, 0, //
     3, 0, 0, 0, 3, 0, 0, 0, 0, 0, 0, 0, 0x11, 0, 0,
 ];
+
+/// A frame of 30 a second.
+const USUAL: Duration = Duration {
+    units: 1,
+    rate: 30,
+    scale: 1,
+};
 
 /// The packets of an IVF file, in one attempt.
 fn try_read(alloc: Global, bytes: &[u8]) -> Result<Ivf, IvfFault>
@@ -113,6 +121,6 @@ fn grow_list<O: Write>(alloc: Global, list: &mut Store, output: &mut O) -> Resul
 
 /// Makes the calls of a packet list, and prints the list after each.
 pub fn grow<O: Write>(alloc: Global, output: &mut O) -> Result<(), Fault> {
-    let mut list = Store::starting(alloc, 0);
+    let mut list = Store::starting(alloc, 0, USUAL);
     grow_list(alloc, &mut list, output)
 }

@@ -3,8 +3,9 @@ use Rattle.std.proofs.Common.{◌≡◌, ℕ, zero, suc, ◌+◌, ◌<◌, ◌�
 use Rattle.std.specs.List.{insert, remove}
 use Rattle.std.specs.Option.{option_map_or}
 use Rattle.stream_files.specs.declared.packets.Packet.{Packet}
+use Rattle.packet_times.specs.declared.durations.Duration.{Duration}
 use Rattle.packet_edits.specs.declared.entry.Entry.{Entry}
-use Rattle.packet_edits.specs.Edits.{Listing, copied, deleted, inserted, numbered, pushed, replaced, showing, with_move, with_show_bit_at}
+use Rattle.packet_edits.specs.Edits.{Listing, copied, deleted, inserted_for, numbered, pushed, replaced, showing, with_move, with_show_bit_at}
 use Rattle.packet_edits.specs.Laws.{HasOwnIds, HaveOwnIds, IdsStayOwn, IsNotAmong, KeepsIdsOwn}
 
 -- ids below a number are below a greater one
@@ -114,35 +115,35 @@ not_among_both : (id : ℕ) (es fs : List Entry) → IsNotAmong id es → IsNotA
 not_among_both id [] fs a b = b
 not_among_both id (e ∷ es) fs a b = (a.0, not_among_both id es fs a.1 b)
 
-numbered_above : (id low : ℕ) (packets : List Packet) → low < id → IsNotAmong low (numbered id packets)
-numbered_above id low [] below = tt
-numbered_above id low (packet ∷ packets) below = (λ same. omega (arith, below, same), numbered_above (id + 1) low packets (omega (arith, below)))
+numbered_above : (usual : Duration) (id low : ℕ) (packets : List Packet) → low < id → IsNotAmong low (numbered usual id packets)
+numbered_above usual id low [] below = tt
+numbered_above usual id low (packet ∷ packets) below = (λ same. omega (arith, below, same), numbered_above usual (id + 1) low packets (omega (arith, below)))
 
-numbered_own : (id next : ℕ) (packets : List Packet) → id + length packets ≡ next → HaveOwnIds next (numbered id packets)
-numbered_own id next [] whole = tt
-numbered_own id next (packet ∷ packets) whole = (omega (arith, whole), numbered_above (id + 1) id packets (omega arith), numbered_own (id + 1) next packets (omega (arith, whole)))
+numbered_own : (usual : Duration) (id next : ℕ) (packets : List Packet) → id + length packets ≡ next → HaveOwnIds next (numbered usual id packets)
+numbered_own usual id next [] whole = tt
+numbered_own usual id next (packet ∷ packets) whole = (omega (arith, whole), numbered_above usual (id + 1) id packets (omega arith), numbered_own usual (id + 1) next packets (omega (arith, whole)))
 
-pub pushed_own : (next : ℕ) (es : List Entry) (packets : List Packet) → HaveOwnIds next es → HaveOwnIds (next + length packets) (es ++ numbered next packets)
-pushed_own next [] packets own = numbered_own next (next + length packets) packets refl
-pushed_own next (e ∷ es) packets own =
+pub pushed_own : (usual : Duration) (next : ℕ) (es : List Entry) (packets : List Packet) → HaveOwnIds next es → HaveOwnIds (next + length packets) (es ++ numbered usual next packets)
+pushed_own usual next [] packets own = numbered_own usual next (next + length packets) packets refl
+pushed_own usual next (e ∷ es) packets own =
     let below : e.id < next = own.0 in
-    (omega (arith, below), not_among_both e.id es (numbered next packets) own.1 (numbered_above next e.id packets below), pushed_own next es packets own.2)
+    (omega (arith, below), not_among_both e.id es (numbered usual next packets) own.1 (numbered_above usual next e.id packets below), pushed_own usual next es packets own.2)
 
 -- each edit
 push_keeps : (packets : List Packet) → KeepsIdsOwn (pushed packets)
-push_keeps packets = record { own = λ list own. pushed_own list.next_id list.entries packets own; rises = λ list. omega arith }
+push_keeps packets = record { own = λ list own. pushed_own list.usual list.next_id list.entries packets own; rises = λ list. omega arith }
 
-insertion_keeps : (at stamp : ℕ) (bytes : List ℕ) → KeepsIdsOwn (inserted at stamp bytes)
-insertion_keeps at stamp bytes = record {
-  own = λ list own. own_inserted (list.next_id + 1) at (record { id = list.next_id; stamp = stamp; bytes = bytes }) list.entries (omega arith) (next_not_among list.next_id list.entries own) (above_all list.next_id (list.next_id + 1) list.entries (omega arith) own);
+insertion_keeps : (duration : Duration) (at stamp : ℕ) (bytes : List ℕ) → KeepsIdsOwn (inserted_for duration at stamp bytes)
+insertion_keeps duration at stamp bytes = record {
+  own = λ list own. own_inserted (list.next_id + 1) at (record { id = list.next_id; stamp = stamp; duration = duration; bytes = bytes }) list.entries (omega arith) (next_not_among list.next_id list.entries own) (above_all list.next_id (list.next_id + 1) list.entries (omega arith) own);
   rises = λ list. omega arith;
 }
 
-copied_own : (at : ℕ) (list : Listing) (o : Option Entry) → HasOwnIds list → HasOwnIds (option_map_or (λ entry. inserted at entry.stamp entry.bytes list) o list)
+copied_own : (at : ℕ) (list : Listing) (o : Option Entry) → HasOwnIds list → HasOwnIds (option_map_or (λ entry. inserted_for entry.duration at entry.stamp entry.bytes list) o list)
 copied_own at list None own = own
-copied_own at list (Some entry) own = (insertion_keeps at entry.stamp entry.bytes).own list own
+copied_own at list (Some entry) own = (insertion_keeps entry.duration at entry.stamp entry.bytes).own list own
 
-copied_rises : (at : ℕ) (list : Listing) (o : Option Entry) → list.next_id ≤ (option_map_or (λ entry. inserted at entry.stamp entry.bytes list) o list).next_id
+copied_rises : (at : ℕ) (list : Listing) (o : Option Entry) → list.next_id ≤ (option_map_or (λ entry. inserted_for entry.duration at entry.stamp entry.bytes list) o list).next_id
 copied_rises at list None = omega arith
 copied_rises at list (Some entry) = omega arith
 
@@ -169,7 +170,7 @@ show_bit_keeps at shown = record { own = λ list own. showing_own list at shown 
 
 pub ids_own : IdsStayOwn
 ids_own = record {
-  at_first = λ first_id. tt;
+  at_first = λ first_id usual. tt;
   pushes = push_keeps;
   insertions = insertion_keeps;
   copies = copy_keeps;

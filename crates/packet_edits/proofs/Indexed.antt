@@ -5,6 +5,7 @@ use Rattle.std.proofs.lemmas.List.{length-map, map-append}
 use Rattle.frame_header.specs.Tags.{has_key_tag, is_shown}
 use Rattle.stream_files.specs.declared.packets.Packet.{Packet}
 use Rattle.chunked_list.specs.Moves.{moved, with_place}
+use Rattle.packet_times.specs.declared.durations.Duration.{Duration}
 use Rattle.packet_edits.specs.declared.entry.Entry.{Entry}
 use Rattle.packet_edits.specs.declared.packet_index.PacketIndex.{PacketIndex}
 use Rattle.show_bits.specs.ShowBits.{has_show_bit}
@@ -42,19 +43,21 @@ index_set es index at e is = ap (set_in at e.bytes) is ∙ sym (both_are _ _ _ _
 pub index_moved : (es : List Entry) (index : PacketIndex) (from to : ℕ) → index ≡ index_of es → from < length es → to < length es → moved_in from to index ≡ index_of (moved from to es)
 index_moved es index from to is out in_ = ap (moved_in from to) is ∙ sym (both_are _ _ _ _ (map_moved shown_at es from to out in_) (map_moved tagged_at es from to out in_))
 
-flags_numbered : (f : List ℕ → Bool) (id : ℕ) (packets : List Packet) → map (λ (e : Entry). f e.bytes) (numbered id packets) ≡ map (λ (packet : Packet). f packet.bytes) packets
-flags_numbered f id [] = refl
-flags_numbered f id (packet ∷ packets) = ap (λ flags. f packet.bytes ∷ flags) (flags_numbered f (id + 1) packets)
+flags_numbered : (f : List ℕ → Bool) (usual : Duration) (id : ℕ) (packets : List Packet) → map (λ (e : Entry). f e.bytes) (numbered usual id packets) ≡ map (λ (packet : Packet). f packet.bytes) packets
+flags_numbered f usual id [] = refl
+flags_numbered f usual id (packet ∷ packets) = ap (λ flags. f packet.bytes ∷ flags) (flags_numbered f usual (id + 1) packets)
 
-flags_pushed : (f : List ℕ → Bool) (id : ℕ) (es : List Entry) (packets : List Packet) → map (λ (e : Entry). f e.bytes) (es ++ numbered id packets) ≡ map (λ (e : Entry). f e.bytes) es ++ map (λ (packet : Packet). f packet.bytes) packets
-flags_pushed f id es packets = map-append (λ (e : Entry). f e.bytes) es (numbered id packets) ∙ ap (λ flags. map (λ (e : Entry). f e.bytes) es ++ flags) (flags_numbered f id packets)
+flags_pushed : (f : List ℕ → Bool) (usual : Duration) (id : ℕ) (es : List Entry) (packets : List Packet) → map (λ (e : Entry). f e.bytes) (es ++ numbered usual id packets) ≡ map (λ (e : Entry). f e.bytes) es ++ map (λ (packet : Packet). f packet.bytes) packets
+flags_pushed f usual id es packets = map-append (λ (e : Entry). f e.bytes) es (numbered usual id packets) ∙ ap (λ flags. map (λ (e : Entry). f e.bytes) es ++ flags) (flags_numbered f usual id packets)
 
-pub index_pushed : (es : List Entry) (index : PacketIndex) (id : ℕ) (packets : List Packet) → index ≡ index_of es → appended_to packets index ≡ index_of (es ++ numbered id packets)
-index_pushed es index id packets is = ap (appended_to packets) is ∙ sym (both_are _ _ _ _ (flags_pushed is_shown id es packets) (flags_pushed has_key_tag id es packets))
+pub index_pushed : (es : List Entry) (index : PacketIndex) (usual : Duration) (id : ℕ) (packets : List Packet) → index ≡ index_of es → appended_to packets index ≡ index_of (es ++ numbered usual id packets)
+index_pushed es index usual id packets is = ap (appended_to packets) is ∙ sym (both_are _ _ _ _ (flags_pushed is_shown usual id es packets) (flags_pushed has_key_tag usual id es packets))
 
 -- the packet that is replaced
-pub replaced_is : (es : List Entry) (at id stamp : ℕ) (bytes : List ℕ) (e : Entry) → slice_get es at ≡ Some e → stamp ≡ e.stamp → slice_set es at (record { id = id; stamp = stamp; bytes = bytes }) ≡ with_place at (λ entry. slice_set es at (record entry { id = id; bytes = bytes })) es
-replaced_is es at id stamp bytes e here same = rw here (ap (λ (n : ℕ). slice_set es at (record { id = id; stamp = n; bytes = bytes })) same)
+pub replaced_is : (es : List Entry) (at id stamp : ℕ) (duration : Duration) (bytes : List ℕ) (e : Entry) → slice_get es at ≡ Some e → stamp ≡ e.stamp → duration ≡ e.duration
+    → slice_set es at (record { id = id; stamp = stamp; duration = duration; bytes = bytes }) ≡ with_place at (λ entry. slice_set es at (record entry { id = id; bytes = bytes })) es
+replaced_is es at id stamp duration bytes e here same as_long =
+    rw here (ap (λ (n : ℕ). slice_set es at (record { id = id; stamp = n; duration = duration; bytes = bytes })) same ∙ ap (λ (d : Duration). slice_set es at (record { id = id; stamp = e.stamp; duration = d; bytes = bytes })) as_long)
 
 -- the packet whose show bit is set or cleared
 pub record IsShowing (es : List Entry) (at : ℕ) (shown : Bool) (e : Entry) : Type 0 where

@@ -8,3 +8,4 @@ pub mod Indexed
 pub mod Whole
 pub mod Keys
 pub mod Records
+pub mod Restamped

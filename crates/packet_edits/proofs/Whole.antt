@@ -3,6 +3,7 @@ use Rattle.std.proofs.Common.{◌≡◌, ℕ, suc, ◌+◌, ◌<◌, ◌≤◌, 
 use Rattle.std.specs.List.{insert, remove}
 use Rattle.std.proofs.lemmas.List.Edits.{length-insert}
 use Rattle.stream_files.specs.declared.packets.Packet.{Packet}
+use Rattle.packet_times.specs.declared.durations.Duration.{Duration}
 use Rattle.packet_edits.specs.declared.entry.Entry.{Entry}
 use Rattle.chunked_list.specs.Moves.{moved}
 use Rattle.packet_edits.specs.declared.packet_index.PacketIndex.{PacketIndex}
@@ -24,9 +25,9 @@ module _ (es new : List Entry) (id : ℕ) (marks marks' : List Bool) (index inde
     own = subst (HaveOwnIds id) (sym put) is.own;
   }
 
-  pub whole_insert : (at stamp : ℕ) (bytes : List ℕ) → at ≤ length es → length es < 1048576 → new ≡ insert es at (record { id = id; stamp = stamp; bytes = bytes }) → marks' ≡ marks_inserted at marks → index' ≡ inserted_to at bytes index → IsWhole new (id + 1) marks' index'
-  whole_insert at stamp bytes within few put m reported =
-      let e : Entry = record { id = id; stamp = stamp; bytes = bytes } in record {
+  pub whole_insert : (at stamp : ℕ) (duration : Duration) (bytes : List ℕ) → at ≤ length es → length es < 1048576 → new ≡ insert es at (record { id = id; stamp = stamp; duration = duration; bytes = bytes }) → marks' ≡ marks_inserted at marks → index' ≡ inserted_to at bytes index → IsWhole new (id + 1) marks' index'
+  whole_insert at stamp duration bytes within few put m reported =
+      let e : Entry = record { id = id; stamp = stamp; duration = duration; bytes = bytes } in record {
         indexed = reported ∙ index_inserted es index at e is.indexed within ∙ ap index_of (sym put);
         few = let long : length new ≡ length es + 1 = ap length put ∙ length-insert es at e within in omega (arith, long, few);
         marked =
@@ -35,9 +36,9 @@ module _ (es new : List Entry) (id : ℕ) (marks marks' : List Bool) (index inde
         own = subst (HaveOwnIds (id + 1)) (sym put) (own_inserted (id + 1) at e es (omega arith) (next_not_among id es is.own) (above_all id (id + 1) es (omega arith) is.own));
       }
 
-  pub whole_set : (at stamp : ℕ) (bytes : List ℕ) → new ≡ slice_set es at (record { id = id; stamp = stamp; bytes = bytes }) → marks' ≡ marks_replaced at marks → index' ≡ set_in at bytes index → IsWhole new (id + 1) marks' index'
-  whole_set at stamp bytes put m reported =
-      let e : Entry = record { id = id; stamp = stamp; bytes = bytes } in record {
+  pub whole_set : (at stamp : ℕ) (duration : Duration) (bytes : List ℕ) → new ≡ slice_set es at (record { id = id; stamp = stamp; duration = duration; bytes = bytes }) → marks' ≡ marks_replaced at marks → index' ≡ set_in at bytes index → IsWhole new (id + 1) marks' index'
+  whole_set at stamp duration bytes put m reported =
+      let e : Entry = record { id = id; stamp = stamp; duration = duration; bytes = bytes } in record {
         indexed = reported ∙ index_set es index at e is.indexed ∙ ap index_of (sym put);
         few = let few : length es ≤ 1048576 = is.few in let same : length new ≡ length es = ap length put ∙ length_set es at e in omega (arith, few, same);
         marked = ap length m ∙ length_set (unmarked_at at marks) (at + 1) true ∙ length_set marks at false ∙ is.marked ∙ sym (length_set es at e) ∙ ap length (sym put);
@@ -82,20 +83,20 @@ module _ (es new : List Entry) (id : ℕ) (marks marks' : List Bool) (index inde
   length_false [] = refl
   length_false (p ∷ packets) = ap suc (length_false packets)
 
-  length_numbered : (k : ℕ) (packets : List Packet) → length (numbered k packets) ≡ length packets
-  length_numbered k [] = refl
-  length_numbered k (p ∷ packets) = ap suc (length_numbered (k + 1) packets)
+  length_numbered : (usual : Duration) (k : ℕ) (packets : List Packet) → length (numbered usual k packets) ≡ length packets
+  length_numbered usual k [] = refl
+  length_numbered usual k (p ∷ packets) = ap suc (length_numbered usual (k + 1) packets)
 
-  pub whole_push : (packets : List Packet) → length es + length packets ≤ 1048576 → new ≡ es ++ numbered id packets → marks' ≡ marks_pushed packets marks → index' ≡ appended_to packets index → IsWhole new (id + length packets) marks' index'
-  whole_push packets few put m reported = record {
-    indexed = reported ∙ index_pushed es index id packets is.indexed ∙ ap index_of (sym put);
-    few = let c : length new ≡ length es + length (numbered id packets) = ap length put ∙ length-append es (numbered id packets) in let d : length (numbered id packets) ≡ length packets = length_numbered id packets in omega (arith, c, d, few);
+  pub whole_push : (usual : Duration) (packets : List Packet) → length es + length packets ≤ 1048576 → new ≡ es ++ numbered usual id packets → marks' ≡ marks_pushed packets marks → index' ≡ appended_to packets index → IsWhole new (id + length packets) marks' index'
+  whole_push usual packets few put m reported = record {
+    indexed = reported ∙ index_pushed es index usual id packets is.indexed ∙ ap index_of (sym put);
+    few = let c : length new ≡ length es + length (numbered usual id packets) = ap length put ∙ length-append es (numbered usual id packets) in let d : length (numbered usual id packets) ≡ length packets = length_numbered usual id packets in omega (arith, c, d, few);
     marked =
         let same : length marks ≡ length es = is.marked in
         let a : length marks' ≡ length marks + length (map (λ (p : Packet). false) packets) = ap length m ∙ length-append marks (map (λ (p : Packet). false) packets) in
         let b : length (map (λ (p : Packet). false) packets) ≡ length packets = length_false packets in
-        let c : length new ≡ length es + length (numbered id packets) = ap length put ∙ length-append es (numbered id packets) in
-        let d : length (numbered id packets) ≡ length packets = length_numbered id packets in
+        let c : length new ≡ length es + length (numbered usual id packets) = ap length put ∙ length-append es (numbered usual id packets) in
+        let d : length (numbered usual id packets) ≡ length packets = length_numbered usual id packets in
         omega (arith, a, b, c, d, same);
-    own = subst (HaveOwnIds (id + length packets)) (sym put) (pushed_own id es packets is.own);
+    own = subst (HaveOwnIds (id + length packets)) (sym put) (pushed_own usual id es packets is.own);
   }

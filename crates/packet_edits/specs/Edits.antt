@@ -4,15 +4,18 @@ use Rattle.std.specs.List.{insert, remove}
 use Rattle.std.specs.Option.{option_map_or}
 pub use Rattle.chunked_list.specs.Moves.{moved, with_place}
 use Rattle.stream_files.specs.declared.packets.Packet.{Packet}
+use Rattle.packet_times.specs.Durations.{duration_before}
+use Rattle.packet_times.specs.declared.durations.Duration.{Duration}
 use Rattle.show_bits.specs.ShowBits.{has_show_bit, with_show_bit}
 use Rattle.packet_edits.specs.declared.entry.Entry.{Entry}
 use Rattle.packet_edits.specs.declared.fault.EditFault.{EditFault}
 use Rattle.packet_edits.specs.declared.fault.EditFault.TheVariants.{Place, Full, Spent, NoBit}
 
--- a packet list: its packets in their order, and the id of the next inserted packet
+-- a packet list: its packets in their order, the id of the next inserted packet, and the duration of a packet that has none of its own
 pub record Listing : Type 0 where
   pub entries : List Entry
   pub next_id : ℕ
+  pub usual : Duration
 
 -- the greatest number of packets of a list
 abbrev pub most_packets : ℕ
@@ -22,37 +25,42 @@ most_packets = 1048576
 abbrev pub spent_id : ℕ
 spent_id = 2 ^ 64 - 1
 
--- packets with consecutive ids, starting at this one
-abbrev pub numbered : ℕ → List Packet → List Entry
-numbered id [] = []
-numbered id (packet ∷ packets) = record { id = id; stamp = packet.stamp; bytes = packet.bytes } ∷ numbered (id + 1) packets
+-- packets with consecutive ids, starting at this one, and each with its duration up to the next shown one
+abbrev pub numbered : Duration → ℕ → List Packet → List Entry
+numbered usual id [] = []
+numbered usual id (packet ∷ packets) =
+    record { id = id; stamp = packet.stamp; duration = duration_before usual packet packets; bytes = packet.bytes } ∷ numbered usual (id + 1) packets
 
 -- the packets of a file, with ids starting at 0
-abbrev pub starting_with : List Packet → Listing
-starting_with packets = record { entries = numbered 0 packets; next_id = length packets }
+abbrev pub starting_with : Duration → List Packet → Listing
+starting_with usual packets = record { entries = numbered usual 0 packets; next_id = length packets; usual = usual }
 
--- no packets, and the id of the first inserted one
-abbrev pub starting : ℕ → Listing
-starting first_id = record { entries = []; next_id = first_id }
+-- no packets, the id of the first inserted one, and the usual duration
+abbrev pub starting : ℕ → Duration → Listing
+starting first_id usual = record { entries = []; next_id = first_id; usual = usual }
 
 -- packets appended, in their order
 abbrev pub pushed : List Packet → Listing → Listing
-pushed packets list = record { entries = list.entries ++ numbered list.next_id packets; next_id = list.next_id + length packets }
+pushed packets list = record list { entries = list.entries ++ numbered list.usual list.next_id packets; next_id = list.next_id + length packets }
 
--- a packet inserted at an index, with the next id
-abbrev pub inserted : ℕ → ℕ → List ℕ → Listing → Listing
-inserted at stamp bytes list = record {
-  entries = insert list.entries at (record { id = list.next_id; stamp = stamp; bytes = bytes });
+-- a packet of this duration inserted at an index, with the next id
+abbrev pub inserted_for : Duration → ℕ → ℕ → List ℕ → Listing → Listing
+inserted_for duration at stamp bytes list = record list {
+  entries = insert list.entries at (record { id = list.next_id; stamp = stamp; duration = duration; bytes = bytes });
   next_id = list.next_id + 1;
 }
 
--- a copy of the packet at `from` of a source list inserted at an index; the list is unchanged if there is no such packet
-abbrev pub copied : ℕ → Listing → ℕ → Listing → Listing
-copied at source from list = option_map_or (λ entry. inserted at entry.stamp entry.bytes list) (slice_get source.entries from) list
+-- a packet inserted that has the usual duration
+abbrev pub inserted : ℕ → ℕ → List ℕ → Listing → Listing
+inserted at stamp bytes list = inserted_for list.usual at stamp bytes list
 
--- the bytes of the packet at an index replaced, with the next id; its stamp stays
+-- a copy of the packet at `from` of a source list inserted at an index, with its duration; the list is unchanged if there is no such packet
+abbrev pub copied : ℕ → Listing → ℕ → Listing → Listing
+copied at source from list = option_map_or (λ entry. inserted_for entry.duration at entry.stamp entry.bytes list) (slice_get source.entries from) list
+
+-- the bytes of the packet at an index replaced, with the next id; its stamp and its duration stay
 abbrev pub replaced : ℕ → List ℕ → Listing → Listing
-replaced at bytes list = record {
+replaced at bytes list = record list {
   entries = with_place at (λ entry. slice_set list.entries at (record entry { id = list.next_id; bytes = bytes })) list.entries;
   next_id = list.next_id + 1;
 }

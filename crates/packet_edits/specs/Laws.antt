@@ -2,8 +2,10 @@
 use Rattle.std.specs.Prelude.{◌≡◌, ℕ, ◌<◌, ◌≤◌, Bool, true, false, List, [], ◌∷◌, length, Some, None, slice_get}
 use Rattle.frame_header.specs.Tags.{has_key_tag, is_shown, key_size_of}
 use Rattle.stream_files.specs.declared.packets.Packet.{Packet}
+use Rattle.packet_times.specs.Durations.{duration_before}
+use Rattle.packet_times.specs.declared.durations.Duration.{Duration}
 use Rattle.packet_edits.specs.declared.entry.Entry.{Entry}
-use Rattle.packet_edits.specs.Edits.{Listing, copied, deleted, inserted, pushed, replaced, starting, with_move, with_show_bit_at}
+use Rattle.packet_edits.specs.Edits.{Listing, copied, deleted, inserted_for, pushed, replaced, starting, with_move, with_show_bit_at}
 use Rattle.packet_edits.specs.Shown.{shown_indexes, stream_of}
 use Rattle.packet_edits.specs.Sizes.{size_at}
 
@@ -28,9 +30,9 @@ pub record KeepsIdsOwn (change : Listing → Listing) : Type 0 where
 
 -- in an empty list each packet has its own id, and each edit keeps this; the next id never falls
 pub record IdsStayOwn : Type 0 where
-  pub at_first : (first_id : ℕ) → HasOwnIds (starting first_id)
+  pub at_first : (first_id : ℕ) (usual : Duration) → HasOwnIds (starting first_id usual)
   pub pushes : (packets : List Packet) → KeepsIdsOwn (pushed packets)
-  pub insertions : (at stamp : ℕ) (bytes : List ℕ) → KeepsIdsOwn (inserted at stamp bytes)
+  pub insertions : (duration : Duration) (at stamp : ℕ) (bytes : List ℕ) → KeepsIdsOwn (inserted_for duration at stamp bytes)
   pub copies : (at : ℕ) (source : Listing) (from : ℕ) → KeepsIdsOwn (copied at source from)
   pub replacements : (at : ℕ) (bytes : List ℕ) → KeepsIdsOwn (replaced at bytes)
   pub deletions : (at : ℕ) → KeepsIdsOwn (deleted at)
@@ -40,7 +42,7 @@ pub record IdsStayOwn : Type 0 where
 -- appending packets is inserting them at the end in sequence
 abbrev pub PushesAreInsertions : Type 0
 PushesAreInsertions = (packet : Packet) (packets : List Packet) (list : Listing)
-    → pushed (packet ∷ packets) list ≡ pushed packets (inserted (length list.entries) packet.stamp packet.bytes list)
+    → pushed (packet ∷ packets) list ≡ pushed packets (inserted_for (duration_before list.usual packet packets) (length list.entries) packet.stamp packet.bytes list)
 
 -- the shown list has the indexes of exactly the shown packets, in ascending order
 pub record IsShownList : Type 0 where
@@ -58,13 +60,17 @@ pub record SizeIsOfLastKey : Type 0 where
       → ((p : ℕ) (later : List ℕ) → slice_get (stream_of list) p ≡ Some later → last < p → p < at → has_key_tag later ≡ false) → size_at at list ≡ key_size_of packet
   pub of_none : (list : Listing) (at : ℕ) → ((p : ℕ) (earlier : List ℕ) → slice_get (stream_of list) p ≡ Some earlier → p < at → has_key_tag earlier ≡ false) → size_at at list ≡ None
 
+-- a duration of 10 units of 1/30 second
+abbrev pub ten : Duration
+ten = record { units = 10; rate = 30; scale = 1 }
+
 -- a packet of one byte
 abbrev pub packet : ℕ → ℕ → ℕ → Entry
-packet id stamp byte = record { id = id; stamp = stamp; bytes = byte ∷ [] }
+packet id stamp byte = record { id = id; stamp = stamp; duration = ten; bytes = byte ∷ [] }
 
 -- three packets
 abbrev pub three : Listing
-three = record { entries = packet 0 10 65 ∷ packet 1 20 66 ∷ packet 2 30 67 ∷ []; next_id = 3 }
+three = record { entries = packet 0 10 65 ∷ packet 1 20 66 ∷ packet 2 30 67 ∷ []; next_id = 3; usual = ten }
 
 -- four packets with no mark
 abbrev pub unmarked : List Bool

@@ -38,7 +38,7 @@ pub fn worked_edits()
     ensures move_up { (with_move 0 2 three).entries ≡ packet 1 20 66 ∷ packet 2 30 67 ∷ packet 0 10 65 ∷ [] }
     ensures move_down { (with_move 2 1 three).entries ≡ packet 0 10 65 ∷ packet 2 30 67 ∷ packet 1 20 66 ∷ [] }
     ensures stays { (with_move 1 1 three).entries ≡ three.entries }
-    ensures hide { (with_show_bit_at 1 false (record three { entries = packet 0 10 65 ∷ record { id = 1; stamp = 20; bytes = 0x31 ∷ 2 ∷ 3 ∷ [] } ∷ [] })).entries ≡ packet 0 10 65 ∷ record { id = 1; stamp = 20; bytes = 0x21 ∷ 2 ∷ 3 ∷ [] } ∷ [] }
+    ensures hide { (with_show_bit_at 1 false (record three { entries = packet 0 10 65 ∷ record (packet 1 20 0) { bytes = 0x31 ∷ 2 ∷ 3 ∷ [] } ∷ [] })).entries ≡ packet 0 10 65 ∷ record (packet 1 20 0) { bytes = 0x21 ∷ 2 ∷ 3 ∷ [] } ∷ [] }
     ensures next { (inserted 3 5 [] three).next_id ≡ 4 }
     ensures accepted { refused_insertion three 3 ≡ None }
     ensures place { refused_insertion (record three { next_id = 0xFFFF_FFFF_FFFF_FFFF }) 4 ≡ Some faults.Place }

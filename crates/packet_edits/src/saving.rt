@@ -1,13 +1,14 @@
 ghost use Rattle.std.specs.Prelude.{◌≡◌, OnOk, map};
 ghost use Rattle.std.specs.Io.KnownBytes.{Appends};
 ghost use Rattle.stream_files.specs.Texts.{record_text, records_text};
-ghost use Rattle.packet_edits.specs.Saved.{packet_of, padded_packet_of};
+ghost use Rattle.packet_edits.specs.Saved.{packet_of, padded_if, padded_packet_of, restamped};
 
 use crate::entry::Entry;
 use chunked_list::ChunkedList;
 use frame_header::ends_empty;
+use packet_times::stamp_after;
 use std::io::Write;
-use stream_files::{WriteFault, ivf_packet, ivf_padded_packet};
+use stream_files::{Head, WriteFault, ivf_packet, ivf_padded_packet};
 
 /// Writes the records of packets in sequence.
 pub(crate) fn write_records<W: Write>(
@@ -44,6 +45,41 @@ pub(crate) fn write_padded_records<W: Write>(
 {
     for i in 0..entries.len() {
         write_padded(w, entries.get(i))?;
+    }
+    Ok(())
+}
+
+/// Writes the record of a packet with a time stamp, padded if that is asked for and its last token partition is empty.
+fn write_stamped<W: Write>(
+    w: &mut W,
+    stamp: u64,
+    bytes: &[u8],
+    pads: bool,
+) -> Result<(), WriteFault>
+    ensures { OnOk result (Appends (W.contents w.old) (W.contents w.new) (record_text (padded_if pads (record { stamp = stamp; bytes = bytes.now })))) }
+{
+    if pads && ends_empty(bytes) {
+        ivf_padded_packet(w, stamp, bytes)
+    } else {
+        ivf_packet(w, stamp, bytes)
+    }
+}
+
+/// Writes the records of packets in sequence, with new time stamps in the units of a head.
+pub(crate) fn write_restamped_records<W: Write>(
+    w: &mut W,
+    entries: &ChunkedList<Entry>,
+    head: Head,
+    pads: bool,
+) -> Result<(), WriteFault>
+    ensures { OnOk result (Appends (W.contents w.old) (W.contents w.new) (records_text (restamped pads head entries.now))) }
+{
+    let mut stamp = 0;
+    for i in 0..entries.len() {
+        let entry = entries.get(i);
+        let bytes = entry.bytes.as_slice();
+        write_stamped(w, stamp, bytes, pads)?;
+        stamp = stamp_after(stamp, bytes, entry.duration.units_in(head));
     }
     Ok(())
 }

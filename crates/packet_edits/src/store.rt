@@ -10,20 +10,24 @@ use crate::fault::EditFault;
 use crate::flag_index::FlagIndex;
 use crate::marks::{mark, move_marked};
 use crate::packet_index::PacketIndex;
-use crate::saving::{write_padded_records, write_records};
+use crate::saving::{write_padded_records, write_records, write_restamped_records};
 use chunked_list::ChunkedList;
 use frame_header::key_size;
+use packet_times::{Duration, durations_of};
 use pixel_planes::NoMemory;
 use show_bits::{ShowFault, with_show_bit};
 use std::alloc::Global;
 use std::io::Write;
 use std::marker::Model;
-use stream_files::{Bytes, Head, MAX_PACKETS, Packet, Packets, WriteFault, ivf_start};
+use stream_files::{Bytes, Head, MAX_PACKETS, Packets, WriteFault, ivf_start};
 
 /// The id that no packet gets.
 const SPENT_ID: u64 = u64::MAX;
 
 /// The packets of a stream, at most 1,048,576, and the id of the next inserted packet.
+///
+/// A packet of a file is shown up to the time stamp of the next shown one; a packet that has no such duration is shown
+/// for the usual one.
 ///
 /// A refused edit changes nothing. Indexes are counted from 0. Only `push_all`, `insert`,
 /// `copy_from`, `copy_within` and `set_show_bit` allocate.
@@ -34,6 +38,7 @@ pub struct Store {
     marks: FlagIndex,
     index: PacketIndex,
     next_id: u64,
+    usual: Duration,
 }
 
 impl Model for Store {
@@ -42,24 +47,25 @@ impl Model for Store {
 
     ghost Value = { StoreValue };
 
-    ghost view = { λ s. record { list = record { entries = s.entries; next_id = s.next_id }; marks = s.marks } };
+    ghost view = { λ s. record { list = record { entries = s.entries; next_id = s.next_id; usual = s.usual }; marks = s.marks } };
 
     ghost invariant = { λ s. IsWhole s.entries s.next_id s.marks s.index };
 }
 
 impl Store {
-    ghost use Rattle.packet_edits.specs.Edits.{copied, deleted, inserted, pushed, refused_copy, refused_deletion, refused_id, refused_insertion, refused_move, refused_push, refused_replacement, refused_show_bit, replaced, showing, starting, with_move, with_show_bit_at};
+    ghost use Rattle.packet_edits.specs.Edits.{copied, deleted, inserted, inserted_for, pushed, refused_copy, refused_deletion, refused_id, refused_insertion, refused_move, refused_push, refused_replacement, refused_show_bit, replaced, showing, starting, with_move, with_show_bit_at};
     ghost use Rattle.packet_edits.specs.Laws.{HasOwnIds};
     ghost use Rattle.packet_edits.specs.Marks.{marked_at, marks_deleted, marks_inserted, marks_moved, marks_replaced, unmarked_at};
-    ghost use Rattle.packet_edits.specs.Saved.{packet_of, packets_of, padded_packets_of};
+    ghost use Rattle.packet_edits.specs.Saved.{packets_of, padded_packets_of, restamped};
     ghost use Rattle.packet_edits.specs.Shown.{shown_indexes, stream_of};
     ghost use Rattle.packet_edits.specs.Nearest.{IsFirst, IsLast};
     ghost use Rattle.packet_edits.specs.FlagCounts.{flag_at};
     ghost use Rattle.packet_edits.specs.Sizes.{key_tag_at, size_at};
 
-    /// An empty store whose first packet gets the id `first_id`. It allocates nothing.
-    pub fn starting(alloc: Global, first_id: u64) -> Store
-        ensures { result ≡ record { list = starting first_id; marks = [] } }
+    /// An empty store whose first packet gets the id `first_id`. `usual` is the duration of a packet that has none of its
+    /// own, in the units of the file. It allocates nothing.
+    pub fn starting(alloc: Global, first_id: u64, usual: Duration) -> Store
+        ensures { result ≡ record { list = starting first_id usual; marks = [] } }
     {
         Store {
             alloc,
@@ -67,10 +73,11 @@ impl Store {
             marks: FlagIndex::new(alloc),
             index: PacketIndex::new(alloc),
             next_id: first_id,
+            usual,
         }
     }
 
-    /// Appends packets, in their order.
+    /// Appends packets of a file, in their order.
     ///
     /// Errors, in this order: `Full` if there would be more than 1,048,576 packets, `Spent` if one
     /// of them would get the id 18,446,744,073,709,551,615, and `NoMemory`.
@@ -89,7 +96,13 @@ impl Store {
             self.index.truncate(len);
             return Err(EditFault::NoMemory);
         };
-        let Ok(()) = push_entries(&mut self.entries, self.next_id, packets) else {
+        let Ok(()) = push_entries(
+            self.alloc,
+            &mut self.entries,
+            self.next_id,
+            self.usual,
+            packets,
+        ) else {
             self.index.truncate(len);
             self.marks.truncate(len);
             return Err(EditFault::NoMemory);
@@ -98,7 +111,7 @@ impl Store {
         Ok(())
     }
 
-    /// Inserts a packet at index `at`, which is at most the number of packets. The packet has no
+    /// Inserts a packet at index `at`, which is at most the number of packets. The packet has the usual duration and no
     /// mark, and the packet after it is marked.
     ///
     /// Errors, in this order: `Place`, `Full` if there are 1,048,576 packets, `Spent` if no id is
@@ -106,6 +119,21 @@ impl Store {
     pub fn insert(&mut self, at: u64, stamp: u64, bytes: Bytes) -> Result<(), EditFault>
         ensures answers { IsFirstOrNoMemory (refused_insertion self.old.list at) result }
         ensures after { self.new.list ≡ (if is_ok result then inserted at stamp bytes self.old.list else self.old.list) }
+        ensures marks { self.new.marks ≡ (if is_ok result then marks_inserted at self.old.marks else self.old.marks) }
+    {
+        self.insert_for(at, stamp, self.usual, bytes)
+    }
+
+    /// Inserts a packet that is shown for a duration, as `insert` does.
+    fn insert_for(
+        &mut self,
+        at: u64,
+        stamp: u64,
+        duration: Duration,
+        bytes: Bytes,
+    ) -> Result<(), EditFault>
+        ensures answers { IsFirstOrNoMemory (refused_insertion self.old.list at) result }
+        ensures after { self.new.list ≡ (if is_ok result then inserted_for duration at stamp bytes self.old.list else self.old.list) }
         ensures marks { self.new.marks ≡ (if is_ok result then marks_inserted at self.old.marks else self.old.marks) }
     {
         self.may_insert(at)?;
@@ -120,6 +148,7 @@ impl Store {
         let entry = Entry {
             id: self.next_id,
             stamp,
+            duration,
             bytes,
         };
         let Ok(()) = self.entries.insert(place, entry) else {
@@ -133,7 +162,7 @@ impl Store {
     }
 
     /// Inserts a copy of packet `from` of another store at index `at`, which is at most the number
-    /// of packets. The copy has the packet's time stamp and bytes and a new id. It has no mark, and
+    /// of packets. The copy has the packet's time stamp, duration and bytes and a new id. It has no mark, and
     /// the packet after it is marked.
     ///
     /// Errors, in this order: `Place`, also if `source` has no packet `from`, `Full` if there are
@@ -147,7 +176,7 @@ impl Store {
         let Ok(copy) = source.copy_of(self.alloc, from as usize) else {
             return Err(EditFault::NoMemory);
         };
-        self.insert(at, copy.stamp, copy.bytes)
+        self.insert_for(at, copy.stamp, copy.duration, copy.bytes)
     }
 
     /// Inserts a copy of packet `from` of this store at index `at`, as `copy_from` does. `from` is
@@ -161,10 +190,10 @@ impl Store {
         let Ok(copy) = self.copy_of(self.alloc, from as usize) else {
             return Err(EditFault::NoMemory);
         };
-        self.insert(at, copy.stamp, copy.bytes)
+        self.insert_for(at, copy.stamp, copy.duration, copy.bytes)
     }
 
-    /// Replaces the bytes of the packet at index `at` and gives it a new id. Its time stamp stays.
+    /// Replaces the bytes of the packet at index `at` and gives it a new id. Its time stamp and its duration stay.
     /// The packet has no mark afterwards, and the packet after it is marked.
     ///
     /// Errors, in this order: `Place` if there is no packet at the index, and `Spent` if no id is
@@ -177,9 +206,11 @@ impl Store {
         self.may_replace(at)?;
         let place = at as usize;
         self.index.set(place, bytes.as_slice());
+        let old = self.entries.get(place);
         let entry = Entry {
             id: self.next_id,
-            stamp: self.entries.get(place).stamp,
+            stamp: old.stamp,
+            duration: old.duration,
             bytes,
         };
         self.entries.set(place, entry);
@@ -258,6 +289,7 @@ impl Store {
             Ok(bytes) => Ok(Entry {
                 id: entry.id,
                 stamp: entry.stamp,
+                duration: entry.duration,
                 bytes: Bytes::new(bytes),
             }),
             Err(ShowFault::NoBit) => Err(EditFault::NoBit),
@@ -305,13 +337,15 @@ impl Store {
     }
 
     /// A copy of the packet at index `i`, which exists.
-    fn copy_of(&self, alloc: Global, i: usize) -> Result<Packet, NoMemory>
+    fn copy_of(&self, alloc: Global, i: usize) -> Result<Entry, NoMemory>
         requires { i < length self.now.list.entries }
-        ensures { IfOk result (λ copy. option_map packet_of (slice_get self.now.list.entries i) ≡ Some copy) }
+        ensures { IfOk result (λ copy. slice_get self.now.list.entries i ≡ Some copy) }
     {
         let entry = self.entries.get(i);
-        Ok(Packet {
+        Ok(Entry {
+            id: entry.id,
             stamp: entry.stamp,
+            duration: entry.duration,
             bytes: entry.bytes.share(alloc)?,
         })
     }
@@ -372,6 +406,14 @@ impl Store {
         ensures { option_map (λ entry. entry.stamp) (slice_get self.now.list.entries i) ≡ Some result }
     {
         self.entries.get(i).stamp
+    }
+
+    /// How long the packet at index `i`, which exists, is shown.
+    pub fn duration(&self, i: usize) -> Duration
+        requires { i < length self.now.list.entries }
+        ensures { option_map (λ entry. entry.duration) (slice_get self.now.list.entries i) ≡ Some result }
+    {
+        self.entries.get(i).duration
     }
 
     /// The id of the packet at index `i`, which exists.
@@ -485,6 +527,24 @@ impl Store {
         ivf_start(w, head, self.len() as u32)?;
         write_padded_records(w, &self.entries)
     }
+
+    /// Writes the packets as an IVF file with new time stamps, in the units of its head: the first shown packet has time
+    /// stamp 0, and each other shown one that of the shown packet before it plus its duration, at most
+    /// 18,446,744,073,709,551,615. A hidden packet has the time stamp of the next shown one. With `pads` packets are padded
+    /// as in [`save_padded`](Store::save_padded). It allocates nothing.
+    ///
+    /// `Write` if the writer returns an error. How much was written is then not known.
+    pub fn save_restamped<W: Write>(
+        &self,
+        w: &mut W,
+        head: Head,
+        pads: bool,
+    ) -> Result<(), WriteFault>
+        ensures { OnOk result (Appends (W.contents w.old) (W.contents w.new) (written_text head (restamped pads head self.now.list.entries))) }
+    {
+        ivf_start(w, head, self.len() as u32)?;
+        write_restamped_records(w, &self.entries, head, pads)
+    }
 }
 
 /// Appends to a list of marks that these packets have none. If memory is refused, nothing changes.
@@ -505,19 +565,23 @@ fn push_marks(marks: &mut FlagIndex, packets: &Packets) -> Result<(), NoMemory>
 /// Appends these packets to a list, with ids starting at `first_id`. If memory is refused, nothing
 /// changes.
 fn push_entries(
+    alloc: Global,
     entries: &mut ChunkedList<Entry>,
     first_id: u64,
+    usual: Duration,
     packets: Packets,
 ) -> Result<(), NoMemory>
     requires { first_id + length packets < 2 ^ 64 }
-    ensures { entries.new ≡ (if is_ok result then entries.old ++ numbered first_id packets else entries.old) }
+    ensures { entries.new ≡ (if is_ok result then entries.old ++ numbered usual first_id packets else entries.old) }
 {
     let len = entries.len();
+    let durations = durations_of(alloc, usual, packets.as_slice())?;
     let mut id = first_id;
     for packet in packets.into_vec() {
         let entry = Entry {
             id,
             stamp: packet.stamp,
+            duration: durations[(id - first_id) as usize],
             bytes: packet.bytes,
         };
         let Ok(()) = entries.push(entry) else {

@@ -7,6 +7,8 @@ use Rattle.std.proofs.lemmas.Bool.{eqb-true}
 use Rattle.vp8_tables.specs.Tables.{TableEntries}
 use Rattle.frame_header.specs.Tags.{has_key_tag}
 use Rattle.stream_files.specs.declared.packets.Packet.{Packet}
+use Rattle.packet_times.specs.Durations.{duration_before}
+use Rattle.packet_times.specs.declared.durations.Duration.{Duration}
 use Rattle.packet_edits.specs.declared.entry.Entry.{Entry}
 use Rattle.packet_edits.specs.Edits.{moved, numbered, showing}
 use Rattle.packet_edits.specs.Marks.{StoreValue}
@@ -177,12 +179,12 @@ module _ (tables : TableEntries) where
   less_coherent : (left : Option ℕ) (ps : List MarkedPacket) (old new : View) → IsViewWithout left old new → IsCoherent tables ps old → IsCoherent tables ps new
   less_coherent left ps old new h f = weaker tables ps (known None) (known None) new old (below_same (known None)) (kept_without left old new h) f
 
-  insertion_coherent : (store : StoreValue) (kept : View) (at stamp : ℕ) (bytes : List ℕ) → IsMarked store → kept store.list.next_id ≡ None
-      → IsCoherent tables (marked_packets store) kept → IsCoherent tables (marked_packets (after_insertion at stamp bytes store)) kept
-  insertion_coherent store kept at stamp bytes marked none f =
+  insertion_coherent : (store : StoreValue) (kept : View) (duration : Duration) (at stamp : ℕ) (bytes : List ℕ) → IsMarked store → kept store.list.next_id ≡ None
+      → IsCoherent tables (marked_packets store) kept → IsCoherent tables (marked_packets (after_insertion duration at stamp bytes store)) kept
+  insertion_coherent store kept duration at stamp bytes marked none f =
       let es : List Entry = store.list.entries in
       let ms : List Bool = store.marks in
-      let e : Entry = record { id = store.list.next_id; stamp = stamp; bytes = bytes } in
+      let e : Entry = record { id = store.list.next_id; stamp = stamp; duration = duration; bytes = bytes } in
       let long : length (insert ms at false) ≡ length (insert es at e) = inserted_long ms es at false e marked in
       let is : marked_packets_of (insert es at e) (slice_set (insert ms at false) (at + 1) true) ≡ mark_set (suc at) true (insert (marked_packets_of es ms) at (marked_packet e false)) =
       seens_set (insert es at e) (insert ms at false) (at + 1) true long
@@ -192,23 +194,23 @@ module _ (tables : TableEntries) where
       (inserted_coherent (known None) (marked_packets_of es ms) at (marked_packet e false) kept (none_fits (marked_packet e false) kept none) f)
 
   -- appended packets, for which nothing is cached
-  pushed_new : (b : Before) (id : ℕ) (packets : List Packet) (kept : View) → ((n : ℕ) → id ≤ n → kept n ≡ None) → CoherentFrom tables b (marked_packets_of (numbered id packets) (map (λ packet. false) packets)) kept
-  pushed_new b id [] kept none = tt
-  pushed_new b id (packet ∷ packets) kept none =
-      let e : Entry = record { id = id; stamp = packet.stamp; bytes = packet.bytes } in
+  pushed_new : (b : Before) (usual : Duration) (id : ℕ) (packets : List Packet) (kept : View) → ((n : ℕ) → id ≤ n → kept n ≡ None) → CoherentFrom tables b (marked_packets_of (numbered usual id packets) (map (λ packet. false) packets)) kept
+  pushed_new b usual id [] kept none = tt
+  pushed_new b usual id (packet ∷ packets) kept none =
+      let e : Entry = record { id = id; stamp = packet.stamp; duration = duration_before usual packet packets; bytes = packet.bytes } in
       let here : kept id ≡ None = none id (omega arith) in
-      (none_fits (marked_packet e false) kept here b, pushed_new (leaving tables (entering b (marked_packet e false)) packet.bytes (kept id)) (id + 1) packets kept (λ n up. none n (omega (arith, up))))
+      (none_fits (marked_packet e false) kept here b, pushed_new (leaving tables (entering b (marked_packet e false)) packet.bytes (kept id)) usual (id + 1) packets kept (λ n up. none n (omega (arith, up))))
 
-  pushed_coherent : (b : Before) (es : List Entry) (ms : List Bool) (id : ℕ) (packets : List Packet) (kept : View) → length ms ≡ length es → ((n : ℕ) → id ≤ n → kept n ≡ None) → CoherentFrom tables b (marked_packets_of es ms) kept
-      → CoherentFrom tables b (marked_packets_of (es ++ numbered id packets) (ms ++ map (λ packet. false) packets)) kept
-  pushed_coherent b [] [] id packets kept marked none f = pushed_new b id packets kept none
-  pushed_coherent b [] (m ∷ ms) id packets kept marked none f = absurd (omega (arith, marked))
-  pushed_coherent b (e ∷ es) [] id packets kept marked none f = absurd (omega (arith, marked))
-  pushed_coherent b (e ∷ es) (m ∷ ms) id packets kept marked none f =
-      (f.0, pushed_coherent (leaving tables (entering b (marked_packet e m)) e.bytes (kept e.id)) es ms id packets kept (omega (arith, marked)) none f.1)
+  pushed_coherent : (b : Before) (es : List Entry) (ms : List Bool) (usual : Duration) (id : ℕ) (packets : List Packet) (kept : View) → length ms ≡ length es → ((n : ℕ) → id ≤ n → kept n ≡ None) → CoherentFrom tables b (marked_packets_of es ms) kept
+      → CoherentFrom tables b (marked_packets_of (es ++ numbered usual id packets) (ms ++ map (λ packet. false) packets)) kept
+  pushed_coherent b [] [] usual id packets kept marked none f = pushed_new b usual id packets kept none
+  pushed_coherent b [] (m ∷ ms) usual id packets kept marked none f = absurd (omega (arith, marked))
+  pushed_coherent b (e ∷ es) [] usual id packets kept marked none f = absurd (omega (arith, marked))
+  pushed_coherent b (e ∷ es) (m ∷ ms) usual id packets kept marked none f =
+      (f.0, pushed_coherent (leaving tables (entering b (marked_packet e m)) e.bytes (kept e.id)) es ms usual id packets kept (omega (arith, marked)) none f.1)
 
   push_coherent : (store : StoreValue) (kept : View) (packets : List Packet) → IsMarked store → ((id : ℕ) → store.list.next_id ≤ id → kept id ≡ None) → IsCoherent tables (marked_packets store) kept → IsCoherent tables (marked_packets (after_push packets store)) kept
-  push_coherent store kept packets marked none f = pushed_coherent (known None) store.list.entries store.marks store.list.next_id packets kept marked none f
+  push_coherent store kept packets marked none f = pushed_coherent (known None) store.list.entries store.marks store.list.usual store.list.next_id packets kept marked none f
 
   -- a replacement: there is no packet at the index, or there is one
   replacement_case : (es : List Entry) (ms : List Bool) (at id : ℕ) (bytes : List ℕ) (kept : View) (o : Option Entry) → length ms ≡ length es → slice_get es at ≡ o → kept id ≡ None → CoherentFrom tables (known None) (marked_packets_of es ms) kept

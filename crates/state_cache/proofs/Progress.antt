@@ -3,8 +3,9 @@ use Rattle.std.proofs.Common.{◌≡◌, ℕ, Bool, zero, suc, ◌<◌, ◌≤�
 use Rattle.std.specs.List.{insert, remove}
 use Rattle.std.specs.Option.{option_map_or}
 use Rattle.stream_files.specs.declared.packets.Packet.{Packet}
+use Rattle.packet_times.specs.declared.durations.Duration.{Duration}
 use Rattle.packet_edits.specs.declared.entry.Entry.{Entry}
-use Rattle.packet_edits.specs.Edits.{Listing, deleted, inserted, numbered, pushed, replaced, showing, with_move, with_show_bit_at}
+use Rattle.packet_edits.specs.Edits.{Listing, deleted, inserted_for, numbered, pushed, replaced, showing, with_move, with_show_bit_at}
 use Rattle.packet_edits.specs.Laws.{HasOwnIds, HaveOwnIds}
 use Rattle.state_cache.specs.declared.outcomes.Kept.{Kept}
 use Rattle.state_cache.specs.EditLaws.{EditsKeepIds, IsViewWithout, LaterIdsAreNotCached, NextIdIsNotCached, AreOfPackets, id_at}
@@ -93,11 +94,11 @@ among_pushed (x ∷ es) more id (inr a) = inr (among_pushed es more id a)
 push_ids : (list : Listing) (kept : View) (packets : List Packet) → AreOfPackets list kept → AreOfPackets (pushed packets list) kept
 push_ids list kept packets s id some =
     let there = s id some in
-    at_among (list.entries ++ numbered list.next_id packets) id (among_pushed list.entries (numbered list.next_id packets) id (among_at list.entries there.0 id there.1))
+    at_among (list.entries ++ numbered list.usual list.next_id packets) id (among_pushed list.entries (numbered list.usual list.next_id packets) id (among_at list.entries there.0 id there.1))
 
-insertion_ids : (list : Listing) (kept : View) (at stamp : ℕ) (bytes : List ℕ) → AreOfPackets list kept → AreOfPackets (inserted at stamp bytes list) kept
-insertion_ids list kept at stamp bytes s id some =
-    let e : Entry = record { id = list.next_id; stamp = stamp; bytes = bytes } in
+insertion_ids : (list : Listing) (kept : View) (duration : Duration) (at stamp : ℕ) (bytes : List ℕ) → AreOfPackets list kept → AreOfPackets (inserted_for duration at stamp bytes list) kept
+insertion_ids list kept duration at stamp bytes s id some =
+    let e : Entry = record { id = list.next_id; stamp = stamp; duration = duration; bytes = bytes } in
     let there = s id some in
     at_among (insert list.entries at e) id (among_inserted list.entries at e id (among_at list.entries there.0 id there.1))
 

@@ -2,8 +2,9 @@
 use Rattle.std.specs.Prelude.{◌≡◌, ℕ, ◌≤◌, Bool, List, length, slice_get, Option, Some, None, option_map, IsSome}
 use Rattle.vp8_tables.specs.Tables.{TableEntries}
 use Rattle.stream_files.specs.declared.packets.Packet.{Packet}
+use Rattle.packet_times.specs.declared.durations.Duration.{Duration}
 use Rattle.packet_edits.specs.declared.entry.Entry.{Entry}
-use Rattle.packet_edits.specs.Edits.{Listing, deleted, inserted, pushed, replaced, with_move, with_show_bit_at}
+use Rattle.packet_edits.specs.Edits.{Listing, deleted, inserted_for, pushed, replaced, with_move, with_show_bit_at}
 use Rattle.packet_edits.specs.Laws.{HasOwnIds}
 use Rattle.packet_edits.specs.Marks.{StoreValue, marks_deleted, marks_inserted, marks_moved, marks_pushed, marks_replaced}
 use Rattle.state_cache.specs.Costs.{IsIdOf}
@@ -13,8 +14,8 @@ use Rattle.state_cache.specs.Views.{Drops, IsCoherent, MarkedPacket, View, marke
 abbrev pub after_push : List Packet → StoreValue → StoreValue
 after_push packets store = record { list = pushed packets store.list; marks = marks_pushed packets store.marks }
 
-abbrev pub after_insertion : ℕ → ℕ → List ℕ → StoreValue → StoreValue
-after_insertion at stamp bytes store = record { list = inserted at stamp bytes store.list; marks = marks_inserted at store.marks }
+abbrev pub after_insertion : Duration → ℕ → ℕ → List ℕ → StoreValue → StoreValue
+after_insertion duration at stamp bytes store = record { list = inserted_for duration at stamp bytes store.list; marks = marks_inserted at store.marks }
 
 abbrev pub after_replacement : ℕ → List ℕ → StoreValue → StoreValue
 after_replacement at bytes store = record { list = replaced at bytes store.list; marks = marks_replaced at store.marks }
@@ -56,8 +57,8 @@ IsViewWithout None old new = (q : ℕ) → new q ≡ old q
 pub record EditsKeepCoherence (tables : TableEntries) : Type 0 where
   pub pushes : (store : StoreValue) (kept : View) (packets : List Packet) → IsMarked store → ((id : ℕ) → store.list.next_id ≤ id → kept id ≡ None)
       → IsCoherent tables (marked_packets store) kept → IsCoherent tables (marked_packets (after_push packets store)) kept
-  pub insertions : (store : StoreValue) (kept : View) (at stamp : ℕ) (bytes : List ℕ) → IsMarked store → kept store.list.next_id ≡ None
-      → IsCoherent tables (marked_packets store) kept → IsCoherent tables (marked_packets (after_insertion at stamp bytes store)) kept
+  pub insertions : (store : StoreValue) (kept : View) (duration : Duration) (at stamp : ℕ) (bytes : List ℕ) → IsMarked store → kept store.list.next_id ≡ None
+      → IsCoherent tables (marked_packets store) kept → IsCoherent tables (marked_packets (after_insertion duration at stamp bytes store)) kept
   pub replacements : (store : StoreValue) (old new : View) (at : ℕ) (bytes : List ℕ) → IsMarked store → old store.list.next_id ≡ None → IsViewWithout (id_at store.list.entries at) old new
       → IsCoherent tables (marked_packets store) old → IsCoherent tables (marked_packets (after_replacement at bytes store)) new
   pub deletions : (store : StoreValue) (old new : View) (at : ℕ) → IsMarked store → IsViewWithout (id_at store.list.entries at) old new
@@ -74,7 +75,7 @@ DropsKeepCoherence tables = (packets : List MarkedPacket) (old new : View) → I
 -- after each edit each id with a cached outcome is still the id of a packet of the list
 pub record EditsKeepIds : Type 0 where
   pub pushes : (list : Listing) (kept : View) (packets : List Packet) → AreOfPackets list kept → AreOfPackets (pushed packets list) kept
-  pub insertions : (list : Listing) (kept : View) (at stamp : ℕ) (bytes : List ℕ) → AreOfPackets list kept → AreOfPackets (inserted at stamp bytes list) kept
+  pub insertions : (list : Listing) (kept : View) (duration : Duration) (at stamp : ℕ) (bytes : List ℕ) → AreOfPackets list kept → AreOfPackets (inserted_for duration at stamp bytes list) kept
   pub replacements : (list : Listing) (old new : View) (at : ℕ) (bytes : List ℕ) → IsViewWithout (id_at list.entries at) old new → AreOfPackets list old → AreOfPackets (replaced at bytes list) new
   pub deletions : (list : Listing) (old new : View) (at : ℕ) → IsViewWithout (id_at list.entries at) old new → AreOfPackets list old → AreOfPackets (deleted at list) new
   pub moves : (list : Listing) (kept : View) (from to : ℕ) → AreOfPackets list kept → AreOfPackets (with_move from to list) kept

@@ -2,6 +2,7 @@
 use lossless_cuts::{CutFault, Target, export_packets};
 use packet_edits::{EditFault, Store};
 use packet_forge::hold;
+use packet_times::Duration;
 use std::alloc::{AllocError, Global};
 use std::process::Abort;
 use std::test::Fail;
@@ -58,7 +59,12 @@ fn packets_of(alloc: Global, rows: &[&[u8]]) -> Result<Packets, AllocError> {
 
 fn stored(alloc: Global, rows: &[&[u8]]) -> Result<Store, EditFault> {
     let packets = packets_of(alloc, rows).map_err(|_| EditFault::NoMemory)?;
-    let mut store = Store::starting(alloc, 0);
+    let usual = Duration {
+        units: 1,
+        rate: 30,
+        scale: 1,
+    };
+    let mut store = Store::starting(alloc, 0, usual);
     store.push_all(packets)?;
     Ok(store)
 }

@@ -1,10 +1,11 @@
 use packet_edits::{EditFault, Store};
+use packet_times::usual_duration;
 use pixel_planes::NoMemory;
 use std::alloc::Global;
 use std::io::{self, ErrorKind, Write};
 use std::process::Abort;
 use std::test::Fail;
-use stream_files::{Bytes, Head, Packet, Packets, WriteFault};
+use stream_files::{Bytes, Head, Packet, Packets, WriteFault, ivf_read};
 
 /// The greatest `u64`, which is never the id of a packet.
 const LAST: u64 = 18_446_744_073_709_551_615;
@@ -152,12 +153,23 @@ fn bytes_of(alloc: Global, bytes: &[u8]) -> Result<Bytes, EditFault> {
     Bytes::from_slice(alloc, bytes).map_err(|_| EditFault::NoMemory)
 }
 
-/// A store with these packets, whose first has the id `first_id`.
-fn stored(alloc: Global, first_id: u64, rows: &[(u64, &[u8])]) -> Result<Store, EditFault> {
+/// A store with these packets of a file of this head, whose first has the id `first_id`.
+fn stored_of(
+    alloc: Global,
+    first_id: u64,
+    head: Head,
+    rows: &[(u64, &[u8])],
+) -> Result<Store, EditFault> {
     let packets = packets_of(alloc, rows).map_err(|_| EditFault::NoMemory)?;
-    let mut store = Store::starting(alloc, first_id);
+    let usual = usual_duration(alloc, head, packets.as_slice()).map_err(|_| EditFault::NoMemory)?;
+    let mut store = Store::starting(alloc, first_id, usual);
     store.push_all(packets)?;
     Ok(store)
+}
+
+/// A store with these packets of a file of 30 frames a second.
+fn stored(alloc: Global, first_id: u64, rows: &[(u64, &[u8])]) -> Result<Store, EditFault> {
+    stored_of(alloc, first_id, HEAD, rows)
 }
 
 /// Makes edits in sequence, and checks the answer of each and what it leaves.
@@ -214,6 +226,8 @@ enum Check {
     Saved(&'static [u8]),
     /// And of the file that is saved padded.
     Padded(&'static [u8]),
+    /// And the time stamps of the file that is saved with new ones, padded or not.
+    Restamped(bool, &'static [u64]),
 }
 
 /// A list of packets, the first of which has the id `first_id`, and its checks in sequence. Copies of
@@ -227,7 +241,7 @@ struct Case {
 
 /// Makes the checks of a case. A test that only calls this is proved in a second or two.
 fn expect_case<R: Abort>(rt: &R, alloc: Global, case: &Case) -> Result<(), Fail> {
-    let other = stored(alloc, 0, case.other)?;
+    let other = stored_of(alloc, 0, SLOW, case.other)?;
     expect_over(rt, alloc, &other, case)?;
     Ok(())
 }
@@ -270,6 +284,7 @@ fn expect_check<R: Abort>(rt: &R, alloc: Global, store: &mut Store, other: &Stor
         Check::Sizes(sizes) => expect_sizes(rt, store, sizes),
         Check::Saved(bytes) => expect_saved(rt, alloc, store, bytes),
         Check::Padded(bytes) => expect_padded(rt, alloc, store, bytes),
+        Check::Restamped(pads, stamps) => expect_restamped(rt, alloc, store, *pads, stamps),
     }
 }
 
@@ -991,6 +1006,87 @@ fn expect_padded<R: Abort>(rt: &R, alloc: Global, store: &Store, bytes: &[u8]) {
     assert!(rt; saved.as_slice() == bytes);
     assert!(rt; store.save_padded(&mut Broken {}, HEAD) == Err(WriteFault::Write));
 }
+
+/// A file of 20 frames a second.
+const SLOW: Head = Head {
+    width: 16,
+    height: 9,
+    rate: 20,
+    scale: 1,
+};
+
+/// Saves the packets with new time stamps, and saves them so into a writer that returns only errors.
+fn expect_restamped<R: Abort>(rt: &R, alloc: Global, store: &Store, pads: bool, stamps: &[u64]) {
+    let mut saved = Vec::new(alloc);
+    assert!(rt; store.save_restamped(&mut saved, HEAD, pads) == Ok(()));
+    match ivf_read(alloc, saved.as_slice()) {
+        Ok(file) => expect_stamps(rt, store, file.packets.as_slice(), pads, stamps),
+        Err(_) => assert!(rt; false, "the file is not read"),
+    }
+    assert!(rt; store.save_restamped(&mut Broken {}, HEAD, pads) == Err(WriteFault::Write));
+}
+
+/// Checks the packets of a store, each with an empty last partition, with other time stamps.
+fn expect_stamps<R: Abort>(rt: &R, store: &Store, packets: &[Packet], pads: bool, stamps: &[u64]) {
+    assert_eq!(rt; packets.len(), stamps.len());
+    for (i, packet) in packets.iter().enumerate() {
+        assert_eq!(rt; packet.stamp, stamps[i], "packet {i}");
+        assert!(rt;
+            packet.bytes.as_slice().starts_with(store.packet(i)),
+            "packet {i}"
+        );
+        assert_eq!(rt;
+            packet.bytes.as_slice().len(),
+            store.packet(i).len() + usize::from(pads)
+        );
+    }
+}
+
+// Steps of 3 units, one of 5 over a hidden packet, and 3 for the last packet, which has the median. After the edits: a
+// packet of another file (4 units of 1/20 second are 6 of 1/30), one of no file (the median), a packet moved to the
+// front with its 5 units, and a hidden packet at the end.
+#[test]
+fn time_stamps_by_durations(rt: HostRuntime) -> Result<(), Fail> {
+    expect_case(&rt, rt.alloc(), &RESTAMPED)
+}
+
+const RESTAMPED: Case = Case {
+    first_id: 0,
+    other: &[(100, SHOWN), (104, SHOWN)],
+    packets: &[
+        (10, SHOWN),
+        (13, SHOWN),
+        (16, SHOWN),
+        (20, HIDDEN),
+        (21, SHOWN),
+    ],
+    checks: &[
+        Check::Restamped(false, &[0, 3, 6, 11, 11]),
+        Check::Steps(&[Step {
+            edit: Edit::Copy(1, 0),
+            answer: Ok(()),
+            rows: &[
+                (0, 10, SHOWN),
+                (5, 100, SHOWN),
+                (1, 13, SHOWN),
+                (2, 16, SHOWN),
+                (3, 20, HIDDEN),
+                (4, 21, SHOWN),
+            ],
+            shown: &[0, 1, 2, 3, 5],
+            marked: &[2],
+        }]),
+        Check::Restamped(false, &[0, 3, 9, 12, 17, 17]),
+        Check::Marks(&[
+            (Edit::Insert(0, 7, SHOWN), &[1, 3]),
+            (Edit::Move(4, 0), &[0, 1, 2, 4, 5]),
+            (Edit::Replace(1, SHOWN), &[0, 2, 4, 5]),
+            (Edit::Move(5, 6), &[0, 2, 4, 5, 6]),
+        ]),
+        Check::Restamped(false, &[0, 5, 8, 11, 17, 20, 23]),
+        Check::Restamped(true, &[0, 5, 8, 11, 17, 20, 23]),
+    ],
+};
 
 /// Packets whose last token partition is empty: a key frame, another frame, and a key frame with two
 /// partitions, whose first has one byte. Then packets that are saved as they are: with a byte in the last

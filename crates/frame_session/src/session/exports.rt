@@ -1,17 +1,23 @@
 // The frames of a session as packets.
-ghost use Rattle.std.specs.Prelude.{◌≡◌, true, [], None, IfOk, length};
+ghost use Rattle.std.specs.Prelude.{◌≡◌, true, [], None, IfOk, length, map, slice_get};
 ghost use Rattle.std.specs.List.{list_all};
 ghost use Rattle.lossless_cuts.specs.Laws.{ExportsShowTheirFrames};
 ghost use Rattle.lossless_cuts.specs.Plans.{exported};
-ghost use Rattle.frame_session.specs.Exported.{HasTarget, HaveTargets, IsExport, keeps_samples, streams_in};
+ghost use Rattle.frame_session.specs.Exported.{HasTarget, HaveTargets, IsExportFile, export_head, keeps_samples, streams_in, units_at};
 ghost use Rattle.frame_session.specs.Sessions.{frame_count};
+ghost use Rattle.packet_times.specs.Durations.{units_in};
+ghost use Rattle.packet_times.specs.Stamps.{stamped};
+ghost use Rattle.std.specs.Option.{option_map_or};
 
 use super::Session;
 use crate::refusal::Refusal;
 use lossless_cuts::laws::exports_show_their_frames;
 use lossless_cuts::{CutFault, Target, export_packets, prove_bytes};
+use packet_edits::Store;
+use packet_times::stamped;
+use pixel_planes::NoMemory;
 use script_nodes::{Step, Trace};
-use stream_files::{Bytes, MAX_PACKETS};
+use stream_files::{Bytes, Head, MAX_PACKETS, Packets};
 use thiserror::Error;
 
 /// Why the frames of a session are not exported.
@@ -26,6 +32,14 @@ pub enum ExportFault {
     /// There would be too many packets, or no memory for them.
     #[error("{0}")]
     Packets(CutFault),
+}
+
+/// The frames of a session as a file: its packets with their time stamps, and its head, which has the rate and scale of
+/// source 0 and the size of the first frame, 0x0 if there is none.
+#[derive(Debug, Drop)]
+pub struct Export {
+    pub head: Head,
+    pub packets: Packets,
 }
 
 /// The packet of a frame, and whether the script changes no sample of it.
@@ -58,6 +72,17 @@ fn keeps_all(trace: &Trace, width: u16, height: u16) -> bool
         .steps()
         .iter()
         .all(|step| keeps_samples(step, width, height))
+}
+
+/// How long the packet at an index is shown, in the units of a head; 0 if there is no such packet.
+fn units_of_packet(list: &Store, place: usize, head: Head) -> u64
+    ensures { result ≡ option_map_or (λ entry. units_in head entry.duration) (slice_get list.now.list.entries place) 0 }
+{
+    if place < list.len() {
+        list.duration(place).units_in(head)
+    } else {
+        0
+    }
 }
 
 impl Session {
@@ -146,6 +171,57 @@ impl Session {
         }
     }
 
+    /// How long the packet of a frame is shown, in the units of the head of source 0.
+    fn units_at(&self, target: Target) -> u64
+        ensures { result ≡ units_at self.now.now target }
+    {
+        if target.source < self.stores.len() {
+            units_of_packet(&self.stores[target.source], target.place, self.head)
+        } else {
+            0
+        }
+    }
+
+    /// How long the packets of frames are shown.
+    fn units_of(&self, targets: &[Target]) -> Result<Vec<u64>, NoMemory>
+        ensures { IfOk result (λ units. units.items ≡ map (units_at self.now.now) targets.now) }
+    {
+        let mut units = Vec::with_capacity(self.alloc, targets.len())?;
+        for target in targets {
+            units.push(self.units_at(*target))?;
+        }
+        Ok(units)
+    }
+
+    /// The head of an export of these frames.
+    fn export_head(&self, targets: &[Target]) -> Head
+        ensures { result ≡ export_head self.now.now.head targets.now }
+    {
+        let (width, height) = match targets.first() {
+            Some(target) => (target.width, target.height),
+            None => (0, 0),
+        };
+        Head {
+            width,
+            height,
+            rate: self.head.rate,
+            scale: self.head.scale,
+        }
+    }
+
+    /// The packets with the time stamps of these frames.
+    fn stamp_packets(&self, targets: &[Target], packets: Vec<Bytes>) -> Result<Packets, ExportFault>
+        ensures { IfOk result (λ file. file ≡ stamped 0 (map (units_at self.now.now) targets.now) packets.items) }
+    {
+        let Ok(units) = self.units_of(targets) else {
+            return Err(ExportFault::Packets(CutFault::NoMemory));
+        };
+        match stamped(self.alloc, packets, &units) {
+            Ok(file) => Ok(file),
+            Err(_) => Err(ExportFault::Packets(CutFault::NoMemory)),
+        }
+    }
+
     /// Does nothing. Its contract: packets of frames show these frames, with the tables of the session.
     fn prove_exports(&self)
         ensures { ExportsShowTheirFrames self.now.now.tables }
@@ -162,12 +238,14 @@ impl Session {
 
     /// Packets that show the frames of the current script over the current packets, without coding: copies of
     /// packets of the sources, in which nothing but the show bit changes, and hold packets. Decoding them refuses
-    /// none, and their shown frames are exactly the frames of the session, whatever size was served before.
+    /// none, and their shown frames are exactly the frames of the session, whatever size was served before. The first
+    /// frame has time stamp 0, and each other one that of the frame before it plus the duration of that frame's packet. A
+    /// hidden packet has the time stamp of the next frame.
     ///
     /// `Frame` for the first frame that is refused, `Changed` for the first one of which the script changes
     /// samples, and `Packets` if there would be more than 1,048,576 packets, or no memory for them.
-    pub fn export(&mut self) -> Result<Vec<Bytes>, ExportFault>
-        ensures packets { IfOk result (λ packets. IsExport self.old.now packets.items) }
+    pub fn export(&mut self) -> Result<Export, ExportFault>
+        ensures file { IfOk result (IsExportFile self.old.now) }
         ensures after { self.new.now ≡ record self.old.now { decoded = self.new.now.decoded } }
     {
         self.prove_exports();
@@ -176,6 +254,9 @@ impl Session {
             return Err(ExportFault::Packets(CutFault::Full));
         }
         let targets = self.export_targets(count)?;
-        self.export_packed(&targets)
+        let bytes = self.export_packed(&targets)?;
+        let packets = self.stamp_packets(&targets, bytes)?;
+        let head = self.export_head(&targets);
+        Ok(Export { head, packets })
     }
 }

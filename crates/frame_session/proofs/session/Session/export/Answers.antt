@@ -1,16 +1,30 @@
-use Rattle.std.proofs.Common.{◌≡◌, List, None, refl, ap, ◌∙◌}
-use Rattle.std.proofs.lemmas.Result.{IfOk-weaker}
+use Rattle.std.proofs.Common.{◌≡◌, ℕ, List, None, map, refl, ap, ◌∙◌}
 use Rattle.lossless_cuts.specs.declared.targets.Target.{Target}
 use Rattle.lossless_cuts.specs.Plans.{exported}
-use Rattle.frame_session.specs.Exported.{streams_in}
+use Rattle.stream_files.specs.declared.ivf.Head.{Head}
+use Rattle.packet_times.specs.Stamps.{stamped}
+use Rattle.frame_session.specs.Exported.{IsExport, export_head, streams_in, units_at}
 use Rattle.frame_session.specs.Sessions.{Now}
 use Rattle.frame_session.proofs.ExportedFrames.{export_is}
 use Rattle.frame_session.proofs.session.Session.export.Goals as goal
 
-pub returns-clause-packets : goal.returns-clause-packets
-returns-clause-packets c =
+pub returns-clause-file : goal.returns-clause-file
+returns-clause-file c =
     let old : Now = c.args.self.now.now in
     let new : Now = c.export_targets.new.self.now in
-    IfOk-weaker c.export_packed.result _ _ (λ packets is.
-    export_is c.args.self.now.now.tables old new c.in_ok-targets.targets.items packets.items c.prove_exports.ensures refl c.in_ok-targets.ensures.after c.in_ok-targets.ensures.targets (c.in_ok-targets.ensures.count ∙ c.frames-count.ensures)
-    (is ∙ ap (λ (targets : List Target). exported c.export_targets.new.self.now.tables (streams_in c.export_targets.new.self.now) None targets) c.deref.ensures.value)) c.export_packed.ensures
+    let targets : List Target = c.in_ok-targets.targets.items in
+    let bytes : List (List ℕ) = c.in_ok-bytes.bytes.items in
+    let made : bytes ≡ exported new.tables (streams_in new) None targets = c.in_ok-bytes.ensures ∙ ap (λ (ts : List Target). exported new.tables (streams_in new) None ts) c.deref.ensures.value in
+    record {
+      packets = bytes;
+      shows = export_is old.tables old new targets bytes c.prove_exports.ensures refl c.in_ok-targets.ensures.after c.in_ok-targets.ensures.targets (c.in_ok-targets.ensures.count ∙ c.frames-count.ensures) made;
+      targets = targets;
+      frames = c.in_ok-targets.ensures.targets;
+      all = c.in_ok-targets.ensures.count ∙ c.frames-count.ensures;
+      stamps =
+          c.in_ok-packets.ensures ∙ ap (λ (ts : List Target). stamped 0 (map (units_at new) ts) bytes) c.deref-2.ensures.value
+          ∙ ap (λ (now : Now). stamped 0 (map (units_at now) targets) bytes) c.in_ok-targets.ensures.after;
+      head =
+          c.export_head-head.ensures ∙ ap (λ (ts : List Target). export_head new.head ts) c.deref-3.ensures.value
+          ∙ ap (λ (now : Now). export_head now.head targets) c.in_ok-targets.ensures.after;
+    }

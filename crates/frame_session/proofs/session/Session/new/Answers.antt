@@ -1,12 +1,11 @@
 use Rattle.std.proofs.Common.{ℕ, List, [], None, map, ap, ◌∙◌}
-use Rattle.packet_edits.specs.Edits.{Listing, starting_with}
+use Rattle.packet_edits.specs.Edits.{Listing}
 use Rattle.packet_edits.specs.Marks.{StoreValue}
 use Rattle.stream_files.specs.declared.ivf.Head.{Head}
-use Rattle.stream_files.specs.declared.ivf.Ivf.{Ivf}
 use Rattle.state_cache.specs.Reaching.{CacheValue}
 use Rattle.script_nodes.specs.declared.nodes.Node.{Node}
 use Rattle.frame_session.specs.Cached.{SessionValue, lists_of, store_of_file}
-use Rattle.frame_session.specs.Sessions.{head_of_first, spare_of}
+use Rattle.frame_session.specs.Sessions.{head_of_first, list_of_file, spare_of}
 use Rattle.frame_session.proofs.Sound.{begun_session}
 use Rattle.frame_session.proofs.Stores.{begun_lists}
 use Rattle.frame_session.proofs.session.Session.new.Goals as goal
@@ -23,7 +22,7 @@ returns c =
     } in
     ap (λ (stores : List StoreValue). made stores (lists_of stores) c.head_of_first-head.result c.spare_of-spare.result c.empty.result c.in-Ok.cache) c.in_ok-stores.ensures
     ∙ ap (λ (lists : List Listing). made (map store_of_file c.args.files.items) lists c.head_of_first-head.result c.spare_of-spare.result c.empty.result c.in-Ok.cache) (begun_lists c.args.files.items)
-    ∙ ap (λ (head : Head). made (map store_of_file c.args.files.items) (map (λ (file : Ivf). starting_with file.packets) c.args.files.items) head c.spare_of-spare.result c.empty.result c.in-Ok.cache) (c.head_of_first-head.ensures ∙ ap head_of_first c.deref.ensures.value)
-    ∙ ap (λ (spare : ℕ). made (map store_of_file c.args.files.items) (map (λ (file : Ivf). starting_with file.packets) c.args.files.items) (head_of_first c.args.files.items) spare c.empty.result c.in-Ok.cache) (c.spare_of-spare.ensures ∙ ap spare_of c.deref-2.ensures.value)
-    ∙ ap (λ (script : List Node). made (map store_of_file c.args.files.items) (map (λ (file : Ivf). starting_with file.packets) c.args.files.items) (head_of_first c.args.files.items) (spare_of c.args.files.items) script c.in-Ok.cache) c.empty.ensures
-    ∙ ap (λ (cache : CacheValue). made (map store_of_file c.args.files.items) (map (λ (file : Ivf). starting_with file.packets) c.args.files.items) (head_of_first c.args.files.items) (spare_of c.args.files.items) [] cache) c.in-Ok.ensures
+    ∙ ap (λ (head : Head). made (map store_of_file c.args.files.items) (map list_of_file c.args.files.items) head c.spare_of-spare.result c.empty.result c.in-Ok.cache) (c.head_of_first-head.ensures ∙ ap head_of_first c.deref.ensures.value)
+    ∙ ap (λ (spare : ℕ). made (map store_of_file c.args.files.items) (map list_of_file c.args.files.items) (head_of_first c.args.files.items) spare c.empty.result c.in-Ok.cache) (c.spare_of-spare.ensures ∙ ap spare_of c.deref-2.ensures.value)
+    ∙ ap (λ (script : List Node). made (map store_of_file c.args.files.items) (map list_of_file c.args.files.items) (head_of_first c.args.files.items) (spare_of c.args.files.items) script c.in-Ok.cache) c.empty.ensures
+    ∙ ap (λ (cache : CacheValue). made (map store_of_file c.args.files.items) (map list_of_file c.args.files.items) (head_of_first c.args.files.items) (spare_of c.args.files.items) [] cache) c.in-Ok.ensures

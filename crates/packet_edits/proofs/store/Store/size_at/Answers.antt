@@ -12,7 +12,7 @@ use Rattle.packet_edits.proofs.store.Store.size_at.Goals as goal
 
 pub returns-in_err-place : goal.returns-in_err-place
 returns-in_err-place c =
-    let list : Listing = record { entries = c.self.inside.entries; next_id = c.self.inside.next_id } in
+    let list : Listing = record { entries = c.self.inside.entries; next_id = c.self.inside.next_id; usual = c.self.inside.usual } in
     let is : c.min-end.result ≡ min c.args.at (length c.self.inside.entries) = search (rules, arith) in
     let found : IsLast (key_tag_at (stream_of list)) 0 c.min-end.result c.last_key.result = subst (λ (s : StoreValue). IsLast (key_tag_at (stream_of s.list)) 0 c.min-end.result c.last_key.result) (sym c.self.view_is) c.last_key.ensures in
     let none : c.last_key.result ≡ None = search rules in
@@ -21,7 +21,7 @@ returns-in_err-place c =
 
 pub returns : goal.returns
 returns c =
-    let list : Listing = record { entries = c.self.inside.entries; next_id = c.self.inside.next_id } in
+    let list : Listing = record { entries = c.self.inside.entries; next_id = c.self.inside.next_id; usual = c.self.inside.usual } in
     let is : c.min-end.result ≡ min c.args.at (length c.self.inside.entries) = search (rules, arith) in
     let found : IsLast (key_tag_at (stream_of list)) 0 c.min-end.result c.last_key.result = subst (λ (s : StoreValue). IsLast (key_tag_at (stream_of s.list)) 0 c.min-end.result c.last_key.result) (sym c.self.view_is) c.last_key.ensures in
     let some : c.last_key.result ≡ Some c.in_ok-place.place = search rules in

@@ -5,7 +5,7 @@ use Rattle.packet_edits.specs.Marks.{marked_at}
 use Rattle.packet_edits.proofs.Indexed.{index_back}
 use Rattle.packet_edits.proofs.Mapped.{remove_inserted}
 use Rattle.packet_edits.proofs.Whole.{whole_insert, whole_same}
-use Rattle.packet_edits.proofs.store.Store.insert.Goals as goal
+use Rattle.packet_edits.proofs.store.Store.insert_for.Goals as goal
 
 pub returns-in_default-insert-clause-marks : goal.returns-in_default-insert-clause-marks
 returns-in_default-insert-clause-marks c =
@@ -39,5 +39,5 @@ invariant_of-self-2 c =
     let es = c.self.inside.entries in
     let within : c.args.at ≤ length es = search (rules, arith) in
     let few : length es < 1048576 = search (rules, arith) in
-    whole_insert es c.insert-3.new.self c.self.inside.next_id c.self.inside.marks c.mark.new.marks c.self.inside.index c.insert-2.new.self c.self.invariant c.args.at c.args.stamp c.args.bytes within few
+    whole_insert es c.insert-3.new.self c.self.inside.next_id c.self.inside.marks c.mark.new.marks c.self.inside.index c.insert-2.new.self c.self.invariant c.args.at c.args.stamp c.args.duration c.args.bytes within few
     c.in-Ok-insert-2.ensures (c.mark.ensures ∙ ap (marked_at (c.args.at + 1)) c.in-Ok.ensures) (c.in-Ok-insert.ensures ∙ ap (λ bytes. inserted_to c.args.at bytes c.self.inside.index) c.as_slice.ensures)
