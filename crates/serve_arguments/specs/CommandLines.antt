@@ -130,11 +130,16 @@ capacity_asked words = capacity_given words.cache (option_map (λ size. size.now
 abbrev pub pads_nothing : Words → Bool
 pads_nothing words = words.pads && is_none words.saved
 
+-- packets are to get new time stamps, but not saved
+abbrev pub restamps_nothing : Words → Bool
+restamps_nothing words = words.restamps && is_none words.saved
+
 -- the command line is accepted, with this capacity and these paths of sources
 pub record IsAccepted (given : Words) (line : Accepted) : Type 0 where
   pub words : line.words ≡ given
   pub capacity : capacity_asked given ≡ Some line.capacity
   pub pads : pads_nothing given ≡ false
+  pub restamps : restamps_nothing given ≡ false
   pub more : names_of line.more.items ≡ more_paths given
   pub paths : ArePaths (more_paths given)
   pub apart : AreApart given (read_files given (more_paths given))
@@ -145,7 +150,7 @@ source_names line = line.words.stream.now ∷ names_of line.more.items
 
 -- why the command line is not accepted
 abbrev pub IsMistake : Words → Fault → Type 0
-IsMistake words faults.CommandLine = (capacity_asked words ≡ None) ⊎ (pads_nothing words ≡ true) ⊎ AreNoPaths (more_paths words)
+IsMistake words faults.CommandLine = (capacity_asked words ≡ None) ⊎ (pads_nothing words ≡ true) ⊎ (restamps_nothing words ≡ true) ⊎ AreNoPaths (more_paths words)
 IsMistake words (faults.NamedTwice same) = IsNamedTwice words (read_files words (more_paths words)) same
 IsMistake words faults.NoMemory = Unit {0}
 IsMistake words _ = ⊥

@@ -118,6 +118,11 @@ fn with_files<'a>(alloc: Global, command: Command<'a>) -> Result<Command<'a>, Al
             alloc,
             "pad",
             "With --save: a byte 00 after packets that other players do not show",
+        ))?
+        .arg(flag(
+            alloc,
+            "restamp",
+            "With --save: new time stamps, without the gaps and jumps of edits",
         ))
 }
 
@@ -146,6 +151,7 @@ fn words_of<'a>(matches: &ArgMatches<'a>) -> Words<'a> {
         tables: matches.get_str("tables"),
         saved: matches.get_str("save"),
         pads: matches.get_flag("pad"),
+        restamps: matches.get_flag("restamp"),
         is_live: matches.get_flag("live"),
     }
 }

@@ -2,7 +2,7 @@
 ghost use Rattle.std.specs.Prelude.{◌≡◌, ◌≤◌, ◌==◌, IfErr, IfOk, IfSome, OnOk, length, option_map};
 ghost use Rattle.std.specs.List.{slice_split};
 ghost use Rattle.serve_arguments.specs.Capacities.{IsGiven, bytes_given, states_given};
-ghost use Rattle.serve_arguments.specs.CommandLines.{AreNoPaths, ArePaths, IsAccepted, IsMistake, capacity_asked, names_of, pads_nothing, paths_in};
+ghost use Rattle.serve_arguments.specs.CommandLines.{AreNoPaths, ArePaths, IsAccepted, IsMistake, capacity_asked, names_of, pads_nothing, paths_in, restamps_nothing};
 
 use crate::capacities::{Capacity, size_of};
 use crate::fault::Fault;
@@ -39,6 +39,8 @@ pub struct Words<'a> {
     pub saved: Option<&'a str>,
     /// Whether saved packets whose last token partition is empty are padded.
     pub pads: bool,
+    /// Whether saved packets get new time stamps, by how long they are shown.
+    pub restamps: bool,
     /// Whether each request line is answered as it comes.
     pub is_live: bool,
 }
@@ -63,6 +65,13 @@ impl Words<'_> {
         ensures { result ≡ pads_nothing self.entry }
     {
         self.pads && self.saved.is_none()
+    }
+
+    /// Whether packets are to get new time stamps, but not saved.
+    pub fn restamps_nothing(self) -> bool
+        ensures { result ≡ restamps_nothing self.entry }
+    {
+        self.restamps && self.saved.is_none()
     }
 }
 
@@ -135,7 +144,7 @@ impl<'a> Words<'a> {
     /// Checks the command line before any file is read.
     ///
     /// `CommandLine` if the number of cached states is not 1 to 4,096, if the size of `--cache-bytes` is not one, or both are given, if
-    /// `--pad` is given without `--save`, if `--sources` has more than seven paths, or an empty one; `NamedTwice` if OUT or the file of `--save` is the file of another argument;
+    /// `--pad` or `--restamp` is given without `--save`, if `--sources` has more than seven paths, or an empty one; `NamedTwice` if OUT or the file of `--save` is the file of another argument;
     /// `NoMemory`. Paths under `/dev/` may be named twice.
     pub fn accept(self, alloc: Global) -> Result<Accepted<'a>, Fault<'a>>
         ensures accepted { IfOk result (IsAccepted self.entry) }
@@ -146,7 +155,7 @@ impl<'a> Words<'a> {
         let Some(capacity) = self.capacity() else {
             return Err(Fault::CommandLine);
         };
-        if self.pads_nothing() {
+        if self.pads_nothing() || self.restamps_nothing() {
             return Err(Fault::CommandLine);
         }
         let more = paths_in(alloc, self.sources).map_err(|_| Fault::NoMemory)?;

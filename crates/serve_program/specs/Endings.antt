@@ -5,7 +5,10 @@ use Rattle.std.specs.Io.KnownBytes.{Keeps}
 use Rattle.vp8_tables.specs.Rfc.{rfc_entries}
 use Rattle.vp8_tables.specs.Tables.{TableEntries}
 use Rattle.stream_files.specs.Texts.{written_text}
-use Rattle.packet_edits.specs.Saved.{packets_of, padded_packets_of}
+use Rattle.stream_files.specs.declared.ivf.Head.{Head}
+use Rattle.stream_files.specs.declared.packets.Packet.{Packet}
+use Rattle.packet_edits.specs.Edits.{Listing}
+use Rattle.packet_edits.specs.Saved.{packets_of, padded_packets_of, restamped}
 use Rattle.frame_session.specs.Edits.{list_at}
 use Rattle.std.specs.Borrow.{Bor}
 use Rattle.stream_files.specs.declared.ivf.Ivf.{Ivf}
@@ -39,9 +42,14 @@ abbrev pub IsReplied : (tables : TableEntries) → (sources : List (List ℕ)) �
 IsReplied tables sources requests replies replies' end =
     (frames : Option (List ℕ)) × (frames' : Option (List ℕ)) × Means tables sources requests frames frames' replies replies' end
 
--- the file of the packets of source 0 at the end, padded or as they are
-abbrev pub saved_text : Bool → Now → List ℕ
-saved_text pads end = written_text end.head (if pads then padded_packets_of (list_at end.lists 0) else packets_of (list_at end.lists 0))
+-- the packets of a list as they are saved: padded or not, with new time stamps or their own
+abbrev pub saved_packets : Bool → Bool → Head → Listing → List Packet
+saved_packets pads restamps head list =
+    if restamps then restamped pads head list.entries else (if pads then padded_packets_of list else packets_of list)
+
+-- the file of the packets of source 0 at the end
+abbrev pub saved_text : Bool → Bool → Now → List ℕ
+saved_text pads restamps end = written_text end.head (saved_packets pads restamps end.head (list_at end.lists 0))
 
 -- the report of trailing bytes: nothing if there are none
 abbrev pub spare_text : ℕ → List ℕ

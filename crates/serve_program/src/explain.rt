@@ -75,6 +75,10 @@ fn explain_in<R: Files + AllocGlobal, E: Write>(
             messages.errors,
             "--pad is for the packets of --save: name a file for them by --save FILE"
         ),
+        Fault::CommandLine if words.restamps_nothing() => writeln!(
+            messages.errors,
+            "--restamp is for the packets of --save: name a file for them by --save FILE"
+        ),
         Fault::CommandLine => writeln!(
             messages.errors,
             "--sources takes 1 to 7 paths, none of them empty: try vp8serve --help"

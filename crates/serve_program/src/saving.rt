@@ -17,13 +17,16 @@ use std::rt::Files;
 struct Packets<'a> {
     session: &'a Session,
     pads: bool,
+    restamps: bool,
 }
 
 impl SavedText for Packets<'_> {
-    ghost text = { λ packets. saved_text packets.pads packets.session.now.now };
+    ghost text = { λ packets. saved_text packets.pads packets.restamps packets.session.now.now };
 
     fn write_to<W: Write + Drop>(&self, w: &mut BufWriter<W>) -> Result<(), Unsaved> {
-        let saved = if self.pads {
+        let saved = if self.restamps {
+            self.session.save_restamped(w, self.pads)
+        } else if self.pads {
             self.session.save_padded(w)
         } else {
             self.session.save(w)
@@ -73,6 +76,7 @@ pub fn finish_save<R: Files + AllocGlobal, E: Write>(
     let packets = Packets {
         session,
         pads: words.pads,
+        restamps: words.restamps,
     };
     let saved = match (words.saved, target) {
         (Some(path), Some(Target::AsItIs)) => save_as_it_is(rt, path, &packets),

@@ -478,6 +478,12 @@ fn explains_arguments(rt: HostRuntime) {
     );
     expect_end(
         &rt,
+        "vp8serve --restamp --explain",
+        "vp8serve: command line\n--restamp is for the packets of --save: name a file for them by --save FILE\n",
+        2,
+    );
+    expect_end(
+        &rt,
         "vp8serve a b c d --explain",
         "vp8serve: command line\nerror: unexpected argument 'd' found\n\nUsage: vp8serve [OPTIONS] [IN] [REQUESTS] [OUT]\n\nFor more information, try '--help'.\ntry vp8serve --help\n",
         2,

@@ -149,6 +149,7 @@ vp8serve --cache-bytes 1M --cache-bytes 1M => command line
 vp8serve --cache 1 --cache-bytes 1M => command line
 vp8serve --save => command line
 vp8serve none.ivf --pad => command line
+vp8serve none.ivf --restamp => command line
 vp8serve --sources => command line
 vp8serve --sources a --sources b => command line
 vp8serve --sources -:-:-:-:-:-:-:- => command line

@@ -49,6 +49,7 @@ Options:
       --tables <FILE>       3012 bytes to use instead of RFC 6386's long tables
       --save <FILE>         IVF file for the packets of IN after the last request, not of other sources
       --pad                 With --save: a byte 00 after packets that other players do not show
+      --restamp             With --save: new time stamps, without the gaps and jumps of edits
       --live                Answer each request line as it comes, before the next is read
       --explain             Explain refusals and errors on standard error
   -h, --help                Print help

@@ -134,6 +134,21 @@ fn pads_saved_packets(rt: HostRuntime) {
     clear(&rt, "padding.ivf padded.ivf");
 }
 
+/// With `--restamp` packets are saved with the time stamps of their durations: a packet that is not of a file is shown for
+/// the median step, which is 1 for a file of one packet.
+#[test]
+fn restamps_saved_packets(rt: HostRuntime) {
+    put(&rt, "stamping.ivf", ONE);
+    let requests = "insert 1 70 110000\ninsert 2 3 -\n";
+    let line = "vp8serve stamping.ivf - - --save stamped.ivf --restamp";
+    expect(&rt, line, requests, "ok 2\nok 3\n", "", 0);
+    check(&rt, "stamped.ivf", EDITED);
+    let line = "vp8serve stamping.ivf - - --restamp --live --pad --save stamped.ivf";
+    expect(&rt, line, requests, "ok 2\nok 3\n", "", 0);
+    check(&rt, "stamped.ivf", PADDED);
+    clear(&rt, "stamping.ivf stamped.ivf");
+}
+
 /// A save that fails is reported after the replies, and then trailing bytes are not reported.
 #[test]
 fn tells_a_save_that_fails(rt: HostRuntime) {
