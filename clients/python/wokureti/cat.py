@@ -9,8 +9,9 @@ import subprocess
 import tempfile
 import threading
 
-from . import checks, files, parts, programs, rooms, waits
+from . import checks, files, parts, programs, rooms, virtual, waits
 from .errors import Ended, sentence
+from .frames import parse_header
 from .progress import Progress
 
 
@@ -185,7 +186,7 @@ def write(session, out, workers, name="frames"):
         refusals, progress = [], Progress(name, count)
         try:
             with output(out) as file, progress:
-                file.write(first.header)
+                file.write(header(session, first))
                 for number in made:
                     more = room.refusals(number, plan[number])
                     room.join(number, plan[number], len(more), file)
@@ -198,6 +199,12 @@ def write(session, out, workers, name="frames"):
                 raise Failed(f"{sentence(error)}{full}") from None
             raise
     return refusals
+
+
+def header(session, first):
+    """The first line of the text: that of the program, whose rate is the time base of the file; of a container it is the rate that this has."""
+    is_container = session.edits.contents().inputs.all[0].media is not None
+    return virtual.header_of(parse_header(first.header), session.rate) if is_container else first.header
 
 
 def here(session, processes, program, tables):

@@ -8,7 +8,7 @@ import tempfile
 import threading
 import traceback
 
-from . import __version__, cat, checks, convert, programs, rooms
+from . import __version__, cat, checks, convert, programs, rooms, sounds
 from .errors import Ended, Lost, Refused, sentence
 from .progress import say
 
@@ -21,7 +21,7 @@ MISTAKE = 70
 
 
 # What each command reads.
-STREAM = "IVF file, or WebM, MKV, AVI or MP4 if ffmpeg or mkvtoolnix is there; `-` is standard input"
+STREAM = "IVF file, or WebM, MKV, AVI or MP4 if python3-av, ffmpeg or mkvtoolnix is there; `-` is standard input"
 
 
 def stop(text):
@@ -99,6 +99,17 @@ def add_served(parser):
     parser.add_argument("--port", type=int, default=0, metavar="N", help="the port; a free one if missing")
     parser.add_argument("--tables", metavar="FILE", help="3012 bytes that replace the long tables of RFC 6386")
     parser.add_argument("--anyway", action="store_true", help="makes the edits of a list that is of another stream")
+    parser.add_argument("--keep-stamps", action="store_true", help="IVF files are saved with the time stamps of the packets; else those of an edited stream are new")
+    add_sound(parser)
+
+
+def add_sound(parser):
+    parser.add_argument(
+        "--sound",
+        choices=sounds.MODES,
+        help="of a file .webm or .mkv that is written: the packets of sound are copied, or coded again as Opus, or left out; copied where that is exact, "
+        "else coded again, if missing",
+    )
 
 
 def served(given, folder):
@@ -129,7 +140,8 @@ def run_open(given):
     with rooms.Room() as folder:
         options = served(given, folder)
         titles = [given.stream, *given.source]
-        return opening.run(options, titles, given.edits, given.save, given.port, not given.no_browser, not given.no_pad, given.anyway)
+        how = opening.How(given.edits, given.save, not given.no_pad, given.keep_stamps, given.sound)
+        return opening.run({**options, "anyway": given.anyway}, titles, how, given.port, not given.no_browser)
 
 
 def add_serve(commands):
@@ -149,7 +161,8 @@ def run_serve(given):
     from . import serve
 
     with rooms.Room() as folder:
-        return serve.run({**served(given, folder), "anyway": given.anyway}, given.edits, given.save, given.port)
+        options = {**served(given, folder), "anyway": given.anyway}
+        return serve.run(options, given.edits, given.save, given.port, given.keep_stamps, given.sound)
 
 
 def add_repair(commands):

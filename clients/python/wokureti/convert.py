@@ -3,13 +3,9 @@
 import os
 import shutil
 import stat
-import struct
-import subprocess
 
-from . import checks, ivf
+from . import checks, containers
 from .progress import say
-
-MOST_TIME = 3600
 
 
 class Container(ValueError):
@@ -71,33 +67,28 @@ def as_ivf(path, folder, is_quiet=False):
 def taken_out(path, folder, name, kind, is_quiet):
     """The packets of a container as an IVF file in the folder."""
     out = new_name(folder, "ivf")
-    if shutil.which("ffmpeg"):
-        tool = "ffmpeg"
-        run(["ffmpeg", "-nostdin", "-v", "error", "-i", f"file:{os.fsdecode(path)}", "-map", "0:v:0", "-c", "copy", "-copyts", "-f", "ivf", out])
+    if containers.can_read():
+        try:
+            tool = containers.read(path, out)
+        except containers.Failed as error:
+            raise Container(str(error)) from None
     elif shutil.which("mkvextract") and kind == "WebM or Matroska":
         tool = "mkvextract"
-        run(["mkvextract", checks.path(path), "tracks", f"0:{out}"])
+        containers.run(["mkvextract", checks.path(path), "tracks", f"0:{out}"])
+        containers.count_packets(out)
     else:
-        raise Container(f"{name} is a {kind} file: to take its packets out, install ffmpeg or mkvtoolnix")
-    count_packets(out)
+        raise Container(f"{name} is a {kind} file: to take its packets out, install python3-av, ffmpeg or mkvtoolnix")
+    media = containers.media_of(out)
     if not is_quiet:
-        say(f"{name} is a {kind} file; {tool} took its packets out without coding them again")
+        say(f"{name} is a {kind} file; {tool} took its packets out without coding them again{sound_text(media)}")
+    if media is not None and media.said:
+        say(f"{tool} complains of {name}: {'; '.join(media.said.splitlines()[:3])}")
     return out
 
 
-def count_packets(path):
-    """Writes the number of packets into the header of an IVF file: these tools write another number there."""
-    with open(path, "r+b") as file:
-        _, index = ivf.read_index(file.fileno())
-        file.seek(24)
-        file.write(struct.pack("<I", len(index)))
-
-
-def run(words):
-    try:
-        done = subprocess.run(words, capture_output=True, stdin=subprocess.DEVNULL, timeout=MOST_TIME, check=False)
-    except subprocess.TimeoutExpired:
-        raise Container(f"{words[0]} took longer than {MOST_TIME} seconds") from None
-    if done.returncode != 0:
-        said = (done.stderr or done.stdout).decode(errors="replace").strip()
-        raise Container(f"{words[0]} could not take the packets out: {said[-500:]}")
+def sound_text(media):
+    """What is said of the sound."""
+    if media is None:
+        return ", and left its sound out: install python3-av or ffmpeg for that"
+    count = len(media.sounds)
+    return f", and {count} track{'s' * (count != 1)} of sound" if count else ""

@@ -4,6 +4,7 @@ import hashlib
 import os
 import pathlib
 import webbrowser
+from typing import NamedTuple
 
 from . import serve
 from .errors import Ended
@@ -60,15 +61,27 @@ def write_door(url, folder):
     return path
 
 
-def run(options, titles, edits, save, port, has_browser, pad, anyway=False):
+class How(NamedTuple):
+    """The list of edits and the file to save to, or None; whether packets are saved as with --pad, and with their time stamps; and what is done with
+    sound."""
+
+    edits: object
+    save: object
+    pad: bool
+    keeps_stamps: bool
+    sound: object
+
+
+def run(options, titles, how, port, has_browser):
     """Serves the page until the process is interrupted, and says where the edits are."""
     stems = [stem_of(title) for title in titles]
-    path = edits or f"{stems[0]}.edits"
+    path = how.edits or f"{stems[0]}.edits"
     if any(os.path.dirname(stem) == state_folder() for stem in stems):
         os.makedirs(state_folder(), mode=0o700, exist_ok=True)
         say(f"nothing can be written next to {titles[0]}: what is edited is in {path}")
     try:
-        live = Opened({**options, "anyway": anyway}, path, save, pad, stems)
+        live = Opened(options, path, how.save, how.pad, stems)
+        live.keeps_stamps, live.sound = how.keeps_stamps, how.sound
     except Ended as error:
         if ": input " in str(error):
             raise Ended(error.status, f"{error}\n`wokureti repair {titles[0]} OUT` searches the packets of a damaged file") from None

@@ -6,9 +6,10 @@ import json
 import os
 import pathlib
 import re
+import tempfile
 import time
 
-from . import ivf, records, repair
+from . import ivf, muxing, records, repair
 from .clipboard import Clipboard, Gone, numbers_of, runs_of
 from .errors import Refused
 from .frames import MARK
@@ -72,6 +73,7 @@ class PageRoutes(Routes):
                 ("macroblocks",): self.macroblocks,
                 ("header",): self.header,
                 ("stream.ivf",): self.stream,
+                ("download",): self.download,
             }
         )
 
@@ -509,8 +511,29 @@ class PageRoutes(Routes):
         view = self.live.current_view()
         timeline, stream = view.timeline(0), view.streams[0]
         length = ivf.HEAD.size + ivf.RECORD.size * len(stream) + sum(timeline.sizes)
-        headers = [("Content-Disposition", f'attachment; filename="{self.safe_name()}-edited.ivf"')]
-        return Response(200, "video/x-ivf", length=length, headers=headers, pieces=until_ended(self.text(view, 0)))
+        keeps = self.live.keeps_stamps or not view.contents.is_edited(0, stream)
+        pieces = self.text(view, 0) if keeps else view.contents.restamped(0, stream)
+        return Response(200, "video/x-ivf", length=length, headers=self.attached(".ivf"), pieces=until_ended(pieces))
+
+    def attached(self, ending):
+        """The headers of an answer that a browser saves as a file."""
+        return [("Content-Disposition", f'attachment; filename="{self.safe_name()}-edited{ending}"')]
+
+    def download(self, request):
+        """The current packets of source 0 as a file of the kind that was opened: an IVF file, or WebM or Matroska with its sound."""
+        ending = muxing.ending_for(self.live.contents().inputs.all[0].media)
+        if ending == ".ivf":
+            return self.stream(request)
+        self.only(request)
+        with tempfile.TemporaryDirectory(dir=self.live.room.name) as folder, self.live.lock:
+            path = os.path.join(folder, f"download{ending}")
+            try:
+                self.live.contents().save(path, self.live.pad, 0, True, self.live.sound, self.live.notice)
+            except ValueError as error:
+                raise Refuse(409, str(error)) from None
+            file = open(path, "rb")
+        kind = "video/webm" if ending == ".webm" else "video/x-matroska"
+        return Response(200, kind, length=os.fstat(file.fileno()).st_size, headers=self.attached(ending), pieces=pieces_of(file))
 
     def change(self, request):
         """An edit, several as one step, which may have a title, `undo`, `redo` or `save`, which may be of a source."""
@@ -547,6 +570,16 @@ class PageRoutes(Routes):
             except ValueError as error:
                 raise Refuse(409, str(error)) from None
             return as_json({"reply": path, "revision": self.live.revision})
+
+
+def pieces_of(file):
+    """The bytes of a file, which is closed after them."""
+    with file:
+        while True:
+            piece = file.read(1 << 20)
+            if not piece:
+                return
+            yield piece
 
 
 def groups_of(check, findings):

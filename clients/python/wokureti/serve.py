@@ -38,7 +38,9 @@ def serve_with(live, port, routes, announce):
         live.close()
 
 
-def run(options, edits, save, port):
+def run(options, edits, save, port, keeps_stamps=False, sound=None):
     """Opens the stream and serves it."""
-    serve(Live(options, edits, save), port)
+    live = Live(options, edits, save)
+    live.keeps_stamps, live.sound = keeps_stamps, sound
+    serve(live, port)
     return 0

@@ -395,10 +395,14 @@ class Session:
             contents = self._edits.contents()
             return contents.shown_kinds(0) if contents.script == "-" else None
 
-    def save(self, path: AnyPath, pad: bool = False, source: int = 0) -> None:
-        """Writes the current packets of a source as an IVF file now, as `--save` does at the end."""
+    def save(self, path: AnyPath, pad: bool = False, source: int = 0, restamp: bool = False, sound: Optional[str] = None) -> None:
+        """Writes the current packets of a source as an IVF file now, as `--save` does at the end; with `restamp` with new time stamps, by which each
+        shown packet stays as long as in its file.
+
+        If the path ends in `.webm` or `.mkv`, the time stamps are new ones, and the sound of the files is cut with the packets: `sound` is `copy`,
+        `encode` or `none`; without it packets of sound are copied where that is exact, else coded again. `ValueError` if it cannot be done."""
         with self._locked(None):
-            self._edits.contents().save(path, pad, source)
+            self._edits.contents().save(path, pad, source, restamp, sound)
 
 
 class _Turn:
