@@ -4,6 +4,7 @@ import itertools
 import json
 import os
 import pathlib
+import random
 import shutil
 import subprocess
 import tempfile
@@ -12,7 +13,7 @@ from array import array
 from unittest import mock
 
 from support import SLOW, SMALL, Case, command, packets_of, write_packets
-from wokureti import containers, excerpts, ivf, matroska, muxing, opus, sounds, times
+from wokureti import blocks, containers, excerpts, ivf, matroska, muxing, opus, sounds, times
 
 MS = 10**6
 HAS_FFMPEG = bool(shutil.which("ffmpeg") and shutil.which("ffprobe"))
@@ -482,6 +483,126 @@ class Writing(Case):
             self.assertIn(line, done.stdout)
         done = subprocess.run(["mkvmerge", "-o", room / "again.mkv", out], capture_output=True, text=True, check=False, timeout=20 * SLOW)
         self.assertEqual((done.returncode, "Warning" in done.stdout), (0, False))
+
+
+class Blocks(Case):
+    """Damaged files, of packets that are known."""
+
+    def file(self, kind="webm"):
+        """A file of pictures of 40 ms and sound of 20 ms, in clusters, and its blocks."""
+        pictures = [(40 * MS * turn, 1, data[0] & 1 == 0, data) for turn, data in enumerate(packets_of(SMALL) * 10)]
+        sound = [(20 * MS * turn, 2, True, bytes([0xF8]) + turn.to_bytes(60, "big")) for turn in range(240)]
+        entries = [matroska.video(1, (7, 5), 40 * MS), matroska.sound(2, "opus", b"OpusHead\x01\x01\x38\x01" + bytes(9), 48000, 1, 6_500_000, "fre", "Room")]
+        parts = {matroska.INFO: matroska.info("", 0), matroska.TRACKS: matroska.element(matroska.TRACKS, *entries)}
+        out = self.folder() / "file"
+        made = sorted(pictures + sound, key=lambda block: block[0])
+        with open(out, "wb") as file:
+            matroska.write(file, kind, parts, made)
+        return out.read_bytes(), [(number, time // MS, data) for time, number, _, data in made]
+
+    def found(self, data):
+        found = blocks.find(data)
+        return [(block.track, block.time, block.data) for block in found.blocks], found
+
+    def test_a_file_that_is_whole(self):
+        data, made = self.file()
+        found, rest = self.found(data)
+        self.assertEqual((found, rest.gaps), (made, []))
+        self.assertEqual({number: (entry.codec, entry.language, entry.title, entry.delay, entry.rate) for number, entry in rest.tracks.items()}, {1: ("vp8", "und", "", 0, 0 or 48000), 2: ("opus", "fre", "Room", 6_500_000, 48000)})
+
+    def test_zeroed_sectors(self):
+        dice = random.Random(7)
+        for turn in range(20):
+            data, made = self.file()
+            data = bytearray(data)
+            start = data.index(bytes.fromhex(matroska.CLUSTER))
+            hit = sorted(dice.randrange(start, len(data) - 600) for _ in range(3))
+            for at in hit:
+                data[at : at + 300] = bytes(300)
+            found, rest = self.found(bytes(data))
+            # What was hit by no sector is found, but for the block before a gap, whose end leads nowhere. Where the time of a cluster was hit, it
+            # is that of the blocks before, which may have been hit too.
+            times = {(track, data): time for track, time, data in made if track == 2}
+            sound = [block for block in found if block[0] == 2 and bytes(60) not in block[2]]
+            self.assertTrue(rest.gaps)
+            self.assertLessEqual(len(made) - len(found), 3 * 9, (turn, hit))
+            self.assertEqual([block for block in sound if abs(times[block[0], block[2]] - block[1]) > 120], [], (turn, hit))
+            self.assertEqual([data for number, _, data in found if number == 1 and bytes(20) not in data and data not in packets_of(SMALL)], [])
+
+    def test_half_of_a_file(self):
+        data, made = self.file()
+        found, rest = self.found(data[: len(data) // 2])
+        self.assertEqual((found, len(rest.gaps)), (made[: len(found)], 1))
+        self.assertGreater(len(found), len(made) // 2 - 3)
+
+    def test_the_beginning_is_lost(self):
+        data, made = self.file()
+        start = data.index(bytes.fromhex(matroska.CLUSTER))
+        found, rest = self.found(bytes(start + 4) + data[start + 4 :])
+        self.assertEqual((found, rest.tracks, blocks.video_track(rest)), (made, {}, 1))
+        room = self.folder()
+        head, packets, gaps = blocks.as_file(rest, "", str(room / "out.ivf"))
+        self.assertEqual((head[:2], [packet.data for packet in packets]), ((7, 5), [data for number, _, data in made if number == 1]))
+        self.assertEqual([gap.after for gap in gaps], [0])
+        [track] = containers.media_of(room / "out.ivf").sounds
+        self.assertEqual((track.codec, track.channels, sound_packets(track)), ("opus", 1, [data for number, _, data in made if number == 2]))
+
+    def test_bytes_that_are_no_file(self):
+        for data in (b"", b"\xa3", random.Random(1).randbytes(20000), bytes(20000), b"\xa3\x84\x81\x00\x00" * 40):
+            blocks.find(data)
+        out = self.folder() / "out.ivf"
+        with self.assertRaisesRegex(ivf.NotIvf, "no packet of VP8"):
+            blocks.as_file(blocks.find(bytes(100)), "", str(out))
+
+
+@needs_ffmpeg
+class Repaired(Case):
+    LIMIT = 60
+
+    def repaired(self, data, *words):
+        room = self.folder()
+        (room / "in.webm").write_bytes(data)
+        status, out, errors = command("repair", room / "in.webm", room / "out.webm", *words)
+        return status, out.decode(), errors, room / "out.webm"
+
+    def test_zeroed_sectors(self):
+        data = bytearray(clip("talk.webm").read_bytes())
+        for at in (30000, 52000):
+            data[at : at + 512] = bytes(512)
+        status, said, errors, out = self.repaired(bytes(data))
+        self.assertIn(status, (1, 2))
+        self.assertIn("lead to no block: read on at byte", said)
+        self.assertIn("in.webm is a damaged WebM or Matroska file: its packets were searched, and 1 track of sound", errors)
+        found, path = media(out, self.folder())
+        before, packets = media(clip("talk.webm"), self.folder())
+        # Every frame has its time.
+        self.assertEqual(len(frames(out)), len(frames(clip("talk.webm"))))
+        stamps = [[stamp for stamp, data in ivf.read_packets(one)[1] if ivf.is_shown(data)] for one in (path, packets)]
+        self.assertLessEqual(max(abs(one - (other - stamps[1][0])) for one, other in zip(*stamps)), 1)
+        theirs = set(sound_packets(before.sounds[0]))
+        self.assertGreaterEqual(sum(data in theirs for data in sound_packets(found.sounds[0])), len(theirs) - 12)
+
+    def test_half_a_file(self):
+        data = clip("talk.webm").read_bytes()
+        status, said, _, out = self.repaired(data[: len(data) // 2])
+        self.assertEqual((status, "bytes lead to no block: dropped" in said), (1, True))
+        whole = frames(clip("talk.webm"))
+        found = frames(out)
+        self.assertEqual(found, whole[: len(found)])
+        self.assertGreater(len(found), 40)
+
+    def test_a_clean_file(self):
+        status, said, errors, out = self.repaired(clip("talk.webm").read_bytes())
+        self.assertEqual((status, "took its packets out" in errors), (0, True))
+        self.assertEqual(frames(out), frames(clip("talk.webm")))
+        self.assertEqual(self.repaired(clip("talk.webm").read_bytes(), "--sound", "none")[0], 0)
+
+    def test_a_webm_file_without_video(self):
+        room = self.folder()
+        ffmpeg("-f", "lavfi", "-i", "sine=duration=1", "-c:a", "libopus", room / "in.webm")
+        status, out, errors = command("repair", room / "in.webm", room / "out.webm")
+        self.assertEqual((status, out, os.listdir(room)), (2, b"", ["in.webm"]))
+        self.assertIn("has no video", errors)
 
 
 if __name__ == "__main__":

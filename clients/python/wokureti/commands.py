@@ -8,7 +8,7 @@ import tempfile
 import threading
 import traceback
 
-from . import __version__, cat, checks, convert, programs, rooms, sounds
+from . import __version__, cat, checks, containers, convert, excerpts, files, ivf, muxing, programs, rooms, sounds
 from .errors import Ended, Lost, Refused, sentence
 from .progress import say
 
@@ -176,7 +176,7 @@ def add_repair(commands):
         "OUT has no damage, 2 if damage is left, or no key frame survives and nothing was written.",
     )
     parser.add_argument("stream", metavar="IN", help=STREAM)
-    parser.add_argument("out", metavar="OUT", help="the mended IVF file")
+    parser.add_argument("out", metavar="OUT", help="the mended IVF file; WebM or Matroska, with the sound of IN, if it ends in .webm or .mkv")
     parser.add_argument("--second", metavar="FILE", help="a second recording of the same packets")
     parser.add_argument("--edits", metavar="FILE", help="writes the edits that make OUT of IN, which `vp8serve IN FILE - --save OUT` runs")
     parser.add_argument("--no-scan", action="store_true", help="records that are lost are not searched")
@@ -184,11 +184,12 @@ def add_repair(commands):
     parser.add_argument("--no-sort", action="store_true", help="packets stay in their order")
     parser.add_argument("--no-hold", action="store_true", help="no picture is held, and nothing is removed at the beginning")
     parser.add_argument("--tables", metavar="FILE", help="3012 bytes that replace the long tables of RFC 6386")
+    add_sound(parser)
     parser.set_defaults(run=run_repair)
 
 
 def run_repair(given):
-    from . import files, ivf, progress, repair
+    from . import ivf, progress, repair
 
     inputs = [given.stream, given.second, given.tables]
     for out in (given.out, given.edits):
@@ -199,15 +200,18 @@ def run_repair(given):
     steps = {name for name in ("scan", "double", "sort", "hold") if not getattr(given, f"no_{name}")}
     try:
         with rooms.Room() as folder, progress.Stages() as stages:
-            path, other = (path and convert.as_ivf(path, folder) for path in (given.stream, given.second))
+            stages.stage("searching the packets")
+            path, searched = convert.searched(given.stream, folder) if "scan" in steps else (convert.as_ivf(given.stream, folder), None)
+            other = given.second and convert.searched(given.second, folder)[0]
             data, second = (path and read_all(path) for path in (path, other))
-            found = repair.repair(data, programs.find("vp8serve"), programs.find("vp8list"), second, given.tables, steps, stages.stage, as_file(path))
+            tools = (programs.find("vp8serve"), programs.find("vp8list"))
+            found = repair.repair(data, *tools, second, given.tables, steps, stages.stage, as_file(path), searched)
+            packets = [(packet.stamp, packet.data) for packet in found.packets]
+            write_repaired(given, path, found.head, packets)
     except (ivf.NotIvf, repair.NoKeyFrame) as error:
         raise cat.Failed(f"{given.stream}: {error}") from None
-    packets = [(packet.stamp, packet.data) for packet in found.packets]
-    files.write_whole(given.out, ivf.pieces(found.head, len(packets), packets))
     if given.edits is not None:
-        lines = repair.edits_of(data, found)
+        lines = repair.edits_of(data, found) if searched is None else None
         if lines is None:
             raise cat.Failed("vp8serve does not read IN, so no list of edits makes OUT of it; OUT was written")
         files.write_whole(given.edits, [f"{line}\n".encode() for line in lines])
@@ -216,6 +220,19 @@ def run_repair(given):
     before = len(salvage_count(data))
     print(f"{len(packets)} packets written, {before} are read without repair; {found.changes} changes")
     return 2 if found.left else 1 if found.changes else 0
+
+
+def write_repaired(given, path, head, packets):
+    """Writes OUT: an IVF file, or with the sound of IN a WebM or Matroska file."""
+    if muxing.ending_of(given.out) is None:
+        files.write_whole(given.out, ivf.pieces(head, len(packets), packets))
+        return
+    spans, restamped = excerpts.of_packets(packets, head, containers.media_of(path))
+    with rooms.Room() as room:
+        between = os.path.join(room, "packets.ivf")
+        with open(between, "wb") as file:
+            file.writelines(ivf.pieces(head, len(restamped), restamped))
+        excerpts.save_file(given.out, between, containers.media_of(path), spans, given.sound, say)
 
 
 def as_file(path):

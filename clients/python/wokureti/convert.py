@@ -4,7 +4,7 @@ import os
 import shutil
 import stat
 
-from . import checks, containers
+from . import blocks, checks, containers
 from .progress import say
 
 
@@ -46,22 +46,51 @@ def new_name(folder, ending):
 def as_ivf(path, folder, is_quiet=False):
     """The path of the stream as IVF: the file itself, or a file in the folder. `-` is standard input, and /dev/null an empty stream, for which a
     session has the path `-`."""
+    given, name, is_file = as_file(path, folder)
+    if not is_file:
+        return given
+    with open(given, "rb") as file:
+        kind = kind_of(file.read(12))
+    return given if kind is None else taken_out(given, folder, name, kind, is_quiet)
+
+
+def as_file(path, folder):
+    """The path of a stream, or of a file in the folder with what a pipe gives; what it is called; and whether it is a file that can be read."""
     given = "/dev/stdin" if os.fspath(path) == "-" else path
+    name = "standard input" if given == "/dev/stdin" else os.fsdecode(given)
     try:
         found = os.stat(given)
     except OSError:
         # Who reads it says so.
-        return given
+        return given, name, False
     if is_null(found):
-        return "-"
+        return "-", name, False
     if stat.S_ISDIR(found.st_mode):
-        return given
-    name = "standard input" if given == "/dev/stdin" else os.fsdecode(given)
-    if not stat.S_ISREG(found.st_mode):
-        given = spooled(given, folder)
+        return given, name, False
+    return given if stat.S_ISREG(found.st_mode) else spooled(given, folder), name, True
+
+
+def searched(path, folder):
+    """The path of a stream as IVF, as `as_ivf` has it. A WebM or Matroska file that is damaged is searched for its packets, and then also the head, the
+    packets, the gaps, and the length of the file, else None."""
+    given, name, is_file = as_file(path, folder)
+    if not is_file:
+        return given, None
     with open(given, "rb") as file:
-        kind = kind_of(file.read(12))
-    return given if kind is None else taken_out(given, folder, name, kind, is_quiet)
+        head = file.read(12)
+        if head[:4] == b"DKIF" or (kind_of(head) or "WebM or Matroska") != "WebM or Matroska":
+            return as_ivf(given, folder), None
+        file.seek(0)
+        data = file.read()
+    found = blocks.find(data)
+    is_matroska = kind_of(head) is not None or blocks.video_track(found) is not None
+    if not is_matroska or not found.gaps:
+        return (taken_out(given, folder, name, "WebM or Matroska", False) if is_matroska else given), None
+    out = new_name(folder, "ivf")
+    sought = blocks.as_file(found, given, out)
+    lost = "" if found.tracks else "; what it says of its tracks is lost"
+    say(f"{name} is a damaged WebM or Matroska file: its packets were searched{sound_text(containers.media_of(out))}{lost}")
+    return out, (*sought, len(data))
 
 
 def taken_out(path, folder, name, kind, is_quiet):
