@@ -165,6 +165,34 @@ def run_serve(given):
         return serve.run(options, given.edits, given.save, given.port, given.keep_stamps, given.sound)
 
 
+def add_mount(commands):
+    parser = commands.add_parser(
+        "mount",
+        help="a folder in which the edited stream is a file of each kind, for editors that open a path",
+        description="Mounts DIR, an empty folder, by FUSE (python3-fusepy): clip.y4m, clip.ivf and clip.webm, a picture of each frame in frames/, the "
+        "edits, the findings and the facts of the packets. Nothing is written: a read makes the frames that it touches. edits.txt can be written: "
+        "the session then makes these edits, or the write fails, and edits.err says why. A file that was opened before an edit can be read no more. "
+        "Ctrl-C, umount or SIGTERM ends it.",
+    )
+    add_served(parser)
+    parser.add_argument("folder", metavar="DIR", help="the empty folder")
+    parser.add_argument("--edits", metavar="FILE", help="the list of edits: it is made first, and each edit is written to it")
+    parser.add_argument("--serve", action="store_true", help="the page of `wokureti open` is there too, over the same session; its address is printed")
+    parser.add_argument("--others", action="store_true", help="other users may read the folder (user_allow_other in /etc/fuse.conf)")
+    parser.set_defaults(run=run_mount)
+
+
+def run_mount(given):
+    from . import mount, opened, opening
+
+    mount.fuse_module()
+    with rooms.Room() as folder:
+        live = opened.Opened({**served(given, folder), "anyway": given.anyway}, given.edits)
+        live.keeps_stamps, live.sound = given.keep_stamps, given.sound
+        server = opening.server_of(live, given.port, [given.stream, *given.source]) if given.serve else None
+        return mount.run(live, given.folder, given.others, server)
+
+
 def add_repair(commands):
     parser = commands.add_parser(
         "repair",
@@ -342,6 +370,7 @@ def parser_of():
     commands = parser.add_subparsers(metavar="COMMAND", required=True)
     add_open(commands)
     add_serve(commands)
+    add_mount(commands)
     add_repair(commands)
     add_compare(commands)
     add_cat(commands)

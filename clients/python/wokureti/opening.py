@@ -3,6 +3,7 @@
 import hashlib
 import os
 import pathlib
+import secrets
 import webbrowser
 from typing import NamedTuple
 
@@ -11,6 +12,7 @@ from .errors import Ended
 from .opened import Opened
 from .pages import PageRoutes
 from .progress import say
+from .web import Server
 
 # Browsers that take over the terminal.
 TEXT_BROWSERS = ("www-browser", "links", "elinks", "lynx", "w3m")
@@ -101,6 +103,15 @@ def run(options, titles, how, port, has_browser):
     finally:
         say_where(live, titles[0], f"{stems[0]}.edits")
     return 0
+
+
+def server_of(live, port, titles):
+    """A server of the page of a stream, whose address is printed. It is not started."""
+    server, tokens = Server(port), [secrets.token_urlsafe(18) for _ in range(2)]
+    server.routes = PageRoutes(live, server, tokens[0], [os.path.basename(title) for title in titles])
+    server.routes.reading = tokens[1]
+    print(f"{server.origin}/{tokens[0]}/page/", flush=True)
+    return server
 
 
 def edits_text(count):

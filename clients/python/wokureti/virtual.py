@@ -49,7 +49,7 @@ def header_of(size, rate):
 
 class Clip:
     """The file of one revision. `mode` says what is in the place of a frame that is refused: None, the file cannot be served; `repeat`, the
-    frame before it; `black`, a black frame."""
+    frame before it; `black`, a black frame; `error`, none: the other frames are served."""
 
     def __init__(self, live, mode=None):
         self.live, self.mode = live, mode
@@ -82,7 +82,10 @@ class Clip:
         for number, (width, height, _) in found.items():
             if (width, height) != self.outcomes.size:
                 raise Lost(f"frame {number} has {width}x{height} samples")
-        sources = map(self.source_of, numbers)
+        sources = list(map(self.source_of, numbers))
+        if self.mode == "error" and None in sources:
+            number = list(numbers)[sources.index(None)]
+            raise Cannot(number, self.outcomes.reply(self.outcomes.of_frame(number)))
         return [self.black if source is None else found[source][2] for source in sources]
 
     def in_order(self, first, end):
