@@ -1,6 +1,7 @@
 """The command line of wokureti."""
 
 import argparse
+import itertools
 import os
 import signal
 import sys
@@ -193,6 +194,102 @@ def run_mount(given):
         return mount.run(live, given.folder, given.others, server)
 
 
+def add_export_options(parser, script=False):
+    """The arguments of the commands that write the frames of a script as packets."""
+    if script:
+        add_edits(parser)
+    else:
+        parser.add_argument("--tables", metavar="FILE", help="3012 bytes that replace the long tables of RFC 6386")
+    parser.add_argument("--no-pad", action="store_true", help="packets that hold the picture are written as they are, and libvpx does not show them")
+    add_sound(parser)
+
+
+EXPORTED = (
+    "The packets are those of the streams, of which nothing but the show bit is changed, and each frame is as it was: nothing is coded again. Where a "
+    "part does not begin at a key packet, the packets from there on come before it, hidden. OUT is an IVF file; WebM or Matroska, with the sound, if it "
+    "ends in .webm or .mkv. A line says how many packets are hidden, and how many bytes they have."
+)
+
+
+def add_cut(commands):
+    parser = commands.add_parser(
+        "cut",
+        help="parts of a stream, at any frame, without coding again",
+        description=f"Writes the frames of IN from F to T, T not included; several --from and --to keep several parts. {EXPORTED}",
+    )
+    parser.add_argument("stream", metavar="IN", help=STREAM)
+    parser.add_argument("out", metavar="OUT", help="the file to write")
+    parser.add_argument("--from", dest="starts", action="append", default=[], metavar="F", help="a frame, as 83, or a time, as 0:03.3; the beginning if missing")
+    parser.add_argument("--to", dest="ends", action="append", default=[], metavar="T", help="the same for the first frame that is left out; the end if missing")
+    add_export_options(parser)
+    parser.set_defaults(run=run_cut)
+
+
+def run_cut(given):
+    from . import exports
+
+    counts = {len(given.starts), len(given.ends)}
+    if not any(counts) or (len(counts) > 1 and max(counts) > 1):
+        raise cat.Failed("each part has a --from and a --to; only a single part may leave one of them out")
+    parts = list(itertools.zip_longest(given.starts, given.ends))
+    return run_script(given, [given.stream], lambda frames: exports.cut_script(frames, parts))
+
+
+def add_join(commands):
+    parser = commands.add_parser(
+        "join",
+        help="streams one after the other, without coding again",
+        description=f"Writes the frames of all streams, one after the other. {EXPORTED}",
+    )
+    parser.add_argument("streams", metavar="IN", nargs="+", help=STREAM)
+    parser.add_argument("out", metavar="OUT", help="the file to write")
+    add_export_options(parser)
+    parser.set_defaults(run=run_join)
+
+
+def run_join(given):
+    from . import exports
+
+    return run_script(given, given.streams, lambda frames: exports.join_script(len(given.streams)))
+
+
+def add_export(commands):
+    parser = commands.add_parser(
+        "export",
+        help="the frames of a script as packets, without coding again",
+        description=f"Writes the frames that a script serves, of the streams after the edits of a list. What a script changes, a fade or a crop, cannot be "
+        f"written so: the message names the frame and the node. {EXPORTED}",
+    )
+    parser.add_argument("stream", metavar="IN", help=STREAM)
+    parser.add_argument("out", metavar="OUT", help="the file to write")
+    add_export_options(parser, script=True)
+    parser.set_defaults(run=run_export)
+
+
+def run_export(given):
+    return run_script(given, [given.stream, *given.source], None)
+
+
+def run_script(given, streams, script_of):
+    """Writes OUT of the frames of a script, which is made of the frames of the streams, or that of the arguments."""
+    from . import exports, progress
+
+    edits, script = getattr(given, "edits", None), getattr(given, "script", None)
+    cat.check_output(given.out, [*streams, edits, given.tables])
+    program = programs.find("vp8serve")
+    exports.check_program(program)
+    with rooms.Room() as room, progress.Stages() as stages:
+        stages.stage("reading the packets")
+        paths = [convert.as_ivf(path, room) for path in streams]
+        with cat.open_session(paths[0], paths[1:], edits, script, given.tables, program, getattr(given, "anyway", False)) as session:
+            if script_of is not None:
+                session.request(f"script {script_of(exports.Frames(session.edits.contents()))}")
+            stages.stage(f"exporting {session.count().frames:,} frames")
+            told = exports.export(session, program, given.out, not given.no_pad, given.sound, say, given.tables, room)
+    print(told.text())
+    return 0
+
+
 def add_repair(commands):
     parser = commands.add_parser(
         "repair",
@@ -371,6 +468,9 @@ def parser_of():
     add_open(commands)
     add_serve(commands)
     add_mount(commands)
+    add_cut(commands)
+    add_join(commands)
+    add_export(commands)
     add_repair(commands)
     add_compare(commands)
     add_cat(commands)

@@ -6,39 +6,61 @@ from . import ivf, muxing, rooms, sounds, times
 
 # A frame's duration may differ so much from that of the rate: time stamps of WebM are milliseconds.
 ROUNDED = 1_100_000
+# What stands for the recording of a packet that an edit made.
+MADE = object()
 
 
 def of_numbers(contents, numbers, source):
-    """The spans of sound of packets of `Contents`, in the order of a source: each shown one takes the sound of its own time in its file. One that an
-    edit made keeps what is there, if the packets before and after it leave it room, and is silent else."""
-    head, spans, made = contents.inputs.all[source].head, [], 0
-    for number, duration in zip(numbers, contents.durations(source, numbers)):
-        if not contents.is_shown(number):
-            continue
-        timed = contents.timed(number)
+    """The spans of sound of packets of `Contents`, in the order of a source."""
+    lasting = zip(numbers, contents.durations(source, numbers))
+    return joined_made(spans_of(contents, [(number, duration, source) for number, duration in lasting if contents.is_shown(number)]))
+
+
+def of_frames(contents, frames):
+    """A span for each of the frames, which are packets with their durations and the sources they are in."""
+    return joined_made(spans_of(contents, frames))
+
+
+def spans_of(contents, frames):
+    """For each shown packet the span of its own time in its file; of one that an edit made only the length is known, and its media is MADE."""
+    for number, duration, source in frames:
+        head, timed = contents.inputs.all[source].head, contents.timed(number)
         if timed is None:
-            made += duration
+            yield sounds.Span(MADE, 0, times.nano(duration, head))
             continue
         item, index = contents.where(timed)
-        is_whole = duration == contents.duration(number, source)
         stamp = item.index.stamps[index]
         start = times.nano(stamp, item.head)
+        is_whole = duration == contents.duration(number, source)
         end = times.nano(stamp + item.durations()[index], item.head) if is_whole else start + times.nano(duration, head)
-        if made:
-            spans.append(filling(spans, (item.media, start), times.nano(made, head)))
-            made = 0
-        spans.append(sounds.Span(item.media, start, end - start))
-    return spans + ([sounds.Span(None, 0, times.nano(made, head))] if made else [])
+        yield sounds.Span(item.media, start, end - start)
 
 
-def filling(spans, after, length):
-    """The span of packets that edits made, between the last span and the time after them."""
-    media, start = after
-    if not spans:
-        return sounds.Span(media, start - length, length) if start >= length else sounds.Span(None, 0, length)
-    end = spans[-1].start + spans[-1].length
-    has_room = spans[-1].media is media and start - end > length - ROUNDED
-    return sounds.Span(media, end, length) if has_room else sounds.Span(None, 0, length)
+def joined_made(spans):
+    """The spans, where packets that edits made keep what is there, if the packets before and after them leave it room, and are silent else."""
+    found, made = [], []
+    for span in spans:
+        if span.media is MADE:
+            made.append(span.length)
+            continue
+        found += filled(found, made, span)
+        found.append(span)
+        made = []
+    return found + [sounds.Span(None, 0, length) for length in made]
+
+
+def filled(before, lengths, after):
+    """The spans of packets that edits made, between the last span and the one after them."""
+    whole, media = sum(lengths), after.media
+    if before:
+        start = before[-1].start + before[-1].length
+        has_room = before[-1].media is media and after.start - start > whole - ROUNDED
+    else:
+        start = after.start - whole
+        has_room = start >= 0
+    for length in lengths:
+        yield sounds.Span(media, start, length) if has_room else sounds.Span(None, 0, length)
+        start += length
 
 
 def of_packets(packets, head, media):
@@ -92,5 +114,10 @@ def rate_of(spans, head, index, media):
     if not steps:
         return media.rate if media is not None else None
     rate = media.rate if media is not None and media.rate is not None else (times.NANO, steps[len(steps) // 2])
+    return rate if is_constant(steps, rate) else None
+
+
+def is_constant(steps, rate):
+    """Whether all steps between frames, in nanoseconds, are those of a rate."""
     step = times.NANO * rate[1] / rate[0]
-    return rate if all(abs(one - step) <= ROUNDED for one in (steps[0], steps[-1])) else None
+    return all(abs(one - step) <= ROUNDED for one in (min(steps, default=step), max(steps, default=step)))
