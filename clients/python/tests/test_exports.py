@@ -7,9 +7,10 @@ import unittest
 from unittest import mock
 
 import test_containers
+import test_page
 from support import SMALL, Case, command, packets_of, write_packets
 from test_containers import clip, frames, media, needs_ffmpeg, setUpModule, sound_packets  # noqa: F401
-from wokureti import exports, ivf, opus, programs
+from wokureti import convert, exports, ivf, opus, programs
 
 MS = 10**6
 REAL = programs.find("vp8serve")
@@ -121,6 +122,66 @@ class Ivf(Case):
             self.assertIn(why, errors)
 
 
+class OnThePage(test_page.PageCase):
+    """The export of the page, and the file that it offers."""
+
+    LIMIT = 60
+
+    def setUp(self):
+        super().setUp()
+        patch = mock.patch.dict(os.environ, ENV)
+        patch.start()
+        self.addCleanup(patch.stop)
+
+    def test_a_script_is_exported(self):
+        self.serve(SMALL)
+        self.assertEqual((self.members("/session")["exports"], self.members("/session")["changing"]), (True, None))
+        self.step("delete 11", "script trim 0 4 100")
+        status, headers, body = self.ask("/exported")
+        self.assertEqual((status, headers["Content-Disposition"]), (200, 'attachment; filename="small-export.ivf"'))
+        path = self.folder() / "out.ivf"
+        path.write_bytes(body)
+        with self.session(SMALL) as one, self.session(path) as other:
+            self.assertEqual([frame.i420() for frame in other.frames()], [one.frame(number).i420() for number in range(4, 11)])
+
+    def test_what_cannot_be_exported(self):
+        self.serve(SMALL)
+        self.step("script trim 0 0 5; fade 1 0 5 0 256; splice 2 1")
+        self.assertEqual(self.members("/session")["changing"], [2, "fade 1 0 5 0 256"])
+        status, _, body = self.ask("/exported")
+        self.assertEqual(status, 409)
+        self.assertIn(b"frame 0", body)
+        self.assertEqual(list(pathlib.Path(self.live.room.name).glob("tmp*")), [])
+
+    @needs_ffmpeg
+    def test_a_webm_file_stays_one(self):
+        source = clip("talk.webm")
+        room = self.folder()
+        self.serve(convert.as_ivf(source, str(room)), stems=[str(room / "talk")])
+        self.assertEqual(self.members("/session")["rate"], [25, 1])
+        self.assertEqual(self.members("/session")["saves"][0]["next"], str(room / "talk-edited.webm"))
+        self.step("delete 60")
+        status, headers, body = self.ask("/download")
+        self.assertEqual((status, headers["Content-Type"], body[:4]), (200, "video/webm", b"\x1a\x45\xdf\xa3"))
+        self.change("save")
+        self.assertEqual((room / "talk-edited.webm").read_bytes(), body)
+        self.assertEqual([saved["saved"] for saved in self.members("/session")["saves"]], [True])
+        self.assertEqual(len(media(room / "talk-edited.webm", self.folder())[0].sounds), 1)
+
+
+class Scripts(Case):
+    def test_the_node_that_changes_samples(self):
+        cases = {
+            "-": None,
+            "trim 0 0 5; splice 0 1": None,
+            "trim 0 0 5; fade 1 0 5 0 256": (2, "fade 1 0 5 0 256"),
+            "crop 0 0 0 2 2; trim 0 0 5": None,
+            "crop 0 0 0 2 2; trim 0 0 5; splice 1 2": (1, "crop 0 0 0 2 2"),
+            "source 1; fade 1 0 1 0 0; fade 0 0 1 0 0; splice 3 2": (2, "fade 1 0 1 0 0"),
+        }
+        self.assertEqual({script: exports.changing_node(script) for script in cases}, cases)
+
+
 @needs_ffmpeg
 class WithSound(Case):
     LIMIT = 90
@@ -177,7 +238,7 @@ class WithSound(Case):
         self.assertIn("sound track 0 cannot be copied: the recordings have sound of different codecs", errors)
 
 
-del test_containers
+del test_containers, test_page
 
 if __name__ == "__main__":
     unittest.main()

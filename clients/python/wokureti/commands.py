@@ -285,7 +285,8 @@ def run_script(given, streams, script_of):
             if script_of is not None:
                 session.request(f"script {script_of(exports.Frames(session.edits.contents()))}")
             stages.stage(f"exporting {session.count().frames:,} frames")
-            told = exports.export(session, program, given.out, not given.no_pad, given.sound, say, given.tables, room)
+            out = exports.Output(given.out, not given.no_pad, given.sound, say)
+            told = exports.export(session.edits.contents(), list(session.edits), out, room)
     print(told.text())
     return 0
 

@@ -124,24 +124,48 @@ def spliced(nodes, pieces):
     return "; ".join(nodes)
 
 
-def export(session, program, out, pad, sound, say, tables=None, room=None):
-    """Writes the frames that a session serves as packets: an IVF file, or WebM or Matroska with their sound. Returns what was written."""
-    check_program(program)
-    contents = session.edits.contents()
+def changing_node(script):
+    """The number and the text of the first node on which the last one depends and that changes samples, or None."""
+    nodes = [] if script == "-" else [text.split() for text in script.split(";")]
+    wanted, found = [len(nodes)], None
+    while wanted:
+        number = wanted.pop()
+        if number == 0:
+            continue
+        word, *numbers = nodes[number - 1]
+        if word in ("fade", "crop"):
+            found = min(number, found or number)
+        wanted += map(int, numbers[:2] if word == "splice" else numbers[:1] if word != "source" else ())
+    return None if found is None else (found, " ".join(nodes[found - 1]))
+
+
+class Output(NamedTuple):
+    """How a file is written: the path; whether packets that hold the picture are padded; what is done with sound; and what a sentence is given to."""
+
+    path: str
+    pad: bool
+    sound: object
+    say: object
+
+
+def export(contents, lines, out, room):
+    """Writes the frames that a session with these contents and edits serves as packets: an IVF file, or WebM or Matroska with their sound. Returns what was
+    written. Files that are made on the way are in the folder `room`."""
+    check_program(contents.program)
     between = os.path.join(room, "exported.ivf")
-    run(program, contents.inputs, list(session.edits), between, pad, tables)
+    run(contents.program, contents.inputs, lines, between, out.pad, contents.tables)
     served = Frames(contents).served()
     with open(between, "rb") as file:
         head, index = ivf.read_index(file.fileno())
-        told = told_of(index, contents, served)
-        if muxing.ending_of(out) is None:
-            files.write_whole(out, iter(lambda: file.read(1 << 20), b""))
+        spans = excerpts.of_frames(contents, served)
+        told = told_of(index, spans)
+        if muxing.ending_of(out.path) is None:
+            files.write_whole(out.path, iter(lambda: file.read(1 << 20), b""))
             return told
-        item, spans = contents.inputs.all[0], excerpts.of_frames(contents, served)
         size = excerpts.first_size(file, index) or (head.width, head.height)
-        packets = timed(file, index, spans)
         rate = contents.rate if excerpts.is_constant([span.length for span in spans], contents.rate) else None
-        muxing.write(out, muxing.Video(packets, told.length, size, rate, item.media), spans, sound, say)
+        video = muxing.Video(timed(file, index, spans), told.length, size, rate, contents.inputs.all[0].media)
+        muxing.write(out.path, video, spans, out.sound, out.say)
     return told
 
 
@@ -162,14 +186,13 @@ def run(program, inputs, lines, out, pad, tables):
             raise Ended(done.returncode, errors.read().decode(errors="replace").strip())
 
 
-def told_of(index, contents, served):
+def told_of(index, spans):
     """What the exported file has. `ValueError` if its frames are not as many as those of the script."""
     shown = sum(bool(tags & ivf.SHOWN) for tags in index.tags)
-    if shown != len(served):
-        raise ValueError(f"vp8serve exported {shown} frames, and the script has {len(served)}")
+    if shown != len(spans):
+        raise ValueError(f"vp8serve exported {shown} frames, and the script has {len(spans)}")
     hidden = [size for size, tags in zip(index.sizes, index.tags) if not tags & ivf.SHOWN]
-    length = sum(span.length for span in excerpts.of_frames(contents, served))
-    return Told(length, shown, len(index), len(hidden), sum(hidden), sum(index.sizes))
+    return Told(sum(span.length for span in spans), shown, len(index), len(hidden), sum(hidden), sum(index.sizes))
 
 
 def timed(file, index, spans):
