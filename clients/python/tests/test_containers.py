@@ -13,7 +13,7 @@ from array import array
 from unittest import mock
 
 from support import SLOW, SMALL, Case, command, packets_of, write_packets
-from wokureti import blocks, containers, excerpts, ivf, matroska, muxing, opus, sounds, times
+from wokureti import blocks, containers, excerpts, ivf, matroska, muxing, opus, paces, sounds, times
 
 MS = 10**6
 HAS_FFMPEG = bool(shutil.which("ffmpeg") and shutil.which("ffprobe"))
@@ -331,6 +331,40 @@ class Reading(Case):
     def test_the_rate_is_that_of_the_track(self):
         _, text, _ = command("cat", clip("talk.webm"))
         self.assertEqual(text.split(b"\n", 1)[0], b"YUV4MPEG2 W96 H64 F25:1 Ip C420jpeg")
+
+
+class Paces(Case):
+    def test_a_rate_that_varies(self):
+        # Frames at 0, 40, 200 and 240 ms, and the end at 280 ms.
+        starts = [0, 40 * MS, 200 * MS, 240 * MS, 280 * MS]
+        self.assertEqual(list(paces.constant(starts, (25, 1))), [0, 1, 1, 1, 2, 2, 3])
+        self.assertEqual(paces.drift(starts, (25, 1)), 120 * MS)
+        self.assertEqual(list(paces.constant([0, 10 * MS, 20 * MS, 30 * MS, 80 * MS], (25, 1))), [0, 3])
+        self.assertEqual((list(paces.constant([0], (25, 1))), paces.drift([0], (25, 1))), ([], 0))
+        self.assertEqual(list(paces.constant([0, 40 * MS, 80 * MS], (25, 1))), [0, 1])
+
+    @needs_ffmpeg
+    def test_each_command(self):
+        stream, room = clip("varied.webm"), self.folder()
+        status, plain, errors = command("cat", stream)
+        self.assertEqual(status, 0)
+        self.assertRegex(errors, "the rate of the frames varies.* part by up to [0-9]+ ms. --constant")
+        status, text, errors = command("cat", stream, "--constant")
+        self.assertEqual(status, 0)
+        self.assertIn("the rate of the frames varies: of 86 frames ", errors)
+        head = text.index(b"\n") + 1
+        size = 6 + 96 * 64 * 3 // 2
+        self.assertEqual(text[:head], b"YUV4MPEG2 W96 H64 F25:1 Ip C420jpeg\n")
+        stamps = [stamp for stamp, _ in ivf.read_packets(media(stream, room)[1])[1]]
+        made = [text[head + size * turn : head + size * (turn + 1)] for turn in range((len(text) - head) // size)]
+        self.assertEqual(len(made), round((stamps[-1] - stamps[0] + 40) / 40))
+        # A frame that lasts twice as long is there twice.
+        for place, (one, other) in enumerate(zip(stamps, stamps[1:])):
+            first = (one - stamps[0]) // 40
+            self.assertEqual(made[first], plain[head + size * place : head + size * (place + 1)])
+        status, _, errors = command("cat", stream, room / "out.webm")
+        self.assertEqual(status, 2)
+        self.assertIn("`wokureti export` writes packets", errors)
 
 
 @needs_ffmpeg

@@ -60,6 +60,7 @@ def add_cat(commands):
         help="machines, as GNU parallel's --sshlogin takes them: `:` is this one, `4/user@host` another one with 4 processes. Files are "
         "carried there and back",
     )
+    add_constant(parser)
     parser.add_argument("--remote", default="vp8serve", metavar="PATH", help="vp8serve on these machines; the one on their PATH if missing")
     parser.set_defaults(run=run_cat)
 
@@ -72,11 +73,18 @@ def opened(given, folder):
 
 
 def run_cat(given):
+    from . import paces
+
     program = programs.find("vp8serve")
     jobs = given.jobs or len(os.sched_getaffinity(0))
     if jobs < 1:
         raise cat.Failed("--jobs is 1 or more")
+    if muxing.ending_of(given.out) is not None:
+        raise cat.Failed(f"cat writes frames, and not {given.out}: `wokureti export` writes packets")
     with rooms.Room() as folder, opened(given, folder) as session:
+        paces.warn(session.edits.contents(), given.constant, say)
+        if given.constant:
+            return cat.write_constant(session, given.out)
         if given.sshlogin:
             from . import machines
 
@@ -102,6 +110,10 @@ def add_served(parser):
     parser.add_argument("--anyway", action="store_true", help="makes the edits of a list that is of another stream")
     parser.add_argument("--keep-stamps", action="store_true", help="IVF files are saved with the time stamps of the packets; else those of an edited stream are new")
     add_sound(parser)
+
+
+def add_constant(parser):
+    parser.add_argument("--constant", action="store_true", help="of a stream whose rate varies: frames are repeated or left out, so that each is at the nearest time")
 
 
 def add_sound(parser):
@@ -155,6 +167,7 @@ def add_serve(commands):
     add_served(parser)
     parser.add_argument("--edits", metavar="FILE", help="the list of edits: it is made first, and each edit is written to it")
     parser.add_argument("--save", metavar="FILE", help="the file that `save` writes, and the end, if something was edited since")
+    add_constant(parser)
     parser.set_defaults(run=run_serve)
 
 
@@ -163,7 +176,7 @@ def run_serve(given):
 
     with rooms.Room() as folder:
         options = {**served(given, folder), "anyway": given.anyway}
-        return serve.run(options, given.edits, given.save, given.port, given.keep_stamps, given.sound)
+        return serve.run(options, given.edits, given.save, given.port, given)
 
 
 def add_mount(commands):
@@ -179,17 +192,19 @@ def add_mount(commands):
     parser.add_argument("folder", metavar="DIR", help="the empty folder")
     parser.add_argument("--edits", metavar="FILE", help="the list of edits: it is made first, and each edit is written to it")
     parser.add_argument("--serve", action="store_true", help="the page of `wokureti open` is there too, over the same session; its address is printed")
+    add_constant(parser)
     parser.add_argument("--others", action="store_true", help="other users may read the folder (user_allow_other in /etc/fuse.conf)")
     parser.set_defaults(run=run_mount)
 
 
 def run_mount(given):
-    from . import mount, opened, opening
+    from . import mount, opened, opening, paces
 
     mount.fuse_module()
     with rooms.Room() as folder:
         live = opened.Opened({**served(given, folder), "anyway": given.anyway}, given.edits)
-        live.keeps_stamps, live.sound = given.keep_stamps, given.sound
+        live.keeps_stamps, live.sound, live.is_constant = given.keep_stamps, given.sound, given.constant
+        paces.warn(live.contents(), given.constant, live.notice)
         server = opening.server_of(live, given.port, [given.stream, *given.source]) if given.serve else None
         return mount.run(live, given.folder, given.others, server)
 

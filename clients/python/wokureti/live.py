@@ -50,6 +50,8 @@ class Live:
 
     # Whether packets are saved as with --pad, whether they keep their time stamps, and what is done with sound (`sounds.outputs`).
     pad, keeps_stamps, sound = False, False, None
+    # Whether frames are repeated or left out, so that all last as long.
+    is_constant = False
 
     def __init__(self, options, edits=None, save=None, stems=()):
         self.options = dict(options, timeout=MOST_TIME)

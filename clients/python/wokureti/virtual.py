@@ -3,6 +3,7 @@
 import queue
 import threading
 
+from . import paces
 from .errors import Lost, Refused
 from .frames import MARK, size_of
 from .live import Changed
@@ -53,7 +54,10 @@ class Clip:
 
     def __init__(self, live, mode=None):
         self.live, self.mode = live, mode
-        self.revision, self.outcomes = live.outcomes()
+        with live.lock:
+            self.revision, self.outcomes = live.outcomes()
+            # The frames of the stream that are the frames of the file, if they are repeated or left out.
+            self.order = paces.constant(paces.begins(live.contents()), live.rate()) if live.is_constant else None
         self.etag = f'"{live.instance}-{self.revision}{f"-{mode}" if mode else ""}"'
         size = self.outcomes.size
         refused = self.outcomes.first_refused()
@@ -64,13 +68,14 @@ class Clip:
         self.header = header_of(size, live.rate())
         self.samples = size_of(*size)
         self.frame_size = len(MARK) + self.samples
-        self.count = self.outcomes.count
+        self.count = self.outcomes.count if self.order is None else len(self.order)
         self.length = len(self.header) + self.count * self.frame_size
         luma = size[0] * size[1]
         self.black = bytes([16]) * luma + bytes([128]) * (self.samples - luma)
 
     def source_of(self, number):
-        """The frame whose picture is served as this one, or None for a black one."""
+        """The frame of the stream whose picture is served as this one, or None for a black one."""
+        number = number if self.order is None else self.order[number]
         if self.outcomes.is_served(self.outcomes.of_frame(number)):
             return number
         return self.outcomes.served_before(number) if self.mode == "repeat" else None
@@ -85,6 +90,7 @@ class Clip:
         sources = list(map(self.source_of, numbers))
         if self.mode == "error" and None in sources:
             number = list(numbers)[sources.index(None)]
+            number = number if self.order is None else self.order[number]
             raise Cannot(number, self.outcomes.reply(self.outcomes.of_frame(number)))
         return [self.black if source is None else found[source][2] for source in sources]
 
