@@ -52,9 +52,9 @@ def md5s(path, *more):
 
 
 def by_mpv(path, room):
-    out = os.path.join(room, "mpv.y4m")
-    run("mpv", "--no-config", "--really-quiet", "--no-audio", f"--o={out}", "--ovc=rawvideo", "--of=yuv4mpegpipe", "--vf=format=yuv420p", path)
-    return md5s(out)
+    out = os.path.join(room, "mpv.yuv")
+    run("mpv", "--no-config", "--really-quiet", "--no-audio", f"--o={out}", "--ovc=rawvideo", "--of=rawvideo", "--vf=format=yuv420p", path)
+    return md5s_of_raw(out)
 
 
 def by_gstreamer(path, room):

@@ -1,9 +1,10 @@
 #!/usr/bin/env python3
-"""Programs that open files by a path read the folder of `wokureti mount`: ffmpeg, mpv, melt, GStreamer and VLC, those of them that are here.
+"""Programs that open files by a path read the folder of `wokureti mount`: ffmpeg, mpv, melt and GStreamer, those of them that are here.
 
     compare/mounted.py [--reads N] [--seed S]
 
-It needs python3-fusepy and fuse3. Each program reads the frames of clip.y4m, and seeks in it; the files are read at random places and compared with
+It needs python3-fusepy and fuse3. Each program reads the frames of clip.y4m, and seeks in it, and of a file on the disk with the same bytes: melt
+converts its samples, so those of the clip are compared with ffmpeg's and mpv's only. The files are read at random places and compared with
 what the programs write; edits are made while they are read; the mount and vp8serve are killed. README.md says more.
 """
 
@@ -43,9 +44,9 @@ def by_ffmpeg(path, start, room):
 
 
 def by_mpv(path, start, room):
-    out = f"{room}/mpv.y4m"
-    run("mpv", "--no-config", "--really-quiet", f"--start={start / RATE}", f"--o={out}", "--ovc=rawvideo", "--of=yuv4mpegpipe", "--vf=format=yuv420p", path)
-    return md5s("-i", out)
+    out = f"{room}/mpv.yuv"
+    run("mpv", "--no-config", "--really-quiet", f"--start={start / RATE}", f"--o={out}", "--ovc=rawvideo", "--of=rawvideo", "--vf=format=yuv420p", path)
+    return md5s("-f", "rawvideo", "-pix_fmt", "yuv420p", "-s", "320x180", "-i", out)
 
 
 def by_melt(path, start, room):
@@ -58,7 +59,7 @@ def by_melt(path, start, room):
 
 
 def by_gstreamer(path, start, room):
-    if start:
+    if start or subprocess.run(["gst-inspect-1.0", "--exists", "y4mdec"], check=False).returncode:
         return None
     out = f"{room}/gst.yuv"
     run("gst-launch-1.0", "-q", "filesrc", f"location={path}", "!", "y4mdec", "!", "video/x-raw,format=I420", "!", "filesink", f"location={out}")
@@ -158,22 +159,24 @@ def main():
     given = words.parse_args()
     mount.fuse_module()
     os.environ["PYTHONPATH"] = str(TOP / "clients/python")
-    dice, wrong, frames = random.Random(given.seed), 0, 0
+    dice, wrong, frames, names = random.Random(given.seed), 0, 0, set()
     with tempfile.TemporaryDirectory() as room:
         clip, folder = f"{room}/clip.ivf", pathlib.Path(room, "folder")
         folder.mkdir()
         run("ffmpeg", "-nostdin", "-v", "error", "-f", "lavfi", "-i", f"testsrc2=size=320x180:rate={RATE}", "-frames:v", COUNT, "-c:v", "libvpx", "-threads", "1", "-g", "30", clip)
-        mounted, whole = Mounted(clip, folder), md5s("-i", clip)
+        mounted, whole, disk = Mounted(clip, folder), md5s("-i", clip), f"{room}/disk.y4m"
+        pathlib.Path(disk).write_bytes(texts(clip)["clip.y4m"])
         try:
             for name in [one for one in READERS if shutil.which(one)]:
                 for start in (0, *sorted(dice.sample(range(1, COUNT), 4))):
                     found = READERS[name](str(folder / "clip.y4m"), start, room)
                     if found is None:
                         continue
-                    frames += len(found)
-                    if found != whole[start:]:
+                    frames, names = frames + len(found), names | {name}
+                    wanted = READERS[name](disk, start, room) if name == "melt" else whole[start:]
+                    if found != wanted or len(found) != COUNT - start:
                         wrong += 1
-                        first = next((place for place, pair in enumerate(zip(found, whole[start:])) if pair[0] != pair[1]), min(len(found), COUNT - start))
+                        first = next((place for place, pair in enumerate(zip(found, wanted)) if pair[0] != pair[1]), min(len(found), COUNT - start))
                         print(f"{name} from frame {start}: {len(found)} frames, the first other one is {first}")
             wrong += read_at_random(dice, folder, clip, given.reads) + edit_meanwhile(dice, folder, clip)
             children = run("pgrep", "-P", mounted.process.pid, "vp8serve").decode().split()
@@ -183,8 +186,7 @@ def main():
         finally:
             mounted.end(signal.SIGKILL)
         wrong += list(folder.iterdir()) != []
-    names = [name for name in READERS if shutil.which(name)]
-    print(f"{', '.join(names)}: {frames} frames, {given.reads} reads, 10 edits meanwhile, vp8serve and the mount killed: {wrong} wrong")
+    print(f"{', '.join(sorted(names))}: {frames} frames, {given.reads} reads, 10 edits meanwhile, vp8serve and the mount killed: {wrong} wrong")
     return 1 if wrong else 0
 
 
