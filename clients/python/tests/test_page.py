@@ -315,9 +315,16 @@ class Views(PageCase):
         self.assertEqual((status, headers["Content-Disposition"]), (200, 'attachment; filename="scenes-edited.ivf"'))
         self.change("save")
         self.assertEqual(body, (room / "out.ivf").read_bytes())
+        # Frames follow each other without a gap, and times do not go back: each packet of the clip is shown.
+        packets = ivf.read_packets(room / "out.ivf")[1]
+        self.assertEqual([stamp for stamp, _ in packets], list(range(len(packets))))
+        self.assertEqual(self.ask("/download")[2], body)
+        self.live.keeps_stamps = True
         replies = serve(SCENES, ["delete 4", "hold 9", "replace 12 -", "move 20 3"], "--save", room / "other.ivf")
         self.assertTrue(all(reply.startswith("ok") for reply in replies))
-        self.assertEqual(body, (room / "other.ivf").read_bytes())
+        self.assertEqual(self.ask("/stream.ivf")[2], (room / "other.ivf").read_bytes())
+        self.change("save")
+        self.assertEqual((room / "out.ivf").read_bytes(), (room / "other.ivf").read_bytes())
 
 
 def letter_of(fact):
@@ -1126,7 +1133,7 @@ class TheCommand(Case):
     def test_it_saves_at_the_end_if_it_was_asked_to(self):
         room = self.folder()
         clip = write_packets(room / "clip.ivf", packets_of(SMALL))
-        process, host, token = self.open(clip, "--edits", room / "list", "--save", room / "out.ivf")
+        process, host, token = self.open(clip, "--edits", room / "list", "--save", room / "out.ivf", "--keep-stamps")
         self.ask(host, f"/{token}/edits", "hold 3")
         self.end(process)
         # The packet that holds the picture is saved so that libvpx shows it.
@@ -1135,7 +1142,7 @@ class TheCommand(Case):
             other.save(room / "plain.ivf")
             other.save(room / "padded.ivf", pad=True)
         self.assertEqual((room / "out.ivf").read_bytes(), (room / "padded.ivf").read_bytes())
-        process, host, token = self.open(clip, "--edits", room / "list", "--save", room / "out.ivf", "--no-pad")
+        process, host, token = self.open(clip, "--edits", room / "list", "--save", room / "out.ivf", "--no-pad", "--keep-stamps")
         self.ask(host, f"/{token}/edits", "save")
         self.end(process)
         self.assertEqual((room / "out.ivf").read_bytes(), (room / "plain.ivf").read_bytes())

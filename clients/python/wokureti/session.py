@@ -20,6 +20,8 @@ AnyBytes = Union[bytes, bytearray, memoryview]
 EDITS = frozenset(("use", "insert", "replace", "delete", "move", "copy", "blank", "hold", "script"))
 # Lines and bytes that are sent at a time, at most.
 MOST_LINES, MOST_BYTES = 500, 1 << 18
+# Bytes of pictures that the program caches where nothing else is said.
+MOST_CACHED = 512 << 20
 
 
 class Count(NamedTuple):
@@ -34,7 +36,7 @@ class Session:
     are taken out first, by ffmpeg or mkvextract.
 
     `sources` are the paths of sources 1 to 7, `cache` the number of cached states, or `cache_bytes` the number of bytes that their pictures
-    may take, `tables` a file that replaces the RFC's long tables, and `save` the file that gets the packets of source 0 when the session
+    may take, 512 MiB if neither is given, `tables` a file that replaces the RFC's long tables, and `save` the file that gets the packets of source 0 when the session
     is closed; with `pad` players that use libvpx show the packets of `blank` and `hold` in it too. `program` is the path of vp8serve, `lister` that of vp8list, which `packets` needs.
 
     `edits` is a file that the accepted edits are written to, each when it was accepted; if the file exists, its edits are made first. A list
@@ -107,8 +109,8 @@ class Session:
             words += ["--tables", checks.path(tables)]
         if cache is not None:
             words += ["--cache", str(checks.states(cache))]
-        if cache_bytes is not None:
-            words += ["--cache-bytes", str(checks.number(cache_bytes))]
+        if cache_bytes is not None or cache is None:
+            words += ["--cache-bytes", str(checks.number(MOST_CACHED if cache_bytes is None else cache_bytes))]
         return words + ["--pad"] * bool(pad) + ["--explain"] * bool(self._explain)
 
     def _close_files(self):
@@ -395,10 +397,14 @@ class Session:
             contents = self._edits.contents()
             return contents.shown_kinds(0) if contents.script == "-" else None
 
-    def save(self, path: AnyPath, pad: bool = False, source: int = 0) -> None:
-        """Writes the current packets of a source as an IVF file now, as `--save` does at the end."""
+    def save(self, path: AnyPath, pad: bool = False, source: int = 0, restamp: bool = False, sound: Optional[str] = None) -> None:
+        """Writes the current packets of a source as an IVF file now, as `--save` does at the end; with `restamp` with new time stamps, by which each
+        shown packet stays as long as in its file.
+
+        If the path ends in `.webm` or `.mkv`, the time stamps are new ones, and the sound of the files is cut with the packets: `sound` is `copy`,
+        `encode` or `none`; without it packets of sound are copied where that is exact, else coded again. `ValueError` if it cannot be done."""
         with self._locked(None):
-            self._edits.contents().save(path, pad, source)
+            self._edits.contents().save(path, pad, source, restamp, sound)
 
 
 class _Turn:

@@ -108,7 +108,7 @@ function writeSelection() {
 }
 
 function writeHead() {
-  const { names, rate, script, saved, sources, saves } = model.session;
+  const { names, rate, script, saved, sources, saves, exports, changing } = model.session;
   find("name").textContent = names[0];
   document.title = `${saved ? "" : "• "}${names[0]} – Wokureti`;
   const facts = [`${model.session.packets.toLocaleString("en")} packets`, `${model.frames.toLocaleString("en")} frames`, `${(rate[0] / rate[1]).toFixed(3).replace(/\.?0+$/, "")} frames a second`];
@@ -117,6 +117,9 @@ function writeHead() {
   find("saved").textContent = savedText(model.session);
   find("saved").title = find("saved").textContent;
   find("save").title = `Save the edited packets to ${saves[0].next} (Ctrl+S)`;
+  find("export").hidden = !exports || script === "-";
+  find("export").classList.toggle("off", changing !== null);
+  find("export").title = changing ? `Node ${changing[0]}, ${changing[1]}, changes the picture, and so cannot be exported without coding again` : "The frames that are shown as a file, without coding again";
   const label = find("source-label");
   label.hidden = sources.length < 2;
   find("replace-source").hidden = sources.length < 2;
