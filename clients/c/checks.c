@@ -112,7 +112,7 @@ static void frame(run *r, uint64_t n) {
 static void save(run *r) {
     for (int turn = 0; turn < 2; turn++) {
         size_t length = 0, told = 0;
-        uint32_t status = wk_save(&r->handle, 1, &length);
+        uint32_t status = wk_save(&r->handle, true, &length);
         if (status == WK_OK) {
             if (length > r->room_size || wk_text(&r->handle, r->room, r->room_size, &told)) fail("no file", (long)length);
             add(r, r->room, length);

@@ -121,7 +121,7 @@ int main(int argc, char **argv) {
         if (out && !strncmp(line, "frame ", 6)) frame(&handle, strtoull(line + 6, NULL, 10), out);
     }
     if (saved) {
-        if (wk_save(&handle, 0, &length) != WK_OK) fail("the packets were not saved");
+        if (wk_save(&handle, false, &length) != WK_OK) fail("the packets were not saved");
         write_text(&handle, length, saved);
         fclose(saved);
     }

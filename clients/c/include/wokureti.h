@@ -29,6 +29,7 @@
 #ifndef WOKURETI_H
 #define WOKURETI_H
 
+#include <stdbool.h>
 #include <stddef.h>
 #include <stdint.h>
 
@@ -66,7 +67,7 @@ enum {
     WK_LOST = 7,     /* out of memory for a reply; the line may have been answered */
     /* refusals, as the words of replies */
     WK_LINE = 16, WK_SOURCE, WK_PLACE, WK_FULL, WK_SPENT, WK_SIZE, WK_TOO_LARGE, WK_NO_SUCH_FRAME, WK_PACKET, WK_CROP_OUTSIDE,
-    WK_SIZE_DIFFERS, WK_SYNTAX, WK_NODES, WK_REFERENCE, WK_NUMBER, WK_NO_MEMORY
+    WK_SIZE_DIFFERS, WK_SYNTAX, WK_NODES, WK_REFERENCE, WK_NUMBER, WK_NO_MEMORY, WK_NO_BIT
 };
 
 enum { WK_FILE_HEADER = 1, WK_FILE_MAGIC, WK_FILE_FOURCC, WK_FILE_HEADER_LENGTH, WK_FILE_TOO_MANY, WK_FILE_NO_MEMORY };
@@ -91,9 +92,13 @@ uint32_t wk_frame(wk_handle *handle, uint64_t n, uint8_t *y, size_t y_size, uint
  * empty line or a comment. The bytes of a frame go nowhere. */
 uint32_t wk_request(wk_handle *handle, const uint8_t *line, size_t size, size_t *length);
 
-/* Makes the IVF file of the current packets of source 0, which is the text of the handle afterwards. If `pads` is not 0, a byte 00 is
+/* Writes why the last line was refused, as `vp8serve --explain` does, which is the text of the handle afterwards. Its length is 0 if the line was
+ * answered otherwise. */
+uint32_t wk_why(wk_handle *handle, size_t *length);
+
+/* Makes the IVF file of the current packets of source 0, which is the text of the handle afterwards. With `pads` a byte 00 is
  * added to each packet whose last token partition is empty (players that use libvpx show it then). */
-uint32_t wk_save(wk_handle *handle, uint32_t pads, size_t *length);
+uint32_t wk_save(wk_handle *handle, bool pads, size_t *length);
 
 /* Copies the text of the handle to the front of a room. With WK_ROOM nothing is written, and `length` is the length of the text. */
 uint32_t wk_text(wk_handle *handle, uint8_t *room, size_t size, size_t *length);

@@ -68,6 +68,17 @@ class Alike(Library):
             session.hold(3)
         self.assertEqual((folder / "ours.ivf").read_bytes(), (folder / "its.ivf").read_bytes())
 
+    def test_reasons_are_those_of_the_program(self):
+        ours, its = self.session(explain=True), Case.session(self, SMALL, explain=True)
+        for line in ("delete 99999", "blank 0 0 16", "script trim 0", "frame 123456", "nonsense 1", "insert 0 0 zz", "use 3"):
+            found = []
+            for session in (ours, its):
+                with self.assertRaises(Refused) as caught:
+                    session.request(line)
+                found.append((str(caught.exception), caught.exception.reason))
+            self.assertEqual(*found)
+            self.assertTrue(found[0][1])
+
     def test_the_version(self):
         first, second, third = map(int, (TOP / "VERSION").read_text().split("."))
         self.assertEqual(library.load().wk_version(), 10000 * first + 100 * second + third)
@@ -87,7 +98,7 @@ class Broken(Library):
             Session(SMALL, tables=path, engine="library")
 
     def test_what_it_does_not_take(self):
-        for options in ({"cache_bytes": 1 << 20}, {"explain": True}, {"engine": "none"}):
+        for options in ({"cache_bytes": 1 << 20}, {"engine": "none"}):
             with self.assertRaises(ValueError):
                 Session(SMALL, **{"engine": "library", **options})
 

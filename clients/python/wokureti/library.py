@@ -77,7 +77,8 @@ def load(path=None):
         "wk_close": [pointer],
         "wk_frame": [pointer, ctypes.c_uint64, pointer, size, pointer, size, pointer, size, pointer],
         "wk_request": [pointer, data, size, pointer],
-        "wk_save": [pointer, ctypes.c_uint32, pointer],
+        "wk_why": [pointer, pointer],
+        "wk_save": [pointer, ctypes.c_bool, pointer],
         "wk_text": [pointer, pointer, size, pointer],
     }
     for name, types in calls.items():
@@ -89,8 +90,8 @@ def load(path=None):
 class Engine:
     """A session of the library. All its calls are made on one thread."""
 
-    def __init__(self, library, files, states, tables):
-        self.library = library
+    def __init__(self, library, files, states, tables, explains):
+        self.library, self.explains, self.reasons = library, explains, []
         self.handle = (ctypes.c_void_p * 1)()
         self.shown, self.length = Shown(), ctypes.c_size_t()
         self.size = (0, 0)
@@ -110,11 +111,13 @@ class Engine:
 
     def answer(self, line):
         """The reply to a line, and the picture if it is served."""
-        line = line.rstrip(b"\n")
+        line = line[:-1] if line.endswith(b"\n") else line
         status = self.library.wk_request(self.handle, line, len(line), ctypes.byref(self.length))
         if status != OK:
             raise Strange(f"out of memory for a reply ({status})")
         reply = self.text().decode(errors="replace").rstrip("\n")
+        if self.explains and reply.startswith("refused "):
+            self.reasons.append(self.reason())
         return reply, self.picture(int(reply.split()[1])) if reply.startswith("served ") else None
 
     def picture(self, number):
@@ -135,9 +138,15 @@ class Engine:
                 raise Strange(f"frame {number} was served, and then not ({status})")
             self.size = (self.shown.width, self.shown.height)
 
+    def reason(self):
+        """Why the last line was refused, as the program explains it."""
+        if self.library.wk_why(self.handle, ctypes.byref(self.length)) != OK:
+            return ""
+        return self.text().decode(errors="replace").rstrip("\n")
+
     def saved(self, pads):
         """The IVF file of the current packets of source 0."""
-        if self.library.wk_save(self.handle, int(pads), ctypes.byref(self.length)) != OK:
+        if self.library.wk_save(self.handle, bool(pads), ctypes.byref(self.length)) != OK:
             raise MemoryError("out of memory for the file of the packets")
         return self.text()
 
@@ -179,14 +188,14 @@ def work(asked):
 class Library:
     """A running session. `files` are the bytes of its sources; `save` gets the packets of source 0 when it is finished."""
 
-    def __init__(self, files, states=CACHE, tables=b"", save=None, pad=False):
+    def __init__(self, files, states=CACHE, tables=b"", save=None, pad=False, explains=False):
         library = load()
         self.owner = os.getpid()
         self.asked = queue.SimpleQueue()
         threading.Thread(target=work, args=(self.asked,), name="wokureti", daemon=True).start()
         self.engine, self.is_over, self.save, self.pad = None, False, save, pad
         self.finalizer = weakref.finalize(self, self.asked.put, None)
-        self.engine = self.call(lambda: Engine(library, files, states, tables))
+        self.engine = self.call(lambda: Engine(library, files, states, tables, explains))
         if self.engine.trouble:
             status, source, cause = self.engine.trouble
             self.finalizer()
@@ -224,8 +233,10 @@ class Library:
         return found
 
     def explanation(self, number):
-        """Why a line was refused: the library does not say it."""
-        return None
+        """The text that explains the refusal of request line `number`; those of earlier lines are dropped."""
+        reasons, self.engine.reasons = self.engine.reasons, []
+        start = f"line {number}: "
+        return next((reason[len(start) :] for reason in reasons if reason.startswith(start)), None)
 
     def owner_is_here(self):
         """Whether this is the process that opened the session, and not a forked copy, in which the worker is not."""

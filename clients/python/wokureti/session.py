@@ -45,7 +45,7 @@ class Session:
     a request, in `Refused.reason`.
 
     With `engine="library"` there is no program: the same proved code answers in this process, from `libwokureti.so.0`, without a pipe. It
-    does not explain, takes no `cache_bytes`, and a call that takes too long is left to its thread, and the session is over.
+    takes no `cache_bytes`, and a call that takes too long is left to its thread, and the session is over.
 
     Threads may share a session: a call waits until the one before it has its reply and its picture. What leaves a call in the middle, as
     an exception of a signal's handler, or a call that takes too long, ends the session, since the reply would be taken for the next
@@ -121,14 +121,14 @@ class Session:
         """The session in this process, over the bytes of the files as they were opened."""
         if engine != "library":
             raise ValueError(f'the engine is {engine!r}, but must be "program" or "library"')
-        if cache_bytes is not None or self._explain:
-            raise ValueError("the library takes neither cache_bytes nor explain: use the program")
+        if cache_bytes is not None:
+            raise ValueError("the library does not take cache_bytes: use the program")
         if save is not None:
             checks.outputs(save, [*self._inputs.paths, *([] if tables is None else [tables])], "save")
         files = [item.whole() for item in self._inputs.all]
         states = CACHE if cache is None else checks.states(cache)
         try:
-            return Library(files, states, b"" if tables is None else pathlib.Path(tables).read_bytes(), None if save is None else checks.path(save), pad)
+            return Library(files, states, b"" if tables is None else pathlib.Path(tables).read_bytes(), None if save is None else checks.path(save), pad, self._explain)
         except Gone as error:
             raise Ended(2, str(error)) from None
 

@@ -224,6 +224,7 @@ pub fn answer_line<F: Write, P: Write>(
     ensures serves { OnOk result (Serves session.old.now (asked_by line.now) (F.contents frames.old) (F.contents frames.new) (P.contents replies.old) (P.contents replies.new) session.new.now) }
     ensures frame_first { WritesFrameFirst session.old.now (asked_by line.now) (F.contents frames.old) (F.contents frames.new) (P.contents replies.old) (P.contents replies.new) session.new.now }
     ensures capacity { session.new.cache.capacity ≡ session.old.cache.capacity }
+    ensures told { IfOk result (Tells (P.contents replies.old) (P.contents replies.new)) }
 {
     let request = read_line(line).unwrap_or(Line::Unknown);
     serve_line(session, request, frames, replies, Flushing::AtEnd)

@@ -1,5 +1,5 @@
 -- What the calls of a handle answer.
-use Rattle.std.specs.Prelude.{◌≡◌, ℕ, Bool, if◌then◌else◌, List, [], length, Option, Some, Result, Ok, Err}
+use Rattle.std.specs.Prelude.{◌≡◌, ℕ, ◌+◌, ◌-◌, ◌^◌, min, Bool, if◌then◌else◌, List, [], Option, Some, None, IfSome, Result, Ok, Err}
 use Rattle.std.specs.Io.KnownBytes.{Appends}
 use Rattle.pixel_planes.specs.Pictures.{PictureSamples}
 use Rattle.pixel_planes.specs.declared.pictures.Component.TheVariants.{Luma, Cb, Cr}
@@ -11,8 +11,13 @@ use Rattle.frame_session.specs.Cached.{SessionValue}
 use Rattle.frame_session.specs.Edits.{list_at}
 use Rattle.frame_session.specs.IsOrNoMemory.{IsFrameOrNoMemory}
 use Rattle.frame_session.specs.Sessions.{IsAfterFrame, Now, frame_of, size_given}
+use Rattle.frame_session.specs.Told.{Tells}
 use Rattle.frame_session.specs.declared.refusal.Refusal.{Refusal}
+use Rattle.explanations.specs.Details.{IsDetail}
+use Rattle.explanations.specs.Refusals.{explained}
+use Rattle.explanations.specs.declared.details.Detail.{Detail}
 use Rattle.wokureti_c.specs.declared.engine.Engine.{Engine}
+use Rattle.wokureti_c.specs.declared.engine.RefusedLine.{RefusedLine}
 use Rattle.wokureti_c.specs.declared.frames.Shown.{Shown}
 use Rattle.wokureti_c.specs.Rooms.{Fits, with_bytes, with_plane}
 use Rattle.wokureti_c.specs.Statuses.{number_of_refusal}
@@ -50,18 +55,38 @@ pub record IsTooLarge (old : SessionValue) (n : ℕ) (shown : Shown) (rooms room
   pub answers : FrameAnswers old n (Ok picture) new
   pub wide : shown.width ≡ picture.width
   pub high : shown.height ≡ picture.height
-  pub rooms : rooms' ≡ rooms
+  pub untouched : rooms' ≡ rooms
 
 -- a frame that was refused, with this number: the rooms as they were
 pub record IsRefused (old : SessionValue) (n status : ℕ) (rooms rooms' : Planes) (new : SessionValue) : Type 0 where
   pub refusal : Refusal
   pub answers : FrameAnswers old n (Err refusal) new
   pub numbered : status ≡ number_of_refusal refusal
-  pub rooms : rooms' ≡ rooms
+  pub untouched : rooms' ≡ rooms
 
--- a request line was answered over a session, its reply is the text that is left, and the bytes of frames that it wrote are given to nobody
-abbrev pub IsAnswered : Engine → List ℕ → Engine → Type 0
-IsAnswered old line new = Serves old.session.now (asked_by line) None None (Some []) (Some new.text.items) new.session.now
+-- a line is kept with its number and the refusal that its reply reports
+pub record IsKept (number : ℕ) (line reply : List ℕ) (kept : RefusedLine) : Type 0 where
+  pub number : kept.number ≡ number
+  pub line : kept.line.items ≡ line
+  pub told : Tells (Some []) (Some reply) (Some kept.refusal)
+
+-- a request line was answered over a session: its reply is the text that is left, and the bytes of frames that it wrote are given to nobody; the line
+-- is kept if it was refused
+pub record IsAnswered (old : Engine) (line : List ℕ) (new : Engine) : Type 0 where
+  pub serves : Serves old.session.now (asked_by line) None None (Some []) (Some new.text.items) new.session.now
+  pub number : new.answered ≡ min (old.answered + 1) (2 ^ 64 - 1)
+  pub kept : IfSome new.refused (IsKept new.answered line new.text.items)
+
+-- the text that explains a line that was refused, or nothing
+abbrev pub IsReason : Engine → Option RefusedLine → List ℕ → Type 0
+IsReason engine None text = text ≡ []
+IsReason engine (Some asked) text =
+    (detail : Detail) × IsDetail engine.session.now (asked_by asked.line.items) asked.refusal detail × (text ≡ explained asked.number asked.line.items detail asked.refusal)
+
+-- it is the text that is left, and nothing else changed
+pub record IsExplained (old new : Engine) : Type 0 where
+  pub rest : new ≡ record old { text = new.text }
+  pub reason : IsReason old old.refused new.text.items
 
 -- the file of the packets of source 0
 abbrev pub saved_file : Bool → Now → List ℕ
@@ -69,7 +94,7 @@ saved_file padded now = written_text now.head ((if padded then padded_packets_of
 
 -- it is the text that is left, and nothing else changed
 pub record IsSaved (old : Engine) (padded : Bool) (new : Engine) : Type 0 where
-  pub same : new.session ≡ old.session
+  pub rest : new ≡ record old { text = new.text }
   pub text : new.text.items ≡ saved_file padded old.session.now
 
 -- a handle holds an engine before and after a call, which are related by this

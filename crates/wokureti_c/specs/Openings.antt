@@ -24,7 +24,7 @@ files_in bytes ends = files_from 0 bytes ends
 -- no end is before the one before it, or past the end of the bytes
 abbrev pub are_ends_from : ℕ → List ℕ → List ℕ → Bool
 are_ends_from start bytes [] = true
-are_ends_from start bytes (end ∷ ends) = nat_le start end && nat_le end (length bytes) && are_ends_from end bytes ends
+are_ends_from start bytes (end ∷ ends) = nat_le start end && (nat_le end (length bytes) && are_ends_from end bytes ends)
 
 -- one to eight files, and 1 to 4,096 states
 abbrev pub are_allowed : List ℕ → List ℕ → ℕ → Bool

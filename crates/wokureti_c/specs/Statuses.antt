@@ -23,6 +23,7 @@ number_of_refusal refusals.Nodes = 28
 number_of_refusal refusals.Reference = 29
 number_of_refusal refusals.Number = 30
 number_of_refusal refusals.NoMemory = 31
+number_of_refusal refusals.NoBit = 32
 
 -- the number of the error of a file
 abbrev pub number_of_file_fault : IvfFault → ℕ

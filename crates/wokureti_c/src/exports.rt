@@ -1,6 +1,6 @@
 //! The calls of the library.
-ghost use Rattle.std.specs.Prelude.{◌≡◌, ◌<◌, ◌==◌, None, Some, length as count, not};
-ghost use Rattle.wokureti_c.specs.Calls.{IsAnswered, IsRefused, IsSaved, IsServed, IsTooLarge, Over};
+ghost use Rattle.std.specs.Prelude.{◌≡◌, ◌<◌, None, Some, length as count};
+ghost use Rattle.wokureti_c.specs.Calls.{IsAnswered, IsExplained, IsRefused, IsSaved, IsServed, IsTooLarge, Over};
 ghost use Rattle.wokureti_c.specs.Openings.{IsNotOpened, IsOpened, files_in};
 ghost use Rattle.wokureti_c.specs.Rooms.{with_bytes};
 ghost use Rattle.wokureti_c.specs.declared.engine.Engine.{Engine};
@@ -9,9 +9,9 @@ use crate::engine::Engine;
 use crate::frames::{Fault, Shown, show};
 use crate::handle::{Handle, put, take};
 use crate::opening::open;
-use crate::requests::{answer, save};
-use crate::rooms::put_bytes;
-use crate::statuses::{CLOSED, MEMORY, OK, ROOM};
+use crate::requests::{answer, explain, save};
+use crate::rooms::copy;
+use crate::statuses::{CLOSED, MEMORY, OK};
 use std::alloc::Global;
 
 /// The version of the library: 10,000 times the first number, 100 times the second, and the third.
@@ -51,8 +51,13 @@ pub extern "C" fn wk_open(
         Ok(session) => session,
         Err(fault) => return fault.tell(told),
     };
-    let text = Vec::new(alloc);
-    let Ok(engine) = Box::new(alloc, Engine { session, text }) else {
+    let engine = Engine {
+        session,
+        text: Vec::new(alloc),
+        answered: 0,
+        refused: None,
+    };
+    let Ok(engine) = Box::new(alloc, engine) else {
         return MEMORY;
     };
     put(handle, engine);
@@ -106,18 +111,35 @@ pub extern "C" fn wk_request(
     status
 }
 
-/// Writes the packets of source 0 as an IVF file, which is the text of the handle afterwards; if `pads` is not 0, with
-/// a byte 00 after each packet whose last token partition is empty.
+/// Writes why the last request line was refused, as `vp8serve --explain` does, which is the text of the handle afterwards: nothing if it was
+/// answered otherwise, or if there was no memory to keep the line.
 #[unsafe(no_mangle)]
-pub extern "C" fn wk_save(handle: &mut Handle, alloc: Global, pads: u32, length: &mut usize) -> u32
-    ensures saved { result ≡ 0 → Over handle.old.held handle.new.held (λ old new. IsSaved old (not (pads == 0)) new × (length.new ≡ count new.text.items)) }
+pub extern "C" fn wk_why(handle: &mut Handle, alloc: Global, length: &mut usize) -> u32
+    ensures explained { result ≡ 0 → Over handle.old.held handle.new.held (λ old new. IsExplained old new × (length.new ≡ count new.text.items)) }
     ensures memory { result ≡ 3 → handle.new.held ≡ handle.old.held }
     ensures closed { handle.old.held ≡ None → (result ≡ 4) × (handle.new.held ≡ None) }
 {
     let Some(mut engine) = take(handle, alloc) else {
         return CLOSED;
     };
-    let status = save(alloc, &mut engine, pads != 0);
+    let status = explain(alloc, &mut engine);
+    *length = engine.text.len();
+    put(handle, engine);
+    status
+}
+
+/// Writes the packets of source 0 as an IVF file, which is the text of the handle afterwards; with `pads` with
+/// a byte 00 after each packet whose last token partition is empty.
+#[unsafe(no_mangle)]
+pub extern "C" fn wk_save(handle: &mut Handle, alloc: Global, pads: bool, length: &mut usize) -> u32
+    ensures saved { result ≡ 0 → Over handle.old.held handle.new.held (λ old new. IsSaved old pads new × (length.new ≡ count new.text.items)) }
+    ensures memory { result ≡ 3 → handle.new.held ≡ handle.old.held }
+    ensures closed { handle.old.held ≡ None → (result ≡ 4) × (handle.new.held ≡ None) }
+{
+    let Some(mut engine) = take(handle, alloc) else {
+        return CLOSED;
+    };
+    let status = save(alloc, &mut engine, pads);
     *length = engine.text.len();
     put(handle, engine);
     status
@@ -140,10 +162,7 @@ pub extern "C" fn wk_text(
         return CLOSED;
     };
     *length = engine.text.len();
-    let fits = engine.text.len() <= room.len();
-    if fits {
-        put_bytes(room, 0, engine.text.as_slice());
-    }
+    let status = copy(engine.text.as_slice(), room);
     put(handle, engine);
-    if fits { OK } else { ROOM }
+    status
 }

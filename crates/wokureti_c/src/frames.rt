@@ -31,7 +31,7 @@ pub struct Fault {
 
 /// Whether a picture fits into the three rooms.
 fn has_room(y: &[u8], cb: &[u8], cr: &[u8], picture: &Picture, shown: &Shown) -> bool
-    ensures { IsTrue result → Fits picture.now Component.Luma shown.luma_stride y.now × Fits picture.now Component.Cb shown.chroma_stride cb.now × Fits picture.now Component.Cr shown.chroma_stride cr.now }
+    ensures { IsTrue result → Fits picture.now Component.Luma shown.now.luma_stride y.now × Fits picture.now Component.Cb shown.now.chroma_stride cb.now × Fits picture.now Component.Cr shown.now.chroma_stride cr.now }
 {
     fits(y, picture, Component::Luma, shown.luma_stride)
         && fits(cb, picture, Component::Cb, shown.chroma_stride)

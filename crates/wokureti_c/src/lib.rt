@@ -11,7 +11,7 @@ mod rooms;
 mod statuses;
 mod unboxed;
 
-pub use exports::{wk_close, wk_frame, wk_open, wk_request, wk_save, wk_text, wk_version};
+pub use exports::{wk_close, wk_frame, wk_open, wk_request, wk_save, wk_text, wk_version, wk_why};
 pub use frames::{Fault, Shown};
 pub use handle::Handle;
 pub use unboxed::Unboxed;

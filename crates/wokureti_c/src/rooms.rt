@@ -3,6 +3,7 @@ ghost use Rattle.std.specs.Prelude.{◌≡◌, ◌≤◌, ◌+◌, IsTrue, lengt
 ghost use Rattle.pixel_planes.specs.Pictures.{side_of as side_in};
 ghost use Rattle.wokureti_c.specs.Rooms.{Fits, with_bytes, with_plane};
 
+use crate::statuses::{OK, ROOM};
 use pixel_planes::{Component, Picture};
 
 /// Puts bytes into a room at a place.
@@ -12,6 +13,18 @@ pub fn put_bytes(room: &mut [u8], at: usize, bytes: &[u8])
     ensures len { length room.new ≡ length room.old }
 {
     room[at..at + bytes.len()].copy_from_slice(bytes);
+}
+
+/// Copies a text to the front of a room: 0, or the number for too little room.
+pub fn copy(text: &[u8], room: &mut [u8]) -> u32
+    ensures copied { result ≡ 0 → room.new ≡ with_bytes 0 text.now room.old }
+    ensures room { result ≡ 5 → room.new ≡ room.old }
+{
+    if text.len() > room.len() {
+        return ROOM;
+    }
+    put_bytes(room, 0, text);
+    OK
 }
 
 /// A luma side as a side of a component.

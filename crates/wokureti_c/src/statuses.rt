@@ -50,6 +50,7 @@ pub fn number_of_refusal(refusal: Refusal) -> u32
         Refusal::Reference => 29,
         Refusal::Number => 30,
         Refusal::NoMemory => 31,
+        Refusal::NoBit => 32,
     }
 }
 

@@ -68,6 +68,7 @@ extern "C" {
         shown: *mut wk_shown,
     ) -> u32;
     pub fn wk_request(handle: *mut wk_handle, line: *const u8, size: usize, length: *mut usize) -> u32;
-    pub fn wk_save(handle: *mut wk_handle, pads: u32, length: *mut usize) -> u32;
+    pub fn wk_why(handle: *mut wk_handle, length: *mut usize) -> u32;
+    pub fn wk_save(handle: *mut wk_handle, pads: bool, length: *mut usize) -> u32;
     pub fn wk_text(handle: *mut wk_handle, room: *mut u8, size: usize, length: *mut usize) -> u32;
 }

@@ -159,7 +159,7 @@ impl Session {
     pub fn save(&mut self, pads: bool) -> Result<Vec<u8>, Fault> {
         let mut length = 0;
         // SAFETY: the handle is this session's own.
-        match unsafe { sys::wk_save(&mut *self.handle, pads.into(), &mut length) } {
+        match unsafe { sys::wk_save(&mut *self.handle, pads, &mut length) } {
             sys::WK_OK => Ok(self.text(length)),
             _ => Err(Fault::Memory),
         }
